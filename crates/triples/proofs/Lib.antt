@@ -1,0 +1,4 @@
+pub mod AnswerLemmas
+pub mod KnownBytes
+pub mod LineLemmas
+pub mod PartLemmas

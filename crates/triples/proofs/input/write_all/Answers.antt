@@ -1,0 +1,23 @@
+use Rattle.std.proofs.Common.{◌++◌, take, arith}
+use Rattle.std.proofs.lemmas.Grind.{common_steps}
+use Rattle.std.proofs.lemmas.List.{take-append-drop}
+use Rattle.triples.proofs.KnownBytes.{Appends-then, Appends-kept, Appends-none, AppendsFront-of}
+use Rattle.triples.proofs.input.write_all.Goals as goal
+
+pub loop-rest-preserved : goal.loop-rest-preserved
+loop-rest-preserved g c =
+    let inv = c.loop-rest.invariant.written in
+    let piece = take c.in-Ok.taken c.loop-rest.rest.now in
+    record {
+      written = (inv.0 ++ piece, grind (arith, common_steps, take-append-drop, inv.1), Appends-then _ _ _ inv.0 piece inv.2 c.in-Ok.ensures.bytes);
+      unfailed = grind arith;
+    }
+
+pub returns-then-taken-eq0-clause-err : goal.returns-then-taken-eq0-clause-err
+returns-then-taken-eq0-clause-err g c =
+    let inv = c.loop-rest.invariant.written in
+    Appends-none _ _ _ inv.0 c.loop-rest.rest.now _ _ c.in-Ok.taken (omega arith) inv.2 c.in-Ok.ensures.bytes inv.1
+
+pub returns-in-Err-clause-err : goal.returns-in-Err-clause-err
+returns-in-Err-clause-err g c =
+    let inv = c.loop-rest.invariant.written in AppendsFront-of _ _ _ _ _ (Appends-kept _ _ _ inv.0 inv.2 c.in-Err.ensures.bytes) inv.1

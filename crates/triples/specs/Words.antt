@@ -1,0 +1,28 @@
+-- The lines of the faults, and how the program ends.
+use Rattle.std.specs.Prelude.{ℕ, List, [], ◌++◌, Option, Some, None, codes, Result, Ok, Err}
+use Rattle.triples.specs.declared.run_error.RunError.{RunError}
+use Rattle.triples.specs.declared.run_error.RunError.TheVariants.{Read, Write, NotUtf8, NotJson, NotList, OutOfMemory}
+
+abbrev pub line_of : RunError → List ℕ
+line_of Read = codes "Read failed"
+line_of Write = codes "Write failed"
+line_of NotUtf8 = codes "Input is not UTF-8"
+line_of NotJson = codes "Input is not JSON"
+line_of NotList = codes "Input is not a JSON list"
+line_of OutOfMemory = codes "Out of memory"
+
+-- the end of a run, or none where none was asked for
+abbrev pub End : Type 0
+End = Option (Result (Unit {0}) RunError)
+
+-- the exit status of the program
+abbrev pub status_of : End → ℕ
+status_of (Some (Ok _)) = 0
+status_of (Some (Err _)) = 1
+status_of None = 2
+
+-- what the program says of its end
+abbrev pub closing_words : End → List ℕ
+closing_words (Some (Ok _)) = []
+closing_words (Some (Err error)) = codes "fault: " ++ (line_of error ++ codes "\n")
+closing_words None = codes "usage: triples [MODE]\n"

@@ -1,0 +1,48 @@
+//! What the program says at its end.
+ghost use Rattle.std.specs.Prelude.{◌≡◌, ◌<◌, ◌++◌, OnOk, OnErr, codes};
+ghost use Rattle.std.specs.Io.KnownBytes.{Appends};
+ghost use Rattle.triples.specs.Device.{device, failures};
+ghost use Rattle.triples.specs.Run.{AppendsFront};
+ghost use Rattle.triples.specs.Words.{status_of, closing_words};
+
+use crate::counted::Counted;
+use crate::input::write_all;
+use crate::run_error::RunError;
+use std::io::Write;
+
+/// Writes what there is to say of an end, and answers the exit status.
+///
+/// A success says nothing and gives 0; a fault says `fault: ` and the fault's line and gives 1; where there was no
+/// run, the usage line is said and the status is 2. A fault of the writer changes no answer.
+pub fn conclude<W: Write>(end: Option<Result<(), RunError>>, w: &mut Counted<W>) -> u8
+    ensures status { result ≡ status_of end }
+    ensures said { failures w.new ≡ failures w.old → Appends (W.contents (device w.old)) (W.contents (device w.new)) (closing_words end) }
+    ensures begun { AppendsFront (W.contents (device w.old)) (W.contents (device w.new)) (closing_words end) }
+{
+    match end {
+        Some(Ok(())) => 0,
+        Some(Err(error)) => {
+            let _ = say(w, "fault: ", error.line());
+            1
+        }
+        None => {
+            let _ = say(w, "usage: ", "triples [MODE]");
+            2
+        }
+    }
+}
+
+/// Writes a line of two pieces, and flushes.
+fn say<W: Write>(w: &mut Counted<W>, front: &str, back: &str) -> Result<(), RunError>
+    ensures ok { OnOk result (Appends (W.contents (device w.old)) (W.contents (device w.new)) (front.now ++ (back.now ++ codes "\n"))) }
+    ensures begun { AppendsFront (W.contents (device w.old)) (W.contents (device w.new)) (front.now ++ (back.now ++ codes "\n")) }
+    ensures failed { OnErr result (failures w.old < failures w.new) }
+{
+    write_all(w, front.as_bytes())?;
+    write_all(w, back.as_bytes())?;
+    write_all(w, b"\n")?;
+    match w.flush() {
+        Ok(()) => Ok(()),
+        Err(_) => Err(RunError::Write),
+    }
+}

@@ -1,0 +1,90 @@
+//! A reader or a writer with a count of its failures.
+ghost use Rattle.std.specs.Prelude.{◌≡◌, ◌+◌};
+ghost use Rattle.std.specs.Io.{ReadsAtMost, WritesAtMost};
+ghost use Rattle.std.specs.Io.KnownBytes.{Keeps, ReadConsumes, WriteAppends};
+
+use crate::tally::Tally;
+use std::io;
+use std::io::{Read, Write};
+
+/// A reader or a writer, and how often it has failed: a count that only contracts see, which takes no
+/// bytes and has no greatest value. A call passes on the device's call and answer.
+#[derive(Drop)]
+pub struct Counted<D> {
+    device: D,
+    tally: Tally,
+}
+
+impl<D> Counted<D> {
+    ghost use Rattle.triples.specs.Device.{device, failures};
+
+    /// The device with no failure counted.
+    pub fn new(of: D) -> Self
+        ensures device { device result ≡ of }
+        ensures count { failures result ≡ 0 }
+    {
+        Counted {
+            device: of,
+            tally: Tally::new(),
+        }
+    }
+
+    /// The device.
+    pub fn into_inner(self) -> D
+        ensures { result ≡ device self }
+    {
+        let Counted { device, tally: _ } = self;
+        device
+    }
+}
+
+impl<R: Read> Counted<R> {
+    ghost use Rattle.triples.specs.Device.{device, failures, failures_of};
+
+    /// One read of the device; the count rises by one exactly where it fails.
+    pub fn read(&mut self, buf: &mut [u8]) -> io::Result<usize>
+        ensures bound { ReadsAtMost result buf.new }
+        ensures bytes { ReadConsumes (R.remaining (device self.old)) (R.remaining (device self.new)) result buf.new }
+        ensures count { failures self.new ≡ failures self.old + failures_of result }
+    {
+        let answer = self.device.read(buf);
+        if answer.is_err() {
+            self.tally = self.tally.next();
+        }
+        answer
+    }
+}
+
+impl<W: Write> Counted<W> {
+    ghost use Rattle.triples.specs.Device.{device, failures, failures_of, write_failures_of};
+
+    /// One write of the device; the count rises by one exactly where it fails, or takes none of a piece that is
+    /// not empty.
+    pub fn write(&mut self, buf: &[u8]) -> io::Result<usize>
+        ensures bound { WritesAtMost result buf.now }
+        ensures bytes { WriteAppends (W.contents (device self.old)) (W.contents (device self.new)) result buf.now }
+        ensures count { failures self.new ≡ failures self.old + write_failures_of result buf.now }
+    {
+        let answer = self.device.write(buf);
+        let is_refused = match &answer {
+            Ok(taken) => *taken == 0 && !buf.is_empty(),
+            Err(_) => true,
+        };
+        if is_refused {
+            self.tally = self.tally.next();
+        }
+        answer
+    }
+
+    /// One flush of the device; the count rises by one exactly where it fails.
+    pub fn flush(&mut self) -> io::Result<()>
+        ensures bytes { Keeps (W.contents (device self.old)) (W.contents (device self.new)) }
+        ensures count { failures self.new ≡ failures self.old + failures_of result }
+    {
+        let answer = self.device.flush();
+        if answer.is_err() {
+            self.tally = self.tally.next();
+        }
+        answer
+    }
+}

@@ -1,0 +1,58 @@
+//! The whole of an input, and the whole of an output.
+ghost use Rattle.std.specs.Prelude.{◌≡◌, ◌<◌, ◌↔◌, ◌⊎◌, IsErrOf, IfOk, OnOk, IfErr, OnErr, IfSome};
+ghost use Rattle.std.specs.Io.KnownBytes.{Appends, Consumes, IsAtEnd};
+ghost use Rattle.triples.specs.Device.{device, failures};
+ghost use Rattle.triples.specs.Run.{AppendsFront, ConsumesSome};
+
+use crate::counted::Counted;
+use crate::run_error::RunError;
+use std::alloc::Global;
+use std::io::{Read, Write};
+
+/// Reads all that the reader has left.
+pub(crate) fn read_all<R: Read>(alloc: Global, reader: &mut Counted<R>) -> Result<Vec<u8>, RunError>
+    ensures taken { IfOk result (λ bytes. Consumes (R.remaining (device reader.old)) (R.remaining (device reader.new)) bytes.items) }
+    ensures end { OnOk result (IsAtEnd (R.remaining (device reader.new))) }
+    ensures bytes { IfOk result (λ bytes. IfSome (R.remaining (device reader.old)) (λ input. bytes.items ≡ input)) }
+    ensures unfailed { OnOk result (failures reader.new ≡ failures reader.old) }
+    ensures read { IsErrOf result RunError.Read ↔ (failures reader.old < failures reader.new) }
+    ensures memory { IsErrOf result RunError.OutOfMemory → ConsumesSome (R.remaining (device reader.old)) (R.remaining (device reader.new)) }
+    ensures only { IfErr result (λ e. (e ≡ RunError.Read) ⊎ (e ≡ RunError.OutOfMemory)) }
+{
+    let mut bytes = Vec::new(alloc);
+    let mut piece = [0u8; 8192];
+    loop {
+        let Ok(taken) = reader.read(&mut piece) else {
+            return Err(RunError::Read);
+        };
+        if taken == 0 {
+            return Ok(bytes);
+        }
+        if bytes.extend_from_slice(&piece[..taken]).is_err() {
+            return Err(RunError::OutOfMemory);
+        }
+    }
+}
+
+/// Writes all of these bytes.
+pub(crate) fn write_all<W: Write>(writer: &mut Counted<W>, bytes: &[u8]) -> Result<(), RunError>
+    ensures ok { OnOk result (Appends (W.contents (device writer.old)) (W.contents (device writer.new)) bytes.now) }
+    ensures unfailed { OnOk result (failures writer.new ≡ failures writer.old) }
+    ensures write { IsErrOf result RunError.Write ↔ (failures writer.old < failures writer.new) }
+    ensures err { OnErr result (AppendsFront (W.contents (device writer.old)) (W.contents (device writer.new)) bytes.now) }
+    ensures only { IfErr result (λ e. e ≡ RunError.Write) }
+{
+    let mut rest = bytes;
+    while !rest.is_empty() {
+        match writer.write(rest) {
+            Ok(taken) => {
+                if taken == 0 {
+                    return Err(RunError::Write);
+                }
+                rest = &rest[taken..];
+            }
+            Err(_) => return Err(RunError::Write),
+        }
+    }
+    Ok(())
+}

@@ -1,0 +1,51 @@
+//! Why a run ends early.
+ghost use Rattle.std.specs.Prelude.{◌≡◌, Some};
+
+use std::fmt;
+
+/// The fault that ends a run.
+#[derive(Clone, Copy, Debug, PartialEq, Eq)]
+pub enum RunError {
+    /// A read failed.
+    Read,
+    /// A write or the flush failed, or a write took none of a piece.
+    Write,
+    /// The whole input was read, and it is not UTF-8.
+    NotUtf8,
+    /// The whole input was read, and it is not JSON.
+    NotJson,
+    /// The whole input was read, and it is JSON but no list.
+    NotList,
+    /// Memory was refused.
+    OutOfMemory,
+}
+
+impl RunError {
+    ghost use Rattle.triples.specs.Words.{line_of};
+
+    /// The line that tells the fault.
+    pub(crate) fn line(self) -> &'static str
+        ensures { result.now ≡ line_of self }
+    {
+        match self {
+            RunError::Read => "Read failed",
+            RunError::Write => "Write failed",
+            RunError::NotUtf8 => "Input is not UTF-8",
+            RunError::NotJson => "Input is not JSON",
+            RunError::NotList => "Input is not a JSON list",
+            RunError::OutOfMemory => "Out of memory",
+        }
+    }
+}
+
+impl fmt::Display for RunError {
+    ghost use Rattle.triples.specs.Words.{line_of};
+
+    ghost output = { λ error. Some (line_of error) };
+
+    ghost styled_output = { λ error _. Some (line_of error) };
+
+    fn fmt<W: fmt::Write>(&self, f: &mut fmt::Formatter<W>) -> fmt::Result {
+        f.write_str(self.line())
+    }
+}

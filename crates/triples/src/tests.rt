@@ -1,0 +1,307 @@
+//! Runs over memory and over devices that fail.
+
+use crate::conclude::conclude;
+use crate::counted::Counted;
+use crate::mode::Mode;
+use crate::run::run;
+use crate::run_error::RunError;
+use std::alloc::Global;
+use std::fmt::Write as _;
+use std::io::{ErrorKind, Read, Write};
+use std::mem::size_of;
+use std::test::Fail;
+use std::{fmt, io};
+
+/// Gives its bytes one at a time, and fails at its `fails_at`th read.
+#[derive(Drop)]
+struct Drip<'a> {
+    rest: &'a [u8],
+    fails_at: usize,
+    kind: ErrorKind,
+}
+
+impl Read for Drip<'_> {
+    fn read(&mut self, buf: &mut [u8]) -> io::Result<usize> {
+        if self.fails_at == 0 {
+            return Err(io::Error::from(self.kind));
+        }
+        self.fails_at -= 1;
+        let (Some((first, rest)), Some(room)) = (self.rest.split_first(), buf.first_mut()) else {
+            return Ok(0);
+        };
+        *room = *first;
+        self.rest = rest;
+        Ok(1)
+    }
+}
+
+/// Keeps what it takes, at most `most` bytes a write, and fails at its `fails_at`th write, or at the flush.
+#[derive(Drop)]
+struct Gate {
+    kept: Vec<u8>,
+    most: usize,
+    fails_at: usize,
+    flushes: bool,
+}
+
+impl Gate {
+    fn new(alloc: Global) -> Gate {
+        Gate {
+            kept: Vec::new(alloc),
+            most: usize::MAX,
+            fails_at: usize::MAX,
+            flushes: true,
+        }
+    }
+}
+
+impl Write for Gate {
+    fn write(&mut self, buf: &[u8]) -> io::Result<usize> {
+        if self.fails_at == 0 {
+            return Err(io::Error::from(ErrorKind::Interrupted));
+        }
+        self.fails_at -= 1;
+        let taken = self.most.min(buf.len());
+        self.kept.extend_from_slice(&buf[..taken])?;
+        Ok(taken)
+    }
+
+    fn flush(&mut self) -> io::Result<()> {
+        if self.flushes {
+            Ok(())
+        } else {
+            Err(io::Error::from(ErrorKind::BrokenPipe))
+        }
+    }
+}
+
+/// Takes `left` pieces, and then fails.
+#[derive(Drop)]
+struct Pieces {
+    left: usize,
+}
+
+impl fmt::Write for Pieces {
+    fn write_str(&mut self, _s: &str) -> fmt::Result {
+        if self.left == 0 {
+            return Err(fmt::Error);
+        }
+        self.left -= 1;
+        Ok(())
+    }
+}
+
+/// How a run over memory ends, and what it writes.
+fn outcome(alloc: Global, mode: Mode, input: &[u8]) -> (Result<(), RunError>, Vec<u8>) {
+    let mut reader = Counted::new(input);
+    let mut writer = Counted::new(Vec::new(alloc));
+    let end = run(alloc, mode, &mut reader, &mut writer);
+    (end, writer.into_inner())
+}
+
+#[test]
+fn prints_each_line(rt: HostRuntime) -> Result<(), Fail> {
+    let rows = [
+        ("x86_64-unknown-linux", "x86_64-unknown-linux"),
+        ("x86_64-unknown-unknown", "x86_64-unknown-unknown-elf"),
+        ("wasm32-unknown-wasi", "wasm32-wasi"),
+        ("msp430-unknown-none", "msp430-none"),
+        ("avr-unknown-unknown", "avr-unknown-unknown"),
+        ("unknown-unknown-unknown", "unknown-unknown-unknown"),
+        ("msp430-pc-none", "msp430-pc-none"),
+        ("wasm64-unknown-wasip2", "wasm64-wasip2"),
+        ("powerpc-ibm-aix", "powerpc-ibm-aix"),
+        (
+            "x86_64-unknown-linux-gnu",
+            "error: Unrecognized field: x86_64-unknown-linux-gnu",
+        ),
+        ("", "error: Unrecognized field: "),
+        (
+            "x86_64-unknown-linux\r",
+            "error: Unrecognized field: x86_64-unknown-linux\r",
+        ),
+    ];
+    for (line, answer) in rows {
+        let input = format!(in rt.alloc(); "{line}\n")?;
+        let wanted = format!(in rt.alloc(); "{answer}\n")?;
+        let (end, written) = outcome(rt.alloc(), Mode::Print, input.as_bytes());
+        assert_eq!(rt; end, Ok(()));
+        assert_eq!(rt; written.as_slice(), wanted.as_bytes());
+    }
+    Ok(())
+}
+
+#[test]
+fn cuts_lines_at_line_feeds(rt: HostRuntime) -> Result<(), Fail> {
+    let rows = [
+        (b"".as_slice(), b"".as_slice()),
+        (b"avr-pc-none", b"avr-pc-none\n"),
+        (b"avr-pc-none\n", b"avr-pc-none\n"),
+        (
+            b"\navr-pc-none",
+            b"error: Unrecognized field: \navr-pc-none\n",
+        ),
+        (
+            b"\n\n",
+            b"error: Unrecognized field: \nerror: Unrecognized field: \n",
+        ),
+    ];
+    for (input, wanted) in rows {
+        let (end, written) = outcome(rt.alloc(), Mode::Print, input);
+        assert_eq!(rt; end, Ok(()));
+        assert_eq!(rt; written.as_slice(), wanted);
+    }
+    Ok(())
+}
+
+#[test]
+fn refuses_what_is_not_utf8(rt: HostRuntime) {
+    for input in [b"\xff".as_slice(), b"x86_64-unknown-linux\n\xff\n"] {
+        let (end, written) = outcome(rt.alloc(), Mode::Print, input);
+        assert_eq!(rt; end, Err(RunError::NotUtf8));
+        assert!(rt; written.is_empty());
+    }
+}
+
+#[test]
+fn tells_a_failed_read(rt: HostRuntime) {
+    for kind in [ErrorKind::Interrupted, ErrorKind::BrokenPipe] {
+        for fails_at in 0..12 {
+            let mut reader = Counted::new(Drip {
+                rest: b"avr-pc-none",
+                fails_at,
+                kind,
+            });
+            let mut writer = Counted::new(Gate::new(rt.alloc()));
+            let end = run(rt.alloc(), Mode::Print, &mut reader, &mut writer);
+            assert_eq!(rt; end, Err(RunError::Read), "at {fails_at}");
+            assert!(rt; writer.into_inner().kept.is_empty());
+        }
+    }
+}
+
+#[test]
+fn reads_and_writes_a_byte_at_a_time(rt: HostRuntime) {
+    let mut reader = Counted::new(Drip {
+        rest: b"msp430-unknown-none",
+        fails_at: usize::MAX,
+        kind: ErrorKind::Interrupted,
+    });
+    let mut gate = Gate::new(rt.alloc());
+    gate.most = 1;
+    let mut writer = Counted::new(gate);
+    let end = run(rt.alloc(), Mode::Print, &mut reader, &mut writer);
+    assert_eq!(rt; end, Ok(()));
+    assert_eq!(rt;
+        writer.into_inner().kept.as_slice(),
+        b"msp430-none\n".as_slice()
+    );
+}
+
+#[test]
+fn tells_a_failed_write(rt: HostRuntime) {
+    let whole = b"avr-pc-none\n";
+    for fails_at in 0..14 {
+        let mut gate = Gate::new(rt.alloc());
+        gate.most = 1;
+        gate.fails_at = fails_at;
+        let mut writer = Counted::new(gate);
+        let mut reader = Counted::new(b"avr-pc-none".as_slice());
+        let end = run(rt.alloc(), Mode::Print, &mut reader, &mut writer);
+        let wanted = if fails_at < whole.len() {
+            Err(RunError::Write)
+        } else {
+            Ok(())
+        };
+        assert_eq!(rt; end, wanted, "at {fails_at}");
+        let kept = writer.into_inner().kept;
+        assert_eq!(rt; kept.len(), fails_at.min(whole.len()));
+        assert!(rt; whole.starts_with(kept.as_slice()));
+    }
+}
+
+#[test]
+fn tells_a_write_that_takes_none(rt: HostRuntime) {
+    let mut gate = Gate::new(rt.alloc());
+    gate.most = 0;
+    let mut writer = Counted::new(gate);
+    let mut reader = Counted::new(b"avr-pc-none".as_slice());
+    let end = run(rt.alloc(), Mode::Print, &mut reader, &mut writer);
+    assert_eq!(rt; end, Err(RunError::Write));
+    assert!(rt; writer.into_inner().kept.is_empty());
+}
+
+#[test]
+fn tells_a_failed_flush(rt: HostRuntime) {
+    for (input, whole) in [
+        (b"".as_slice(), b"".as_slice()),
+        (b"avr-pc-none", b"avr-pc-none\n"),
+    ] {
+        let mut gate = Gate::new(rt.alloc());
+        gate.flushes = false;
+        let mut writer = Counted::new(gate);
+        let mut reader = Counted::new(input);
+        let end = run(rt.alloc(), Mode::Print, &mut reader, &mut writer);
+        assert_eq!(rt; end, Err(RunError::Write));
+        assert_eq!(rt; writer.into_inner().kept.as_slice(), whole);
+    }
+}
+
+#[test]
+fn concludes(rt: HostRuntime) -> Result<(), Fail> {
+    let rows = [
+        (Some(Ok(())), 0, ""),
+        (
+            Some(Err(RunError::NotUtf8)),
+            1,
+            "fault: Input is not UTF-8\n",
+        ),
+        (Some(Err(RunError::Read)), 1, "fault: Read failed\n"),
+        (
+            Some(Err(RunError::OutOfMemory)),
+            1,
+            "fault: Out of memory\n",
+        ),
+        (None, 2, "usage: triples [MODE]\n"),
+    ];
+    for (end, status, said) in rows {
+        let mut writer = Counted::new(Vec::new(rt.alloc()));
+        assert_eq!(rt; conclude(end, &mut writer), status);
+        assert_eq!(rt; writer.into_inner().as_slice(), said.as_bytes());
+        let mut gate = Gate::new(rt.alloc());
+        gate.fails_at = 1;
+        assert_eq!(rt; conclude(end, &mut Counted::new(gate)), status);
+    }
+    Ok(())
+}
+
+#[test]
+fn names_modes(rt: HostRuntime) {
+    assert_eq!(rt; Mode::from_word("print"), Some(Mode::Print));
+    for word in ["", "Print", "print ", "show", "settle", "json", "matrix"] {
+        assert_eq!(rt; Mode::from_word(word), None);
+    }
+}
+
+#[test]
+fn prints_faults(rt: HostRuntime) -> Result<(), Fail> {
+    let rows = [
+        (RunError::Read, "Read failed"),
+        (RunError::Write, "Write failed"),
+        (RunError::NotUtf8, "Input is not UTF-8"),
+        (RunError::NotJson, "Input is not JSON"),
+        (RunError::NotList, "Input is not a JSON list"),
+        (RunError::OutOfMemory, "Out of memory"),
+    ];
+    for (error, line) in rows {
+        assert_eq!(rt; format!(in rt.alloc(); "{error}")?.as_str(), line);
+        assert_eq!(rt; format!(in rt.alloc(); "{error:*>40}")?.as_str(), line);
+        assert!(rt; write!(Pieces { left: 0 }, "{error}").is_err());
+        assert!(rt; write!(Pieces { left: 1 }, "{error}").is_ok());
+    }
+    Ok(())
+}
+
+const _: () = prove!(size_of::<Counted<u64>>() == size_of::<u64>());
+
+const _: () = prove!(size_of::<Counted<Vec<u8>>>() == size_of::<Vec<u8>>());
