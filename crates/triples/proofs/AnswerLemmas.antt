@@ -1,16 +1,31 @@
 -- The answers of an input's lines, one after another.
-use Rattle.std.proofs.Common.{◌≡◌, ℕ, List, [], ◌∷◌, ◌++◌, Result, Ok, Err, OnOk, None, codes, refl, ap, ◌∙◌, append_assoc, length, arith}
+use Rattle.std.proofs.Common.{◌≢◌, Some, inr, string_bytes, ◌≡◌, ℕ, List, [], ◌∷◌, ◌++◌, Result, Ok, Err, OnOk, None, codes, refl, ap, ◌∙◌, append_assoc, length, arith}
 use Rattle.std.proofs.lemmas.List.{append-nil}
+use Rattle.target_lexicon.specs.Field as field
+use Rattle.target_lexicon.specs.ParseError.{error_line}
+use Rattle.target_lexicon.specs.Reading.{IsFaultOf}
+use Rattle.target_lexicon.specs.declared.parse_error.ParseError.{ParseError}
+use Rattle.target_lexicon.specs.declared.parse_error.ParseError.TheVariants.{UnrecognizedArchitecture, UnrecognizedVendor, UnrecognizedOperatingSystem, UnrecognizedEnvironment, UnrecognizedBinaryFormat, UnrecognizedField, OutOfMemory}
 use Rattle.triples.specs.Lines.{lines_of}
-use Rattle.triples.specs.Reading.{triple_of}
-use Rattle.triples.specs.Output.{AddsAnswer, AreAnswered}
+use Rattle.triples.specs.Output.{IsRefusalTold, AddsAnswer, AreAnswered}
+
+-- what an error that isn't want of memory says is the line of the refusal
+refusal_is_told : (line text : List ℕ) (error : ParseError) → error ≢ OutOfMemory → IsFaultOf line error → text ≡ error_line error
+    → IsRefusalTold line (codes "error: " ++ text)
+refusal_is_told line text (UnrecognizedArchitecture part) other fault same = (Some field.Architecture, (string_bytes part, fault, ap (λ (t : List ℕ). codes "error: " ++ t) same))
+refusal_is_told line text (UnrecognizedVendor part) other fault same = (Some field.Vendor, (string_bytes part, fault, ap (λ (t : List ℕ). codes "error: " ++ t) same))
+refusal_is_told line text (UnrecognizedOperatingSystem part) other fault same = (Some field.System, (string_bytes part, fault, ap (λ (t : List ℕ). codes "error: " ++ t) same))
+refusal_is_told line text (UnrecognizedEnvironment part) other fault same = (Some field.Environment, (string_bytes part, fault, ap (λ (t : List ℕ). codes "error: " ++ t) same))
+refusal_is_told line text (UnrecognizedBinaryFormat part) other fault same = (Some field.Format, (string_bytes part, fault, ap (λ (t : List ℕ). codes "error: " ++ t) same))
+refusal_is_told line text (UnrecognizedField part) other fault same = (None, (string_bytes part, fault, ap (λ (t : List ℕ). codes "error: " ++ t) same))
+refusal_is_told line text OutOfMemory other fault same = absurd (other refl)
 
 -- a refused line is answered by its refusal
-pub refusal_is_answer : {T E : Type 0} (done : Result T E) (line held old new : List ℕ) → triple_of line ≡ None → held ≡ line
-    → OnOk done (new ≡ old ++ ((codes "error: Unrecognized field: " ++ held) ++ 10 ∷ [])) → OnOk done (AddsAnswer line old new)
-refusal_is_answer (Ok _) line held old new refused same grown =
-    (codes "error: Unrecognized field: " ++ line, rw refused refl, rw same at grown)
-refusal_is_answer (Err _) line held old new refused same grown = tt
+pub refusal_is_answer : {T E : Type 0} (done : Result T E) (line text : List ℕ) (error : ParseError) (old new : List ℕ) → error ≢ OutOfMemory
+    → IsFaultOf line error → text ≡ error_line error → OnOk done (new ≡ old ++ ((codes "error: " ++ text) ++ 10 ∷ [])) → OnOk done (AddsAnswer line old new)
+refusal_is_answer (Ok _) line text error old new other fault same grown =
+    (codes "error: " ++ text, inr (refusal_is_told line text error other fault same), grown)
+refusal_is_answer (Err _) line text error old new other fault same grown = tt
 
 -- the answer of the first line, and then those of the lines behind it
 pub answered-more : (lines : List (List ℕ)) (rest line behind old new : List ℕ)

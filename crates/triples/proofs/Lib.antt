@@ -1,4 +1,3 @@
 pub mod AnswerLemmas
 pub mod KnownBytes
 pub mod LineLemmas
-pub mod PartLemmas

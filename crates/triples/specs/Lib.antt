@@ -1,11 +1,5 @@
-pub mod Architecture
 pub mod Device
 pub mod Lines
-pub mod Names
-pub mod OperatingSystem
 pub mod Output
-pub mod Printing
-pub mod Reading
 pub mod Run
-pub mod Vendor
 pub mod Words

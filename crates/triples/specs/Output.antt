@@ -1,19 +1,26 @@
 -- What a mode writes for an input.
-use Rattle.std.specs.Prelude.{ℕ, ◌≡◌, List, [], ◌∷◌, ◌++◌, codes, MatchOption}
+use Rattle.std.specs.Prelude.{ℕ, ◌≡◌, ◌⊎◌, List, [], ◌∷◌, ◌++◌, codes, Option}
+use Rattle.target_lexicon.specs.Field.{Field}
+use Rattle.target_lexicon.specs.ParseError.{refusal_line}
+use Rattle.target_lexicon.specs.Printing.{text_of}
+use Rattle.target_lexicon.specs.Reading.{ReadsAs, IsRefusedAs}
+use Rattle.target_lexicon.specs.Values.{Values}
 use Rattle.triples.specs.declared.mode.Mode.{Mode}
 use Rattle.triples.specs.declared.mode.Mode.TheVariants.{Print}
 use Rattle.triples.specs.Lines.{lines_of}
-use Rattle.triples.specs.Reading.{triple_of}
-use Rattle.triples.specs.Printing.{text_of}
 
--- the line of the refusal that holds a text
-abbrev pub refusal_line : List ℕ → List ℕ
-refusal_line text = codes "Unrecognized field: " ++ text
+-- the text of the triple that a line reads as
+abbrev pub IsPrinted : List ℕ → List ℕ → Type 0
+IsPrinted line answer = (values : Values) × ReadsAs line values × (answer ≡ text_of values)
 
--- what is printed for a line: its triple, or `error: ` and the line of its refusal
+-- `error: ` and the line of the refusal of a line
+abbrev pub IsRefusalTold : List ℕ → List ℕ → Type 0
+IsRefusalTold line answer =
+    (kind : Option Field) × ((part : List ℕ) × IsRefusedAs line kind part × (answer ≡ codes "error: " ++ refusal_line kind part))
+
+-- what is printed for a line
 abbrev pub IsAnswer : List ℕ → List ℕ → Type 0
-IsAnswer line answer =
-    MatchOption (triple_of line) (answer ≡ codes "error: " ++ refusal_line line) (λ triple. answer ≡ text_of triple)
+IsAnswer line answer = IsPrinted line answer ⊎ IsRefusalTold line answer
 
 -- a text grew by the answer of a line, and a line feed
 abbrev pub AddsAnswer : List ℕ → List ℕ → List ℕ → Type 0

@@ -1,22 +1,17 @@
 //! Reads lines of target triples and writes what they are.
 #![tactic(auto)]
 
-mod architecture;
 mod conclude;
 mod counted;
 mod input;
 mod lines;
 mod mode;
-mod operating_system;
 mod output;
-mod parse_error;
 mod run;
 mod run_error;
 mod tally;
 #[cfg(test)]
 mod tests;
-mod triple;
-mod vendor;
 
 use conclude::conclude;
 use counted::Counted;

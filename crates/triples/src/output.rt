@@ -5,9 +5,8 @@ ghost use Rattle.triples.specs.Output.{AddsAnswer, AreAnswered, IsOutput};
 
 use crate::lines::first_line;
 use crate::mode::Mode;
-use crate::parse_error::ParseError;
-use crate::triple::Triple;
 use std::alloc::{AllocError, Global};
+use target_lexicon::{ParseError, Triple};
 
 /// Adds a line of two pieces, and a line feed.
 fn push_line(output: &mut String, front: &str, back: &str) -> Result<(), AllocError>
@@ -24,10 +23,8 @@ fn push_answer(alloc: Global, output: &mut String, line: &str) -> Result<(), All
 {
     match Triple::from_str(alloc, line) {
         Ok(triple) => push_line(output, "", triple.to_text(alloc)?.as_str()),
-        Err(ParseError::UnrecognizedField(text)) => {
-            push_line(output, "error: Unrecognized field: ", text.as_str())
-        }
         Err(ParseError::OutOfMemory) => Err(AllocError),
+        Err(error) => push_line(output, "error: ", error.to_string(alloc)?.as_str()),
     }
 }
 

@@ -111,14 +111,24 @@ fn prints_each_line(rt: HostRuntime) -> Result<(), Fail> {
         ("msp430-pc-none", "msp430-pc-none"),
         ("wasm64-unknown-wasip2", "wasm64-wasip2"),
         ("powerpc-ibm-aix", "powerpc-ibm-aix"),
+        ("x86_64-unknown-linux-gnu", "x86_64-unknown-linux-gnu"),
+        ("arm64-apple-ios", "aarch64-apple-ios"),
+        ("x86_64-customvendor-linux", "x86_64-customvendor-linux"),
+        ("", "error: Unrecognized architecture: "),
+        ("x86_64-é-linux", "error: Unrecognized vendor: é"),
         (
-            "x86_64-unknown-linux-gnu",
-            "error: Unrecognized field: x86_64-unknown-linux-gnu",
+            "x86_64-foo-bar",
+            "error: Unrecognized operating system: bar",
         ),
-        ("", "error: Unrecognized field: "),
+        ("x86_64-linux-foo", "error: Unrecognized environment: foo"),
+        (
+            "x86_64-gnu-linux",
+            "error: Unrecognized binary format: linux",
+        ),
+        ("x86_64-elf-linux", "error: Unrecognized field: linux"),
         (
             "x86_64-unknown-linux\r",
-            "error: Unrecognized field: x86_64-unknown-linux\r",
+            "error: Unrecognized operating system: linux\r",
         ),
     ];
     for (line, answer) in rows {
@@ -139,11 +149,11 @@ fn cuts_lines_at_line_feeds(rt: HostRuntime) -> Result<(), Fail> {
         (b"avr-pc-none\n", b"avr-pc-none\n"),
         (
             b"\navr-pc-none",
-            b"error: Unrecognized field: \navr-pc-none\n",
+            b"error: Unrecognized architecture: \navr-pc-none\n",
         ),
         (
             b"\n\n",
-            b"error: Unrecognized field: \nerror: Unrecognized field: \n",
+            b"error: Unrecognized architecture: \nerror: Unrecognized architecture: \n",
         ),
     ];
     for (input, wanted) in rows {

@@ -1,13 +1,15 @@
 -- A refused line is answered by its refusal.
-use Rattle.std.proofs.Common.{◌≡◌, string_bytes}
+use Rattle.std.proofs.Common.{◌≡◌, ◌≢◌, ◌∙◌, string_bytes, rules}
+use Rattle.target_lexicon.specs.ParseError.{error_line}
+use Rattle.target_lexicon.specs.declared.parse_error.ParseError.TheVariants.{OutOfMemory}
 use Rattle.triples.proofs.AnswerLemmas.{refusal_is_answer}
 use Rattle.triples.proofs.output.push_answer.Goals as goal
 
-pub returns-in-Err-UnrecognizedField : goal.returns-in-Err-UnrecognizedField
-returns-in-Err-UnrecognizedField c =
-    let refused = rw c.in-Err-UnrecognizedField.field-0-is at c.in-Err-UnrecognizedField.ensures in
-    let held = c.as_str-in-Err-UnrecognizedField in
-    let pushed = c.push_line-in-Err-UnrecognizedField in
-    let same : held.result.now ≡ c.args.line.now = cc (held.ensures.value, refused.1, c.in-Err-UnrecognizedField.text-is) in
-    refusal_is_answer pushed.result c.args.line.now held.result.now (string_bytes c.args.output.now) (string_bytes pushed.new.output)
-    refused.0 same pushed.ensures
+pub returns-in_ok-to_string-in-Err : goal.returns-in_ok-to_string-in-Err
+returns-in_ok-to_string-in-Err c =
+    let other : c.in-Err.error ≢ OutOfMemory = search rules in
+    let told = c.as_str-in-Err in
+    let pushed = c.push_line-in-Err in
+    let same : told.result.now ≡ error_line c.in-Err.error = told.ensures.value ∙ c.in_ok-to_string-in-Err.ensures.ok in
+    refusal_is_answer pushed.result c.args.line.now told.result.now c.in-Err.error (string_bytes c.args.output.now) (string_bytes pushed.new.output)
+    other c.in-Err.ensures.err same pushed.ensures

@@ -1,0 +1,6 @@
+pub mod DashLemmas
+pub mod NamesLemmas
+pub mod SystemDashLemmas
+pub mod SystemLemmas
+pub mod VendorLemmas
+pub mod VersionLemmas

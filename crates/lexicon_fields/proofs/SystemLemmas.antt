@@ -1,0 +1,58 @@
+-- How the names of systems are read.
+use Rattle.std.proofs.Common.{[], ◌∷◌, Option, Some, IfSome, option_map, ◌≡◌, ◌≢◌, ◌∙◌, ℕ, List, ◌++◌, codes, take, drop, length, nat_eq, None, refl, sym, ap}
+use Rattle.std.specs.List.{starts_with}
+use Rattle.std.proofs.lemmas.Bool.{false_from_ne_true, cond-false}
+use Rattle.std.proofs.lemmas.List.{take-append-drop}
+use Rattle.std.proofs.lemmas.Slice.Eq.{bytes_eq-Decides}
+use Rattle.lexicon_fields.specs.declared.deployment_target.DeploymentTarget.{DeploymentTarget}
+use Rattle.lexicon_fields.specs.declared.operating_system.OperatingSystem.TheVariants as system
+use Rattle.lexicon_fields.specs.SystemLaws.{IsVersionInRange, SystemNamesReadBack}
+use Rattle.lexicon_fields.specs.Version.{version_of, version_name}
+use Rattle.lexicon_fields.proofs.VersionLemmas.{version_of-name}
+use Rattle.lexicon_fields.specs.OperatingSystem.{system_of, optional_version_of, version_suffix, behind_prefix, darwin_like_by, darwin_prefixes}
+
+-- a text that does not begin with a prefix has nothing behind it
+lacks_prefix : (prefix text : List ℕ) → ((rest : List ℕ) → text ≢ prefix ++ rest) → behind_prefix prefix text ≡ None
+lacks_prefix prefix text differs = cond-false (starts_with nat_eq text prefix) _ _ (false_from_ne_true _ (λ begins.
+    let front = (bytes_eq-Decides prefix (take (length prefix) text)).0 begins in
+    differs (drop (length prefix) text) (sym (take-append-drop (length prefix) text) ∙ ap (λ xs. xs ++ drop (length prefix) text) (sym front))))
+
+pub no_darwin_prefix : (text : List ℕ)
+    → ((rest : List ℕ) → text ≢ codes "darwin" ++ rest) → ((rest : List ℕ) → text ≢ codes "ios" ++ rest)
+    → ((rest : List ℕ) → text ≢ codes "macosx" ++ rest) → ((rest : List ℕ) → text ≢ codes "tvos" ++ rest)
+    → ((rest : List ℕ) → text ≢ codes "visionos" ++ rest) → ((rest : List ℕ) → text ≢ codes "watchos" ++ rest)
+    → ((rest : List ℕ) → text ≢ codes "xros" ++ rest) → darwin_like_by darwin_prefixes text ≡ None
+no_darwin_prefix text darwin ios macosx tvos visionos watchos xros =
+    rw (
+      lacks_prefix (codes "darwin") text darwin,
+      lacks_prefix (codes "ios") text ios,
+      lacks_prefix (codes "macosx") text macosx,
+      lacks_prefix (codes "tvos") text tvos,
+      lacks_prefix (codes "visionos") text visionos,
+      lacks_prefix (codes "watchos") text watchos,
+      lacks_prefix (codes "xros") text xros,
+    ) refl
+
+-- every system reads back from its name
+
+-- a version that stands behind a prefix is there
+some_version : (text : List ℕ) (v : DeploymentTarget) → version_of text ≡ Some v → optional_version_of text ≡ Some (Some v)
+unfolding version_of
+some_version [] v is = absurd cc
+some_version (c ∷ cs) v is = ap (option_map Some) is
+
+suffix_reads : (version : Option DeploymentTarget) → IfSome version IsVersionInRange → optional_version_of (version_suffix version) ≡ Some version
+suffix_reads None range = refl
+suffix_reads (Some v) range = some_version (version_name v) v (version_of-name v range.0 range.1 range.2)
+
+pub system_names_read_back_lem : SystemNamesReadBack
+unfolding system_of
+system_names_read_back_lem (system.Darwin version) range = rw (suffix_reads version range) refl
+system_names_read_back_lem (system.IOS version) range = rw (suffix_reads version range) refl
+system_names_read_back_lem (system.MacOSX version) range = rw (suffix_reads version range) refl
+system_names_read_back_lem (system.TvOS version) range = rw (suffix_reads version range) refl
+system_names_read_back_lem (system.VisionOS version) range = rw (suffix_reads version range) refl
+system_names_read_back_lem (system.WatchOS version) range = rw (suffix_reads version range) refl
+system_names_read_back_lem (system.XROS version) range = rw (suffix_reads version range) refl
+system_names_read_back_lem system.Unknown range = refl
+system_names_read_back_lem _ range = refl

@@ -1,0 +1,161 @@
+-- How version texts are read.
+use Rattle.std.proofs.Common.{◌≡◌, ◌≢◌, is_some, ◌∙◌, ℕ, ◌+◌, ◌^◌, ◌<◌, ◌≤◌, nat_eq, nat_lt, nat_le, List, [], ◌∷◌, ◌++◌, length, Bool, true, false, ◌&&◌, cond, Option, Some, None, Result, Ok, Err, Bor, refl, sym, ap, rules, arith}
+use Rattle.std.specs.Char.{is_ascii_digit}
+use Rattle.std.specs.List.{list_all, before_first, after_first, position_or_len}
+use Rattle.std.specs.Result.{OkIff, result_ok}
+use Rattle.std.specs.Fmt.{decimal}
+use Rattle.std.specs.Str.Parse.{IsNumeral, ParsesUnsigned, digits_value, without_leading_plus}
+use Rattle.std.proofs.lemmas.Bool.{and_parts, and_from, ltb-true, lt-ltb, leb-true, le-leb, ne_eqb}
+use Rattle.std.proofs.lemmas.Fmt.{decimal_is_IsNumeral}
+use Rattle.std.proofs.lemmas.List.Splits.{slice_split_first, slice_split_none, length-slice_split}
+use Rattle.std.proofs.lemmas.List.Sums.{fails_before_first}
+use Rattle.std.proofs.lemmas.Str.Parse.{IsNumeralModel, numerals_by_value}
+use Rattle.lexicon_fields.specs.declared.deployment_target.DeploymentTarget.{DeploymentTarget}
+use Rattle.lexicon_fields.specs.Version.{number_within, piece_within, version_of_numbers, version_of_pieces, version_of, version_name, pieces_of, pieces_left}
+
+-- the test by which a version's digits are told is that of `parse`
+pub digits_model : IsNumeralModel (λ ds. list_all is_ascii_digit ds ≡ true) (digits_value 10)
+digits_model = numerals_by_value _ (search rules)
+
+-- an answer that is `Ok v` exactly where a test passes
+ok_by_test : {E : Type 0} (r : Result ℕ E) (b : Bool) (P : Type 0) (v : ℕ) → (P → b ≡ true) → (b ≡ true → P) → OkIff r P v → result_ok r ≡ cond b (Some v) None
+ok_by_test (Ok x) true P v to from is = ap Some is.1
+ok_by_test (Ok x) false P v to from is = absurd (let bad = to is.0 in cc)
+ok_by_test (Err e) true P v to from is = absurd (is (from refl))
+ok_by_test (Err e) false P v to from is = refl
+
+-- `parse` at an unsigned type reads a piece within that type's limit
+parse_piece : {E : Type 0} (k limit : ℕ) (piece : List ℕ) (r : Result ℕ E) → limit + 1 ≡ 2 ^ k → ParsesUnsigned k 10 piece r → result_ok r ≡ piece_within limit piece
+parse_piece k limit piece r fits parses =
+    let ds = without_leading_plus piece in
+    ok_by_test r (nat_lt 0 (length ds) && list_all is_ascii_digit ds && nat_le (digits_value 10 ds) limit) (IsNumeral 10 ds × (digits_value 10 ds < 2 ^ k)) (digits_value 10 ds)
+    (λ p. and_from _ _ (and_from _ _ (lt-ltb 0 (length ds) p.0.0) (digits_model.from ds p.0.1)) (le-leb (digits_value 10 ds) limit (omega (arith, p.1))))
+    (λ e. let outer = and_parts (nat_lt 0 (length ds) && list_all is_ascii_digit ds) (nat_le (digits_value 10 ds) limit) e in
+    let inner = and_parts (nat_lt 0 (length ds)) (list_all is_ascii_digit ds) outer.0 in
+    ((ltb-true 0 (length ds) inner.0, digits_model.to ds inner.1), omega (arith, leb-true (digits_value 10 ds) limit outer.1)))
+    parses
+
+-- what `parse` read of a first piece, and of a later one
+pub major_read : {E : Type 0} (piece : List ℕ) (r : Result ℕ E) (o x : Option ℕ) → ParsesUnsigned 16 10 piece r → o ≡ result_ok r → o ≡ x → piece_within 65535 piece ≡ x
+major_read piece r o x parses taken is = sym (parse_piece 16 65535 piece r refl parses) ∙ sym taken ∙ is
+
+pub part_read : {E : Type 0} (piece : List ℕ) (r : Result ℕ E) (o x : Option ℕ) → ParsesUnsigned 8 10 piece r → o ≡ result_ok r → o ≡ x → piece_within 255 piece ≡ x
+part_read piece r o x parses taken is = sym (parse_piece 8 255 piece r refl parses) ∙ sym taken ∙ is
+
+-- the pieces of a text behind its first dot, and of one without a dot
+pub pieces_of-first : (text piece rest : List ℕ) → piece ≡ before_first (λ c. nat_eq c 46) text → rest ≡ after_first (λ c. nat_eq c 46) text → position_or_len (λ c. nat_eq c 46) text < length text → pieces_of text ≡ piece ∷ pieces_of rest
+pieces_of-first text piece rest front back found = slice_split_first (λ c. nat_eq c 46) text 0 found ∙ cc
+
+pub pieces_of-whole : (text : List ℕ) → position_or_len (λ c. nat_eq c 46) text ≡ length text → pieces_of text ≡ text ∷ []
+pieces_of-whole text none = slice_split_none (λ c. nat_eq c 46) text (λ k d h. fails_before_first (λ c. nat_eq c 46) text k d (omega (arith, none, h)))
+
+-- a piece with nothing behind it, and one with more pieces behind it
+pub pieces-last : (pieces : List (List ℕ)) (p : List ℕ) (rest : Option (Bor (List ℕ))) → pieces ≡ p ∷ pieces_left rest → is_some rest ≡ false → pieces ≡ p ∷ []
+pieces-last pieces p None is none = is
+pieces-last pieces p (Some behind) is none = absurd cc
+
+pub pieces-more : (pieces : List (List ℕ)) (p : List ℕ) (rest : Option (Bor (List ℕ))) (behind : Bor (List ℕ)) (ps : List (List ℕ)) → pieces ≡ p ∷ pieces_left rest → rest ≡ Some behind → pieces_of behind.now ≡ ps → pieces ≡ p ∷ ps
+pieces-more pieces p rest behind ps is some more = is ∙ ap (λ x. p ∷ pieces_left x) some ∙ ap (λ x. p ∷ x) more
+
+-- what is left of a text has a piece
+pub pieces_left-some : (rest : Option (Bor (List ℕ))) → is_some rest ≡ true → pieces_left rest ≢ []
+pieces_left-some None some none = cc
+pieces_left-some (Some behind) some none = let e = length-slice_split (λ c. nat_eq c 46) behind.now in let k = ap length none in omega arith
+
+-- a version with no second number, and one with no third
+no_second : (major patch : Option ℕ) → version_of_numbers major None patch ≡ None
+no_second None patch = refl
+no_second (Some major) patch = refl
+
+no_third : (major minor : Option ℕ) → version_of_numbers major minor None ≡ None
+no_third None minor = refl
+no_third (Some major) None = refl
+no_third (Some major) (Some minor) = refl
+
+no_first_piece : (p : List ℕ) (ps : List (List ℕ)) → piece_within 65535 p ≡ None → version_of_pieces (p ∷ ps) ≡ None
+no_first_piece p [] missing = rw missing refl
+no_first_piece p (q ∷ []) missing = rw missing refl
+no_first_piece p (q ∷ r ∷ []) missing = rw missing refl
+no_first_piece p (q ∷ r ∷ s ∷ ps) missing = refl
+
+no_second_piece : (p q : List ℕ) (ps : List (List ℕ)) → piece_within 255 q ≡ None → version_of_pieces (p ∷ q ∷ ps) ≡ None
+no_second_piece p q [] missing = rw missing (no_second (piece_within 65535 p) (Some 0))
+no_second_piece p q (r ∷ []) missing = rw missing (no_second (piece_within 65535 p) (piece_within 255 r))
+no_second_piece p q (r ∷ s ∷ ps) missing = refl
+
+no_third_piece : (p q r : List ℕ) (ps : List (List ℕ)) → piece_within 255 r ≡ None → version_of_pieces (p ∷ q ∷ r ∷ ps) ≡ None
+no_third_piece p q r [] missing = rw missing (no_third (piece_within 65535 p) (piece_within 255 q))
+no_third_piece p q r (s ∷ ps) missing = refl
+
+-- what a text reads as by its pieces
+
+pub no_major : (text p : List ℕ) (ps : List (List ℕ)) → pieces_of text ≡ p ∷ ps → piece_within 65535 p ≡ None → version_of text ≡ None
+unfolding version_of
+no_major text p ps pieces missing = ap version_of_pieces pieces ∙ no_first_piece p ps missing
+
+pub no_minor : (text p q : List ℕ) (ps : List (List ℕ)) → pieces_of text ≡ p ∷ q ∷ ps → piece_within 255 q ≡ None → version_of text ≡ None
+unfolding version_of
+no_minor text p q ps pieces missing = ap version_of_pieces pieces ∙ no_second_piece p q ps missing
+
+pub no_patch : (text p q r : List ℕ) (ps : List (List ℕ)) → pieces_of text ≡ p ∷ q ∷ r ∷ ps → piece_within 255 r ≡ None → version_of text ≡ None
+unfolding version_of
+no_patch text p q r ps pieces missing = ap version_of_pieces pieces ∙ no_third_piece p q r ps missing
+
+pub too_many_pieces : (text p q r : List ℕ) (ps : List (List ℕ)) → pieces_of text ≡ p ∷ q ∷ r ∷ ps → ps ≢ [] → version_of text ≡ None
+unfolding version_of
+too_many_pieces text p q r [] pieces more = absurd (more refl)
+too_many_pieces text p q r (s ∷ ps) pieces more = ap version_of_pieces pieces
+
+pub one_piece : (text p : List ℕ) (major : ℕ) → pieces_of text ≡ p ∷ [] → piece_within 65535 p ≡ Some major → version_of text ≡ Some (record { major = major; minor = 0; patch = 0 })
+unfolding version_of
+one_piece text p major pieces first = ap version_of_pieces pieces ∙ rw first refl
+
+pub two_pieces : (text p q : List ℕ) (major minor : ℕ) → pieces_of text ≡ p ∷ q ∷ [] → piece_within 65535 p ≡ Some major → piece_within 255 q ≡ Some minor → version_of text ≡ Some (record { major = major; minor = minor; patch = 0 })
+unfolding version_of
+two_pieces text p q major minor pieces first second = ap version_of_pieces pieces ∙ rw (first, second) refl
+
+pub three_pieces : (text p q r : List ℕ) (major minor patch : ℕ) → pieces_of text ≡ p ∷ q ∷ r ∷ [] → piece_within 65535 p ≡ Some major → piece_within 255 q ≡ Some minor → piece_within 255 r ≡ Some patch → version_of text ≡ Some (record { major = major; minor = minor; patch = patch })
+unfolding version_of
+three_pieces text p q r major minor patch pieces first second third = ap version_of_pieces pieces ∙ rw (first, second, third) refl
+
+-- the name of a version reads as that version
+
+-- a byte of digits is neither a plus, a dash nor a dot
+pub digit_apart : (c x : ℕ) → is_ascii_digit x ≡ false → is_ascii_digit c ≡ true → nat_eq c x ≡ false
+digit_apart c x other digit = ne_eqb c x (λ same. let bad = rw same at digit in cc)
+
+decimal_digits : (n : ℕ) → n < 2 ^ 64 → list_all is_ascii_digit (decimal n) ≡ true
+decimal_digits n small = digits_model.from (decimal n) (decimal_is_IsNumeral n small).0.1
+
+number_within-decimal : (limit n : ℕ) → n ≤ limit → n < 2 ^ 64 → number_within limit (decimal n) ≡ Some n
+number_within-decimal limit n within small =
+    let numeral = decimal_is_IsNumeral n small in
+    let some : nat_lt 0 (length (decimal n)) ≡ true = lt-ltb 0 (length (decimal n)) numeral.0.0 in
+    let fits : nat_le n limit ≡ true = le-leb n limit within in
+    rw (numeral.1, some, decimal_digits n small, fits) refl
+
+-- digits have no plus in front
+without_plus : (ds : List ℕ) → list_all is_ascii_digit ds ≡ true → without_leading_plus ds ≡ ds
+without_plus [] digits = refl
+without_plus (c ∷ cs) digits = let parts = and_parts (is_ascii_digit c) (list_all is_ascii_digit cs) digits in rw (digit_apart c 43 refl parts.0) refl
+
+piece_within-decimal : (limit n : ℕ) → n ≤ limit → n < 2 ^ 64 → piece_within limit (decimal n) ≡ Some n
+piece_within-decimal limit n within small = ap (number_within limit) (without_plus (decimal n) (decimal_digits n small)) ∙ number_within-decimal limit n within small
+
+pieces_of-digits : (ds : List ℕ) → list_all is_ascii_digit ds ≡ true → pieces_of ds ≡ ds ∷ []
+pieces_of-digits [] digits = refl
+pieces_of-digits (c ∷ cs) digits = let parts = and_parts (is_ascii_digit c) (list_all is_ascii_digit cs) digits in rw (digit_apart c 46 refl parts.0, pieces_of-digits cs parts.1) refl
+
+pieces_of-dot : (ds rest : List ℕ) → list_all is_ascii_digit ds ≡ true → pieces_of (ds ++ (46 ∷ rest)) ≡ ds ∷ pieces_of rest
+pieces_of-dot [] rest digits = refl
+pieces_of-dot (c ∷ cs) rest digits = let parts = and_parts (is_ascii_digit c) (list_all is_ascii_digit cs) digits in rw (digit_apart c 46 refl parts.0, pieces_of-dot cs rest parts.1) refl
+
+pub version_of-name : (v : DeploymentTarget) → v.major < 2 ^ 16 → v.minor < 2 ^ 8 → v.patch < 2 ^ 8 → version_of (version_name v) ≡ Some v
+version_of-name v major minor patch =
+    let a = decimal_digits v.major (omega arith) in
+    let b = decimal_digits v.minor (omega arith) in
+    let c = decimal_digits v.patch (omega arith) in
+    let behind = pieces_of-dot (decimal v.minor) (decimal v.patch) b ∙ ap (λ ps. decimal v.minor ∷ ps) (pieces_of-digits (decimal v.patch) c) in
+    let pieces = pieces_of-dot (decimal v.major) (decimal v.minor ++ (46 ∷ decimal v.patch)) a ∙ ap (λ ps. decimal v.major ∷ ps) behind in
+    three_pieces (version_name v) (decimal v.major) (decimal v.minor) (decimal v.patch) v.major v.minor v.patch pieces
+    (piece_within-decimal 65535 v.major (omega arith) (omega arith)) (piece_within-decimal 255 v.minor (omega arith) (omega arith)) (piece_within-decimal 255 v.patch (omega arith) (omega arith))

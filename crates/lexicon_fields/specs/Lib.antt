@@ -1,0 +1,14 @@
+pub mod Architecture
+pub mod ArchitectureLaws
+pub mod ArchitectureQueries
+pub mod BinaryFormat
+pub mod Environment
+pub mod NameLaws
+pub mod Names
+pub mod OperatingSystem
+pub mod SubArchitecture
+pub mod SystemLaws
+pub mod Vendor
+pub mod VendorLaws
+pub mod Version
+pub mod Width

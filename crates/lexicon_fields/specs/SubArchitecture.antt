@@ -1,0 +1,216 @@
+-- The names of the sub-architectures, and what reads as which.
+use Rattle.std.specs.Prelude.{ℕ, List, [], ◌∷◌, codes, Option}
+use Rattle.lexicon_fields.specs.declared.architecture.arm.ArmArchitecture.{ArmArchitecture}
+use Rattle.lexicon_fields.specs.declared.architecture.arm.ArmArchitecture.TheVariants as arm
+use Rattle.lexicon_fields.specs.declared.architecture.aarch64.Aarch64Architecture.{Aarch64Architecture}
+use Rattle.lexicon_fields.specs.declared.architecture.aarch64.Aarch64Architecture.TheVariants as aarch64
+use Rattle.lexicon_fields.specs.declared.architecture.x86_32.X86_32Architecture.{X86_32Architecture}
+use Rattle.lexicon_fields.specs.declared.architecture.x86_32.X86_32Architecture.TheVariants as x86_32
+use Rattle.lexicon_fields.specs.declared.architecture.mips.Mips32Architecture.{Mips32Architecture}
+use Rattle.lexicon_fields.specs.declared.architecture.mips.Mips32Architecture.TheVariants as mips32
+use Rattle.lexicon_fields.specs.declared.architecture.mips.Mips64Architecture.{Mips64Architecture}
+use Rattle.lexicon_fields.specs.declared.architecture.mips.Mips64Architecture.TheVariants as mips64
+use Rattle.lexicon_fields.specs.declared.architecture.riscv.Riscv32Architecture.{Riscv32Architecture}
+use Rattle.lexicon_fields.specs.declared.architecture.riscv.Riscv32Architecture.TheVariants as riscv32
+use Rattle.lexicon_fields.specs.declared.architecture.riscv.Riscv64Architecture.{Riscv64Architecture}
+use Rattle.lexicon_fields.specs.declared.architecture.riscv.Riscv64Architecture.TheVariants as riscv64
+use Rattle.lexicon_fields.specs.declared.architecture.clever.CleverArchitecture.{CleverArchitecture}
+use Rattle.lexicon_fields.specs.declared.architecture.clever.CleverArchitecture.TheVariants as clever
+use Rattle.lexicon_fields.specs.declared.architecture.z80.Z80Architecture.{Z80Architecture}
+use Rattle.lexicon_fields.specs.declared.architecture.z80.Z80Architecture.TheVariants as z80
+use Rattle.lexicon_fields.specs.Names.{value_of, named}
+
+-- the name of an Arm architecture
+abbrev pub arm_name : ArmArchitecture → List ℕ
+arm_name arm.Arm = codes "arm"
+arm_name arm.Armeb = codes "armeb"
+arm_name arm.Armv4 = codes "armv4"
+arm_name arm.Armv4t = codes "armv4t"
+arm_name arm.Armv5t = codes "armv5t"
+arm_name arm.Armv5te = codes "armv5te"
+arm_name arm.Armv5tej = codes "armv5tej"
+arm_name arm.Armv6 = codes "armv6"
+arm_name arm.Armv6j = codes "armv6j"
+arm_name arm.Armv6k = codes "armv6k"
+arm_name arm.Armv6z = codes "armv6z"
+arm_name arm.Armv6kz = codes "armv6kz"
+arm_name arm.Armv6t2 = codes "armv6t2"
+arm_name arm.Armv6m = codes "armv6m"
+arm_name arm.Armv7 = codes "armv7"
+arm_name arm.Armv7a = codes "armv7a"
+arm_name arm.Armv7k = codes "armv7k"
+arm_name arm.Armv7ve = codes "armv7ve"
+arm_name arm.Armv7m = codes "armv7m"
+arm_name arm.Armv7r = codes "armv7r"
+arm_name arm.Armv7s = codes "armv7s"
+arm_name arm.Armv8 = codes "armv8"
+arm_name arm.Armv8a = codes "armv8a"
+arm_name arm.Armv8_1a = codes "armv8.1a"
+arm_name arm.Armv8_2a = codes "armv8.2a"
+arm_name arm.Armv8_3a = codes "armv8.3a"
+arm_name arm.Armv8_4a = codes "armv8.4a"
+arm_name arm.Armv8_5a = codes "armv8.5a"
+arm_name arm.Armv8mBase = codes "armv8m.base"
+arm_name arm.Armv8mMain = codes "armv8m.main"
+arm_name arm.Armv8r = codes "armv8r"
+arm_name arm.Armebv7r = codes "armebv7r"
+arm_name arm.Thumbeb = codes "thumbeb"
+arm_name arm.Thumbv4t = codes "thumbv4t"
+arm_name arm.Thumbv5te = codes "thumbv5te"
+arm_name arm.Thumbv6m = codes "thumbv6m"
+arm_name arm.Thumbv7a = codes "thumbv7a"
+arm_name arm.Thumbv7em = codes "thumbv7em"
+arm_name arm.Thumbv7m = codes "thumbv7m"
+arm_name arm.Thumbv7neon = codes "thumbv7neon"
+arm_name arm.Thumbv8mBase = codes "thumbv8m.base"
+arm_name arm.Thumbv8mMain = codes "thumbv8m.main"
+
+-- all of them
+abbrev pub arm_values : List ArmArchitecture
+arm_values =
+    arm.Arm ∷ arm.Armeb ∷ arm.Armv4 ∷ arm.Armv4t ∷ arm.Armv5t ∷ arm.Armv5te ∷ arm.Armv5tej ∷
+    arm.Armv6 ∷ arm.Armv6j ∷ arm.Armv6k ∷ arm.Armv6z ∷ arm.Armv6kz ∷ arm.Armv6t2 ∷ arm.Armv6m ∷
+    arm.Armv7 ∷ arm.Armv7a ∷ arm.Armv7k ∷ arm.Armv7ve ∷ arm.Armv7m ∷ arm.Armv7r ∷ arm.Armv7s ∷
+    arm.Armv8 ∷ arm.Armv8a ∷ arm.Armv8_1a ∷ arm.Armv8_2a ∷ arm.Armv8_3a ∷ arm.Armv8_4a ∷
+    arm.Armv8_5a ∷ arm.Armv8mBase ∷ arm.Armv8mMain ∷ arm.Armv8r ∷ arm.Armebv7r ∷ arm.Thumbeb ∷
+    arm.Thumbv4t ∷ arm.Thumbv5te ∷ arm.Thumbv6m ∷ arm.Thumbv7a ∷ arm.Thumbv7em ∷ arm.Thumbv7m ∷
+    arm.Thumbv7neon ∷ arm.Thumbv8mBase ∷ arm.Thumbv8mMain ∷ []
+
+-- what a text reads as, if anything
+unfoldable pub arm_of : List ℕ → Option ArmArchitecture
+arm_of text = value_of (named arm_name arm_values) text
+
+-- the name of a 64-bit Arm architecture
+abbrev pub aarch64_name : Aarch64Architecture → List ℕ
+aarch64_name aarch64.Aarch64 = codes "aarch64"
+aarch64_name aarch64.Aarch64be = codes "aarch64_be"
+
+-- all of them
+abbrev pub aarch64_values : List Aarch64Architecture
+aarch64_values =
+    aarch64.Aarch64 ∷ aarch64.Aarch64be ∷ []
+
+-- what a text reads as, if anything; `arm64` is an alias: it reads, and is no name
+unfoldable pub aarch64_of : List ℕ → Option Aarch64Architecture
+aarch64_of text = value_of ((codes "arm64", aarch64.Aarch64) ∷ named aarch64_name aarch64_values) text
+
+-- the name of a 32-bit x86 architecture
+abbrev pub x86_32_name : X86_32Architecture → List ℕ
+x86_32_name x86_32.I386 = codes "i386"
+x86_32_name x86_32.I586 = codes "i586"
+x86_32_name x86_32.I686 = codes "i686"
+
+-- all of them
+abbrev pub x86_32_values : List X86_32Architecture
+x86_32_values =
+    x86_32.I386 ∷ x86_32.I586 ∷ x86_32.I686 ∷ []
+
+-- what a text reads as, if anything
+unfoldable pub x86_32_of : List ℕ → Option X86_32Architecture
+x86_32_of text = value_of (named x86_32_name x86_32_values) text
+
+-- the name of a 32-bit MIPS architecture
+abbrev pub mips32_name : Mips32Architecture → List ℕ
+mips32_name mips32.Mips = codes "mips"
+mips32_name mips32.Mipsel = codes "mipsel"
+mips32_name mips32.Mipsisa32r6 = codes "mipsisa32r6"
+mips32_name mips32.Mipsisa32r6el = codes "mipsisa32r6el"
+
+-- all of them
+abbrev pub mips32_values : List Mips32Architecture
+mips32_values =
+    mips32.Mips ∷ mips32.Mipsel ∷ mips32.Mipsisa32r6 ∷ mips32.Mipsisa32r6el ∷ []
+
+-- what a text reads as, if anything
+unfoldable pub mips32_of : List ℕ → Option Mips32Architecture
+mips32_of text = value_of (named mips32_name mips32_values) text
+
+-- the name of a 64-bit MIPS architecture
+abbrev pub mips64_name : Mips64Architecture → List ℕ
+mips64_name mips64.Mips64 = codes "mips64"
+mips64_name mips64.Mips64el = codes "mips64el"
+mips64_name mips64.Mipsisa64r6 = codes "mipsisa64r6"
+mips64_name mips64.Mipsisa64r6el = codes "mipsisa64r6el"
+
+-- all of them
+abbrev pub mips64_values : List Mips64Architecture
+mips64_values =
+    mips64.Mips64 ∷ mips64.Mips64el ∷ mips64.Mipsisa64r6 ∷ mips64.Mipsisa64r6el ∷ []
+
+-- what a text reads as, if anything
+unfoldable pub mips64_of : List ℕ → Option Mips64Architecture
+mips64_of text = value_of (named mips64_name mips64_values) text
+
+-- the name of a 32-bit RISC-V architecture
+abbrev pub riscv32_name : Riscv32Architecture → List ℕ
+riscv32_name riscv32.Riscv32 = codes "riscv32"
+riscv32_name riscv32.Riscv32gc = codes "riscv32gc"
+riscv32_name riscv32.Riscv32i = codes "riscv32i"
+riscv32_name riscv32.Riscv32im = codes "riscv32im"
+riscv32_name riscv32.Riscv32ima = codes "riscv32ima"
+riscv32_name riscv32.Riscv32imac = codes "riscv32imac"
+riscv32_name riscv32.Riscv32imafc = codes "riscv32imafc"
+riscv32_name riscv32.Riscv32imc = codes "riscv32imc"
+
+-- all of them
+abbrev pub riscv32_values : List Riscv32Architecture
+riscv32_values =
+    riscv32.Riscv32 ∷ riscv32.Riscv32gc ∷ riscv32.Riscv32i ∷ riscv32.Riscv32im ∷
+    riscv32.Riscv32ima ∷ riscv32.Riscv32imac ∷ riscv32.Riscv32imafc ∷ riscv32.Riscv32imc ∷ []
+
+-- what a text reads as, if anything
+unfoldable pub riscv32_of : List ℕ → Option Riscv32Architecture
+riscv32_of text = value_of (named riscv32_name riscv32_values) text
+
+-- the name of a 64-bit RISC-V architecture
+abbrev pub riscv64_name : Riscv64Architecture → List ℕ
+riscv64_name riscv64.Riscv64 = codes "riscv64"
+riscv64_name riscv64.Riscv64gc = codes "riscv64gc"
+riscv64_name riscv64.Riscv64imac = codes "riscv64imac"
+riscv64_name riscv64.Riscv64a23 = codes "riscv64a23"
+
+-- all of them
+abbrev pub riscv64_values : List Riscv64Architecture
+riscv64_values =
+    riscv64.Riscv64 ∷ riscv64.Riscv64gc ∷ riscv64.Riscv64imac ∷ riscv64.Riscv64a23 ∷ []
+
+-- what a text reads as, if anything
+unfoldable pub riscv64_of : List ℕ → Option Riscv64Architecture
+riscv64_of text = value_of (named riscv64_name riscv64_values) text
+
+-- the name of a Clever architecture
+abbrev pub clever_name : CleverArchitecture → List ℕ
+clever_name clever.Clever = codes "clever"
+clever_name clever.Clever1_0 = codes "clever1.0"
+
+-- all of them
+abbrev pub clever_values : List CleverArchitecture
+clever_values =
+    clever.Clever ∷ clever.Clever1_0 ∷ []
+
+-- what a text reads as, if anything
+unfoldable pub clever_of : List ℕ → Option CleverArchitecture
+clever_of text = value_of (named clever_name clever_values) text
+
+-- the name of an architecture of the Z80 family
+abbrev pub z80_name : Z80Architecture → List ℕ
+z80_name z80.Z80 = codes "z80"
+z80_name z80.Z180 = codes "z180"
+z80_name z80.Ez80 = codes "ez80"
+z80_name z80.Sm83 = codes "sm83"
+z80_name z80.Rabbit2000 = codes "rabbit2000"
+z80_name z80.Rabbit2000A = codes "rabbit2000a"
+z80_name z80.Rabbit3000 = codes "rabbit3000"
+z80_name z80.Rabbit3000A = codes "rabbit3000a"
+z80_name z80.Tlcs90 = codes "tlcs90"
+z80_name z80.R800 = codes "r800"
+
+-- all of them
+abbrev pub z80_values : List Z80Architecture
+z80_values =
+    z80.Z80 ∷ z80.Z180 ∷ z80.Ez80 ∷ z80.Sm83 ∷ z80.Rabbit2000 ∷ z80.Rabbit2000A ∷ z80.Rabbit3000 ∷
+    z80.Rabbit3000A ∷ z80.Tlcs90 ∷ z80.R800 ∷ []
+
+-- what a text reads as, if anything
+unfoldable pub z80_of : List ℕ → Option Z80Architecture
+z80_of text = value_of (named z80_name z80_values) text

@@ -1,0 +1,143 @@
+-- Vendors: the known ones, and the custom ones, which are any other text of a certain form.
+use Rattle.std.specs.Prelude.{◌≡◌, ℕ, ◌==◌, nat_le, Bool, true, false, ◌&&◌, ◌||◌, List, [], ◌∷◌, codes, Option, Some, None, is_none, option_map, if◌then◌else◌, string_bytes}
+use Rattle.std.specs.List.{list_all}
+use Rattle.lexicon_fields.specs.declared.vendor.CustomVendor.{CustomVendor}
+use Rattle.lexicon_fields.specs.declared.vendor.CustomVendor.TheVariants.{Owned, Static}
+use Rattle.lexicon_fields.specs.declared.vendor.Vendor.{Vendor}
+use Rattle.lexicon_fields.specs.declared.vendor.Vendor.TheVariants as vendor
+use Rattle.lexicon_fields.specs.declared.vendor.VendorError.{VendorError}
+use Rattle.lexicon_fields.specs.declared.vendor.VendorError.TheVariants.{Unrecognized, OutOfMemory}
+use Rattle.lexicon_fields.specs.Names.{value_of, named, or_then}
+use Rattle.lexicon_fields.specs.Architecture.{architecture_of}
+use Rattle.lexicon_fields.specs.OperatingSystem.{system_of}
+use Rattle.lexicon_fields.specs.Environment.{environment_of}
+use Rattle.lexicon_fields.specs.BinaryFormat.{format_of}
+
+-- the known vendors
+pub data KnownVendor : Type 0 where
+  Unknown : KnownVendor
+  Amd : KnownVendor
+  Apple : KnownVendor
+  Espressif : KnownVendor
+  Experimental : KnownVendor
+  Fortanix : KnownVendor
+  Ibm : KnownVendor
+  Kmc : KnownVendor
+  Nintendo : KnownVendor
+  Nvidia : KnownVendor
+  Pc : KnownVendor
+  Rumprun : KnownVendor
+  Sun : KnownVendor
+  Uwp : KnownVendor
+  Wrs : KnownVendor
+
+-- a vendor as the rules see it: a known one, or a custom one by its text
+pub data VendorValue : Type 0 where
+  Known : KnownVendor → VendorValue
+  Custom : List ℕ → VendorValue
+
+-- the text of a custom vendor, whoever owns it
+abbrev pub custom_text : CustomVendor → List ℕ
+custom_text (Owned text) = string_bytes text.value
+custom_text (Static text) = text.now
+
+-- whether a custom vendor owns its text
+abbrev pub is_owned : CustomVendor → Bool
+is_owned (Owned text) = true
+is_owned (Static text) = false
+
+-- whether a vendor is a custom one that owns its text
+abbrev pub owns_text : Vendor → Bool
+owns_text (vendor.Custom custom) = is_owned custom
+owns_text _ = false
+
+-- what a vendor is to the rules
+abbrev pub vendor_value : Vendor → VendorValue
+vendor_value vendor.Unknown = Known Unknown
+vendor_value vendor.Amd = Known Amd
+vendor_value vendor.Apple = Known Apple
+vendor_value vendor.Espressif = Known Espressif
+vendor_value vendor.Experimental = Known Experimental
+vendor_value vendor.Fortanix = Known Fortanix
+vendor_value vendor.Ibm = Known Ibm
+vendor_value vendor.Kmc = Known Kmc
+vendor_value vendor.Nintendo = Known Nintendo
+vendor_value vendor.Nvidia = Known Nvidia
+vendor_value vendor.Pc = Known Pc
+vendor_value vendor.Rumprun = Known Rumprun
+vendor_value vendor.Sun = Known Sun
+vendor_value vendor.Uwp = Known Uwp
+vendor_value vendor.Wrs = Known Wrs
+vendor_value (vendor.Custom custom) = Custom (custom_text custom)
+
+-- the name of a known vendor
+abbrev pub known_name : KnownVendor → List ℕ
+known_name Unknown = codes "unknown"
+known_name Amd = codes "amd"
+known_name Apple = codes "apple"
+known_name Espressif = codes "espressif"
+known_name Experimental = codes "experimental"
+known_name Fortanix = codes "fortanix"
+known_name Ibm = codes "ibm"
+known_name Kmc = codes "kmc"
+known_name Nintendo = codes "nintendo"
+known_name Nvidia = codes "nvidia"
+known_name Pc = codes "pc"
+known_name Rumprun = codes "rumprun"
+known_name Sun = codes "sun"
+known_name Uwp = codes "uwp"
+known_name Wrs = codes "wrs"
+
+-- the name of a vendor; a custom one's is its text
+abbrev pub vendor_name : VendorValue → List ℕ
+vendor_name (Known known) = known_name known
+vendor_name (Custom text) = text
+
+abbrev pub known_vendors : List KnownVendor
+known_vendors =
+    Unknown ∷ Amd ∷ Apple ∷ Espressif ∷ Experimental ∷ Fortanix ∷ Ibm ∷ Kmc ∷ Nintendo ∷ Nvidia ∷
+    Pc ∷ Rumprun ∷ Sun ∷ Uwp ∷ Wrs ∷ []
+
+-- the known vendor of this name, if there is one
+unfoldable pub known_vendor_of : List ℕ → Option KnownVendor
+known_vendor_of text = value_of (named known_name known_vendors) text
+
+abbrev pub is_lowercase_letter : ℕ → Bool
+is_lowercase_letter c = nat_le 97 c && nat_le c 122
+
+-- `a` to `z`, `0` to `9`, `_` and `.`
+abbrev pub is_vendor_character : ℕ → Bool
+is_vendor_character c = is_lowercase_letter c || (nat_le 48 c && nat_le c 57) || (c == 95) || (c == 46)
+
+-- a text that begins with a letter and has only characters of a vendor
+abbrev pub has_vendor_form : List ℕ → Bool
+has_vendor_form [] = false
+has_vendor_form (c ∷ cs) = is_lowercase_letter c && list_all is_vendor_character cs
+
+-- a text that reads as no other field and is no known vendor's name
+abbrev pub is_free : List ℕ → Bool
+is_free text =
+    is_none (known_vendor_of text) && is_none (architecture_of text) && is_none (system_of text)
+    && is_none (environment_of text) && is_none (format_of text)
+
+-- what is admitted as the text of a custom vendor
+unfoldable pub is_admitted : List ℕ → Bool
+is_admitted text = is_free text && has_vendor_form text
+
+-- an admitted text, as a custom vendor
+abbrev pub custom_of : List ℕ → Option VendorValue
+custom_of text = if is_admitted text then Some (Custom text) else None
+
+-- what a text reads as, if anything
+unfoldable pub vendor_of : List ℕ → Option VendorValue
+vendor_of text = or_then (option_map Known (known_vendor_of text)) (custom_of text)
+
+-- a known vendor, or a custom one with an admitted text
+abbrev pub is_plain : VendorValue → Bool
+is_plain (Known known) = true
+is_plain (Custom text) = is_admitted text
+
+-- why a text is refused as a vendor: it reads as none, or it is admitted and the memory for it was refused
+abbrev pub IsVendorFault : List ℕ → VendorError → Type 0
+IsVendorFault text Unrecognized = vendor_of text ≡ None
+IsVendorFault text OutOfMemory = is_admitted text ≡ true

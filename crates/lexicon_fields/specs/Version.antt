@@ -1,0 +1,47 @@
+-- Version texts, as `10.14.6` in `macosx10.14.6`.
+use Rattle.std.specs.Prelude.{ℕ, ◌==◌, ◌∷◌, ◌++◌, nat_lt, nat_le, ◌&&◌, List, [], length, Option, Some, None, if◌then◌else◌}
+use Rattle.std.specs.Borrow.{Bor}
+use Rattle.std.specs.Char.{is_ascii_digit}
+use Rattle.std.specs.List.{list_all, slice_split}
+use Rattle.std.specs.Str.Parse.{digits_value, without_leading_plus}
+use Rattle.std.specs.Fmt.{decimal}
+use Rattle.lexicon_fields.specs.declared.deployment_target.DeploymentTarget.{DeploymentTarget}
+
+-- the number that one or more digits write, if it is within the limit
+abbrev pub number_within : ℕ → List ℕ → Option ℕ
+number_within limit text =
+    if nat_lt 0 (length text) && list_all is_ascii_digit text && nat_le (digits_value 10 text) limit
+    then Some (digits_value 10 text) else None
+
+-- the number of a piece, in front of which one plus may stand
+abbrev pub piece_within : ℕ → List ℕ → Option ℕ
+piece_within limit piece = number_within limit (without_leading_plus piece)
+
+-- the version of three numbers, if they are there
+abbrev pub version_of_numbers : Option ℕ → Option ℕ → Option ℕ → Option DeploymentTarget
+version_of_numbers (Some major) (Some minor) (Some patch) = Some (record { major = major; minor = minor; patch = patch })
+version_of_numbers _ _ _ = None
+
+-- one to three pieces: major up to 65535, minor and patch up to 255; a missing piece is 0
+abbrev pub version_of_pieces : List (List ℕ) → Option DeploymentTarget
+version_of_pieces (major ∷ []) = version_of_numbers (piece_within 65535 major) (Some 0) (Some 0)
+version_of_pieces (major ∷ minor ∷ []) = version_of_numbers (piece_within 65535 major) (piece_within 255 minor) (Some 0)
+version_of_pieces (major ∷ minor ∷ patch ∷ []) = version_of_numbers (piece_within 65535 major) (piece_within 255 minor) (piece_within 255 patch)
+version_of_pieces _ = None
+
+-- what lies between the dots of a text
+abbrev pub pieces_of : List ℕ → List (List ℕ)
+pieces_of text = slice_split (λ c. c == 46) text
+
+-- the pieces of what is left of a text, if anything is
+abbrev pub pieces_left : Option (Bor (List ℕ)) → List (List ℕ)
+pieces_left None = []
+pieces_left (Some rest) = pieces_of rest.now
+
+-- the version that a text reads as, if any
+unfoldable pub version_of : List ℕ → Option DeploymentTarget
+version_of text = version_of_pieces (pieces_of text)
+
+-- `major.minor.patch` in plain decimal
+abbrev pub version_name : DeploymentTarget → List ℕ
+version_name v = decimal v.major ++ (46 ∷ decimal v.minor ++ (46 ∷ decimal v.patch))

@@ -1,0 +1,96 @@
+//! The 64-bit Arm architectures.
+ghost use Rattle.std.specs.Prelude.{◌≡◌, false, Some};
+ghost use Rattle.std.specs.Cow.{cow_str_bytes, IsBorrowedStr};
+ghost use Rattle.lexicon_fields.specs.Names.{ReadsBy};
+ghost use Rattle.lexicon_fields.specs.SubArchitecture.{aarch64_name, aarch64_of};
+ghost use Rattle.lexicon_fields.specs.ArchitectureQueries.{aarch64_endianness};
+
+use crate::width::{Endianness, PointerWidth};
+use std::borrow::CowStr;
+use std::fmt;
+use std::str::FromStr;
+
+/// A 64-bit Arm architecture.
+#[derive(Clone, Copy, Debug, PartialEq, Eq, Hash)]
+pub enum Aarch64Architecture {
+    /// Little-endian.
+    Aarch64,
+    /// Big-endian.
+    Aarch64be,
+}
+
+impl Aarch64Architecture {
+    /// Whether this architecture uses the Thumb instruction set: none does.
+    pub fn is_thumb(self) -> bool
+        ensures { result ≡ false }
+    {
+        false
+    }
+
+    /// The width of a pointer: 64 bits on each, whatever the ABI.
+    pub fn pointer_width(self) -> PointerWidth
+        ensures { result ≡ PointerWidth.U64 }
+    {
+        PointerWidth::U64
+    }
+
+    /// The byte order.
+    pub fn endianness(self) -> Endianness
+        ensures { result ≡ aarch64_endianness self }
+    {
+        match self {
+            Aarch64Architecture::Aarch64 => Endianness::Little,
+            Aarch64Architecture::Aarch64be => Endianness::Big,
+        }
+    }
+
+    /// The value whose name the text is, and `Aarch64` for `arm64`; every other text is refused.
+    #[tactic(auto, unfolding(crate::specs::SubArchitecture::aarch64_of))]
+    pub fn from_str(s: &str) -> Result<Self, ()>
+        ensures { ReadsBy aarch64_of s.now result }
+    {
+        Ok(match s {
+            "aarch64" => Aarch64Architecture::Aarch64,
+            "aarch64_be" => Aarch64Architecture::Aarch64be,
+            "arm64" => Aarch64Architecture::Aarch64,
+            _ => return Err(()),
+        })
+    }
+
+    /// The name, which is always borrowed.
+    pub fn into_str(self) -> CowStr<'static>
+        ensures name { cow_str_bytes result ≡ aarch64_name self }
+        ensures borrowed { IsBorrowedStr result }
+    {
+        CowStr::Borrowed(self.name())
+    }
+
+    pub(crate) fn name(self) -> &'static str
+        ensures { result.now ≡ aarch64_name self }
+    {
+        match self {
+            Aarch64Architecture::Aarch64 => "aarch64",
+            Aarch64Architecture::Aarch64be => "aarch64_be",
+        }
+    }
+}
+
+impl FromStr for Aarch64Architecture {
+    type Err = ();
+
+    ghost from_str_gives = { ReadsBy aarch64_of };
+
+    fn from_str(s: &str) -> Result<Aarch64Architecture, ()> {
+        Aarch64Architecture::from_str(s)
+    }
+}
+
+impl fmt::Display for Aarch64Architecture {
+    ghost output = { λ it. Some (aarch64_name it) };
+
+    ghost styled_output = { λ it _. Some (aarch64_name it) };
+
+    fn fmt<W: fmt::Write>(&self, f: &mut fmt::Formatter<W>) -> fmt::Result {
+        f.write_str(self.name())
+    }
+}

@@ -1,0 +1,237 @@
+//! The 32-bit Arm architectures.
+ghost use Rattle.std.specs.Prelude.{◌≡◌, Some};
+ghost use Rattle.std.specs.Cow.{cow_str_bytes, IsBorrowedStr};
+ghost use Rattle.lexicon_fields.specs.Names.{ReadsBy};
+ghost use Rattle.lexicon_fields.specs.SubArchitecture.{arm_name, arm_of};
+ghost use Rattle.lexicon_fields.specs.ArchitectureQueries.{is_thumb, arm_endianness};
+
+use crate::width::{Endianness, PointerWidth};
+use std::borrow::CowStr;
+use std::fmt;
+use std::str::FromStr;
+
+/// A 32-bit Arm architecture, in the Arm or the Thumb instruction set.
+#[derive(Clone, Copy, Debug, PartialEq, Eq, Hash)]
+pub enum ArmArchitecture {
+    /// Arm of no stated version.
+    Arm,
+    /// Arm of no stated version, big-endian.
+    Armeb,
+    Armv4,
+    Armv4t,
+    Armv5t,
+    Armv5te,
+    Armv5tej,
+    Armv6,
+    Armv6j,
+    Armv6k,
+    Armv6z,
+    Armv6kz,
+    Armv6t2,
+    Armv6m,
+    Armv7,
+    Armv7a,
+    /// Armv7 of Apple's watches.
+    Armv7k,
+    Armv7ve,
+    Armv7m,
+    Armv7r,
+    /// Armv7 of Apple's A6.
+    Armv7s,
+    Armv8,
+    Armv8a,
+    Armv8_1a,
+    Armv8_2a,
+    Armv8_3a,
+    Armv8_4a,
+    Armv8_5a,
+    /// Armv8-M, the baseline.
+    Armv8mBase,
+    /// Armv8-M, the mainline.
+    Armv8mMain,
+    Armv8r,
+    /// Armv7-R, big-endian.
+    Armebv7r,
+    /// Thumb of no stated version, big-endian.
+    Thumbeb,
+    Thumbv4t,
+    Thumbv5te,
+    Thumbv6m,
+    Thumbv7a,
+    Thumbv7em,
+    Thumbv7m,
+    /// Armv7-A in Thumb, with the vector instructions Neon.
+    Thumbv7neon,
+    /// Armv8-M in Thumb, the baseline.
+    Thumbv8mBase,
+    /// Armv8-M in Thumb, the mainline.
+    Thumbv8mMain,
+}
+
+impl ArmArchitecture {
+    /// Whether this architecture uses the Thumb instruction set.
+    pub fn is_thumb(self) -> bool
+        ensures { result ≡ is_thumb self }
+    {
+        matches!(
+            self,
+            ArmArchitecture::Thumbeb
+                | ArmArchitecture::Thumbv4t
+                | ArmArchitecture::Thumbv5te
+                | ArmArchitecture::Thumbv6m
+                | ArmArchitecture::Thumbv7a
+                | ArmArchitecture::Thumbv7em
+                | ArmArchitecture::Thumbv7m
+                | ArmArchitecture::Thumbv7neon
+                | ArmArchitecture::Thumbv8mBase
+                | ArmArchitecture::Thumbv8mMain
+        )
+    }
+
+    /// The width of a pointer: 32 bits on each.
+    pub fn pointer_width(self) -> PointerWidth
+        ensures { result ≡ PointerWidth.U32 }
+    {
+        PointerWidth::U32
+    }
+
+    /// The byte order.
+    pub fn endianness(self) -> Endianness
+        ensures { result ≡ arm_endianness self }
+    {
+        match self {
+            ArmArchitecture::Armeb | ArmArchitecture::Armebv7r | ArmArchitecture::Thumbeb =>
+                Endianness::Big,
+            _ => Endianness::Little,
+        }
+    }
+
+    /// The value whose name the text is; every other text is refused.
+    #[tactic(auto, unfolding(crate::specs::SubArchitecture::arm_of))]
+    pub fn from_str(s: &str) -> Result<Self, ()>
+        ensures { ReadsBy arm_of s.now result }
+    {
+        Ok(match s {
+            "arm" => ArmArchitecture::Arm,
+            "armeb" => ArmArchitecture::Armeb,
+            "armv4" => ArmArchitecture::Armv4,
+            "armv4t" => ArmArchitecture::Armv4t,
+            "armv5t" => ArmArchitecture::Armv5t,
+            "armv5te" => ArmArchitecture::Armv5te,
+            "armv5tej" => ArmArchitecture::Armv5tej,
+            "armv6" => ArmArchitecture::Armv6,
+            "armv6j" => ArmArchitecture::Armv6j,
+            "armv6k" => ArmArchitecture::Armv6k,
+            "armv6z" => ArmArchitecture::Armv6z,
+            "armv6kz" => ArmArchitecture::Armv6kz,
+            "armv6t2" => ArmArchitecture::Armv6t2,
+            "armv6m" => ArmArchitecture::Armv6m,
+            "armv7" => ArmArchitecture::Armv7,
+            "armv7a" => ArmArchitecture::Armv7a,
+            "armv7k" => ArmArchitecture::Armv7k,
+            "armv7ve" => ArmArchitecture::Armv7ve,
+            "armv7m" => ArmArchitecture::Armv7m,
+            "armv7r" => ArmArchitecture::Armv7r,
+            "armv7s" => ArmArchitecture::Armv7s,
+            "armv8" => ArmArchitecture::Armv8,
+            "armv8a" => ArmArchitecture::Armv8a,
+            "armv8.1a" => ArmArchitecture::Armv8_1a,
+            "armv8.2a" => ArmArchitecture::Armv8_2a,
+            "armv8.3a" => ArmArchitecture::Armv8_3a,
+            "armv8.4a" => ArmArchitecture::Armv8_4a,
+            "armv8.5a" => ArmArchitecture::Armv8_5a,
+            "armv8m.base" => ArmArchitecture::Armv8mBase,
+            "armv8m.main" => ArmArchitecture::Armv8mMain,
+            "armv8r" => ArmArchitecture::Armv8r,
+            "armebv7r" => ArmArchitecture::Armebv7r,
+            "thumbeb" => ArmArchitecture::Thumbeb,
+            "thumbv4t" => ArmArchitecture::Thumbv4t,
+            "thumbv5te" => ArmArchitecture::Thumbv5te,
+            "thumbv6m" => ArmArchitecture::Thumbv6m,
+            "thumbv7a" => ArmArchitecture::Thumbv7a,
+            "thumbv7em" => ArmArchitecture::Thumbv7em,
+            "thumbv7m" => ArmArchitecture::Thumbv7m,
+            "thumbv7neon" => ArmArchitecture::Thumbv7neon,
+            "thumbv8m.base" => ArmArchitecture::Thumbv8mBase,
+            "thumbv8m.main" => ArmArchitecture::Thumbv8mMain,
+            _ => return Err(()),
+        })
+    }
+
+    /// The name, which is always borrowed.
+    pub fn into_str(self) -> CowStr<'static>
+        ensures name { cow_str_bytes result ≡ arm_name self }
+        ensures borrowed { IsBorrowedStr result }
+    {
+        CowStr::Borrowed(self.name())
+    }
+
+    pub(crate) fn name(self) -> &'static str
+        ensures { result.now ≡ arm_name self }
+    {
+        match self {
+            ArmArchitecture::Arm => "arm",
+            ArmArchitecture::Armeb => "armeb",
+            ArmArchitecture::Armv4 => "armv4",
+            ArmArchitecture::Armv4t => "armv4t",
+            ArmArchitecture::Armv5t => "armv5t",
+            ArmArchitecture::Armv5te => "armv5te",
+            ArmArchitecture::Armv5tej => "armv5tej",
+            ArmArchitecture::Armv6 => "armv6",
+            ArmArchitecture::Armv6j => "armv6j",
+            ArmArchitecture::Armv6k => "armv6k",
+            ArmArchitecture::Armv6z => "armv6z",
+            ArmArchitecture::Armv6kz => "armv6kz",
+            ArmArchitecture::Armv6t2 => "armv6t2",
+            ArmArchitecture::Armv6m => "armv6m",
+            ArmArchitecture::Armv7 => "armv7",
+            ArmArchitecture::Armv7a => "armv7a",
+            ArmArchitecture::Armv7k => "armv7k",
+            ArmArchitecture::Armv7ve => "armv7ve",
+            ArmArchitecture::Armv7m => "armv7m",
+            ArmArchitecture::Armv7r => "armv7r",
+            ArmArchitecture::Armv7s => "armv7s",
+            ArmArchitecture::Armv8 => "armv8",
+            ArmArchitecture::Armv8a => "armv8a",
+            ArmArchitecture::Armv8_1a => "armv8.1a",
+            ArmArchitecture::Armv8_2a => "armv8.2a",
+            ArmArchitecture::Armv8_3a => "armv8.3a",
+            ArmArchitecture::Armv8_4a => "armv8.4a",
+            ArmArchitecture::Armv8_5a => "armv8.5a",
+            ArmArchitecture::Armv8mBase => "armv8m.base",
+            ArmArchitecture::Armv8mMain => "armv8m.main",
+            ArmArchitecture::Armv8r => "armv8r",
+            ArmArchitecture::Armebv7r => "armebv7r",
+            ArmArchitecture::Thumbeb => "thumbeb",
+            ArmArchitecture::Thumbv4t => "thumbv4t",
+            ArmArchitecture::Thumbv5te => "thumbv5te",
+            ArmArchitecture::Thumbv6m => "thumbv6m",
+            ArmArchitecture::Thumbv7a => "thumbv7a",
+            ArmArchitecture::Thumbv7em => "thumbv7em",
+            ArmArchitecture::Thumbv7m => "thumbv7m",
+            ArmArchitecture::Thumbv7neon => "thumbv7neon",
+            ArmArchitecture::Thumbv8mBase => "thumbv8m.base",
+            ArmArchitecture::Thumbv8mMain => "thumbv8m.main",
+        }
+    }
+}
+
+impl FromStr for ArmArchitecture {
+    type Err = ();
+
+    ghost from_str_gives = { ReadsBy arm_of };
+
+    fn from_str(s: &str) -> Result<ArmArchitecture, ()> {
+        ArmArchitecture::from_str(s)
+    }
+}
+
+impl fmt::Display for ArmArchitecture {
+    ghost output = { λ it. Some (arm_name it) };
+
+    ghost styled_output = { λ it _. Some (arm_name it) };
+
+    fn fmt<W: fmt::Write>(&self, f: &mut fmt::Formatter<W>) -> fmt::Result {
+        f.write_str(self.name())
+    }
+}

@@ -1,0 +1,68 @@
+//! The Clever architectures.
+ghost use Rattle.std.specs.Prelude.{◌≡◌, Some};
+ghost use Rattle.std.specs.Cow.{cow_str_bytes, IsBorrowedStr};
+ghost use Rattle.lexicon_fields.specs.Names.{ReadsBy};
+ghost use Rattle.lexicon_fields.specs.SubArchitecture.{clever_name, clever_of};
+
+use std::borrow::CowStr;
+use std::fmt;
+use std::str::FromStr;
+
+/// A Clever architecture.
+#[derive(Clone, Copy, Debug, PartialEq, Eq, Hash)]
+pub enum CleverArchitecture {
+    /// No stated version.
+    Clever,
+    Clever1_0,
+}
+
+impl CleverArchitecture {
+    /// The value whose name the text is; every other text is refused.
+    #[tactic(auto, unfolding(crate::specs::SubArchitecture::clever_of))]
+    pub fn from_str(s: &str) -> Result<Self, ()>
+        ensures { ReadsBy clever_of s.now result }
+    {
+        Ok(match s {
+            "clever" => CleverArchitecture::Clever,
+            "clever1.0" => CleverArchitecture::Clever1_0,
+            _ => return Err(()),
+        })
+    }
+
+    /// The name, which is always borrowed.
+    pub fn into_str(self) -> CowStr<'static>
+        ensures name { cow_str_bytes result ≡ clever_name self }
+        ensures borrowed { IsBorrowedStr result }
+    {
+        CowStr::Borrowed(self.name())
+    }
+
+    pub(crate) fn name(self) -> &'static str
+        ensures { result.now ≡ clever_name self }
+    {
+        match self {
+            CleverArchitecture::Clever => "clever",
+            CleverArchitecture::Clever1_0 => "clever1.0",
+        }
+    }
+}
+
+impl FromStr for CleverArchitecture {
+    type Err = ();
+
+    ghost from_str_gives = { ReadsBy clever_of };
+
+    fn from_str(s: &str) -> Result<CleverArchitecture, ()> {
+        CleverArchitecture::from_str(s)
+    }
+}
+
+impl fmt::Display for CleverArchitecture {
+    ghost output = { λ it. Some (clever_name it) };
+
+    ghost styled_output = { λ it _. Some (clever_name it) };
+
+    fn fmt<W: fmt::Write>(&self, f: &mut fmt::Formatter<W>) -> fmt::Result {
+        f.write_str(self.name())
+    }
+}

@@ -1,0 +1,145 @@
+//! The MIPS architectures.
+ghost use Rattle.std.specs.Prelude.{◌≡◌, Some};
+ghost use Rattle.std.specs.Cow.{cow_str_bytes, IsBorrowedStr};
+ghost use Rattle.lexicon_fields.specs.Names.{ReadsBy};
+ghost use Rattle.lexicon_fields.specs.SubArchitecture.{mips32_name, mips32_of, mips64_name, mips64_of};
+
+use std::borrow::CowStr;
+use std::fmt;
+use std::str::FromStr;
+
+/// A 32-bit MIPS architecture.
+#[derive(Clone, Copy, Debug, PartialEq, Eq, Hash)]
+pub enum Mips32Architecture {
+    /// Big-endian.
+    Mips,
+    /// Little-endian.
+    Mipsel,
+    /// Release 6, big-endian.
+    Mipsisa32r6,
+    /// Release 6, little-endian.
+    Mipsisa32r6el,
+}
+
+impl Mips32Architecture {
+    /// The value whose name the text is; every other text is refused.
+    #[tactic(auto, unfolding(crate::specs::SubArchitecture::mips32_of))]
+    pub fn from_str(s: &str) -> Result<Self, ()>
+        ensures { ReadsBy mips32_of s.now result }
+    {
+        Ok(match s {
+            "mips" => Mips32Architecture::Mips,
+            "mipsel" => Mips32Architecture::Mipsel,
+            "mipsisa32r6" => Mips32Architecture::Mipsisa32r6,
+            "mipsisa32r6el" => Mips32Architecture::Mipsisa32r6el,
+            _ => return Err(()),
+        })
+    }
+
+    /// The name, which is always borrowed.
+    pub fn into_str(self) -> CowStr<'static>
+        ensures name { cow_str_bytes result ≡ mips32_name self }
+        ensures borrowed { IsBorrowedStr result }
+    {
+        CowStr::Borrowed(self.name())
+    }
+
+    pub(crate) fn name(self) -> &'static str
+        ensures { result.now ≡ mips32_name self }
+    {
+        match self {
+            Mips32Architecture::Mips => "mips",
+            Mips32Architecture::Mipsel => "mipsel",
+            Mips32Architecture::Mipsisa32r6 => "mipsisa32r6",
+            Mips32Architecture::Mipsisa32r6el => "mipsisa32r6el",
+        }
+    }
+}
+
+impl FromStr for Mips32Architecture {
+    type Err = ();
+
+    ghost from_str_gives = { ReadsBy mips32_of };
+
+    fn from_str(s: &str) -> Result<Mips32Architecture, ()> {
+        Mips32Architecture::from_str(s)
+    }
+}
+
+impl fmt::Display for Mips32Architecture {
+    ghost output = { λ it. Some (mips32_name it) };
+
+    ghost styled_output = { λ it _. Some (mips32_name it) };
+
+    fn fmt<W: fmt::Write>(&self, f: &mut fmt::Formatter<W>) -> fmt::Result {
+        f.write_str(self.name())
+    }
+}
+
+/// A 64-bit MIPS architecture.
+#[derive(Clone, Copy, Debug, PartialEq, Eq, Hash)]
+pub enum Mips64Architecture {
+    /// Big-endian.
+    Mips64,
+    /// Little-endian.
+    Mips64el,
+    /// Release 6, big-endian.
+    Mipsisa64r6,
+    /// Release 6, little-endian.
+    Mipsisa64r6el,
+}
+
+impl Mips64Architecture {
+    /// The value whose name the text is; every other text is refused.
+    #[tactic(auto, unfolding(crate::specs::SubArchitecture::mips64_of))]
+    pub fn from_str(s: &str) -> Result<Self, ()>
+        ensures { ReadsBy mips64_of s.now result }
+    {
+        Ok(match s {
+            "mips64" => Mips64Architecture::Mips64,
+            "mips64el" => Mips64Architecture::Mips64el,
+            "mipsisa64r6" => Mips64Architecture::Mipsisa64r6,
+            "mipsisa64r6el" => Mips64Architecture::Mipsisa64r6el,
+            _ => return Err(()),
+        })
+    }
+
+    /// The name, which is always borrowed.
+    pub fn into_str(self) -> CowStr<'static>
+        ensures name { cow_str_bytes result ≡ mips64_name self }
+        ensures borrowed { IsBorrowedStr result }
+    {
+        CowStr::Borrowed(self.name())
+    }
+
+    pub(crate) fn name(self) -> &'static str
+        ensures { result.now ≡ mips64_name self }
+    {
+        match self {
+            Mips64Architecture::Mips64 => "mips64",
+            Mips64Architecture::Mips64el => "mips64el",
+            Mips64Architecture::Mipsisa64r6 => "mipsisa64r6",
+            Mips64Architecture::Mipsisa64r6el => "mipsisa64r6el",
+        }
+    }
+}
+
+impl FromStr for Mips64Architecture {
+    type Err = ();
+
+    ghost from_str_gives = { ReadsBy mips64_of };
+
+    fn from_str(s: &str) -> Result<Mips64Architecture, ()> {
+        Mips64Architecture::from_str(s)
+    }
+}
+
+impl fmt::Display for Mips64Architecture {
+    ghost output = { λ it. Some (mips64_name it) };
+
+    ghost styled_output = { λ it _. Some (mips64_name it) };
+
+    fn fmt<W: fmt::Write>(&self, f: &mut fmt::Formatter<W>) -> fmt::Result {
+        f.write_str(self.name())
+    }
+}

@@ -1,0 +1,154 @@
+//! The RISC-V architectures.
+ghost use Rattle.std.specs.Prelude.{◌≡◌, Some};
+ghost use Rattle.std.specs.Cow.{cow_str_bytes, IsBorrowedStr};
+ghost use Rattle.lexicon_fields.specs.Names.{ReadsBy};
+ghost use Rattle.lexicon_fields.specs.SubArchitecture.{riscv32_name, riscv32_of, riscv64_name, riscv64_of};
+
+use std::borrow::CowStr;
+use std::fmt;
+use std::str::FromStr;
+
+/// A 32-bit RISC-V architecture, by its extensions.
+#[derive(Clone, Copy, Debug, PartialEq, Eq, Hash)]
+pub enum Riscv32Architecture {
+    /// No stated extensions.
+    Riscv32,
+    /// The general extensions, `imafd`, and compressed instructions.
+    Riscv32gc,
+    Riscv32i,
+    Riscv32im,
+    Riscv32ima,
+    Riscv32imac,
+    Riscv32imafc,
+    Riscv32imc,
+}
+
+impl Riscv32Architecture {
+    /// The value whose name the text is; every other text is refused.
+    #[tactic(auto, unfolding(crate::specs::SubArchitecture::riscv32_of))]
+    pub fn from_str(s: &str) -> Result<Self, ()>
+        ensures { ReadsBy riscv32_of s.now result }
+    {
+        Ok(match s {
+            "riscv32" => Riscv32Architecture::Riscv32,
+            "riscv32gc" => Riscv32Architecture::Riscv32gc,
+            "riscv32i" => Riscv32Architecture::Riscv32i,
+            "riscv32im" => Riscv32Architecture::Riscv32im,
+            "riscv32ima" => Riscv32Architecture::Riscv32ima,
+            "riscv32imac" => Riscv32Architecture::Riscv32imac,
+            "riscv32imafc" => Riscv32Architecture::Riscv32imafc,
+            "riscv32imc" => Riscv32Architecture::Riscv32imc,
+            _ => return Err(()),
+        })
+    }
+
+    /// The name, which is always borrowed.
+    pub fn into_str(self) -> CowStr<'static>
+        ensures name { cow_str_bytes result ≡ riscv32_name self }
+        ensures borrowed { IsBorrowedStr result }
+    {
+        CowStr::Borrowed(self.name())
+    }
+
+    pub(crate) fn name(self) -> &'static str
+        ensures { result.now ≡ riscv32_name self }
+    {
+        match self {
+            Riscv32Architecture::Riscv32 => "riscv32",
+            Riscv32Architecture::Riscv32gc => "riscv32gc",
+            Riscv32Architecture::Riscv32i => "riscv32i",
+            Riscv32Architecture::Riscv32im => "riscv32im",
+            Riscv32Architecture::Riscv32ima => "riscv32ima",
+            Riscv32Architecture::Riscv32imac => "riscv32imac",
+            Riscv32Architecture::Riscv32imafc => "riscv32imafc",
+            Riscv32Architecture::Riscv32imc => "riscv32imc",
+        }
+    }
+}
+
+impl FromStr for Riscv32Architecture {
+    type Err = ();
+
+    ghost from_str_gives = { ReadsBy riscv32_of };
+
+    fn from_str(s: &str) -> Result<Riscv32Architecture, ()> {
+        Riscv32Architecture::from_str(s)
+    }
+}
+
+impl fmt::Display for Riscv32Architecture {
+    ghost output = { λ it. Some (riscv32_name it) };
+
+    ghost styled_output = { λ it _. Some (riscv32_name it) };
+
+    fn fmt<W: fmt::Write>(&self, f: &mut fmt::Formatter<W>) -> fmt::Result {
+        f.write_str(self.name())
+    }
+}
+
+/// A 64-bit RISC-V architecture, by its extensions.
+#[derive(Clone, Copy, Debug, PartialEq, Eq, Hash)]
+pub enum Riscv64Architecture {
+    /// No stated extensions.
+    Riscv64,
+    /// The general extensions, `imafd`, and compressed instructions.
+    Riscv64gc,
+    Riscv64imac,
+    /// The profile RVA23.
+    Riscv64a23,
+}
+
+impl Riscv64Architecture {
+    /// The value whose name the text is; every other text is refused.
+    #[tactic(auto, unfolding(crate::specs::SubArchitecture::riscv64_of))]
+    pub fn from_str(s: &str) -> Result<Self, ()>
+        ensures { ReadsBy riscv64_of s.now result }
+    {
+        Ok(match s {
+            "riscv64" => Riscv64Architecture::Riscv64,
+            "riscv64gc" => Riscv64Architecture::Riscv64gc,
+            "riscv64imac" => Riscv64Architecture::Riscv64imac,
+            "riscv64a23" => Riscv64Architecture::Riscv64a23,
+            _ => return Err(()),
+        })
+    }
+
+    /// The name, which is always borrowed.
+    pub fn into_str(self) -> CowStr<'static>
+        ensures name { cow_str_bytes result ≡ riscv64_name self }
+        ensures borrowed { IsBorrowedStr result }
+    {
+        CowStr::Borrowed(self.name())
+    }
+
+    pub(crate) fn name(self) -> &'static str
+        ensures { result.now ≡ riscv64_name self }
+    {
+        match self {
+            Riscv64Architecture::Riscv64 => "riscv64",
+            Riscv64Architecture::Riscv64gc => "riscv64gc",
+            Riscv64Architecture::Riscv64imac => "riscv64imac",
+            Riscv64Architecture::Riscv64a23 => "riscv64a23",
+        }
+    }
+}
+
+impl FromStr for Riscv64Architecture {
+    type Err = ();
+
+    ghost from_str_gives = { ReadsBy riscv64_of };
+
+    fn from_str(s: &str) -> Result<Riscv64Architecture, ()> {
+        Riscv64Architecture::from_str(s)
+    }
+}
+
+impl fmt::Display for Riscv64Architecture {
+    ghost output = { λ it. Some (riscv64_name it) };
+
+    ghost styled_output = { λ it _. Some (riscv64_name it) };
+
+    fn fmt<W: fmt::Write>(&self, f: &mut fmt::Formatter<W>) -> fmt::Result {
+        f.write_str(self.name())
+    }
+}

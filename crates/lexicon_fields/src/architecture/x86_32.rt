@@ -1,0 +1,70 @@
+//! The 32-bit x86 architectures.
+ghost use Rattle.std.specs.Prelude.{◌≡◌, Some};
+ghost use Rattle.std.specs.Cow.{cow_str_bytes, IsBorrowedStr};
+ghost use Rattle.lexicon_fields.specs.Names.{ReadsBy};
+ghost use Rattle.lexicon_fields.specs.SubArchitecture.{x86_32_name, x86_32_of};
+
+use std::borrow::CowStr;
+use std::fmt;
+use std::str::FromStr;
+
+/// A 32-bit x86 architecture.
+#[derive(Clone, Copy, Debug, PartialEq, Eq, Hash)]
+pub enum X86_32Architecture {
+    I386,
+    I586,
+    I686,
+}
+
+impl X86_32Architecture {
+    /// The value whose name the text is; every other text is refused.
+    #[tactic(auto, unfolding(crate::specs::SubArchitecture::x86_32_of))]
+    pub fn from_str(s: &str) -> Result<Self, ()>
+        ensures { ReadsBy x86_32_of s.now result }
+    {
+        Ok(match s {
+            "i386" => X86_32Architecture::I386,
+            "i586" => X86_32Architecture::I586,
+            "i686" => X86_32Architecture::I686,
+            _ => return Err(()),
+        })
+    }
+
+    /// The name, which is always borrowed.
+    pub fn into_str(self) -> CowStr<'static>
+        ensures name { cow_str_bytes result ≡ x86_32_name self }
+        ensures borrowed { IsBorrowedStr result }
+    {
+        CowStr::Borrowed(self.name())
+    }
+
+    pub(crate) fn name(self) -> &'static str
+        ensures { result.now ≡ x86_32_name self }
+    {
+        match self {
+            X86_32Architecture::I386 => "i386",
+            X86_32Architecture::I586 => "i586",
+            X86_32Architecture::I686 => "i686",
+        }
+    }
+}
+
+impl FromStr for X86_32Architecture {
+    type Err = ();
+
+    ghost from_str_gives = { ReadsBy x86_32_of };
+
+    fn from_str(s: &str) -> Result<X86_32Architecture, ()> {
+        X86_32Architecture::from_str(s)
+    }
+}
+
+impl fmt::Display for X86_32Architecture {
+    ghost output = { λ it. Some (x86_32_name it) };
+
+    ghost styled_output = { λ it _. Some (x86_32_name it) };
+
+    fn fmt<W: fmt::Write>(&self, f: &mut fmt::Formatter<W>) -> fmt::Result {
+        f.write_str(self.name())
+    }
+}

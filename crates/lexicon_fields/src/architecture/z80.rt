@@ -1,0 +1,94 @@
+//! The architectures of the Z80 family.
+ghost use Rattle.std.specs.Prelude.{◌≡◌, Some};
+ghost use Rattle.std.specs.Cow.{cow_str_bytes, IsBorrowedStr};
+ghost use Rattle.lexicon_fields.specs.Names.{ReadsBy};
+ghost use Rattle.lexicon_fields.specs.SubArchitecture.{z80_name, z80_of};
+
+use std::borrow::CowStr;
+use std::fmt;
+use std::str::FromStr;
+
+/// An architecture of the Z80 family.
+#[derive(Clone, Copy, Debug, PartialEq, Eq, Hash)]
+pub enum Z80Architecture {
+    Z80,
+    Z180,
+    Ez80,
+    /// Sharp's SM83, of the Game Boy.
+    Sm83,
+    Rabbit2000,
+    Rabbit2000A,
+    Rabbit3000,
+    Rabbit3000A,
+    /// Toshiba's TLCS-90.
+    Tlcs90,
+    /// ASCII's R800, of the MSX turbo R.
+    R800,
+}
+
+impl Z80Architecture {
+    /// The value whose name the text is; every other text is refused.
+    #[tactic(auto, unfolding(crate::specs::SubArchitecture::z80_of))]
+    pub fn from_str(s: &str) -> Result<Self, ()>
+        ensures { ReadsBy z80_of s.now result }
+    {
+        Ok(match s {
+            "z80" => Z80Architecture::Z80,
+            "z180" => Z80Architecture::Z180,
+            "ez80" => Z80Architecture::Ez80,
+            "sm83" => Z80Architecture::Sm83,
+            "rabbit2000" => Z80Architecture::Rabbit2000,
+            "rabbit2000a" => Z80Architecture::Rabbit2000A,
+            "rabbit3000" => Z80Architecture::Rabbit3000,
+            "rabbit3000a" => Z80Architecture::Rabbit3000A,
+            "tlcs90" => Z80Architecture::Tlcs90,
+            "r800" => Z80Architecture::R800,
+            _ => return Err(()),
+        })
+    }
+
+    /// The name, which is always borrowed.
+    pub fn into_str(self) -> CowStr<'static>
+        ensures name { cow_str_bytes result ≡ z80_name self }
+        ensures borrowed { IsBorrowedStr result }
+    {
+        CowStr::Borrowed(self.name())
+    }
+
+    pub(crate) fn name(self) -> &'static str
+        ensures { result.now ≡ z80_name self }
+    {
+        match self {
+            Z80Architecture::Z80 => "z80",
+            Z80Architecture::Z180 => "z180",
+            Z80Architecture::Ez80 => "ez80",
+            Z80Architecture::Sm83 => "sm83",
+            Z80Architecture::Rabbit2000 => "rabbit2000",
+            Z80Architecture::Rabbit2000A => "rabbit2000a",
+            Z80Architecture::Rabbit3000 => "rabbit3000",
+            Z80Architecture::Rabbit3000A => "rabbit3000a",
+            Z80Architecture::Tlcs90 => "tlcs90",
+            Z80Architecture::R800 => "r800",
+        }
+    }
+}
+
+impl FromStr for Z80Architecture {
+    type Err = ();
+
+    ghost from_str_gives = { ReadsBy z80_of };
+
+    fn from_str(s: &str) -> Result<Z80Architecture, ()> {
+        Z80Architecture::from_str(s)
+    }
+}
+
+impl fmt::Display for Z80Architecture {
+    ghost output = { λ it. Some (z80_name it) };
+
+    ghost styled_output = { λ it _. Some (z80_name it) };
+
+    fn fmt<W: fmt::Write>(&self, f: &mut fmt::Formatter<W>) -> fmt::Result {
+        f.write_str(self.name())
+    }
+}

@@ -1,0 +1,83 @@
+//! The binary formats.
+ghost use Rattle.std.specs.Prelude.{◌≡◌, Some};
+ghost use Rattle.std.specs.Cow.{cow_str_bytes, IsBorrowedStr};
+ghost use Rattle.lexicon_fields.specs.Names.{ReadsBy};
+ghost use Rattle.lexicon_fields.specs.BinaryFormat.{format_name, format_of};
+
+use std::borrow::CowStr;
+use std::fmt;
+use std::str::FromStr;
+
+/// The format of object files.
+#[derive(Clone, Copy, Debug, PartialEq, Eq, Hash)]
+pub enum BinaryFormat {
+    Unknown,
+    Elf,
+    /// COFF, the format of Windows.
+    Coff,
+    /// Mach-O, Apple's format.
+    Macho,
+    /// WebAssembly.
+    Wasm,
+    /// XCOFF, the format of AIX.
+    Xcoff,
+}
+
+impl BinaryFormat {
+    /// The value whose name the text is; every other text is refused.
+    #[tactic(auto, unfolding(crate::specs::BinaryFormat::format_of))]
+    pub fn from_str(s: &str) -> Result<Self, ()>
+        ensures { ReadsBy format_of s.now result }
+    {
+        Ok(match s {
+            "unknown" => BinaryFormat::Unknown,
+            "elf" => BinaryFormat::Elf,
+            "coff" => BinaryFormat::Coff,
+            "macho" => BinaryFormat::Macho,
+            "wasm" => BinaryFormat::Wasm,
+            "xcoff" => BinaryFormat::Xcoff,
+            _ => return Err(()),
+        })
+    }
+
+    /// The name, which is always borrowed.
+    pub fn into_str(self) -> CowStr<'static>
+        ensures name { cow_str_bytes result ≡ format_name self }
+        ensures borrowed { IsBorrowedStr result }
+    {
+        CowStr::Borrowed(self.name())
+    }
+
+    fn name(self) -> &'static str
+        ensures { result.now ≡ format_name self }
+    {
+        match self {
+            BinaryFormat::Unknown => "unknown",
+            BinaryFormat::Elf => "elf",
+            BinaryFormat::Coff => "coff",
+            BinaryFormat::Macho => "macho",
+            BinaryFormat::Wasm => "wasm",
+            BinaryFormat::Xcoff => "xcoff",
+        }
+    }
+}
+
+impl FromStr for BinaryFormat {
+    type Err = ();
+
+    ghost from_str_gives = { ReadsBy format_of };
+
+    fn from_str(s: &str) -> Result<BinaryFormat, ()> {
+        BinaryFormat::from_str(s)
+    }
+}
+
+impl fmt::Display for BinaryFormat {
+    ghost output = { λ it. Some (format_name it) };
+
+    ghost styled_output = { λ it _. Some (format_name it) };
+
+    fn fmt<W: fmt::Write>(&self, f: &mut fmt::Formatter<W>) -> fmt::Result {
+        f.write_str(self.name())
+    }
+}

@@ -1,0 +1,97 @@
+//! The versions of deployment targets.
+ghost use Rattle.std.specs.Prelude.{◌≡◌, ◌+◌, ◌<◌, [], ◌∷◌};
+ghost use Rattle.std.specs.Fmt.{WritesStyledOnOk, decimal};
+ghost use Rattle.lexicon_fields.specs.Version.{version_of, version_name, pieces_of, pieces_left};
+
+use std::fmt;
+
+#[cfg(test)]
+mod tests;
+
+/// The oldest version of a system like Darwin that a target supports, within the limits of a Mach-O file.
+#[derive(Clone, Copy, Debug, PartialEq, Eq, PartialOrd, Ord, Hash)]
+pub struct DeploymentTarget {
+    pub major: u16,
+    pub minor: u8,
+    pub patch: u8,
+}
+
+impl DeploymentTarget {
+    /// The version that the text reads as, if it is one.
+    pub(crate) fn from_text(text: &str) -> Option<DeploymentTarget>
+        ensures { result ≡ version_of text.now }
+    {
+        let (major, rest) = first_piece(text);
+        let major = major.parse::<u16>().ok()?;
+        let Some(rest) = rest else {
+            return Some(DeploymentTarget {
+                major,
+                minor: 0,
+                patch: 0,
+            });
+        };
+        let (minor, rest) = first_piece(rest);
+        let minor = minor.parse::<u8>().ok()?;
+        let Some(rest) = rest else {
+            return Some(DeploymentTarget {
+                major,
+                minor,
+                patch: 0,
+            });
+        };
+        let (patch, rest) = first_piece(rest);
+        let patch = patch.parse::<u8>().ok()?;
+        if rest.is_some() {
+            return None;
+        }
+        Some(DeploymentTarget {
+            major,
+            minor,
+            patch,
+        })
+    }
+
+    /// Writes `major.minor.patch`, whatever the options of the formatter.
+    pub(crate) fn write<W: fmt::Write>(self, f: &mut fmt::Formatter<W>) -> fmt::Result
+        ensures { WritesStyledOnOk W.write_str_gives f.old result (version_name self) f.new }
+    {
+        write_number(f, self.major)?;
+        write_dotted(f, self.minor)?;
+        write_dotted(f, self.patch)
+    }
+}
+
+/// What stands before the first dot, and what stands behind it.
+fn first_piece(text: &str) -> (&str, Option<&str>)
+    ensures { pieces_of text.now ≡ result.0.now ∷ pieces_left result.1 }
+{
+    match text.split_once('.') {
+        Some((piece, rest)) => (piece, Some(rest)),
+        None => (text, None),
+    }
+}
+
+fn write_dotted<W: fmt::Write>(f: &mut fmt::Formatter<W>, n: u8) -> fmt::Result
+    ensures { WritesStyledOnOk W.write_str_gives f.old result (46 ∷ decimal n) f.new }
+{
+    f.write_str(".")?;
+    write_number(f, u16::from(n))
+}
+
+/// Writes a number in decimal, whatever the options of the formatter.
+fn write_number<W: fmt::Write>(f: &mut fmt::Formatter<W>, n: u16) -> fmt::Result
+    ensures { WritesStyledOnOk W.write_str_gives f.old result (decimal n) f.new }
+{
+    if n < 10 {
+        return write_digit(f, n);
+    }
+    write_number(f, n / 10)?;
+    write_digit(f, n % 10)
+}
+
+fn write_digit<W: fmt::Write>(f: &mut fmt::Formatter<W>, digit: u16) -> fmt::Result
+    requires { digit < 10 }
+    ensures { WritesStyledOnOk W.write_str_gives f.old result ((48 + digit) ∷ []) f.new }
+{
+    f.write_char(char::from(b'0' + digit as u8))
+}

@@ -1,0 +1,183 @@
+//! The environments.
+ghost use Rattle.std.specs.Prelude.{◌≡◌, Some};
+ghost use Rattle.std.specs.Cow.{cow_str_bytes, IsBorrowedStr};
+ghost use Rattle.lexicon_fields.specs.Names.{ReadsBy};
+ghost use Rattle.lexicon_fields.specs.Environment.{environment_name, environment_of};
+
+use std::borrow::CowStr;
+use std::fmt;
+use std::str::FromStr;
+
+/// The environment on top of an operating system, as its ABI or C library.
+#[derive(Clone, Copy, Debug, PartialEq, Eq, Hash)]
+pub enum Environment {
+    Unknown,
+    /// AMD graphics processors where the generic address space is number 0.
+    AmdGiz,
+    Android,
+    Androideabi,
+    /// The embedded ABI, with floating point in software.
+    Eabi,
+    /// The embedded ABI, with floating point in hardware.
+    Eabihf,
+    Gnu,
+    /// GNU, with the 64-bit ABI of MIPS.
+    Gnuabi64,
+    Gnueabi,
+    Gnueabihf,
+    /// GNU, with the signal processing engine of PowerPC.
+    Gnuspe,
+    /// GNU, with 32-bit pointers on 64-bit x86.
+    Gnux32,
+    /// GNU, with 32-bit pointers on 64-bit Arm.
+    GnuIlp32,
+    /// MinGW, with LLVM's tools and libraries.
+    GnuLlvm,
+    HermitKernel,
+    HurdKernel,
+    LinuxKernel,
+    /// Mac Catalyst: an iOS program on macOS.
+    Macabi,
+    Musl,
+    Musleabi,
+    Musleabihf,
+    /// Musl, with the 64-bit ABI of MIPS.
+    Muslabi64,
+    /// Microsoft's Visual C++.
+    Msvc,
+    Newlib,
+    /// No environment, where a text says so; one that says nothing has `Unknown`.
+    None,
+    Kernel,
+    Uclibc,
+    Uclibceabi,
+    Uclibceabihf,
+    /// An enclave of Intel SGX.
+    Sgx,
+    /// A simulator of Apple's.
+    Sim,
+    Softfloat,
+    /// The signal processing engine of PowerPC.
+    Spe,
+    /// WASI with threads.
+    Threads,
+    /// OpenHarmony.
+    Ohos,
+}
+
+impl Environment {
+    /// The value whose name the text is; every other text is refused.
+    #[tactic(auto, unfolding(crate::specs::Environment::environment_of))]
+    pub fn from_str(s: &str) -> Result<Self, ()>
+        ensures { ReadsBy environment_of s.now result }
+    {
+        Ok(match s {
+            "unknown" => Environment::Unknown,
+            "amdgiz" => Environment::AmdGiz,
+            "android" => Environment::Android,
+            "androideabi" => Environment::Androideabi,
+            "eabi" => Environment::Eabi,
+            "eabihf" => Environment::Eabihf,
+            "gnu" => Environment::Gnu,
+            "gnuabi64" => Environment::Gnuabi64,
+            "gnueabi" => Environment::Gnueabi,
+            "gnueabihf" => Environment::Gnueabihf,
+            "gnuspe" => Environment::Gnuspe,
+            "gnux32" => Environment::Gnux32,
+            "gnu_ilp32" => Environment::GnuIlp32,
+            "gnullvm" => Environment::GnuLlvm,
+            "hermitkernel" => Environment::HermitKernel,
+            "hurdkernel" => Environment::HurdKernel,
+            "linuxkernel" => Environment::LinuxKernel,
+            "macabi" => Environment::Macabi,
+            "musl" => Environment::Musl,
+            "musleabi" => Environment::Musleabi,
+            "musleabihf" => Environment::Musleabihf,
+            "muslabi64" => Environment::Muslabi64,
+            "msvc" => Environment::Msvc,
+            "newlib" => Environment::Newlib,
+            "none" => Environment::None,
+            "kernel" => Environment::Kernel,
+            "uclibc" => Environment::Uclibc,
+            "uclibceabi" => Environment::Uclibceabi,
+            "uclibceabihf" => Environment::Uclibceabihf,
+            "sgx" => Environment::Sgx,
+            "sim" => Environment::Sim,
+            "softfloat" => Environment::Softfloat,
+            "spe" => Environment::Spe,
+            "threads" => Environment::Threads,
+            "ohos" => Environment::Ohos,
+            _ => return Err(()),
+        })
+    }
+
+    /// The name, which is always borrowed.
+    pub fn into_str(self) -> CowStr<'static>
+        ensures name { cow_str_bytes result ≡ environment_name self }
+        ensures borrowed { IsBorrowedStr result }
+    {
+        CowStr::Borrowed(self.name())
+    }
+
+    fn name(self) -> &'static str
+        ensures { result.now ≡ environment_name self }
+    {
+        match self {
+            Environment::Unknown => "unknown",
+            Environment::AmdGiz => "amdgiz",
+            Environment::Android => "android",
+            Environment::Androideabi => "androideabi",
+            Environment::Eabi => "eabi",
+            Environment::Eabihf => "eabihf",
+            Environment::Gnu => "gnu",
+            Environment::Gnuabi64 => "gnuabi64",
+            Environment::Gnueabi => "gnueabi",
+            Environment::Gnueabihf => "gnueabihf",
+            Environment::Gnuspe => "gnuspe",
+            Environment::Gnux32 => "gnux32",
+            Environment::GnuIlp32 => "gnu_ilp32",
+            Environment::GnuLlvm => "gnullvm",
+            Environment::HermitKernel => "hermitkernel",
+            Environment::HurdKernel => "hurdkernel",
+            Environment::LinuxKernel => "linuxkernel",
+            Environment::Macabi => "macabi",
+            Environment::Musl => "musl",
+            Environment::Musleabi => "musleabi",
+            Environment::Musleabihf => "musleabihf",
+            Environment::Muslabi64 => "muslabi64",
+            Environment::Msvc => "msvc",
+            Environment::Newlib => "newlib",
+            Environment::None => "none",
+            Environment::Kernel => "kernel",
+            Environment::Uclibc => "uclibc",
+            Environment::Uclibceabi => "uclibceabi",
+            Environment::Uclibceabihf => "uclibceabihf",
+            Environment::Sgx => "sgx",
+            Environment::Sim => "sim",
+            Environment::Softfloat => "softfloat",
+            Environment::Spe => "spe",
+            Environment::Threads => "threads",
+            Environment::Ohos => "ohos",
+        }
+    }
+}
+
+impl FromStr for Environment {
+    type Err = ();
+
+    ghost from_str_gives = { ReadsBy environment_of };
+
+    fn from_str(s: &str) -> Result<Environment, ()> {
+        Environment::from_str(s)
+    }
+}
+
+impl fmt::Display for Environment {
+    ghost output = { λ it. Some (environment_name it) };
+
+    ghost styled_output = { λ it _. Some (environment_name it) };
+
+    fn fmt<W: fmt::Write>(&self, f: &mut fmt::Formatter<W>) -> fmt::Result {
+        f.write_str(self.name())
+    }
+}

@@ -1,0 +1,274 @@
+//! The operating systems.
+ghost use Rattle.std.specs.Prelude.{◌≡◌, ◌++◌, Some, None, IfOk, IsNone, IsOkAnd};
+ghost use Rattle.std.specs.Cow.{cow_str_bytes, IsBorrowedStr};
+ghost use Rattle.lexicon_fields.specs.Names.{ReadsBy, value_of, named};
+ghost use Rattle.lexicon_fields.specs.Version.{version_name};
+ghost use Rattle.lexicon_fields.specs.OperatingSystem.{system_name, system_of, fixed_systems, system_version, version_suffix, optional_version_of, darwin_like_by, darwin_prefixes, is_like_darwin};
+
+#[cfg(test)]
+mod tests;
+
+use crate::deployment_target::DeploymentTarget;
+use std::alloc::{AllocError, Global};
+use std::borrow::CowStr;
+use std::fmt;
+use std::str::FromStr;
+
+/// The operating system. One like Darwin may hold the version of its deployment target.
+#[derive(Clone, Copy, Debug, PartialEq, Eq, Hash)]
+pub enum OperatingSystem {
+    Unknown,
+    Aix,
+    AmdHsa,
+    Bitrig,
+    Cloudabi,
+    Cuda,
+    Cygwin,
+    /// macOS, as `rustc` names it; the version is that of the Darwin kernel.
+    Darwin(Option<DeploymentTarget>),
+    Dragonfly,
+    Emscripten,
+    Espidf,
+    Freebsd,
+    Fuchsia,
+    Haiku,
+    Hermit,
+    Horizon,
+    Hurd,
+    Illumos,
+    IOS(Option<DeploymentTarget>),
+    L4re,
+    Linux,
+    /// macOS under LLVM's own name; `rustc` says `Darwin`.
+    MacOSX(Option<DeploymentTarget>),
+    Nebulet,
+    Netbsd,
+    None_,
+    Openbsd,
+    Psp,
+    Redox,
+    Solaris,
+    SolidAsp3,
+    TvOS(Option<DeploymentTarget>),
+    Uefi,
+    VisionOS(Option<DeploymentTarget>),
+    VxWorks,
+    Wasi,
+    WasiP1,
+    WasiP2,
+    WatchOS(Option<DeploymentTarget>),
+    Windows,
+    XROS(Option<DeploymentTarget>),
+}
+
+impl OperatingSystem {
+    /// The value that the text reads as; every other text is refused. A version behind the prefix of a system like
+    /// Darwin is read too.
+    #[tactic(auto, unfolding(crate::specs::OperatingSystem::system_of))]
+    pub fn from_str(s: &str) -> Result<Self, ()>
+        ensures { ReadsBy system_of s.now result }
+    {
+        match OperatingSystem::of_fixed_name(s) {
+            Some(system) => Ok(system),
+            None => OperatingSystem::like_darwin(s),
+        }
+    }
+
+    /// The system of this fixed name.
+    fn of_fixed_name(s: &str) -> Option<Self>
+        ensures { result ≡ value_of (named system_name fixed_systems) s.now }
+    {
+        Some(match s {
+            "unknown" => OperatingSystem::Unknown,
+            "aix" => OperatingSystem::Aix,
+            "amdhsa" => OperatingSystem::AmdHsa,
+            "bitrig" => OperatingSystem::Bitrig,
+            "cloudabi" => OperatingSystem::Cloudabi,
+            "cuda" => OperatingSystem::Cuda,
+            "cygwin" => OperatingSystem::Cygwin,
+            "dragonfly" => OperatingSystem::Dragonfly,
+            "emscripten" => OperatingSystem::Emscripten,
+            "espidf" => OperatingSystem::Espidf,
+            "freebsd" => OperatingSystem::Freebsd,
+            "fuchsia" => OperatingSystem::Fuchsia,
+            "haiku" => OperatingSystem::Haiku,
+            "hermit" => OperatingSystem::Hermit,
+            "horizon" => OperatingSystem::Horizon,
+            "hurd" => OperatingSystem::Hurd,
+            "illumos" => OperatingSystem::Illumos,
+            "l4re" => OperatingSystem::L4re,
+            "linux" => OperatingSystem::Linux,
+            "nebulet" => OperatingSystem::Nebulet,
+            "netbsd" => OperatingSystem::Netbsd,
+            "none" => OperatingSystem::None_,
+            "openbsd" => OperatingSystem::Openbsd,
+            "psp" => OperatingSystem::Psp,
+            "redox" => OperatingSystem::Redox,
+            "solaris" => OperatingSystem::Solaris,
+            "solid_asp3" => OperatingSystem::SolidAsp3,
+            "uefi" => OperatingSystem::Uefi,
+            "vxworks" => OperatingSystem::VxWorks,
+            "wasi" => OperatingSystem::Wasi,
+            "wasip1" => OperatingSystem::WasiP1,
+            "wasip2" => OperatingSystem::WasiP2,
+            "windows" => OperatingSystem::Windows,
+            _ => return None,
+        })
+    }
+
+    /// The system like Darwin that the text reads as.
+    fn like_darwin(s: &str) -> Result<Self, ()>
+        ensures { ReadsBy (darwin_like_by darwin_prefixes) s.now result }
+    {
+        if let Some(rest) = s.strip_prefix("darwin") {
+            return Ok(OperatingSystem::Darwin(version_behind(rest)?));
+        }
+        if let Some(rest) = s.strip_prefix("ios") {
+            return Ok(OperatingSystem::IOS(version_behind(rest)?));
+        }
+        if let Some(rest) = s.strip_prefix("macosx") {
+            return Ok(OperatingSystem::MacOSX(version_behind(rest)?));
+        }
+        if let Some(rest) = s.strip_prefix("tvos") {
+            return Ok(OperatingSystem::TvOS(version_behind(rest)?));
+        }
+        if let Some(rest) = s.strip_prefix("visionos") {
+            return Ok(OperatingSystem::VisionOS(version_behind(rest)?));
+        }
+        if let Some(rest) = s.strip_prefix("watchos") {
+            return Ok(OperatingSystem::WatchOS(version_behind(rest)?));
+        }
+        if let Some(rest) = s.strip_prefix("xros") {
+            return Ok(OperatingSystem::XROS(version_behind(rest)?));
+        }
+        Err(())
+    }
+
+    /// The name. Only the text of a version wants memory, and `Err` says that it was refused.
+    pub fn into_str(self, alloc: Global) -> Result<CowStr<'static>, AllocError>
+        ensures name { IfOk result (λ text. cow_str_bytes text ≡ system_name self) }
+        ensures borrowed { IsNone (system_version self) → IsOkAnd result IsBorrowedStr }
+    {
+        match self.version() {
+            None => Ok(CowStr::Borrowed(self.prefix())),
+            Some(_) => Ok(CowStr::Owned(self.to_string(alloc)?)),
+        }
+    }
+
+    /// Whether the system is like Darwin.
+    pub fn is_like_darwin(&self) -> bool
+        ensures { result ≡ is_like_darwin self.now }
+    {
+        matches!(
+            self,
+            OperatingSystem::Darwin(_)
+                | OperatingSystem::IOS(_)
+                | OperatingSystem::MacOSX(_)
+                | OperatingSystem::TvOS(_)
+                | OperatingSystem::VisionOS(_)
+                | OperatingSystem::WatchOS(_)
+                | OperatingSystem::XROS(_)
+        )
+    }
+
+    /// The name up to the version.
+    fn prefix(self) -> &'static str
+        ensures { result.now ++ version_suffix (system_version self) ≡ system_name self }
+    {
+        match self {
+            OperatingSystem::Unknown => "unknown",
+            OperatingSystem::Aix => "aix",
+            OperatingSystem::AmdHsa => "amdhsa",
+            OperatingSystem::Bitrig => "bitrig",
+            OperatingSystem::Cloudabi => "cloudabi",
+            OperatingSystem::Cuda => "cuda",
+            OperatingSystem::Cygwin => "cygwin",
+            OperatingSystem::Darwin(_) => "darwin",
+            OperatingSystem::Dragonfly => "dragonfly",
+            OperatingSystem::Emscripten => "emscripten",
+            OperatingSystem::Espidf => "espidf",
+            OperatingSystem::Freebsd => "freebsd",
+            OperatingSystem::Fuchsia => "fuchsia",
+            OperatingSystem::Haiku => "haiku",
+            OperatingSystem::Hermit => "hermit",
+            OperatingSystem::Horizon => "horizon",
+            OperatingSystem::Hurd => "hurd",
+            OperatingSystem::Illumos => "illumos",
+            OperatingSystem::IOS(_) => "ios",
+            OperatingSystem::L4re => "l4re",
+            OperatingSystem::Linux => "linux",
+            OperatingSystem::MacOSX(_) => "macosx",
+            OperatingSystem::Nebulet => "nebulet",
+            OperatingSystem::Netbsd => "netbsd",
+            OperatingSystem::None_ => "none",
+            OperatingSystem::Openbsd => "openbsd",
+            OperatingSystem::Psp => "psp",
+            OperatingSystem::Redox => "redox",
+            OperatingSystem::Solaris => "solaris",
+            OperatingSystem::SolidAsp3 => "solid_asp3",
+            OperatingSystem::TvOS(_) => "tvos",
+            OperatingSystem::Uefi => "uefi",
+            OperatingSystem::VisionOS(_) => "visionos",
+            OperatingSystem::VxWorks => "vxworks",
+            OperatingSystem::Wasi => "wasi",
+            OperatingSystem::WasiP1 => "wasip1",
+            OperatingSystem::WasiP2 => "wasip2",
+            OperatingSystem::WatchOS(_) => "watchos",
+            OperatingSystem::Windows => "windows",
+            OperatingSystem::XROS(_) => "xros",
+        }
+    }
+
+    /// The version, where the system holds one.
+    fn version(self) -> Option<DeploymentTarget>
+        ensures { result ≡ system_version self }
+    {
+        match self {
+            OperatingSystem::Darwin(version)
+            | OperatingSystem::IOS(version)
+            | OperatingSystem::MacOSX(version)
+            | OperatingSystem::TvOS(version)
+            | OperatingSystem::VisionOS(version)
+            | OperatingSystem::WatchOS(version)
+            | OperatingSystem::XROS(version) => version,
+            _ => None,
+        }
+    }
+}
+
+/// The version that stands behind a prefix, which may be left out.
+fn version_behind(rest: &str) -> Result<Option<DeploymentTarget>, ()>
+    ensures { ReadsBy optional_version_of rest.now result }
+{
+    if rest.is_empty() {
+        return Ok(None);
+    }
+    match DeploymentTarget::from_text(rest) {
+        Some(version) => Ok(Some(version)),
+        None => Err(()),
+    }
+}
+
+impl FromStr for OperatingSystem {
+    type Err = ();
+
+    ghost from_str_gives = { ReadsBy system_of };
+
+    fn from_str(s: &str) -> Result<OperatingSystem, ()> {
+        OperatingSystem::from_str(s)
+    }
+}
+
+impl fmt::Display for OperatingSystem {
+    ghost output = { λ it. Some (system_name it) };
+
+    ghost styled_output = { λ it _. Some (system_name it) };
+
+    fn fmt<W: fmt::Write>(&self, f: &mut fmt::Formatter<W>) -> fmt::Result {
+        f.write_str(self.prefix())?;
+        match self.version() {
+            None => Ok(()),
+            Some(version) => version.write(f),
+        }
+    }
+}

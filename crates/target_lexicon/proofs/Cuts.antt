@@ -1,0 +1,72 @@
+-- The parts of a text are one list.
+use Rattle.std.proofs.Common.{◌≡◌, ◌≢◌, ℕ, List, [], ◌∷◌, ◌++◌, Bool, true, false, nat_eq, refl, sym, length, ◌<◌, ◌∙◌, ap, arith, ◌⊎◌, inl, inr}
+use Rattle.std.specs.List.{join_with_byte, onto_first, before_first, after_first, position_or_len}
+use Rattle.std.specs.Prelude.{◌==◌}
+use Rattle.std.proofs.lemmas.List.Sums.{fails_before_first}
+use Rattle.std.proofs.lemmas.List.Splits.{join_with_byte-slice_split, slice_split_first, slice_split_none}
+use Rattle.target_lexicon.specs.Parts.{IsDashFree, AreDashFree, ArePartsOf, parts_of}
+
+-- a test is true or false
+pub bool_cases : (b : Bool) → (b ≡ true) ⊎ (b ≡ false)
+bool_cases true = inl refl
+bool_cases false = inr refl
+
+not_dash : (b : ℕ) → b ≢ 45 → nat_eq b 45 ≡ false
+not_dash b ne = grind arith
+
+is_dash : (b : ℕ) → nat_eq b 45 ≡ false → b ≢ 45
+is_dash b other = grind arith
+
+parts_of-one : (bs : List ℕ) → IsDashFree bs → parts_of bs ≡ bs ∷ []
+parts_of-one [] free = refl
+parts_of-one (b ∷ bs) free = rw (not_dash b free.0, parts_of-one bs free.1) refl
+
+parts_of-more : (bs rest : List ℕ) → IsDashFree bs → parts_of (bs ++ (45 ∷ rest)) ≡ bs ∷ parts_of rest
+parts_of-more [] rest free = refl
+parts_of-more (b ∷ bs) rest free = rw (not_dash b free.0, parts_of-more bs rest free.1) refl
+
+pub parts_of-joined : (p : List ℕ) (ps : List (List ℕ)) → AreDashFree (p ∷ ps) → parts_of (join_with_byte 45 (p ∷ ps)) ≡ p ∷ ps
+parts_of-joined p [] free = parts_of-one p free.0
+parts_of-joined p (q ∷ ps) free = parts_of-more p (join_with_byte 45 (q ∷ ps)) free.0 ∙ ap (λ k. p ∷ k) (parts_of-joined q ps free.1)
+
+onto_first-free : (b : ℕ) (ps : List (List ℕ)) → b ≢ 45 → AreDashFree ps → AreDashFree (onto_first b ps)
+onto_first-free b [] ne free = ((ne, tt), tt)
+onto_first-free b (p ∷ ps) ne free = ((ne, free.0), free.1)
+
+parts_of-free : (bs : List ℕ) → AreDashFree (parts_of bs)
+parts_of-free [] = (tt, tt)
+parts_of-free (b ∷ bs) =
+    elim (bool_cases (nat_eq b 45)) [
+      | inl dash ↦ rw dash (tt, parts_of-free bs)
+      | inr other ↦ rw other (onto_first-free b (parts_of bs) (is_dash b other) (parts_of-free bs))
+    ]
+
+onto_first-some : (b : ℕ) (ps : List (List ℕ)) → onto_first b ps ≢ []
+onto_first-some b [] e = cc
+onto_first-some b (p ∷ ps) e = cc
+
+pub parts_of-some : (bs : List ℕ) → parts_of bs ≢ []
+parts_of-some [] e = cc
+parts_of-some (b ∷ bs) e =
+    elim (bool_cases (nat_eq b 45)) [
+      | inl dash ↦ let h = rw dash at e in cc
+      | inr other ↦ onto_first-some b (parts_of bs) (rw other at e)
+    ]
+
+pub parts_of-are : (text : List ℕ) → ArePartsOf text (parts_of text)
+parts_of-are text = record {
+  some = parts_of-some text;
+  dash_free = parts_of-free text;
+  joined = join_with_byte-slice_split 45 text;
+}
+
+pub parts-only : (text : List ℕ) (others : List (List ℕ)) → ArePartsOf text others → others ≡ parts_of text
+parts-only text [] are = absurd (are.some refl)
+parts-only text (p ∷ ps) are = sym (parts_of-joined p ps are.dash_free) ∙ ap parts_of are.joined
+
+pub cut-found : (text part after : List ℕ) → part ≡ before_first (λ b. b == 45) text → after ≡ after_first (λ b. b == 45) text
+    → position_or_len (λ b. b == 45) text < length text → parts_of text ≡ part ∷ parts_of after
+cut-found text part after front back found = slice_split_first (λ b. b == 45) text 0 found ∙ cc
+
+pub cut-whole : (text : List ℕ) → position_or_len (λ b. b == 45) text ≡ length text → parts_of text ≡ text ∷ []
+cut-whole text none = slice_split_none (λ b. b == 45) text (λ k d h. fails_before_first (λ b. b == 45) text k d (omega (arith, none, h)))

@@ -1,0 +1,159 @@
+-- The placement that takes, field by field, each part at the first field that reads it.
+use Rattle.std.proofs.Common.{◌≡◌, ◌≢◌, ℕ, zero, suc, ◌+◌, ◌<◌, ◌≤◌, List, [], ◌∷◌, take, true, false, refl, subst, cond, arith, inl, inr}
+use Rattle.target_lexicon.specs.Field.{Field, Architecture, Vendor, System, Environment, Format, place, reads}
+use Rattle.target_lexicon.specs.Placement.{IsPlacedBehind, IsPlacement, AreNotBehind, IsLeast, HasPlacement}
+use Rattle.target_lexicon.specs.Laws.{HasOneLeast, OneLeastPlacement}
+use Rattle.target_lexicon.proofs.Cuts.{bool_cases}
+
+-- the fields behind `last`, in their order
+abbrev pub Follows : Field → List Field → Type 0
+Follows l [] = place l ≡ 4
+Follows l (f ∷ fs) = (place f ≡ place l + 1) × Follows f fs
+
+-- the fields that are filled, each by the first part left if that reads as it
+abbrev pub filled : List Field → List (List ℕ) → List Field
+filled [] ps = []
+filled (f ∷ fs) [] = []
+filled (f ∷ fs) (p ∷ ps) = cond (reads f p) (f ∷ filled fs ps) (filled fs (p ∷ ps))
+
+-- the parts that are left then
+abbrev pub unread : List Field → List (List ℕ) → List (List ℕ)
+unread [] ps = ps
+unread (f ∷ fs) [] = []
+unread (f ∷ fs) (p ∷ ps) = cond (reads f p) (unread fs ps) (unread fs (p ∷ ps))
+
+pub unread-nil : (fs : List Field) → unread fs [] ≡ []
+unread-nil [] = refl
+unread-nil (f ∷ fs) = refl
+
+pub filled-nil : (fs : List Field) → filled fs [] ≡ []
+filled-nil [] = refl
+filled-nil (f ∷ fs) = refl
+
+place_most : (f : Field) → place f ≤ 4
+place_most Architecture = omega arith
+place_most Vendor = omega arith
+place_most System = omega arith
+place_most Environment = omega arith
+place_most Format = omega arith
+
+-- fields of one place are one field
+pub place-injective : (f g : Field) → place f ≡ place g → f ≡ g
+place-injective Architecture Architecture e = refl
+place-injective Vendor Vendor e = refl
+place-injective System System e = refl
+place-injective Environment Environment e = refl
+place-injective Format Format e = refl
+place-injective f g e = cc
+
+not_skipped : (p : List ℕ) (f g : Field) → reads f p ≡ false → reads g p ≡ true → place g ≡ place f → ⊥
+not_skipped p f g skips takes e =
+    let same : g ≡ f = place-injective g f e in
+    let also : reads f p ≡ true = subst (λ k. reads k p ≡ true) same takes in
+    cc
+
+-- a field that is placed behind one, and isn't the next, is behind the next
+weaken : (l k : Field) (ps : List (List ℕ)) (gs : List Field) → place k ≤ place l → IsPlacedBehind l ps gs → IsPlacedBehind k ps gs
+weaken l k [] [] h w = tt
+weaken l k [] (g ∷ gs) h w = absurd w
+weaken l k (p ∷ ps) [] h w = absurd w
+weaken l k (p ∷ ps) (g ∷ gs) h w = (omega (arith, w.0), w.1, w.2)
+
+pub filled-placed : (l : Field) (fs : List Field) (ps : List (List ℕ)) → Follows l fs → unread fs ps ≡ [] → IsPlacedBehind l ps (filled fs ps)
+filled-placed l [] [] h e = tt
+filled-placed l [] (p ∷ ps) h e = cc
+filled-placed l (f ∷ fs) [] h e = tt
+filled-placed l (f ∷ fs) (p ∷ ps) h e =
+    elim (bool_cases (reads f p)) [
+      | inl takes ↦
+          let rest : unread fs ps ≡ [] = (rw takes at e) in
+          rw takes (omega (arith, h.0), takes, filled-placed f fs ps h.1 rest)
+      | inr skips ↦
+          let rest : unread fs (p ∷ ps) ≡ [] = (rw skips at e) in
+          rw skips (weaken f l (p ∷ ps) (filled fs (p ∷ ps)) (omega (arith, h.0)) (filled-placed f fs (p ∷ ps) h.1 rest))
+    ]
+
+-- a placement behind `last` is no better than the greedy one, which then takes every part
+pub filled-least : (l : Field) (fs : List Field) (ps : List (List ℕ)) (gs : List Field) → Follows l fs → IsPlacedBehind l ps gs
+    → (unread fs ps ≡ []) × AreNotBehind (filled fs ps) gs
+filled-least l fs [] [] h w = (unread-nil fs, rw (filled-nil fs) tt)
+filled-least l fs [] (g ∷ gs) h w = absurd w
+filled-least l fs (p ∷ ps) [] h w = absurd w
+filled-least l [] (p ∷ ps) (g ∷ gs) h w = absurd (omega (arith, h, w.0, place_most g))
+filled-least l (f ∷ fs) (p ∷ ps) (g ∷ gs) h w =
+    elim (bool_cases (reads f p)) [
+      | inl takes ↦
+          let rest = filled-least f fs ps gs h.1 (weaken g f ps gs (omega (arith, h.0, w.0)) w.2) in
+          rw takes (rest.0, (omega (arith, h.0, w.0), rest.1))
+      | inr skips ↦
+          let other : place g ≢ place f = λ e. not_skipped p f g skips w.1 e in
+          let behind : place f < place g = omega (arith, h.0, w.0, other) in
+          let rest = filled-least f fs (p ∷ ps) (g ∷ gs) h.1 (behind, w.1, w.2) in
+          rw skips rest
+    ]
+
+-- two lists of fields, neither behind the other, are one
+pub AreNotBehind-antisymmetric : (fs gs : List Field) → AreNotBehind fs gs → AreNotBehind gs fs → fs ≡ gs
+AreNotBehind-antisymmetric [] [] a b = refl
+AreNotBehind-antisymmetric [] (g ∷ gs) a b = absurd a
+AreNotBehind-antisymmetric (f ∷ fs) [] a b = absurd a
+AreNotBehind-antisymmetric (f ∷ fs) (g ∷ gs) a b =
+    let same : f ≡ g = place-injective f g (omega (arith, a.0, b.0)) in
+    let rest : fs ≡ gs = AreNotBehind-antisymmetric fs gs a.1 b.1 in
+    cc
+
+-- the front of a placement
+placed-front : (n : ℕ) (l : Field) (ps : List (List ℕ)) (gs : List Field) → IsPlacedBehind l ps gs → IsPlacedBehind l (take n ps) (take n gs)
+placed-front zero l ps gs w = tt
+placed-front (suc n) l [] [] w = tt
+placed-front (suc n) l [] (g ∷ gs) w = absurd w
+placed-front (suc n) l (p ∷ ps) [] w = absurd w
+placed-front (suc n) l (p ∷ ps) (g ∷ gs) w = (w.0, w.1, placed-front n g ps gs w.2)
+
+pub placement-front : (n : ℕ) (ps : List (List ℕ)) → HasPlacement ps → HasPlacement (take (suc n) ps)
+placement-front n [] (fs, w) = absurd w
+placement-front n (p ∷ ps) ([], w) = absurd w
+placement-front n (p ∷ ps) (f ∷ fs, w) = (f ∷ take n fs, (w.0, w.1, placed-front n f ps fs w.2))
+
+-- the fields behind the architecture
+abbrev pub behind_architecture : List Field
+behind_architecture = Vendor ∷ System ∷ Environment ∷ Format ∷ []
+
+in_order : Follows Architecture behind_architecture
+in_order = (refl, (refl, (refl, (refl, refl))))
+
+-- the greedy placement of parts that begin with an architecture, where no part is left
+pub greedy-least : (p : List ℕ) (ps : List (List ℕ)) → reads Architecture p ≡ true → unread behind_architecture ps ≡ []
+    → IsLeast (p ∷ ps) (Architecture ∷ filled behind_architecture ps)
+greedy-least p ps takes done = record {
+  placed = (refl, takes, filled-placed Architecture behind_architecture ps in_order done);
+  least = least_of;
+}
+  where
+    least_of : (others : List Field) → IsPlacement (p ∷ ps) others → AreNotBehind (Architecture ∷ filled behind_architecture ps) others
+    least_of [] w = absurd w
+    least_of (g ∷ gs) w =
+        let from : IsPlacedBehind Architecture ps gs = subst (λ k. IsPlacedBehind k ps gs) w.0 w.2 in
+        (omega arith, (filled-least Architecture behind_architecture ps gs in_order from).1)
+
+-- parts with a placement have the greedy one
+pub greedy-finds : (p : List ℕ) (ps : List (List ℕ)) → HasPlacement (p ∷ ps) → (reads Architecture p ≡ true) × (unread behind_architecture ps ≡ [])
+greedy-finds p ps ([], w) = absurd w
+greedy-finds p ps (g ∷ gs, w) =
+    let from : IsPlacedBehind Architecture ps gs = subst (λ k. IsPlacedBehind k ps gs) w.0 w.2 in
+    let takes : reads Architecture p ≡ true = subst (λ k. reads k p ≡ true) w.0 w.1 in
+    (takes, (filled-least Architecture behind_architecture ps gs in_order from).0)
+
+pub least-unique : (ps : List (List ℕ)) (fs gs : List Field) → IsLeast ps fs → IsLeast ps gs → fs ≡ gs
+least-unique ps fs gs a b = AreNotBehind-antisymmetric fs gs (a.least gs b.placed) (b.least fs a.placed)
+
+-- where there is a placement there is one least
+pub placement-least : (ps : List (List ℕ)) → HasPlacement ps → HasOneLeast ps
+placement-least [] (fs, w) = absurd w
+placement-least (p ∷ ps) some =
+    let found = greedy-finds p ps some in
+    let least = greedy-least p ps found.0 found.1 in
+    record { fields = Architecture ∷ filled behind_architecture ps; least = least; only = λ others h. least-unique _ _ _ h least }
+
+pub one_least : OneLeastPlacement
+one_least ps some = (placement-least ps some, λ n. placement-least _ (placement-front n ps some))

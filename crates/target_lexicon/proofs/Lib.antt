@@ -1,0 +1,12 @@
+pub mod Computed
+pub mod Cuts
+pub mod Greedy
+pub mod Held
+pub mod Printed
+pub mod Refused
+pub mod Returned
+pub mod SameValues
+pub mod Taken
+pub mod Unique
+pub mod Vendors
+pub mod Writes

@@ -1,0 +1,123 @@
+-- A text has one outcome at most.
+use Rattle.std.proofs.Common.{◌≡◌, ℕ, zero, suc, ◌<◌, List, [], ◌∷◌, take, Bool, true, false, refl, sym, ◌∙◌, ap, subst, cond, Option, Some, None, arith, ◌⊎◌, inl, inr}
+use Rattle.std.specs.Prelude.{MatchOption, slice_get, codes}
+use Rattle.std.specs.Str.{bytes_eq}
+use Rattle.lexicon_fields.specs.Architecture.{architecture_of}
+use Rattle.lexicon_fields.specs.Vendor.{VendorValue, vendor_of, is_plain}
+use Rattle.lexicon_fields.specs.OperatingSystem.{system_of}
+use Rattle.lexicon_fields.specs.Environment.{environment_of}
+use Rattle.lexicon_fields.specs.BinaryFormat.{format_of}
+use Rattle.target_lexicon.specs.Field.{Field}
+use Rattle.target_lexicon.specs.ImpliedFormat.{implied_format}
+use Rattle.target_lexicon.specs.Parts.{ArePartsOf, parts_of}
+use Rattle.target_lexicon.specs.Placement.{HasPlacement}
+use Rattle.target_lexicon.specs.Reading.{IsValueOf, HoldsParts, special_values, nintendo_3ds, esp_idf, ReadsAsLeast, ReadsAs, IsRefusal, IsLackedBehind, IsRefusedAs, IsRefused, field_behind}
+use Rattle.target_lexicon.specs.Laws.{ReadVendorsArePlain}
+use Rattle.target_lexicon.specs.Values.{Values}
+use Rattle.target_lexicon.proofs.Greedy.{placement-front, least-unique}
+use Rattle.target_lexicon.proofs.Cuts.{parts-only}
+use Rattle.target_lexicon.proofs.SameValues.{same_values}
+use Rattle.target_lexicon.proofs.Vendors.{vendor-plain}
+
+same_value : {A : Type 0} (find : List ℕ → Option A) (d e : A) (o : Option (List ℕ)) (x y : A) → d ≡ e → IsValueOf find d o x → IsValueOf find e o y → x ≡ y
+same_value find d e None x y same h k = h ∙ same ∙ sym k
+same_value find d e (Some p) x y same h k = cc
+
+same_held : (parts : List (List ℕ)) (fields : List Field) (t u : Values) → HoldsParts parts fields t → HoldsParts parts fields u → t ≡ u
+same_held parts fields t u h k =
+    let a = same_value architecture_of _ _ _ t.architecture u.architecture refl h.architecture k.architecture in
+    let v = same_value vendor_of _ _ _ t.vendor u.vendor refl h.vendor k.vendor in
+    let s = same_value system_of _ _ _ t.system u.system refl h.system k.system in
+    let e = same_value environment_of _ _ _ t.environment u.environment refl h.environment k.environment in
+    let i : implied_format t.architecture t.system t.environment ≡ implied_format u.architecture u.system u.environment = cc in
+    let f = same_value format_of _ _ _ t.format u.format i h.format k.format in
+    same_values t u a v s e f
+
+same_least : (parts : List (List ℕ)) (t u : Values) → ReadsAsLeast parts t → ReadsAsLeast parts u → t ≡ u
+same_least parts t u (fs, least, holds) (gs, other, held) =
+    same_held parts gs t u (subst (λ fields. HoldsParts parts fields t) (least-unique parts fs gs least other) holds) held
+
+-- a text reads as one triple's values at most
+pub values-unique : (text : List ℕ) (t u : Values) → ReadsAs text t → ReadsAs text u → t ≡ u
+values-unique text t u h k = by_special (special_values text) h k
+  where
+    by_special : (o : Option Values) → MatchOption o ((parts : List (List ℕ)) × ArePartsOf text parts × ReadsAsLeast parts t) (λ s. t ≡ s)
+        → MatchOption o ((parts : List (List ℕ)) × ArePartsOf text parts × ReadsAsLeast parts u) (λ s. u ≡ s) → t ≡ u
+    by_special (Some s) h k = h ∙ sym k
+    by_special None (ps, are, h) (qs, others, k) =
+        same_least qs t u (subst (λ parts. ReadsAsLeast parts t) (parts-only text ps are ∙ sym (parts-only text qs others)) h) k
+
+-- a refusal of the same parts stands at the same place
+same_count : (parts : List (List ℕ)) (j k : Option Field) (p q : List ℕ) (a : IsRefusal parts j p) (b : IsRefusal parts k q) → a.count ≡ b.count
+same_count parts j k p q a b = by_order (order a.count b.count)
+  where
+    order : (m n : ℕ) → (m < n) ⊎ ((n < m) ⊎ (m ≡ n))
+    order zero zero = inr (inr refl)
+    order zero (suc n) = inl (omega arith)
+    order (suc m) zero = inr (inl (omega arith))
+    order (suc m) (suc n) = elim (order m n) [ inl h ↦ inl (omega arith) | inr h ↦ elim h [ inl x ↦ inr (inl (omega arith)) | inr x ↦ inr (inr (ap suc x)) ] ]
+
+    by_order : (a.count < b.count) ⊎ ((b.count < a.count) ⊎ (a.count ≡ b.count)) → a.count ≡ b.count
+    by_order (inl h) = absurd (a.unplaced (b.placed a.count h))
+    by_order (inr (inl h)) = absurd (b.unplaced (a.placed b.count h))
+    by_order (inr (inr e)) = e
+
+same_lacked : (front : List (List ℕ)) (j k : Option Field) → IsLackedBehind front j → IsLackedBehind front k → j ≡ k
+same_lacked [] j k h l = h ∙ sym l
+same_lacked (p ∷ ps) j k (fs, least, h) (gs, other, l) =
+    h ∙ ap field_behind (least-unique (p ∷ ps) fs gs least other) ∙ sym l
+
+same_refusal : (parts : List (List ℕ)) (j k : Option Field) (p q : List ℕ) → IsRefusal parts j p → IsRefusal parts k q → (j ≡ k) × (p ≡ q)
+same_refusal parts j k p q a b =
+    let same = same_count parts j k p q a b in
+    let at : slice_get parts b.count ≡ Some p = subst (λ n. slice_get parts n ≡ Some p) same a.refused in
+    let other = b.refused in
+    let behind : IsLackedBehind (take b.count parts) j = subst (λ n. IsLackedBehind (take n parts) j) same a.lacked in
+    (same_lacked (take b.count parts) j k behind b.lacked, cc)
+
+refusal_at : (text : List ℕ) (kind : Option Field) (part : List ℕ) → IsRefusedAs text kind part → IsRefusal (parts_of text) kind part
+refusal_at text kind part (ordinary, (parts, are, h)) = subst (λ parts. IsRefusal parts kind part) (parts-only text parts are) h
+
+-- a text is refused in one way at most
+pub refusal-unique : (text : List ℕ) (j k : Option Field) (p q : List ℕ) → IsRefusedAs text j p → IsRefusedAs text k q → (j ≡ k) × (p ≡ q)
+refusal-unique text j k p q h r = same_refusal (parts_of text) j k p q (refusal_at text j p h) (refusal_at text k q r)
+
+-- a text that is refused doesn't read
+pub read-not_refused : (text : List ℕ) (t : Values) → ReadsAs text t → IsRefused text → ⊥
+read-not_refused text t h (kind, (part, r)) =
+    let read = rw (r.0) at h in
+    by_parts read
+  where
+    unplaced : (parts : List (List ℕ)) (k : Option Field) (q : List ℕ) → IsRefusal parts k q → HasPlacement parts → ⊥
+    unplaced parts k q r has = r.unplaced (placement-front r.count parts has)
+
+    by_parts : (parts : List (List ℕ)) × ArePartsOf text parts × ReadsAsLeast parts t → ⊥
+    by_parts (parts, are, (fs, least, holds)) =
+        unplaced (parts_of text) kind part (refusal_at text kind part r)
+        (subst HasPlacement (parts-only text parts are) (fs, least.placed))
+
+one_of : (a b : Bool) (x y t : Values) → cond a (Some x) (cond b (Some y) None) ≡ Some t → (x ≡ t) ⊎ (y ≡ t)
+one_of true b x y t h = inl cc
+one_of false true x y t h = inr cc
+one_of false false x y t h = cc
+
+special-plain : (text : List ℕ) (t : Values) → special_values text ≡ Some t → is_plain t.vendor ≡ true
+unfolding special_values
+special-plain text t h =
+    elim (one_of (bytes_eq text (codes "armv6k-nintendo-3ds")) (bytes_eq text (codes "riscv32imc-esp-espidf")) nintendo_3ds esp_idf t h) [
+      | inl e ↦ subst (λ (u : Values). is_plain u.vendor ≡ true) e refl
+      | inr e ↦ subst (λ (u : Values). is_plain u.vendor ≡ true) e refl
+    ]
+
+placed-plain : (o : Option (List ℕ)) (d v : VendorValue) → is_plain d ≡ true → IsValueOf vendor_of d o v → is_plain v ≡ true
+placed-plain None d v plain h = subst (λ x. is_plain x ≡ true) (sym h) plain
+placed-plain (Some p) d v plain h = vendor-plain p v h
+
+-- what is read has a plain vendor
+pub read-plain : ReadVendorsArePlain
+read-plain text t h = by_special (special_values text) refl h
+  where
+    by_special : (o : Option Values) → special_values text ≡ o
+        → MatchOption o ((parts : List (List ℕ)) × ArePartsOf text parts × ReadsAsLeast parts t) (λ s. t ≡ s) → is_plain t.vendor ≡ true
+    by_special (Some s) is e = special-plain text t (is ∙ ap Some (sym e))
+    by_special None is (parts, are, (fs, least, holds)) = placed-plain _ _ t.vendor refl holds.vendor

@@ -1,0 +1,41 @@
+-- What reads as a vendor.
+use Rattle.std.proofs.Common.{◌≡◌, ℕ, List, Bool, true, refl, subst, Option, Some, None, inl, inr}
+use Rattle.std.specs.Prelude.{is_none, ◌&&◌, option_map}
+use Rattle.lexicon_fields.specs.Names.{or_then}
+use Rattle.lexicon_fields.specs.Vendor.{KnownVendor, VendorValue, Known, Custom, known_vendor_of, is_admitted, custom_of, vendor_of, is_plain}
+use Rattle.target_lexicon.proofs.Cuts.{bool_cases}
+
+-- no admitted text is a known vendor's name
+admitted-unknown : (text : List ℕ) → is_admitted text ≡ true → known_vendor_of text ≡ None
+unfolding is_admitted
+admitted-unknown text h = by_known (known_vendor_of text) _ _ _ _ _ h
+  where
+    by_known : (o : Option KnownVendor) (a s e f form : Bool) → (is_none o && a && s && e && f) && form ≡ true → o ≡ None
+    by_known None a s e f form h = refl
+    by_known (Some known) a s e f form h = cc
+
+-- an admitted text reads as a custom vendor
+pub admitted_custom : (text : List ℕ) → is_admitted text ≡ true → vendor_of text ≡ Some (Custom text)
+unfolding vendor_of
+admitted_custom text h = rw (admitted-unknown text h, h) refl
+
+custom-plain : (text : List ℕ) (v : VendorValue) → custom_of text ≡ Some v → is_plain v ≡ true
+custom-plain text v h =
+    elim (bool_cases (is_admitted text)) [
+      | inl admitted ↦
+          let found = rw admitted at h in
+          let same : Custom text ≡ v = cc in
+          subst (λ x. is_plain x ≡ true) same admitted
+      | inr other ↦ let found = rw other at h in cc
+    ]
+
+-- what reads as a vendor is plain
+pub vendor-plain : (text : List ℕ) (v : VendorValue) → vendor_of text ≡ Some v → is_plain v ≡ true
+unfolding vendor_of
+vendor-plain text v h = by_known (known_vendor_of text) h
+  where
+    by_known : (o : Option KnownVendor) → or_then (option_map Known o) (custom_of text) ≡ Some v → is_plain v ≡ true
+    by_known None h = custom-plain text v h
+    by_known (Some known) h =
+        let same : Known known ≡ v = cc in
+        subst (λ x. is_plain x ≡ true) same refl

@@ -1,0 +1,12 @@
+pub mod Field
+pub mod ImpliedFormat
+pub mod Kinds
+pub mod Laws
+pub mod ParseError
+pub mod Parts
+pub mod Placement
+pub mod Printing
+pub mod PrintingLaws
+pub mod Reading
+pub mod Steps
+pub mod Values

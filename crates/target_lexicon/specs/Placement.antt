@@ -1,0 +1,33 @@
+-- Which part of a text stands for which field.
+use Rattle.std.specs.Prelude.{◌≡◌, ℕ, List, [], ◌∷◌, true, ◌<◌, ◌≤◌}
+use Rattle.target_lexicon.specs.Field as field
+use Rattle.target_lexicon.specs.Field.{Field, place, reads}
+
+-- the parts read as these fields, one each, which strictly increase and all stand behind `last`
+abbrev pub IsPlacedBehind : Field → List (List ℕ) → List Field → Type 0
+IsPlacedBehind last [] [] = Unit {0}
+IsPlacedBehind last [] (f ∷ fs) = ⊥
+IsPlacedBehind last (p ∷ ps) [] = ⊥
+IsPlacedBehind last (p ∷ ps) (f ∷ fs) = (place last < place f) × (reads f p ≡ true) × IsPlacedBehind f ps fs
+
+-- the first part reads as an architecture, the others as strictly increasing fields behind it
+abbrev pub IsPlacement : List (List ℕ) → List Field → Type 0
+IsPlacement [] fs = ⊥
+IsPlacement (p ∷ ps) [] = ⊥
+IsPlacement (p ∷ ps) (f ∷ fs) = (f ≡ field.Architecture) × (reads f p ≡ true) × IsPlacedBehind f ps fs
+
+-- field by field, the first are not behind the second
+abbrev pub AreNotBehind : List Field → List Field → Type 0
+AreNotBehind [] [] = Unit {0}
+AreNotBehind [] (g ∷ gs) = ⊥
+AreNotBehind (f ∷ fs) [] = ⊥
+AreNotBehind (f ∷ fs) (g ∷ gs) = (place f ≤ place g) × AreNotBehind fs gs
+
+-- the placement that puts every part at a field not behind its field in any other placement
+pub record IsLeast (parts : List (List ℕ)) (fields : List Field) : Type 0 where
+  pub placed : IsPlacement parts fields
+  pub least : (others : List Field) → IsPlacement parts others → AreNotBehind fields others
+
+-- the parts have a placement
+abbrev pub HasPlacement : List (List ℕ) → Type 0
+HasPlacement parts = (fields : List Field) × IsPlacement parts fields

@@ -1,0 +1,36 @@
+//! Laws over the definitions alone: each function's contract is one, and it does nothing.
+ghost use Rattle.target_lexicon.specs.Laws.{OneLeastPlacement, OneOutcomeEach, ReadVendorsArePlain};
+ghost use Rattle.target_lexicon.specs.PrintingLaws.{NamesReadBack, EqualTextsEqualTriples};
+
+/// Parts that have a placement have exactly one least, and so has each front of them.
+pub fn one_least_placement()
+    ensures { OneLeastPlacement }
+{}
+
+/// Every text is read or refused, in one way, and not both.
+pub fn one_outcome_each()
+    ensures { OneOutcomeEach }
+{}
+
+/// Every text that is read has a plain vendor.
+pub fn read_vendors_are_plain()
+    ensures { ReadVendorsArePlain }
+{}
+
+/// Every value but a custom vendor reads back from its name as itself, and its name holds no dash.
+/// A custom vendor does so where its text is admitted.
+pub fn names_read_back()
+    ensures { NamesReadBack }
+{
+    lexicon_fields::laws::names_read_back();
+    lexicon_fields::laws::names_hold_no_dash();
+    lexicon_fields::laws::system_names_read_back();
+    lexicon_fields::laws::system_names_hold_no_dash();
+    lexicon_fields::laws::vendor_names_read_back();
+    lexicon_fields::laws::vendor_names_hold_no_dash();
+}
+
+/// Two triples that come back when they are printed and read are equal exactly where their texts are.
+pub fn equal_texts_equal_triples()
+    ensures { EqualTextsEqualTriples }
+{}

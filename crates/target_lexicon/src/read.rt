@@ -1,0 +1,214 @@
+//! Reading a triple.
+ghost use Rattle.std.specs.Prelude.{◌≡◌, ◌∷◌, Option, Some, None, true, IfOk, IfErr, OnErr, MatchOption, option_map, string_bytes};
+ghost use Rattle.lexicon_fields.specs.Vendor.{vendor_of, vendor_value, is_admitted};
+ghost use Rattle.lexicon_fields.specs.OperatingSystem.{system_of};
+ghost use Rattle.lexicon_fields.specs.Environment.{environment_of};
+ghost use Rattle.lexicon_fields.specs.BinaryFormat.{format_of};
+ghost use Rattle.target_lexicon.specs.Field as field;
+ghost use Rattle.target_lexicon.specs.ParseError.{refusal_of};
+ghost use Rattle.target_lexicon.specs.Parts.{parts_of, parts_behind_dash, parts_left};
+ghost use Rattle.target_lexicon.specs.Reading.{ReadsAs, IsFaultOf, special_values};
+ghost use Rattle.target_lexicon.specs.Steps.{part_for, Takes, field_lacked};
+ghost use Rattle.target_lexicon.specs.Values.{values_of};
+
+use crate::default_format::default_binary_format;
+use crate::parse_error::ParseError;
+use crate::triple::Triple;
+use lexicon_fields::{
+    Architecture, ArmArchitecture, BinaryFormat, Environment, OperatingSystem, Riscv32Architecture,
+    Vendor, VendorError,
+};
+use std::alloc::{AllocError, Global};
+
+/// The parts that are left: the first of them, and what is behind its dash.
+type Parts<'a> = (&'a str, Option<&'a str>);
+
+/// Cuts a text at its first dash.
+fn cut(text: &str) -> Parts<'_>
+    ensures { parts_of text.now ≡ result.0.now ∷ parts_behind_dash result.1 }
+{
+    match text.split_once('-') {
+        Some((part, behind)) => (part, Some(behind)),
+        None => (text, None),
+    }
+}
+
+/// The parts behind a dash.
+fn parts_in<'a>(behind: Option<&'a str>) -> Option<Parts<'a>>
+    ensures { parts_left result ≡ parts_behind_dash behind.entry }
+{
+    match behind {
+        Some(text) => Some(cut(text)),
+        None => None,
+    }
+}
+
+/// The first part as a vendor, and the parts that are left then.
+#[tactic(auto, unfolding(crate::specs::Field::reads), using(crate::proofs::Vendors::admitted_custom))]
+fn take_vendor<'a>(
+    alloc: Global,
+    parts: Option<Parts<'a>>,
+) -> Result<(Option<Vendor>, Option<Parts<'a>>), AllocError>
+    ensures ok { IfOk result (λ taken. Takes field.Vendor vendor_of (parts_left parts.entry)
+        (option_map vendor_value taken.0) (parts_left taken.1)) }
+    ensures memory { OnErr result (MatchOption (part_for field.Vendor (parts_left parts.entry)) ⊥ (λ part. is_admitted part ≡ true)) }
+{
+    let Some((part, behind)) = parts else {
+        return Ok((None, None));
+    };
+    match Vendor::from_str(alloc, part) {
+        Ok(vendor) => Ok((Some(vendor), parts_in(behind))),
+        Err(VendorError::Unrecognized) => Ok((None, parts)),
+        Err(VendorError::OutOfMemory) => Err(AllocError),
+    }
+}
+
+/// The first part as an operating system, and the parts that are left then.
+#[tactic(auto, unfolding(crate::specs::Field::reads))]
+fn take_operating_system<'a>(
+    parts: Option<Parts<'a>>,
+) -> (Option<OperatingSystem>, Option<Parts<'a>>)
+    ensures { Takes field.System system_of (parts_left parts.entry) result.0 (parts_left result.1) }
+{
+    let Some((part, behind)) = parts else {
+        return (None, None);
+    };
+    match OperatingSystem::from_str(part) {
+        Ok(operating_system) => (Some(operating_system), parts_in(behind)),
+        Err(()) => (None, parts),
+    }
+}
+
+/// The first part as an environment, and the parts that are left then.
+#[tactic(auto, unfolding(crate::specs::Field::reads))]
+fn take_environment<'a>(parts: Option<Parts<'a>>) -> (Option<Environment>, Option<Parts<'a>>)
+    ensures { Takes field.Environment environment_of (parts_left parts.entry) result.0 (parts_left result.1) }
+{
+    let Some((part, behind)) = parts else {
+        return (None, None);
+    };
+    match Environment::from_str(part) {
+        Ok(environment) => (Some(environment), parts_in(behind)),
+        Err(()) => (None, parts),
+    }
+}
+
+/// The first part as a binary format, and the parts that are left then.
+#[tactic(auto, unfolding(crate::specs::Field::reads))]
+fn take_binary_format<'a>(parts: Option<Parts<'a>>) -> (Option<BinaryFormat>, Option<Parts<'a>>)
+    ensures { Takes field.Format format_of (parts_left parts.entry) result.0 (parts_left result.1) }
+{
+    let Some((part, behind)) = parts else {
+        return (None, None);
+    };
+    match BinaryFormat::from_str(part) {
+        Ok(binary_format) => (Some(binary_format), parts_in(behind)),
+        Err(()) => (None, parts),
+    }
+}
+
+/// The refusal of a part behind the architecture: it names the field behind the last that is filled.
+fn refusal(
+    part: String,
+    has_vendor: bool,
+    has_operating_system: bool,
+    has_environment: bool,
+    has_binary_format: bool,
+) -> ParseError
+    ensures { refusal_of result ≡ Some (
+      field_lacked has_vendor has_operating_system has_environment has_binary_format,
+      string_bytes part,
+    ) }
+{
+    if has_binary_format {
+        ParseError::UnrecognizedField(part)
+    } else if has_environment {
+        ParseError::UnrecognizedBinaryFormat(part)
+    } else if has_operating_system {
+        ParseError::UnrecognizedEnvironment(part)
+    } else if has_vendor {
+        ParseError::UnrecognizedOperatingSystem(part)
+    } else {
+        ParseError::UnrecognizedVendor(part)
+    }
+}
+
+impl Triple {
+    /// Parse a triple from an LLVM target triple.
+    ///
+    /// This may also be able to parse `rustc` target triples, though support
+    /// for that is secondary.
+    ///
+    /// The texts `armv6k-nintendo-3ds` and `riscv32imc-esp-espidf` have a triple of their own. Any other
+    /// text is cut at its dashes. The first part is the architecture. Each other part is taken by the
+    /// first field that it reads as, of those behind the last one taken: vendor, operating system,
+    /// environment, binary format. A field without a part is `Unknown`, and a missing binary format is
+    /// the one that the other fields imply.
+    ///
+    /// The first part that no field takes is refused, as the architecture or as the field behind the
+    /// last one taken; behind the binary format, as `UnrecognizedField`. `OutOfMemory` says that the
+    /// memory for a custom vendor or for the refused part was refused; nothing else wants any.
+    pub fn from_str(alloc: Global, text: &str) -> Result<Triple, ParseError>
+        ensures ok { IfOk result (λ triple. ReadsAs text.now (values_of triple)) }
+        ensures err { IfErr result (λ error. IsFaultOf text.now error) }
+    {
+        if let Some(triple) = Triple::special_case_from_str(text) {
+            return Ok(triple);
+        }
+        let (first, behind) = cut(text);
+        let Ok(architecture) = Architecture::from_str(first) else {
+            let part = String::from_str(alloc, first)?;
+            return Err(ParseError::UnrecognizedArchitecture(part));
+        };
+        let (vendor, parts) = take_vendor(alloc, parts_in(behind))?;
+        let (operating_system, parts) = take_operating_system(parts);
+        let (environment, parts) = take_environment(parts);
+        let (binary_format, parts) = take_binary_format(parts);
+        if let Some((part, _)) = parts {
+            let part = String::from_str(alloc, part)?;
+            return Err(refusal(
+                part,
+                vendor.is_some(),
+                operating_system.is_some(),
+                environment.is_some(),
+                binary_format.is_some(),
+            ));
+        }
+        let mut triple = Triple {
+            architecture,
+            vendor: vendor.unwrap_or(Vendor::Unknown),
+            operating_system: operating_system.unwrap_or(OperatingSystem::Unknown),
+            environment: environment.unwrap_or(Environment::Unknown),
+            binary_format: BinaryFormat::Unknown,
+        };
+        triple.binary_format = binary_format.unwrap_or(default_binary_format(&triple));
+        Ok(triple)
+    }
+
+    /// The triples of the two texts that have one of their own.
+    #[tactic(auto, unfolding(crate::specs::Reading::special_values))]
+    fn special_case_from_str(text: &str) -> Option<Triple>
+        ensures { option_map values_of result ≡ special_values text.now }
+    {
+        match text {
+            "armv6k-nintendo-3ds" => Some(Triple {
+                architecture: Architecture::Arm(ArmArchitecture::Armv6k),
+                vendor: Vendor::Nintendo,
+                operating_system: OperatingSystem::Horizon,
+                environment: Environment::Newlib,
+                binary_format: BinaryFormat::Elf,
+            }),
+            "riscv32imc-esp-espidf" => Some(Triple {
+                architecture: Architecture::Riscv32(Riscv32Architecture::Riscv32imc),
+                vendor: Vendor::Espressif,
+                operating_system: OperatingSystem::Espidf,
+                environment: Environment::Newlib,
+                binary_format: BinaryFormat::Elf,
+            }),
+            _ => None,
+        }
+    }
+}
+
+#[cfg(test)]
+mod tests;

@@ -1,0 +1,64 @@
+//! Triples that are read from texts and printed.
+
+mod known_triples;
+
+use crate::{BinaryFormat, Environment, ParseError, Triple, Vendor};
+use std::test::Fail;
+
+/// A text, and behind `=` what the triple that it reads as prints.
+const PRINTS: &str = "\
+unknown-unknown-unknown=unknown-unknown-unknown
+unknown-unknown-unknown-unknown-unknown=unknown-unknown-unknown
+riscv64=riscv64-unknown-unknown-elf
+x86_64-apple-darwin+023.6=x86_64-apple-darwin23.6.0
+x86_64-darwin23.0.0.0=x86_64-darwin23.0.0.0-unknown-elf
+x86_64-apple-ios65535.255.255=x86_64-apple-ios65535.255.255
+x86_64-none-none=x86_64-unknown-none-none
+armv6k-nintendo-3ds=armv6k-nintendo-3ds
+armv6k-nintendo-horizon-gnu-coff=armv6k-nintendo-3ds
+aarch64-nintendo-horizon-newlib-unknown=aarch64-nintendo-horizon-unknown
+riscv32imc-esp-espidf=riscv32imc-esp-espidf
+x86_64-unknown-linux-unknown-unknown=x86_64-unknown-linux-unknown
+arm64-apple-ios=aarch64-apple-ios
+x86_64-customvendor-linux=x86_64-customvendor-linux
+x86_64-fortanix-unknown-sgx=x86_64-fortanix-unknown-sgx
+hexagon-unknown-none-elf=hexagon-unknown-none-elf
+x86_64-unknown-linux-kernel=x86_64-linux-kernel
+x86_64-none-linuxkernel=x86_64-unknown-none-linuxkernel
+wasm32-wasi-unknown-unknown=wasm32-wasi-unknown
+wasm32-unknown-wasi-unknown-unknown=wasm32-wasi-unknown
+x86_64-unknown-none-unknown-unknown=x86_64-unknown-none
+wasm32-wasip1=wasm32-wasip1
+x86_64-ffi-linux=x86_64-ffi-linux
+riscv32imc-esp-espidf-unknown-unknown=riscv32imc-esp-espidf-unknown
+riscv32imc-esp-espidf-unknown=riscv32imc-esp-espidf
+clever-unknown-unknown-none=clever-unknown-none-elf
+clever-unknown-unknown-unknown-unknown=clever-unknown-unknown
+clever-unknown-unknown=clever-unknown-elf
+x86_64-unknown-linux-unknown=x86_64-unknown-linux";
+
+#[test]
+fn read_triples_print(rt: HostRuntime) -> Result<(), Fail> {
+    for row in PRINTS.lines() {
+        let (text, print) = row.split_once('=').ok_or("no print")?;
+        let triple = Triple::from_str(rt.alloc(), text)?;
+        assert_eq!(rt; triple.to_text(rt.alloc())?.as_str(), print);
+        assert_eq!(rt; format!(in rt.alloc(); "{triple}")?.as_str(), print);
+        assert_eq!(rt; format!(in rt.alloc(); "{triple:*>60}")?.as_str(), print);
+    }
+    Ok(())
+}
+
+#[test]
+fn a_print_may_read_as_another_triple(rt: HostRuntime) -> Result<(), Fail> {
+    let read = Triple::from_str(rt.alloc(), "riscv32imc-esp-espidf")?;
+    assert_eq!(rt; read.vendor, Vendor::Espressif);
+    assert_eq!(rt; read.environment, Environment::Newlib);
+    let read = Triple::from_str(rt.alloc(), "x86_64-unknown-linux-unknown")?;
+    assert_eq!(rt; read.binary_format, BinaryFormat::Elf);
+    let refused = Triple::from_str(rt.alloc(), "x86_64-a-b-linux");
+    assert!(rt;
+        matches!(&refused, Err(ParseError::UnrecognizedOperatingSystem(part)) if part.as_str() == "b")
+    );
+    Ok(())
+}
