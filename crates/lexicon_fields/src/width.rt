@@ -20,7 +20,7 @@ pub enum PointerWidth {
 }
 
 impl PointerWidth {
-    /// The number of bits in a pointer.
+    /// How many bits a pointer has.
     pub fn bits(self) -> u8
         ensures value { result ≡ width_bits self }
         ensures of_bytes { result ≡ 8 * width_bytes self }

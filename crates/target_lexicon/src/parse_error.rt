@@ -6,7 +6,7 @@ use std::alloc::{AllocError, Global};
 use std::error::Error;
 use std::fmt;
 
-/// An error returned from parsing a triple.
+/// What is wrong with a text that reads as no triple: the first part that can't be placed, and the field that it lacks.
 #[derive(Debug, PartialEq, Eq, Drop)]
 pub enum ParseError {
     /// The first part reads as no architecture.

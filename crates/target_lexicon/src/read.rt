@@ -134,10 +134,7 @@ fn refusal(
 }
 
 impl Triple {
-    /// Parse a triple from an LLVM target triple.
-    ///
-    /// This may also be able to parse `rustc` target triples, though support
-    /// for that is secondary.
+    /// The triple that a text reads as, or why it is refused. LLVM's triples read, and most of `rustc`'s.
     ///
     /// The texts `armv6k-nintendo-3ds` and `riscv32imc-esp-espidf` have a triple of their own. Any other
     /// text is cut at its dashes. The first part is the architecture. Each other part is taken by the

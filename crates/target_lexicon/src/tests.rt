@@ -8,6 +8,7 @@ use std::test::Fail;
 /// A text, and behind `=` what the triple that it reads as prints.
 const PRINTS: &str = "\
 unknown-unknown-unknown=unknown-unknown-unknown
+unknown-unknown-unknown-unknown=unknown-unknown-unknown
 unknown-unknown-unknown-unknown-unknown=unknown-unknown-unknown
 riscv64=riscv64-unknown-unknown-elf
 x86_64-apple-darwin+023.6=x86_64-apple-darwin23.6.0

@@ -5,27 +5,25 @@ ghost use Rattle.lexicon_fields.specs.Vendor.{owns_text};
 use lexicon_fields::{Architecture, BinaryFormat, Environment, OperatingSystem, Vendor};
 use std::alloc::{AllocError, Global};
 
-/// An LLVM target "triple". Historically such things had three fields, though
-/// they've added additional fields over time.
+/// A target as LLVM names it: five fields, of which a text such as `x86_64-unknown-linux-gnu` shows some.
 #[derive(Debug, PartialEq, Eq, Hash, Drop)]
 pub struct Triple {
-    /// The "architecture" (and sometimes the subarchitecture).
+    /// The instruction set, with its sub-architecture where it has some.
     pub architecture: Architecture,
-    /// The "vendor" (whatever that means).
+    /// Who makes the platform, or a name that stands for a variant of it.
     pub vendor: Vendor,
-    /// The "operating system" (sometimes also the environment).
+    /// The operating system, for which `None_` says that there is none.
     pub operating_system: OperatingSystem,
-    /// The "environment" on top of the operating system (often omitted for
-    /// operating systems with a single predominant environment).
+    /// The ABI or C library on the system; `Unknown` on most systems that have just one.
     pub environment: Environment,
-    /// The "binary format" (rarely used).
+    /// The format of object files, which mostly follows from the other fields.
     pub binary_format: BinaryFormat,
 }
 
 impl Triple {
     ghost use Rattle.target_lexicon.specs.Values.{values_of, unknown_values};
 
-    /// Return a `Triple` with all unknown fields.
+    /// The triple whose five fields are `Unknown`.
     pub fn unknown() -> Self
         ensures { values_of result ≡ unknown_values }
     {

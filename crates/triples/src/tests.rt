@@ -35,13 +35,15 @@ impl Read for Drip<'_> {
     }
 }
 
-/// Keeps what it takes, at most `most` bytes a write, and fails at its `fails_at`th write, or at the flush.
+/// Keeps what it takes, at most `most` bytes a write, and fails at its `fails_at`th write, or at the flush. It counts
+/// its flushes.
 #[derive(Drop)]
 struct Gate {
     kept: Vec<u8>,
     most: usize,
     fails_at: usize,
     flushes: bool,
+    flushed: u32,
 }
 
 impl Gate {
@@ -51,6 +53,7 @@ impl Gate {
             most: usize::MAX,
             fails_at: usize::MAX,
             flushes: true,
+            flushed: 0,
         }
     }
 }
@@ -67,6 +70,7 @@ impl Write for Gate {
     }
 
     fn flush(&mut self) -> io::Result<()> {
+        self.flushed = self.flushed.saturating_add(1);
         if self.flushes {
             Ok(())
         } else {
@@ -202,10 +206,9 @@ fn reads_and_writes_a_byte_at_a_time(rt: HostRuntime) {
     let mut writer = Counted::new(gate);
     let end = run(rt.alloc(), Mode::Print, &mut reader, &mut writer);
     assert_eq!(rt; end, Ok(()));
-    assert_eq!(rt;
-        writer.into_inner().kept.as_slice(),
-        b"msp430-none\n".as_slice()
-    );
+    let gate = writer.into_inner();
+    assert_eq!(rt; gate.kept.as_slice(), b"msp430-none\n".as_slice());
+    assert_eq!(rt; gate.flushed, 1);
 }
 
 #[test]
@@ -253,7 +256,9 @@ fn tells_a_failed_flush(rt: HostRuntime) {
         let mut reader = Counted::new(input);
         let end = run(rt.alloc(), Mode::Print, &mut reader, &mut writer);
         assert_eq!(rt; end, Err(RunError::Write));
-        assert_eq!(rt; writer.into_inner().kept.as_slice(), whole);
+        let gate = writer.into_inner();
+        assert_eq!(rt; gate.kept.as_slice(), whole);
+        assert_eq!(rt; gate.flushed, 1);
     }
 }
 

@@ -56,9 +56,28 @@ fn reads_systems(rt: HostRuntime) {
     }
 }
 
+/// The names of all systems without a version, printed by a Rust program that asks target-lexicon 0.13.5.
+const NAMES: &str = "\
+unknown aix amdhsa bitrig cloudabi cuda cygwin dragonfly emscripten espidf freebsd fuchsia haiku
+hermit horizon hurd illumos l4re linux nebulet netbsd none openbsd psp redox solaris solid_asp3
+uefi vxworks wasi wasip1 wasip2 windows darwin ios macosx tvos visionos watchos xros";
+
+#[test]
+fn names_as_upstream(rt: HostRuntime) -> Result<(), Fail> {
+    let mut count = 0u32;
+    for name in NAMES.split_whitespace() {
+        let system = OperatingSystem::from_str(name).ok().ok_or("refused")?;
+        assert_eq!(rt; system.into_str(rt.alloc())?.as_str(), name);
+        assert_eq!(rt; format!(in rt.alloc(); "{system:*>40}")?.as_str(), name);
+        count = count.saturating_add(1);
+    }
+    assert_eq!(rt; count, 40);
+    Ok(())
+}
+
 #[test]
 fn reads_versions_as_upstream(rt: HostRuntime) -> Result<(), Fail> {
-    assert_eq!(rt; VERSION_TEXTS.lines().count(), 337);
+    assert_eq!(rt; VERSION_TEXTS.lines().count(), 338);
     for row in VERSION_TEXTS.lines() {
         let (text, want) = row.split_once('=').ok_or("no `=`")?;
         let name = match OperatingSystem::from_str(text) {

@@ -10,12 +10,22 @@ fn fed<T: Hash>(value: &T) -> u64 {
 
 #[test]
 fn reads_known_vendors(rt: HostRuntime) {
+    // Printed by a Rust program that asks target-lexicon 0.13.5 for each of its values.
     let rows = [
         ("unknown", Vendor::Unknown),
         ("amd", Vendor::Amd),
         ("apple", Vendor::Apple),
         ("espressif", Vendor::Espressif),
+        ("experimental", Vendor::Experimental),
+        ("fortanix", Vendor::Fortanix),
+        ("ibm", Vendor::Ibm),
+        ("kmc", Vendor::Kmc),
+        ("nintendo", Vendor::Nintendo),
+        ("nvidia", Vendor::Nvidia),
         ("pc", Vendor::Pc),
+        ("rumprun", Vendor::Rumprun),
+        ("sun", Vendor::Sun),
+        ("uwp", Vendor::Uwp),
         ("wrs", Vendor::Wrs),
     ];
     for (text, want) in rows {

@@ -12,6 +12,7 @@ ios7=ios7.0.0
 ios7.8=ios7.8.0
 ios7.8.9=ios7.8.9
 ios.=
+ios17=ios17.0.0
 macosx=macosx
 macosx7=macosx7.0.0
 macosx7.8=macosx7.8.0
