@@ -263,6 +263,34 @@ fn tells_a_failed_flush(rt: HostRuntime) {
 }
 
 #[test]
+fn passes_on_the_error_of_its_device(rt: HostRuntime) {
+    for kind in [ErrorKind::Interrupted, ErrorKind::BrokenPipe] {
+        let mut reader = Counted::new(Drip {
+            rest: b"a",
+            fails_at: 0,
+            kind,
+        });
+        let mut piece = [0u8; 4];
+        match reader.read(&mut piece) {
+            Ok(_) => assert!(rt; false),
+            Err(error) => assert_eq!(rt; error.kind(), kind),
+        }
+    }
+    let mut gate = Gate::new(rt.alloc());
+    gate.fails_at = 0;
+    gate.flushes = false;
+    let mut writer = Counted::new(gate);
+    match writer.write(b"a") {
+        Ok(_) => assert!(rt; false),
+        Err(error) => assert_eq!(rt; error.kind(), ErrorKind::Interrupted),
+    }
+    match writer.flush() {
+        Ok(()) => assert!(rt; false),
+        Err(error) => assert_eq!(rt; error.kind(), ErrorKind::BrokenPipe),
+    }
+}
+
+#[test]
 fn concludes(rt: HostRuntime) -> Result<(), Fail> {
     let rows = [
         (Some(Ok(())), 0, ""),
