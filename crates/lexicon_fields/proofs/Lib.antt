@@ -1,4 +1,5 @@
 pub mod DashLemmas
+pub mod EqualityLemmas
 pub mod NamesLemmas
 pub mod SystemDashLemmas
 pub mod SystemLemmas

@@ -3,6 +3,7 @@ pub mod ArchitectureLaws
 pub mod ArchitectureQueries
 pub mod BinaryFormat
 pub mod Environment
+pub mod EqualityLaws
 pub mod NameLaws
 pub mod Names
 pub mod OperatingSystem

@@ -16,9 +16,9 @@ pub enum Environment {
     AmdGiz,
     Android,
     Androideabi,
-    /// The embedded ABI, with floating point in software.
+    /// Arm's embedded ABI, which passes floating-point arguments in integer registers.
     Eabi,
-    /// The embedded ABI, with floating point in hardware.
+    /// Arm's embedded ABI, which passes floating-point arguments in floating-point registers.
     Eabihf,
     Gnu,
     /// GNU, with the 64-bit ABI of MIPS.

@@ -1,5 +1,6 @@
 //! Laws of names and queries: a call does nothing, and its contract is the law.
 ghost use Rattle.std.specs.Prelude.{◌≡◌, ◌↔◌, true};
+ghost use Rattle.lexicon_fields.specs.EqualityLaws.{ComparesByValue};
 ghost use Rattle.lexicon_fields.specs.NameLaws.{NamesReadBack, NamesHoldNoDash, TextsHoldNoDash};
 ghost use Rattle.lexicon_fields.specs.SubArchitecture.{arm_name, arm_of, aarch64_name, aarch64_of, x86_32_name, x86_32_of};
 ghost use Rattle.lexicon_fields.specs.SubArchitecture.{mips32_name, mips32_of, mips64_name, mips64_of};
@@ -11,12 +12,23 @@ ghost use Rattle.lexicon_fields.specs.BinaryFormat.{format_name, format_of};
 ghost use Rattle.lexicon_fields.specs.ArchitectureLaws.{IsRefusedForUnknownAlone};
 ghost use Rattle.lexicon_fields.specs.ArchitectureQueries.{architecture_endianness, architecture_width};
 ghost use Rattle.lexicon_fields.specs.SystemLaws.{SystemNamesReadBack, SystemTextsHoldNoDash, SystemNamesHoldNoDash, version_cmp};
+ghost use Rattle.lexicon_fields.specs.declared.vendor.CustomVendor.{CustomVendor};
 ghost use Rattle.lexicon_fields.specs.declared.vendor.Vendor.{Vendor};
-ghost use Rattle.lexicon_fields.specs.Vendor.{vendor_value};
+ghost use Rattle.lexicon_fields.specs.Vendor.{custom_text, vendor_value};
 ghost use Rattle.lexicon_fields.specs.VendorLaws.{VendorNamesReadBack, VendorNamesHoldNoDash};
 
+use crate::architecture::{
+    Aarch64Architecture, Architecture, ArmArchitecture, CleverArchitecture, Mips32Architecture,
+    Mips64Architecture, Riscv32Architecture, Riscv64Architecture, X86_32Architecture,
+    Z80Architecture,
+};
+use crate::binary_format::BinaryFormat;
 use crate::deployment_target::DeploymentTarget;
-use crate::vendor::Vendor;
+use crate::environment::Environment;
+use crate::operating_system::OperatingSystem;
+use crate::vendor::{CustomVendor, Vendor, VendorError};
+use crate::width::{Endianness, PointerWidth};
+use std::hash::Hash;
 
 /// Each value reads back from its name as itself.
 pub fn names_read_back()
@@ -105,4 +117,30 @@ pub fn vendor_names_hold_no_dash()
 /// Known vendors are equal by variant, custom ones by text, and a custom one never equals a known one.
 pub fn vendors_are_equal_by_value()
     ensures { (x y : Vendor) → (⟦<Vendor as PartialEq>⟧.eq x y ≡ true) ↔ (vendor_value x ≡ vendor_value y) }
+{}
+
+/// Values of each other type are equal exactly where their variants and their fields are.
+pub fn values_are_equal_by_variant_and_fields()
+    ensures architecture { ComparesByValue ⟦<Architecture as PartialEq>⟧.eq }
+    ensures arm { ComparesByValue ⟦<ArmArchitecture as PartialEq>⟧.eq }
+    ensures aarch64 { ComparesByValue ⟦<Aarch64Architecture as PartialEq>⟧.eq }
+    ensures x86_32 { ComparesByValue ⟦<X86_32Architecture as PartialEq>⟧.eq }
+    ensures mips32 { ComparesByValue ⟦<Mips32Architecture as PartialEq>⟧.eq }
+    ensures mips64 { ComparesByValue ⟦<Mips64Architecture as PartialEq>⟧.eq }
+    ensures riscv32 { ComparesByValue ⟦<Riscv32Architecture as PartialEq>⟧.eq }
+    ensures riscv64 { ComparesByValue ⟦<Riscv64Architecture as PartialEq>⟧.eq }
+    ensures clever { ComparesByValue ⟦<CleverArchitecture as PartialEq>⟧.eq }
+    ensures z80 { ComparesByValue ⟦<Z80Architecture as PartialEq>⟧.eq }
+    ensures version { ComparesByValue ⟦<DeploymentTarget as PartialEq>⟧.eq }
+    ensures operating_system { ComparesByValue ⟦<OperatingSystem as PartialEq>⟧.eq }
+    ensures environment { ComparesByValue ⟦<Environment as PartialEq>⟧.eq }
+    ensures binary_format { ComparesByValue ⟦<BinaryFormat as PartialEq>⟧.eq }
+    ensures endianness { ComparesByValue ⟦<Endianness as PartialEq>⟧.eq }
+    ensures pointer_width { ComparesByValue ⟦<PointerWidth as PartialEq>⟧.eq }
+    ensures vendor_error { ComparesByValue ⟦<VendorError as PartialEq>⟧.eq }
+{}
+
+/// Two custom vendors feed a hasher equally exactly where their texts are equal.
+pub fn custom_vendors_feed_by_text()
+    ensures { (x y : CustomVendor) → (⟦<CustomVendor as Hash>⟧.hash_input x ≡ ⟦<CustomVendor as Hash>⟧.hash_input y) ↔ (custom_text x ≡ custom_text y) }
 {}

@@ -62,8 +62,9 @@ pub enum OperatingSystem {
 }
 
 impl OperatingSystem {
-    /// The value that the text reads as; every other text is refused. A version behind the prefix of a system like
-    /// Darwin is read too.
+    /// The value that the text reads as; every other text is refused. Behind the prefix of a system like Darwin stands
+    /// nothing, or a version: one to three pieces between dots, each an optional plus and digits, the first up to 65535,
+    /// the others up to 255.
     #[tactic(auto, unfolding(crate::specs::OperatingSystem::system_of))]
     pub fn from_str(s: &str) -> Result<Self, ()>
         ensures { ReadsBy system_of s.now result }

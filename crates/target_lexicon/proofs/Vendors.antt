@@ -1,8 +1,10 @@
 -- What reads as a vendor.
-use Rattle.std.proofs.Common.{◌≡◌, ℕ, List, Bool, true, refl, subst, Option, Some, None, inl, inr}
+use Rattle.std.proofs.Common.{◌≡◌, ℕ, List, Bool, true, refl, sym, ◌∙◌, subst, Option, Some, None, inl, inr}
 use Rattle.std.specs.Prelude.{is_none, ◌&&◌, option_map}
 use Rattle.lexicon_fields.specs.Names.{or_then}
-use Rattle.lexicon_fields.specs.Vendor.{KnownVendor, VendorValue, Known, Custom, known_vendor_of, is_admitted, custom_of, vendor_of, is_plain}
+use Rattle.lexicon_fields.specs.Vendor.{KnownVendor, VendorValue, Known, Custom, known_vendor_of, is_admitted, custom_of, vendor_of, vendor_value, owns_text, is_plain}
+use Rattle.lexicon_fields.specs.declared.vendor.Vendor.{Vendor}
+use Rattle.target_lexicon.specs.Reading.{IsCustom, OwnsCustomText}
 use Rattle.target_lexicon.proofs.Cuts.{bool_cases}
 
 -- no admitted text is a known vendor's name
@@ -39,3 +41,25 @@ vendor-plain text v h = by_known (known_vendor_of text) h
     by_known (Some known) h =
         let same : Known known ≡ v = cc in
         subst (λ x. is_plain x ≡ true) same refl
+
+admitted-if-custom : (text : List ℕ) (v : VendorValue) → custom_of text ≡ Some v → is_admitted text ≡ true
+admitted-if-custom text v h =
+    elim (bool_cases (is_admitted text)) [
+      | inl admitted ↦ admitted
+      | inr other ↦ let found = rw other at h in cc
+    ]
+
+-- a text that reads as a custom vendor is admitted
+custom-admitted : (text : List ℕ) (v : VendorValue) → vendor_of text ≡ Some v → IsCustom v → is_admitted text ≡ true
+unfolding vendor_of
+custom-admitted text v h = by_known (known_vendor_of text) h
+  where
+    by_known : (o : Option KnownVendor) → or_then (option_map Known o) (custom_of text) ≡ Some v → IsCustom v → is_admitted text ≡ true
+    by_known None h custom = admitted-if-custom text v h
+    by_known (Some known) h custom =
+        let same : Known known ≡ v = cc in
+        absurd (subst IsCustom (sym same) custom)
+
+-- a vendor that owns its text where that is admitted owns the text of a custom one
+pub owns_custom_text : (text : List ℕ) (v : Vendor) → vendor_of text ≡ Some (vendor_value v) → owns_text v ≡ is_admitted text → OwnsCustomText v
+owns_custom_text text v reads owns custom = owns ∙ custom-admitted text (vendor_value v) reads custom

@@ -10,13 +10,13 @@ use Rattle.lexicon_fields.specs.declared.binary_format.BinaryFormat.{BinaryForma
 use Rattle.lexicon_fields.specs.declared.binary_format.BinaryFormat.TheVariants as format
 use Rattle.lexicon_fields.specs.OperatingSystem.{is_like_darwin}
 
--- without a system: the embedded interfaces have Elf
+-- without a system only the embedded ABIs imply a format
 abbrev pub bare_format : Environment → BinaryFormat
 bare_format environment.Eabi = format.Elf
 bare_format environment.Eabihf = format.Elf
 bare_format _ = format.Unknown
 
--- where WebAssembly may be what runs
+-- Wasm on the WebAssembly architectures, and Elf elsewhere; on an unknown architecture nothing is known
 abbrev pub wasm_or_elf : Architecture → BinaryFormat
 wasm_or_elf architecture.Wasm32 = format.Wasm
 wasm_or_elf architecture.Wasm64 = format.Wasm

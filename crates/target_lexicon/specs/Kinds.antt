@@ -55,7 +55,7 @@ is_bare architecture.Msp430 = true
 is_bare (architecture.Arm sub) = is_bare_arm sub
 is_bare _ = false
 
--- the architectures whose triples show no implied format
+-- the architectures whose triples leave out an implied format even without a system
 abbrev pub omits_format : Architecture → Bool
 omits_format architecture.ZkAsm = true
 omits_format architecture.Avr = true
@@ -121,7 +121,7 @@ is_android_or_kernel environment.Androideabi = true
 is_android_or_kernel environment.Kernel = true
 is_android_or_kernel _ = false
 
--- the embedded interfaces, and `Sgx`
+-- the embedded ABIs, and `Sgx`
 abbrev pub is_eabi_or_sgx : Environment → Bool
 is_eabi_or_sgx environment.Eabi = true
 is_eabi_or_sgx environment.Eabihf = true

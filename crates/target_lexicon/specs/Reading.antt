@@ -1,5 +1,5 @@
 -- What a text reads as, and how it is refused.
-use Rattle.std.specs.Prelude.{◌≡◌, ℕ, ◌<◌, suc, List, [], ◌∷◌, Option, Some, None, take, slice_get, codes, if◌then◌else◌, ◌==◌, MatchOption, ◌⊎◌}
+use Rattle.std.specs.Prelude.{◌≡◌, ℕ, ◌<◌, suc, List, [], ◌∷◌, true, Option, Some, None, take, slice_get, codes, if◌then◌else◌, ◌==◌, MatchOption, ◌⊎◌}
 use Rattle.std.specs.Str.{bytes_eq}
 use Rattle.lexicon_fields.specs.declared.architecture.Architecture.TheVariants as architecture
 use Rattle.lexicon_fields.specs.declared.architecture.arm.ArmArchitecture.TheVariants as arm
@@ -9,7 +9,8 @@ use Rattle.lexicon_fields.specs.declared.environment.Environment.TheVariants as 
 use Rattle.lexicon_fields.specs.declared.binary_format.BinaryFormat.TheVariants as format
 use Rattle.lexicon_fields.specs.Architecture.{architecture_of}
 use Rattle.lexicon_fields.specs.Vendor as vendor
-use Rattle.lexicon_fields.specs.Vendor.{VendorValue, vendor_of}
+use Rattle.lexicon_fields.specs.declared.vendor.Vendor.{Vendor}
+use Rattle.lexicon_fields.specs.Vendor.{VendorValue, vendor_of, vendor_value, owns_text}
 use Rattle.lexicon_fields.specs.OperatingSystem.{system_of}
 use Rattle.lexicon_fields.specs.Environment.{environment_of}
 use Rattle.lexicon_fields.specs.BinaryFormat.{format_of}
@@ -117,6 +118,10 @@ IsRefused text = (kind : Option Field) × ((part : List ℕ) × IsRefusedAs text
 abbrev pub IsCustom : VendorValue → Type 0
 IsCustom (vendor.Known known) = ⊥
 IsCustom (vendor.Custom text) = Unit {0}
+
+-- a custom vendor that is read has a text of its own
+abbrev pub OwnsCustomText : Vendor → Type 0
+OwnsCustomText v = IsCustom (vendor_value v) → owns_text v ≡ true
 
 -- the only texts that may want memory: those that are refused, or read with a custom vendor
 abbrev pub MayWantMemory : List ℕ → Type 0

@@ -183,7 +183,7 @@ fn is_bare(architecture: Architecture) -> bool
     }
 }
 
-/// Whether a triple of this architecture shows no implied format.
+/// Whether a triple of this architecture leaves out an implied format even without a system.
 fn omits_format(architecture: Architecture) -> bool
     ensures { result ≡ omits_format architecture }
 {

@@ -1,6 +1,14 @@
 //! Laws over the definitions alone: each function's contract is one, and it does nothing.
+ghost use Rattle.std.specs.Prelude.{◌≡◌, ◌↔◌, true};
 ghost use Rattle.target_lexicon.specs.Laws.{OneLeastPlacement, OneOutcomeEach, ReadVendorsArePlain};
 ghost use Rattle.target_lexicon.specs.PrintingLaws.{NamesReadBack, EqualTextsEqualTriples};
+ghost use Rattle.target_lexicon.specs.ParseError.{refusal_of};
+ghost use Rattle.target_lexicon.specs.Values.{values_of};
+ghost use Rattle.target_lexicon.specs.declared.parse_error.ParseError.{ParseError};
+ghost use Rattle.target_lexicon.specs.declared.triple.Triple.{Triple};
+
+use crate::parse_error::ParseError;
+use crate::triple::Triple;
 
 /// Parts that have a placement have exactly one least, and so has each front of them.
 pub fn one_least_placement()
@@ -33,4 +41,17 @@ pub fn names_read_back()
 /// Two triples that come back when they are printed and read are equal exactly where their texts are.
 pub fn equal_texts_equal_triples()
     ensures { EqualTextsEqualTriples }
+{}
+
+/// Two triples are equal, as `==` tells, exactly where their five values are; a custom vendor is its text.
+pub fn triples_are_equal_by_value()
+    ensures { (x y : Triple) → (⟦<Triple as PartialEq>⟧.eq x y ≡ true) ↔ (values_of x ≡ values_of y) }
+{
+    lexicon_fields::laws::values_are_equal_by_variant_and_fields();
+    lexicon_fields::laws::vendors_are_equal_by_value();
+}
+
+/// Two errors are equal, as `==` tells, exactly where they name the same refusal, or both want of memory.
+pub fn errors_are_equal_by_value()
+    ensures { (x y : ParseError) → (⟦<ParseError as PartialEq>⟧.eq x y ≡ true) ↔ (refusal_of x ≡ refusal_of y) }
 {}

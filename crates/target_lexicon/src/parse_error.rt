@@ -11,11 +11,11 @@ use std::fmt;
 pub enum ParseError {
     /// The first part reads as no architecture.
     UnrecognizedArchitecture(String),
-    /// Behind the architecture, the part reads as no field.
+    /// Behind the architecture, the part reads as no later field.
     UnrecognizedVendor(String),
-    /// Behind the vendor, the part reads as no field.
+    /// Behind the vendor, the part reads as no later field.
     UnrecognizedOperatingSystem(String),
-    /// Behind the operating system, the part reads as no field.
+    /// Behind the operating system, the part reads as no later field.
     UnrecognizedEnvironment(String),
     /// Behind the environment, the part reads as no binary format.
     UnrecognizedBinaryFormat(String),

@@ -1,5 +1,5 @@
 //! Reading a triple.
-ghost use Rattle.std.specs.Prelude.{◌≡◌, ◌∷◌, Option, Some, None, true, IfOk, IfErr, OnErr, MatchOption, option_map, string_bytes};
+ghost use Rattle.std.specs.Prelude.{◌≡◌, ◌∷◌, Option, Some, None, true, IfOk, IfErr, OnErr, IfSome, MatchOption, option_map, string_bytes};
 ghost use Rattle.lexicon_fields.specs.Vendor.{vendor_of, vendor_value, is_admitted};
 ghost use Rattle.lexicon_fields.specs.OperatingSystem.{system_of};
 ghost use Rattle.lexicon_fields.specs.Environment.{environment_of};
@@ -7,7 +7,7 @@ ghost use Rattle.lexicon_fields.specs.BinaryFormat.{format_of};
 ghost use Rattle.target_lexicon.specs.Field as field;
 ghost use Rattle.target_lexicon.specs.ParseError.{refusal_of};
 ghost use Rattle.target_lexicon.specs.Parts.{parts_of, parts_behind_dash, parts_left};
-ghost use Rattle.target_lexicon.specs.Reading.{ReadsAs, IsFaultOf, special_values};
+ghost use Rattle.target_lexicon.specs.Reading.{ReadsAs, IsFaultOf, OwnsCustomText, special_values};
 ghost use Rattle.target_lexicon.specs.Steps.{part_for, Takes, field_lacked};
 ghost use Rattle.target_lexicon.specs.Values.{values_of};
 
@@ -44,13 +44,14 @@ fn parts_in<'a>(behind: Option<&'a str>) -> Option<Parts<'a>>
 }
 
 /// The first part as a vendor, and the parts that are left then.
-#[tactic(auto, unfolding(crate::specs::Field::reads), using(crate::proofs::Vendors::admitted_custom))]
+#[tactic(auto, unfolding(crate::specs::Field::reads), using(crate::proofs::Vendors::admitted_custom, crate::proofs::Vendors::owns_custom_text))]
 fn take_vendor<'a>(
     alloc: Global,
     parts: Option<Parts<'a>>,
 ) -> Result<(Option<Vendor>, Option<Parts<'a>>), AllocError>
     ensures ok { IfOk result (λ taken. Takes field.Vendor vendor_of (parts_left parts.entry)
         (option_map vendor_value taken.0) (parts_left taken.1)) }
+    ensures owned { IfOk result (λ taken. IfSome taken.0 OwnsCustomText) }
     ensures memory { OnErr result (MatchOption (part_for field.Vendor (parts_left parts.entry)) ⊥ (λ part. is_admitted part ≡ true)) }
 {
     let Some((part, behind)) = parts else {
@@ -134,7 +135,7 @@ fn refusal(
 }
 
 impl Triple {
-    /// The triple that a text reads as, or why it is refused. LLVM's triples read, and most of `rustc`'s.
+    /// The triple that a text reads as, or why it is refused. Most of `rustc`'s targets read.
     ///
     /// The texts `armv6k-nintendo-3ds` and `riscv32imc-esp-espidf` have a triple of their own. Any other
     /// text is cut at its dashes. The first part is the architecture. Each other part is taken by the
@@ -147,6 +148,7 @@ impl Triple {
     /// memory for a custom vendor or for the refused part was refused; nothing else wants any.
     pub fn from_str(alloc: Global, text: &str) -> Result<Triple, ParseError>
         ensures ok { IfOk result (λ triple. ReadsAs text.now (values_of triple)) }
+        ensures owned { IfOk result (λ triple. OwnsCustomText triple.vendor) }
         ensures err { IfErr result (λ error. IsFaultOf text.now error) }
     {
         if let Some(triple) = Triple::special_case_from_str(text) {
@@ -185,7 +187,8 @@ impl Triple {
     /// The triples of the two texts that have one of their own.
     #[tactic(auto, unfolding(crate::specs::Reading::special_values))]
     fn special_case_from_str(text: &str) -> Option<Triple>
-        ensures { option_map values_of result ≡ special_values text.now }
+        ensures values { option_map values_of result ≡ special_values text.now }
+        ensures owned { IfSome result (λ triple. OwnsCustomText triple.vendor) }
     {
         match text {
             "armv6k-nintendo-3ds" => Some(Triple {

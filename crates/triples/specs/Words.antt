@@ -1,8 +1,16 @@
--- The lines of the faults, and how the program ends.
-use Rattle.std.specs.Prelude.{ℕ, List, [], ◌++◌, Option, Some, None, codes, Result, Ok, Err}
+-- The words of the modes, the lines of the faults, and how the program ends.
+use Rattle.std.specs.Prelude.{ℕ, List, [], ◌++◌, Option, Some, None, codes, Result, Ok, Err, if◌then◌else◌}
+use Rattle.std.specs.Str.{bytes_eq}
+use Rattle.triples.specs.declared.mode.Mode.{Mode}
+use Rattle.triples.specs.declared.mode.Mode.TheVariants.{Print}
 use Rattle.triples.specs.declared.run_error.RunError.{RunError}
 use Rattle.triples.specs.declared.run_error.RunError.TheVariants.{Read, Write, NotUtf8, NotJson, NotList, OutOfMemory}
 
+-- the mode that a word names
+unfoldable pub mode_named : List ℕ → Option Mode
+mode_named word = if bytes_eq word (codes "print") then Some Print else None
+
+-- the line that tells a fault
 abbrev pub line_of : RunError → List ℕ
 line_of Read = codes "Read failed"
 line_of Write = codes "Write failed"

@@ -21,17 +21,16 @@ use std::env;
 use std::process::ExitCode;
 use std::rt::Env;
 
-/// The mode that the program's arguments name: `print` where there is none.
+/// The mode that the arguments behind the program's name ask for: `print` where there is none, and the mode that a
+/// single word names. More words ask for none, and so do arguments that can't be had.
 fn asked_mode(rt: &(impl Env + Alloc)) -> Option<Mode> {
     let mut args = env::args(rt).ok()?;
-    args.next()?;
-    let Some(word) = args.next() else {
-        return Some(Mode::Print);
-    };
-    if args.next().is_some() {
-        return None;
+    let _name = args.next();
+    match (args.next(), args.next()) {
+        (None, _) => Some(Mode::Print),
+        (Some(word), None) => Mode::from_word(word.as_str()),
+        (Some(_), Some(_)) => None,
     }
-    Mode::from_word(word.as_str())
 }
 
 fn main(rt: HostRuntime) -> ExitCode {

@@ -1,5 +1,5 @@
 //! The modes of the program.
-ghost use Rattle.std.specs.Prelude.{◌≡◌, ◌↔◌, codes};
+ghost use Rattle.std.specs.Prelude.{◌≡◌};
 
 /// What is written for an input.
 #[derive(Clone, Copy, Debug, PartialEq, Eq)]
@@ -9,9 +9,12 @@ pub enum Mode {
 }
 
 impl Mode {
+    ghost use Rattle.triples.specs.Words.{mode_named};
+
     /// The mode that the word names; every other word names none.
+    #[tactic(auto, unfolding(crate::specs::Words::mode_named))]
     pub fn from_word(word: &str) -> Option<Mode>
-        ensures print { (result ≡ Some Mode.Print) ↔ (word.now ≡ codes "print") }
+        ensures { result ≡ mode_named word.now }
     {
         match word {
             "print" => Some(Mode::Print),

@@ -22,6 +22,7 @@ use std::io::{Read, Write};
 ///
 /// - [`RunError::Read`] exactly where a read failed; nothing was written.
 /// - [`RunError::NotUtf8`] where the whole input was read and is not UTF-8; nothing was written.
+/// - [`RunError::NotJson`] and [`RunError::NotList`] in no mode that there is.
 /// - [`RunError::OutOfMemory`] where memory was refused, which comes only after a byte was read; nothing was
 ///   written.
 /// - [`RunError::Write`] exactly where a write or the flush failed, or a write took none of a piece; a beginning

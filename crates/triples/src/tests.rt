@@ -1,31 +1,59 @@
 //! Runs over memory and over devices that fail.
 
+ghost use Rattle.std.specs.Io.{WritesAtMost};
+
+use crate::asked_mode;
 use crate::conclude::conclude;
 use crate::counted::Counted;
 use crate::mode::Mode;
 use crate::run::run;
 use crate::run_error::RunError;
 use std::alloc::Global;
+use std::env::FillError;
 use std::fmt::Write as _;
 use std::io::{ErrorKind, Read, Write};
 use std::mem::size_of;
+use std::rt::Env;
 use std::test::Fail;
 use std::{fmt, io};
 
-/// Gives its bytes one at a time, and fails at its `fails_at`th read.
+/// What a reader answers in the place of a byte.
+#[derive(Clone, Copy, Drop)]
+enum Oddity {
+    Error(ErrorKind),
+    End,
+}
+
+/// Gives its bytes one at a time, but for its `odd_at`th read, which gives none. It counts its reads.
 #[derive(Drop)]
 struct Drip<'a> {
     rest: &'a [u8],
-    fails_at: usize,
-    kind: ErrorKind,
+    odd_at: usize,
+    oddity: Oddity,
+    reads: usize,
+}
+
+impl<'a> Drip<'a> {
+    fn new(rest: &'a [u8], odd_at: usize, oddity: Oddity) -> Self {
+        Drip {
+            rest,
+            odd_at,
+            oddity,
+            reads: 0,
+        }
+    }
 }
 
 impl Read for Drip<'_> {
     fn read(&mut self, buf: &mut [u8]) -> io::Result<usize> {
-        if self.fails_at == 0 {
-            return Err(io::Error::from(self.kind));
+        let at = self.reads;
+        self.reads = self.reads.saturating_add(1);
+        if at == self.odd_at {
+            return match self.oddity {
+                Oddity::Error(kind) => Err(io::Error::from(kind)),
+                Oddity::End => Ok(0),
+            };
         }
-        self.fails_at -= 1;
         let (Some((first, rest)), Some(room)) = (self.rest.split_first(), buf.first_mut()) else {
             return Ok(0);
         };
@@ -35,14 +63,15 @@ impl Read for Drip<'_> {
     }
 }
 
-/// Keeps what it takes, at most `most` bytes a write, and fails at its `fails_at`th write, or at the flush. It counts
-/// its flushes.
+/// Keeps what it takes, at most `most` bytes a write, and fails at its `fails_at`th write, or at each flush. It counts
+/// its writes and its flushes.
 #[derive(Drop)]
 struct Gate {
     kept: Vec<u8>,
     most: usize,
     fails_at: usize,
     flushes: bool,
+    writes: usize,
     flushed: u32,
 }
 
@@ -53,6 +82,7 @@ impl Gate {
             most: usize::MAX,
             fails_at: usize::MAX,
             flushes: true,
+            writes: 0,
             flushed: 0,
         }
     }
@@ -60,10 +90,11 @@ impl Gate {
 
 impl Write for Gate {
     fn write(&mut self, buf: &[u8]) -> io::Result<usize> {
-        if self.fails_at == 0 {
+        let at = self.writes;
+        self.writes = self.writes.saturating_add(1);
+        if at == self.fails_at {
             return Err(io::Error::from(ErrorKind::Interrupted));
         }
-        self.fails_at -= 1;
         let taken = self.most.min(buf.len());
         self.kept.extend_from_slice(&buf[..taken])?;
         Ok(taken)
@@ -76,6 +107,52 @@ impl Write for Gate {
         } else {
             Err(io::Error::from(ErrorKind::BrokenPipe))
         }
+    }
+}
+
+/// The arguments of a program; where one is missing, they can't be had.
+#[derive(Drop)]
+struct Given<'a> {
+    alloc: Global,
+    words: &'a [Option<&'a str>],
+}
+
+impl Alloc for Given<'_> {
+    type A = Global;
+
+    fn alloc(&self) -> Global {
+        self.alloc
+    }
+}
+
+impl Env for Given<'_> {
+    fn arg(&self, i: usize, buf: &mut [u8]) -> Result<usize, FillError> {
+        match self.words.get(i) {
+            None => Err(FillError::NotPresent),
+            Some(None) => fill(buf, b"\xff"),
+            Some(Some(word)) => fill(buf, word.as_bytes()),
+        }
+    }
+
+    fn var(&self, _name: &str, _buf: &mut [u8]) -> Result<usize, FillError> {
+        Err(FillError::NotPresent)
+    }
+
+    fn var_at(&self, _i: usize, _buf: &mut [u8]) -> Result<usize, FillError> {
+        Err(FillError::NotPresent)
+    }
+}
+
+/// Copies the bytes to the start of `buf`.
+fn fill(buf: &mut [u8], bytes: &[u8]) -> Result<usize, FillError>
+    ensures { WritesAtMost result buf.new }
+{
+    match buf.get_mut(..bytes.len()) {
+        Some(room) => {
+            room.copy_from_slice(bytes);
+            Ok(bytes.len())
+        }
+        None => Err(FillError::TooLong),
     }
 }
 
@@ -181,34 +258,42 @@ fn refuses_what_is_not_utf8(rt: HostRuntime) {
 fn tells_a_failed_read(rt: HostRuntime) {
     for kind in [ErrorKind::Interrupted, ErrorKind::BrokenPipe] {
         for fails_at in 0..12 {
-            let mut reader = Counted::new(Drip {
-                rest: b"avr-pc-none",
-                fails_at,
-                kind,
-            });
+            let drip = Drip::new(b"avr-pc-none", fails_at, Oddity::Error(kind));
+            let mut reader = Counted::new(drip);
             let mut writer = Counted::new(Gate::new(rt.alloc()));
             let end = run(rt.alloc(), Mode::Print, &mut reader, &mut writer);
             assert_eq!(rt; end, Err(RunError::Read), "at {fails_at}");
-            assert!(rt; writer.into_inner().kept.is_empty());
+            assert_eq!(rt; reader.into_inner().reads, fails_at + 1);
+            let gate = writer.into_inner();
+            assert_eq!(rt; (gate.writes, gate.flushed), (0, 0));
         }
     }
 }
 
 #[test]
+fn reads_to_the_first_end(rt: HostRuntime) {
+    let drip = Drip::new(b"avr-pc-none-elf", 11, Oddity::End);
+    let mut reader = Counted::new(drip);
+    let mut writer = Counted::new(Vec::new(rt.alloc()));
+    let end = run(rt.alloc(), Mode::Print, &mut reader, &mut writer);
+    assert_eq!(rt; end, Ok(()));
+    assert_eq!(rt; reader.into_inner().reads, 12);
+    assert_eq!(rt; writer.into_inner().as_slice(), b"avr-pc-none\n".as_slice());
+}
+
+#[test]
 fn reads_and_writes_a_byte_at_a_time(rt: HostRuntime) {
-    let mut reader = Counted::new(Drip {
-        rest: b"msp430-unknown-none",
-        fails_at: usize::MAX,
-        kind: ErrorKind::Interrupted,
-    });
+    let drip = Drip::new(b"msp430-unknown-none", usize::MAX, Oddity::End);
+    let mut reader = Counted::new(drip);
     let mut gate = Gate::new(rt.alloc());
     gate.most = 1;
     let mut writer = Counted::new(gate);
     let end = run(rt.alloc(), Mode::Print, &mut reader, &mut writer);
     assert_eq!(rt; end, Ok(()));
+    assert_eq!(rt; reader.into_inner().reads, 20);
     let gate = writer.into_inner();
     assert_eq!(rt; gate.kept.as_slice(), b"msp430-none\n".as_slice());
-    assert_eq!(rt; gate.flushed, 1);
+    assert_eq!(rt; (gate.writes, gate.flushed), (12, 1));
 }
 
 #[test]
@@ -221,15 +306,16 @@ fn tells_a_failed_write(rt: HostRuntime) {
         let mut writer = Counted::new(gate);
         let mut reader = Counted::new(b"avr-pc-none".as_slice());
         let end = run(rt.alloc(), Mode::Print, &mut reader, &mut writer);
-        let wanted = if fails_at < whole.len() {
-            Err(RunError::Write)
+        let (wanted, flushes) = if fails_at < whole.len() {
+            (Err(RunError::Write), 0)
         } else {
-            Ok(())
+            (Ok(()), 1)
         };
         assert_eq!(rt; end, wanted, "at {fails_at}");
-        let kept = writer.into_inner().kept;
-        assert_eq!(rt; kept.len(), fails_at.min(whole.len()));
-        assert!(rt; whole.starts_with(kept.as_slice()));
+        let gate = writer.into_inner();
+        assert_eq!(rt; gate.kept.len(), fails_at.min(whole.len()));
+        assert!(rt; whole.starts_with(gate.kept.as_slice()));
+        assert_eq!(rt; gate.flushed, flushes);
     }
 }
 
@@ -246,9 +332,13 @@ fn tells_a_write_that_takes_none(rt: HostRuntime) {
 
 #[test]
 fn tells_a_failed_flush(rt: HostRuntime) {
-    for (input, whole) in [
-        (b"".as_slice(), b"".as_slice()),
-        (b"avr-pc-none", b"avr-pc-none\n"),
+    for (input, whole, writes) in [
+        (b"".as_slice(), b"".as_slice(), 0),
+        (
+            b"avr-pc-none\nfoo",
+            b"avr-pc-none\nerror: Unrecognized architecture: foo\n",
+            1,
+        ),
     ] {
         let mut gate = Gate::new(rt.alloc());
         gate.flushes = false;
@@ -258,18 +348,14 @@ fn tells_a_failed_flush(rt: HostRuntime) {
         assert_eq!(rt; end, Err(RunError::Write));
         let gate = writer.into_inner();
         assert_eq!(rt; gate.kept.as_slice(), whole);
-        assert_eq!(rt; gate.flushed, 1);
+        assert_eq!(rt; (gate.writes, gate.flushed), (writes, 1));
     }
 }
 
 #[test]
 fn passes_on_the_error_of_its_device(rt: HostRuntime) {
     for kind in [ErrorKind::Interrupted, ErrorKind::BrokenPipe] {
-        let mut reader = Counted::new(Drip {
-            rest: b"a",
-            fails_at: 0,
-            kind,
-        });
+        let mut reader = Counted::new(Drip::new(b"a", 0, Oddity::Error(kind)));
         let mut piece = [0u8; 4];
         match reader.read(&mut piece) {
             Ok(_) => assert!(rt; false),
@@ -314,6 +400,13 @@ fn concludes(rt: HostRuntime) -> Result<(), Fail> {
         let mut gate = Gate::new(rt.alloc());
         gate.fails_at = 1;
         assert_eq!(rt; conclude(end, &mut Counted::new(gate)), status);
+        let mut gate = Gate::new(rt.alloc());
+        gate.flushes = false;
+        let mut writer = Counted::new(gate);
+        assert_eq!(rt; conclude(end, &mut writer), status);
+        let gate = writer.into_inner();
+        assert_eq!(rt; gate.kept.as_slice(), said.as_bytes());
+        assert_eq!(rt; gate.flushed, u32::from(!said.is_empty()));
     }
     Ok(())
 }
@@ -323,6 +416,26 @@ fn names_modes(rt: HostRuntime) {
     assert_eq!(rt; Mode::from_word("print"), Some(Mode::Print));
     for word in ["", "Print", "print ", "show", "settle", "json", "matrix"] {
         assert_eq!(rt; Mode::from_word(word), None);
+    }
+}
+
+#[test]
+fn asks_for_a_mode(rt: HostRuntime) {
+    let rows = [
+        ([].as_slice(), Some(Mode::Print)),
+        (&[Some("triples")], Some(Mode::Print)),
+        (&[Some("triples"), Some("print")], Some(Mode::Print)),
+        (&[Some("triples"), Some("show")], None),
+        (&[Some("triples"), Some("")], None),
+        (&[Some("triples"), Some("print"), Some("print")], None),
+        (&[Some("triples"), None], None),
+    ];
+    for (words, mode) in rows {
+        let given = Given {
+            alloc: rt.alloc(),
+            words,
+        };
+        assert_eq!(rt; asked_mode(&given), mode);
     }
 }
 

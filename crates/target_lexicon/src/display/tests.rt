@@ -423,6 +423,7 @@ fn width_and_fill_change_nothing(rt: HostRuntime) -> Result<(), Fail> {
     assert_eq!(rt; triple.to_text(rt.alloc())?.as_str(), text);
     assert_eq!(rt; format!(in rt.alloc(); "{triple:40}")?.as_str(), text);
     assert_eq!(rt; format!(in rt.alloc(); "{triple:*^40}")?.as_str(), text);
+    assert_eq!(rt; format!(in rt.alloc(); "{triple:#}")?.as_str(), text);
     Ok(())
 }
 

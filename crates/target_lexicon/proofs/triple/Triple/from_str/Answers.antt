@@ -6,28 +6,28 @@ use Rattle.target_lexicon.proofs.triple.Triple.from_str.Goals as goal
 pub returns-in_err-part-clause-err : goal.returns-in_err-part-clause-err
 returns-in_err-part-clause-err c =
     memory_fault _ _ c.from_residual.ensures.1
-    (lacks_memory_first c.args.text.now _ _ (sym c.in_default.ensures) c.cut.ensures c.in_default-from_str.ensures)
+    (lacks_memory_first c.args.text.now _ _ (sym c.in_default.ensures.values) c.cut.ensures c.in_default-from_str.ensures)
 
 pub returns-in_default-from_str-clause-err : goal.returns-in_default-from_str-clause-err
 returns-in_default-from_str-clause-err c =
-    refuses_first _ _ _ (sym c.in_default.ensures) c.cut.ensures _ c.in_ok-part.ensures.ok c.in_default-from_str.ensures
+    refuses_first _ _ _ (sym c.in_default.ensures.values) c.cut.ensures _ c.in_ok-part.ensures.ok c.in_default-from_str.ensures
 
 pub returns-in_err-vendor-clause-err : goal.returns-in_err-vendor-clause-err
 returns-in_err-vendor-clause-err c =
     memory_fault _ _ c.from_residual-in_err-vendor.ensures.1
-    (lacks_memory_vendor c.args.text.now _ _ (sym c.in_default.ensures) (cut_parts c.args.text.now _ _ _ c.cut.ensures c.parts_in.ensures) _ c.in-Ok.ensures c.in_err-vendor.ensures.memory)
+    (lacks_memory_vendor c.args.text.now _ _ (sym c.in_default.ensures.values) (cut_parts c.args.text.now _ _ _ c.cut.ensures c.parts_in.ensures) _ c.in-Ok.ensures c.in_err-vendor.ensures.memory)
 
 pub returns-in_err-part-2-clause-err : goal.returns-in_err-part-2-clause-err
 returns-in_err-part-2-clause-err c =
     memory_fault _ _ c.from_residual-in_err-part-2.ensures.1
-    (lacks_memory_left c.args.text.now _ _ (sym c.in_default.ensures) (cut_parts c.args.text.now _ _ _ c.cut.ensures c.parts_in.ensures) _ _ _ _ _ _ c.in-Ok.ensures
+    (lacks_memory_left c.args.text.now _ _ (sym c.in_default.ensures.values) (cut_parts c.args.text.now _ _ _ c.cut.ensures c.parts_in.ensures) _ _ _ _ _ _ c.in-Ok.ensures
     (taken_by _ _ _ _ _ c.in_ok-vendor.vendor _ _ _ c.in_ok-vendor.ensures.ok
     c.take_operating_system-operating_system.ensures c.take_environment-environment.ensures c.take_binary_format-binary_format.ensures)
     _ _ (ap parts_left c.in-Some-parts.is))
 
 pub returns-in-Some-parts-clause-err : goal.returns-in-Some-parts-clause-err
 returns-in-Some-parts-clause-err c =
-    refuses_left c.args.text.now _ _ (sym c.in_default.ensures) (cut_parts c.args.text.now _ _ _ c.cut.ensures c.parts_in.ensures) _ _ _ _ _ _ c.in-Ok.ensures
+    refuses_left c.args.text.now _ _ (sym c.in_default.ensures.values) (cut_parts c.args.text.now _ _ _ c.cut.ensures c.parts_in.ensures) _ _ _ _ _ _ c.in-Ok.ensures
     (taken_by _ _ _ _ _ c.in_ok-vendor.vendor _ _ _ c.in_ok-vendor.ensures.ok
     c.take_operating_system-operating_system.ensures c.take_environment-environment.ensures c.take_binary_format-binary_format.ensures)
     _ _ c.refusal.result (ap parts_left c.in-Some-parts.is)
@@ -41,7 +41,7 @@ returns-in-Some-parts-clause-err c =
 
 pub returns-clause-ok : goal.returns-clause-ok
 returns-clause-ok c =
-    reads_taken c.args.text.now _ _ (sym c.in_default.ensures) (cut_parts c.args.text.now _ _ _ c.cut.ensures c.parts_in.ensures) _ _ _ _ _ _ c.in-Ok.ensures
+    reads_taken c.args.text.now _ _ (sym c.in_default.ensures.values) (cut_parts c.args.text.now _ _ _ c.cut.ensures c.parts_in.ensures) _ _ _ _ _ _ c.in-Ok.ensures
     (taken_by _ _ _ _ _ c.in_ok-vendor.vendor _ _ _ c.in_ok-vendor.ensures.ok
     c.take_operating_system-operating_system.ensures c.take_environment-environment.ensures c.take_binary_format-binary_format.ensures)
     _ refl (ap parts_left c.in_default-parts.is) c.unwrap_or.ensures c.unwrap_or-2.ensures c.unwrap_or-3.ensures

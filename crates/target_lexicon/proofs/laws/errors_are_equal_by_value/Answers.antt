@@ -1,0 +1,36 @@
+use Rattle.std.proofs.Common.{ℕ, ◌+◌, List, [], Option, Some, None, refl, ap}
+use Rattle.std.specs.Prelude.{string_bytes}
+use Rattle.std.specs.Option.{option_map_or}
+use Rattle.std.proofs.lemmas.Bool.{false≢true}
+use Rattle.std.proofs.lemmas.Bool.Decides.{Decides-like}
+use Rattle.std.proofs.lemmas.Slice.Eq.{bytes_eq-Decides}
+use Rattle.target_lexicon.specs.Field as field
+use Rattle.target_lexicon.specs.Field.{Field, place}
+use Rattle.target_lexicon.specs.declared.parse_error.ParseError.TheVariants as error
+use Rattle.target_lexicon.proofs.laws.errors_are_equal_by_value.Goals as goal
+
+abbrev Refusal : Type 0
+Refusal = Option (Option Field × List ℕ)
+
+abbrev part_of : Refusal → List ℕ
+part_of refusal = option_map_or (λ r. r.1) refusal []
+
+-- a number for each kind of refusal, and for none
+abbrev kind_of : Refusal → ℕ
+kind_of refusal = option_map_or (λ r. option_map_or (λ f. 2 + place f) r.0 1) refusal 0
+
+pub returns : goal.returns
+returns c (error.UnrecognizedArchitecture p) (error.UnrecognizedArchitecture q) =
+    Decides-like _ (ap (λ part. Some (Some field.Architecture, part))) (ap part_of) (bytes_eq-Decides (string_bytes p) (string_bytes q))
+returns c (error.UnrecognizedVendor p) (error.UnrecognizedVendor q) =
+    Decides-like _ (ap (λ part. Some (Some field.Vendor, part))) (ap part_of) (bytes_eq-Decides (string_bytes p) (string_bytes q))
+returns c (error.UnrecognizedOperatingSystem p) (error.UnrecognizedOperatingSystem q) =
+    Decides-like _ (ap (λ part. Some (Some field.System, part))) (ap part_of) (bytes_eq-Decides (string_bytes p) (string_bytes q))
+returns c (error.UnrecognizedEnvironment p) (error.UnrecognizedEnvironment q) =
+    Decides-like _ (ap (λ part. Some (Some field.Environment, part))) (ap part_of) (bytes_eq-Decides (string_bytes p) (string_bytes q))
+returns c (error.UnrecognizedBinaryFormat p) (error.UnrecognizedBinaryFormat q) =
+    Decides-like _ (ap (λ part. Some (Some field.Format, part))) (ap part_of) (bytes_eq-Decides (string_bytes p) (string_bytes q))
+returns c (error.UnrecognizedField p) (error.UnrecognizedField q) =
+    Decides-like _ (ap (λ part. Some (None, part))) (ap part_of) (bytes_eq-Decides (string_bytes p) (string_bytes q))
+returns c error.OutOfMemory error.OutOfMemory = (λ _. refl, λ _. refl)
+returns c _ _ = (λ same. absurd (false≢true same), λ same. absurd (let kinds = ap kind_of same in cc))
