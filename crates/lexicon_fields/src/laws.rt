@@ -1,4 +1,4 @@
-//! Laws of names and queries: a call does nothing, and its contract is the law.
+//! Laws of names, queries and equality: a call does nothing, and its contract is the law.
 ghost use Rattle.std.specs.Prelude.{◌≡◌, ◌↔◌, true};
 ghost use Rattle.lexicon_fields.specs.EqualityLaws.{ComparesByValue};
 ghost use Rattle.lexicon_fields.specs.NameLaws.{NamesReadBack, NamesHoldNoDash, TextsHoldNoDash};
