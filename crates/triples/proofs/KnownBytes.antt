@@ -1,20 +1,8 @@
 -- Known bytes that are read or written one text after another.
-use Rattle.std.proofs.Common.{◌≡◌, ℕ, List, [], ◌∷◌, ◌++◌, length, take, drop, Option, Some, None, IfSome, refl, sym, ap, ◌∙◌, append_assoc}
+use Rattle.std.proofs.Common.{◌≡◌, ℕ, List, [], ◌∷◌, ◌++◌, length, take, drop, Option, Some, None, refl, sym, ap, ◌∙◌, append_assoc}
 use Rattle.std.proofs.lemmas.List.{append-nil, take-append-drop}
-use Rattle.std.specs.Io.KnownBytes.{Appends, Consumes, Keeps, IsAtEnd}
+use Rattle.std.specs.Io.KnownBytes.{Appends, Consumes, Keeps}
 use Rattle.triples.specs.Run.{AppendsFront}
-
-pub Keeps-refl : (a : Option (List ℕ)) → Keeps a a
-Keeps-refl None = tt
-Keeps-refl (Some xs) = refl
-
-pub Appends-nil : (a : Option (List ℕ)) → Appends a a []
-Appends-nil None = tt
-Appends-nil (Some xs) = sym (append-nil xs)
-
-pub Consumes-nil : (a : Option (List ℕ)) → Consumes a a []
-Consumes-nil None = tt
-Consumes-nil (Some xs) = refl
 
 pub Appends-then : (u v w : Option (List ℕ)) (a b : List ℕ) → Appends u v a → Appends v w b → Appends u w (a ++ b)
 Appends-then None v w a b x y = tt
@@ -28,22 +16,11 @@ Appends-kept (Some xs) None w a x y = absurd x
 Appends-kept (Some xs) (Some ys) None a x y = absurd y
 Appends-kept (Some xs) (Some ys) (Some zs) a x y = y ∙ x
 
-pub Keeps-Appends : (u v w : Option (List ℕ)) (a : List ℕ) → Keeps u v → Appends v w a → Appends u w a
-Keeps-Appends None v w a x y = tt
-Keeps-Appends (Some xs) None w a x y = absurd x
-Keeps-Appends (Some xs) (Some ys) None a x y = y
-Keeps-Appends (Some xs) (Some ys) (Some zs) a x y = y ∙ ap (λ (t : List ℕ). t ++ a) x
-
 pub Consumes-then : (u v w : Option (List ℕ)) (a b : List ℕ) → Consumes u v a → Consumes v w b → Consumes u w (a ++ b)
 Consumes-then None v w a b x y = tt
 Consumes-then (Some xs) None w a b x y = absurd x
 Consumes-then (Some xs) (Some ys) None a b x y = y
 Consumes-then (Some xs) (Some ys) (Some zs) a b x y = x ∙ ap (λ (t : List ℕ). a ++ t) y ∙ sym (append_assoc a b zs)
-
-pub Consumes-whole : (u v : Option (List ℕ)) (a : List ℕ) → Consumes u v a → IsAtEnd v → IfSome u (λ xs. a ≡ xs)
-Consumes-whole None v a x y = tt
-Consumes-whole (Some xs) None a x y = absurd x
-Consumes-whole (Some xs) (Some ys) a x y = sym (x ∙ ap (λ (t : List ℕ). a ++ t) y ∙ append-nil a)
 
 take-front : (a b : List ℕ) → take (length a) (a ++ b) ≡ a
 take-front [] b = refl
@@ -67,7 +44,3 @@ pub AppendsFront-then : (u v w : Option (List ℕ)) (a b : List ℕ) → Appends
 AppendsFront-then u v w a b whole begun =
     AppendsFront-of u w (a ++ take begun.0 b) (drop begun.0 b) (a ++ b) (Appends-then u v w a (take begun.0 b) whole begun.1)
     (ap (λ (t : List ℕ). a ++ t) (sym (take-append-drop begun.0 b)) ∙ sym (append_assoc a (take begun.0 b) (drop begun.0 b)))
-
--- all of a text is a beginning of it
-pub AppendsFront-whole : (u v : Option (List ℕ)) (a : List ℕ) → Appends u v a → AppendsFront u v a
-AppendsFront-whole u v a whole = AppendsFront-of u v a [] a whole (sym (append-nil a))

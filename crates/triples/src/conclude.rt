@@ -6,7 +6,7 @@ ghost use Rattle.triples.specs.Run.{AppendsFront};
 ghost use Rattle.triples.specs.Words.{status_of, closing_words};
 
 use crate::counted::Counted;
-use crate::input::write_all;
+use crate::input::{write_all, write_and_flush};
 use crate::run_error::RunError;
 use std::io::Write;
 
@@ -40,9 +40,5 @@ fn say<W: Write>(w: &mut Counted<W>, front: &str, back: &str) -> Result<(), RunE
 {
     write_all(w, front.as_bytes())?;
     write_all(w, back.as_bytes())?;
-    write_all(w, b"\n")?;
-    match w.flush() {
-        Ok(()) => Ok(()),
-        Err(_) => Err(RunError::Write),
-    }
+    write_and_flush(w, b"\n")
 }

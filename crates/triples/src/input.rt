@@ -39,7 +39,7 @@ pub(crate) fn write_all<W: Write>(writer: &mut Counted<W>, bytes: &[u8]) -> Resu
     ensures ok { OnOk result (Appends (W.contents (device writer.old)) (W.contents (device writer.new)) bytes.now) }
     ensures unfailed { OnOk result (failures writer.new ≡ failures writer.old) }
     ensures write { IsErrOf result RunError.Write ↔ (failures writer.old < failures writer.new) }
-    ensures err { OnErr result (AppendsFront (W.contents (device writer.old)) (W.contents (device writer.new)) bytes.now) }
+    ensures begun { AppendsFront (W.contents (device writer.old)) (W.contents (device writer.new)) bytes.now }
     ensures only { IfErr result (λ e. e ≡ RunError.Write) }
 {
     let mut rest = bytes;
@@ -55,4 +55,22 @@ pub(crate) fn write_all<W: Write>(writer: &mut Counted<W>, bytes: &[u8]) -> Resu
         }
     }
     Ok(())
+}
+
+/// Writes all of these bytes, and flushes.
+pub(crate) fn write_and_flush<W: Write>(
+    writer: &mut Counted<W>,
+    bytes: &[u8],
+) -> Result<(), RunError>
+    ensures ok { OnOk result (Appends (W.contents (device writer.old)) (W.contents (device writer.new)) bytes.now) }
+    ensures unfailed { OnOk result (failures writer.new ≡ failures writer.old) }
+    ensures write { IsErrOf result RunError.Write ↔ (failures writer.old < failures writer.new) }
+    ensures begun { AppendsFront (W.contents (device writer.old)) (W.contents (device writer.new)) bytes.now }
+    ensures only { IfErr result (λ e. e ≡ RunError.Write) }
+{
+    write_all(writer, bytes)?;
+    match writer.flush() {
+        Ok(()) => Ok(()),
+        Err(_) => Err(RunError::Write),
+    }
 }

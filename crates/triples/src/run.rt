@@ -6,7 +6,7 @@ ghost use Rattle.triples.specs.Device.{device, failures};
 ghost use Rattle.triples.specs.Run.{ConsumesSome, WritesOutput, WritesOutputFront};
 
 use crate::counted::Counted;
-use crate::input::{read_all, write_all};
+use crate::input::{read_all, write_and_flush};
 use crate::mode::Mode;
 use crate::output::output;
 use crate::run_error::RunError;
@@ -58,9 +58,5 @@ pub fn run<R: Read, W: Write>(
     let Ok(output) = output(alloc, mode, input) else {
         return Err(RunError::OutOfMemory);
     };
-    write_all(w, output.as_bytes())?;
-    if w.flush().is_err() {
-        return Err(RunError::Write);
-    }
-    Ok(())
+    write_and_flush(w, output.as_bytes())
 }

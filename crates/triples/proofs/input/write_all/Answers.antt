@@ -13,11 +13,15 @@ loop-rest-preserved g c =
       unfailed = grind arith;
     }
 
-pub returns-then-taken-eq0-clause-err : goal.returns-then-taken-eq0-clause-err
-returns-then-taken-eq0-clause-err g c =
+pub returns-then-taken-eq0-clause-begun : goal.returns-then-taken-eq0-clause-begun
+returns-then-taken-eq0-clause-begun g c =
     let inv = c.loop-rest.invariant.written in
     Appends-none _ _ _ inv.0 c.loop-rest.rest.now _ _ c.in-Ok.taken (omega arith) inv.2 c.in-Ok.ensures.bytes inv.1
 
-pub returns-in-Err-clause-err : goal.returns-in-Err-clause-err
-returns-in-Err-clause-err g c =
+pub returns-in-Err-clause-begun : goal.returns-in-Err-clause-begun
+returns-in-Err-clause-begun g c =
     let inv = c.loop-rest.invariant.written in AppendsFront-of _ _ _ _ _ (Appends-kept _ _ _ inv.0 inv.2 c.in-Err.ensures.bytes) inv.1
+
+pub returns-clause-begun : goal.returns-clause-begun
+returns-clause-begun g c =
+    let inv = c.loop-rest.invariant.written in AppendsFront-of _ _ inv.0 c.loop-rest.rest.now _ inv.2 inv.1
