@@ -1,7 +1,11 @@
-pub mod DashLemmas
-pub mod EqualityLemmas
-pub mod NamesLemmas
-pub mod SystemDashLemmas
-pub mod SystemLemmas
-pub mod VendorLemmas
-pub mod VersionLemmas
+-- LookUps: what a look-up in a table tells, and how names are shown to read back.
+-- NamesReadBack, VersionsReadBack, OperatingSystemsReadBack, OperatingSystemsDashFree, VendorsReadBack: that the names of
+-- each type read back as the values that bear them, and hold no dash.
+-- EqualByValue: that `==` tells exactly which values are the same.
+pub mod EqualByValue
+pub mod LookUps
+pub mod NamesReadBack
+pub mod OperatingSystemsDashFree
+pub mod OperatingSystemsReadBack
+pub mod VendorsReadBack
+pub mod VersionsReadBack

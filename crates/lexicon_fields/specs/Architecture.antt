@@ -1,8 +1,9 @@
 -- The names of the architectures, and what reads as which.
 use Rattle.std.specs.Prelude.{ℕ, List, [], ◌∷◌, codes, Option, option_map}
+use Rattle.std.specs.Option.{option_or}
 use Rattle.lexicon_fields.specs.declared.architecture.Architecture.{Architecture}
 use Rattle.lexicon_fields.specs.declared.architecture.Architecture.TheVariants as architecture
-use Rattle.lexicon_fields.specs.Names.{value_of, named, or_then}
+use Rattle.lexicon_fields.specs.Names.{value_of, named}
 use Rattle.lexicon_fields.specs.SubArchitecture.{arm_name, arm_of, aarch64_name, aarch64_of, x86_32_name, x86_32_of, mips32_name, mips32_of, mips64_name, mips64_of, riscv32_name, riscv32_of, riscv64_name, riscv64_of, clever_name, clever_of, z80_name, z80_of}
 
 -- the name of an architecture; one that holds a sub-architecture has its name
@@ -60,16 +61,16 @@ plain_values =
 -- what a text reads as among those with a sub-architecture
 abbrev pub family_of : List ℕ → Option Architecture
 family_of text =
-    or_then (option_map architecture.Arm (arm_of text))
-    (or_then (option_map architecture.Aarch64 (aarch64_of text))
-    (or_then (option_map architecture.X86_32 (x86_32_of text))
-    (or_then (option_map architecture.Mips32 (mips32_of text))
-    (or_then (option_map architecture.Mips64 (mips64_of text))
-    (or_then (option_map architecture.Riscv32 (riscv32_of text))
-    (or_then (option_map architecture.Riscv64 (riscv64_of text))
-    (or_then (option_map architecture.Clever (clever_of text))
+    option_or (option_map architecture.Arm (arm_of text))
+    (option_or (option_map architecture.Aarch64 (aarch64_of text))
+    (option_or (option_map architecture.X86_32 (x86_32_of text))
+    (option_or (option_map architecture.Mips32 (mips32_of text))
+    (option_or (option_map architecture.Mips64 (mips64_of text))
+    (option_or (option_map architecture.Riscv32 (riscv32_of text))
+    (option_or (option_map architecture.Riscv64 (riscv64_of text))
+    (option_or (option_map architecture.Clever (clever_of text))
     (option_map architecture.Z80 (z80_of text)))))))))
 
 -- what a text reads as, if anything
 unfoldable pub architecture_of : List ℕ → Option Architecture
-architecture_of text = or_then (value_of (named architecture_name plain_values) text) (family_of text)
+architecture_of text = option_or (value_of (named architecture_name plain_values) text) (family_of text)

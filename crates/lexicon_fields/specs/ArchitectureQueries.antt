@@ -1,5 +1,5 @@
 -- The instruction set, byte order and pointer width of an architecture.
-use Rattle.std.specs.Prelude.{◌≡◌, Bool, true, false, Option, Some, None, Result, MatchResult, codes, nat_eq}
+use Rattle.std.specs.Prelude.{Bool, true, false, Option, Some, None, codes, nat_eq}
 use Rattle.std.specs.List.{starts_with}
 use Rattle.lexicon_fields.specs.declared.architecture.Architecture.{Architecture}
 use Rattle.lexicon_fields.specs.declared.architecture.Architecture.TheVariants as architecture
@@ -14,10 +14,6 @@ use Rattle.lexicon_fields.specs.declared.width.Endianness.TheVariants.{Little, B
 use Rattle.lexicon_fields.specs.declared.width.PointerWidth.{PointerWidth}
 use Rattle.lexicon_fields.specs.declared.width.PointerWidth.TheVariants.{U16, U32, U64}
 use Rattle.lexicon_fields.specs.SubArchitecture.{arm_name}
-
--- the answer is the known value, and a refusal where none is known
-abbrev pub Answers : {V E : Type 0} → Option V → Result V E → Type 0
-Answers known answer = MatchResult answer (λ v. known ≡ Some v) (λ _. known ≡ None)
 
 -- whether an Arm architecture is Thumb, which its name tells
 abbrev pub is_thumb : ArmArchitecture → Bool

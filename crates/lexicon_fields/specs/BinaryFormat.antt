@@ -1,23 +1,23 @@
 -- The names of the binary formats, and what reads as which.
 use Rattle.std.specs.Prelude.{ℕ, List, [], ◌∷◌, codes, Option}
 use Rattle.lexicon_fields.specs.declared.binary_format.BinaryFormat.{BinaryFormat}
-use Rattle.lexicon_fields.specs.declared.binary_format.BinaryFormat.TheVariants as format
+use Rattle.lexicon_fields.specs.declared.binary_format.BinaryFormat.TheVariants as binary_format
 use Rattle.lexicon_fields.specs.Names.{value_of, named}
 
 -- the name of a binary format
-abbrev pub format_name : BinaryFormat → List ℕ
-format_name format.Unknown = codes "unknown"
-format_name format.Elf = codes "elf"
-format_name format.Coff = codes "coff"
-format_name format.Macho = codes "macho"
-format_name format.Wasm = codes "wasm"
-format_name format.Xcoff = codes "xcoff"
+abbrev pub binary_format_name : BinaryFormat → List ℕ
+binary_format_name binary_format.Unknown = codes "unknown"
+binary_format_name binary_format.Elf = codes "elf"
+binary_format_name binary_format.Coff = codes "coff"
+binary_format_name binary_format.Macho = codes "macho"
+binary_format_name binary_format.Wasm = codes "wasm"
+binary_format_name binary_format.Xcoff = codes "xcoff"
 
 -- all of them
-abbrev pub format_values : List BinaryFormat
-format_values =
-    format.Unknown ∷ format.Elf ∷ format.Coff ∷ format.Macho ∷ format.Wasm ∷ format.Xcoff ∷ []
+abbrev pub binary_format_values : List BinaryFormat
+binary_format_values =
+    binary_format.Unknown ∷ binary_format.Elf ∷ binary_format.Coff ∷ binary_format.Macho ∷ binary_format.Wasm ∷ binary_format.Xcoff ∷ []
 
 -- what a text reads as, if anything
-unfoldable pub format_of : List ℕ → Option BinaryFormat
-format_of text = value_of (named format_name format_values) text
+unfoldable pub binary_format_of : List ℕ → Option BinaryFormat
+binary_format_of text = value_of (named binary_format_name binary_format_values) text

@@ -1,15 +1,12 @@
 pub mod Architecture
-pub mod ArchitectureLaws
 pub mod ArchitectureQueries
 pub mod BinaryFormat
 pub mod Environment
-pub mod EqualityLaws
-pub mod NameLaws
+pub mod Laws
 pub mod Names
 pub mod OperatingSystem
+pub mod Private
 pub mod SubArchitecture
-pub mod SystemLaws
 pub mod Vendor
-pub mod VendorLaws
 pub mod Version
 pub mod Width

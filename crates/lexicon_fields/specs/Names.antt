@@ -1,5 +1,6 @@
 -- Names, and the tables by which texts read as values.
-use Rattle.std.specs.Prelude.{◌≡◌, ℕ, List, [], ◌∷◌, Option, Some, None, Result, MatchResult, if◌then◌else◌, map}
+use Rattle.std.specs.Prelude.{◌≡◌, ℕ, List, [], ◌∷◌, ◌==◌, Bool, not, Option, Some, None, Result, MatchResult, if◌then◌else◌, map}
+use Rattle.std.specs.List.{list_any}
 use Rattle.std.specs.Str.{bytes_eq}
 
 -- a text, and the value that it reads as
@@ -15,11 +16,10 @@ abbrev pub value_of : {V : Type 0} → List (Pair V) → List ℕ → Option V
 value_of [] text = None
 value_of (pair ∷ pairs) text = if bytes_eq text pair.0 then Some pair.1 else value_of pairs text
 
--- a value, or else what comes after it
-abbrev pub or_then : {V : Type 0} → Option V → Option V → Option V
-or_then (Some v) next = Some v
-or_then None next = next
+-- the answer is the known value, and a refusal where none is known
+abbrev pub Answers : {V E : Type 0} → Option V → Result V E → Type 0
+Answers known answer = MatchResult answer (λ v. known ≡ Some v) (λ _. known ≡ None)
 
--- the answer is the value that the text reads as, and a refusal where it reads as none
-abbrev pub ReadsBy : {V E : Type 0} → (List ℕ → Option V) → List ℕ → Result V E → Type 0
-ReadsBy find text answer = MatchResult answer (λ v. find text ≡ Some v) (λ _. find text ≡ None)
+-- whether no byte of a text is a dash, which parts the fields of a triple
+abbrev pub is_dash_free : List ℕ → Bool
+is_dash_free text = not (list_any (λ b. b == 45) text)

@@ -1,10 +1,11 @@
 -- The names of the operating systems, and what reads as which.
 use Rattle.std.specs.Prelude.{ℕ, Bool, true, false, List, [], ◌∷◌, ◌++◌, codes, nat_eq, length, drop, Option, Some, None, option_map, option_and_then, if◌then◌else◌}
 use Rattle.std.specs.List.{starts_with}
+use Rattle.std.specs.Option.{option_or}
 use Rattle.lexicon_fields.specs.declared.deployment_target.DeploymentTarget.{DeploymentTarget}
 use Rattle.lexicon_fields.specs.declared.operating_system.OperatingSystem.{OperatingSystem}
-use Rattle.lexicon_fields.specs.declared.operating_system.OperatingSystem.TheVariants as system
-use Rattle.lexicon_fields.specs.Names.{Pair, value_of, named, or_then}
+use Rattle.lexicon_fields.specs.declared.operating_system.OperatingSystem.TheVariants as operating_system
+use Rattle.lexicon_fields.specs.Names.{Pair, value_of, named}
 use Rattle.lexicon_fields.specs.Version.{version_of, version_name}
 
 -- the version behind a prefix, where there is one
@@ -13,90 +14,90 @@ version_suffix None = []
 version_suffix (Some version) = version_name version
 
 -- the name of an operating system; one that is like Darwin has its prefix and its version
-abbrev pub system_name : OperatingSystem → List ℕ
-system_name system.Unknown = codes "unknown"
-system_name system.Aix = codes "aix"
-system_name system.AmdHsa = codes "amdhsa"
-system_name system.Bitrig = codes "bitrig"
-system_name system.Cloudabi = codes "cloudabi"
-system_name system.Cuda = codes "cuda"
-system_name system.Cygwin = codes "cygwin"
-system_name system.Dragonfly = codes "dragonfly"
-system_name system.Emscripten = codes "emscripten"
-system_name system.Espidf = codes "espidf"
-system_name system.Freebsd = codes "freebsd"
-system_name system.Fuchsia = codes "fuchsia"
-system_name system.Haiku = codes "haiku"
-system_name system.Hermit = codes "hermit"
-system_name system.Horizon = codes "horizon"
-system_name system.Hurd = codes "hurd"
-system_name system.Illumos = codes "illumos"
-system_name system.L4re = codes "l4re"
-system_name system.Linux = codes "linux"
-system_name system.Nebulet = codes "nebulet"
-system_name system.Netbsd = codes "netbsd"
-system_name system.None_ = codes "none"
-system_name system.Openbsd = codes "openbsd"
-system_name system.Psp = codes "psp"
-system_name system.Redox = codes "redox"
-system_name system.Solaris = codes "solaris"
-system_name system.SolidAsp3 = codes "solid_asp3"
-system_name system.Uefi = codes "uefi"
-system_name system.VxWorks = codes "vxworks"
-system_name system.Wasi = codes "wasi"
-system_name system.WasiP1 = codes "wasip1"
-system_name system.WasiP2 = codes "wasip2"
-system_name system.Windows = codes "windows"
-system_name (system.Darwin version) = codes "darwin" ++ version_suffix version
-system_name (system.IOS version) = codes "ios" ++ version_suffix version
-system_name (system.MacOSX version) = codes "macosx" ++ version_suffix version
-system_name (system.TvOS version) = codes "tvos" ++ version_suffix version
-system_name (system.VisionOS version) = codes "visionos" ++ version_suffix version
-system_name (system.WatchOS version) = codes "watchos" ++ version_suffix version
-system_name (system.XROS version) = codes "xros" ++ version_suffix version
+abbrev pub operating_system_name : OperatingSystem → List ℕ
+operating_system_name operating_system.Unknown = codes "unknown"
+operating_system_name operating_system.Aix = codes "aix"
+operating_system_name operating_system.AmdHsa = codes "amdhsa"
+operating_system_name operating_system.Bitrig = codes "bitrig"
+operating_system_name operating_system.Cloudabi = codes "cloudabi"
+operating_system_name operating_system.Cuda = codes "cuda"
+operating_system_name operating_system.Cygwin = codes "cygwin"
+operating_system_name operating_system.Dragonfly = codes "dragonfly"
+operating_system_name operating_system.Emscripten = codes "emscripten"
+operating_system_name operating_system.Espidf = codes "espidf"
+operating_system_name operating_system.Freebsd = codes "freebsd"
+operating_system_name operating_system.Fuchsia = codes "fuchsia"
+operating_system_name operating_system.Haiku = codes "haiku"
+operating_system_name operating_system.Hermit = codes "hermit"
+operating_system_name operating_system.Horizon = codes "horizon"
+operating_system_name operating_system.Hurd = codes "hurd"
+operating_system_name operating_system.Illumos = codes "illumos"
+operating_system_name operating_system.L4re = codes "l4re"
+operating_system_name operating_system.Linux = codes "linux"
+operating_system_name operating_system.Nebulet = codes "nebulet"
+operating_system_name operating_system.Netbsd = codes "netbsd"
+operating_system_name operating_system.None_ = codes "none"
+operating_system_name operating_system.Openbsd = codes "openbsd"
+operating_system_name operating_system.Psp = codes "psp"
+operating_system_name operating_system.Redox = codes "redox"
+operating_system_name operating_system.Solaris = codes "solaris"
+operating_system_name operating_system.SolidAsp3 = codes "solid_asp3"
+operating_system_name operating_system.Uefi = codes "uefi"
+operating_system_name operating_system.VxWorks = codes "vxworks"
+operating_system_name operating_system.Wasi = codes "wasi"
+operating_system_name operating_system.WasiP1 = codes "wasip1"
+operating_system_name operating_system.WasiP2 = codes "wasip2"
+operating_system_name operating_system.Windows = codes "windows"
+operating_system_name (operating_system.Darwin version) = codes "darwin" ++ version_suffix version
+operating_system_name (operating_system.IOS version) = codes "ios" ++ version_suffix version
+operating_system_name (operating_system.MacOSX version) = codes "macosx" ++ version_suffix version
+operating_system_name (operating_system.TvOS version) = codes "tvos" ++ version_suffix version
+operating_system_name (operating_system.VisionOS version) = codes "visionos" ++ version_suffix version
+operating_system_name (operating_system.WatchOS version) = codes "watchos" ++ version_suffix version
+operating_system_name (operating_system.XROS version) = codes "xros" ++ version_suffix version
 
 -- the version that a system holds, where it holds one
-abbrev pub system_version : OperatingSystem → Option DeploymentTarget
-system_version (system.Darwin version) = version
-system_version (system.IOS version) = version
-system_version (system.MacOSX version) = version
-system_version (system.TvOS version) = version
-system_version (system.VisionOS version) = version
-system_version (system.WatchOS version) = version
-system_version (system.XROS version) = version
-system_version _ = None
+abbrev pub version_held : OperatingSystem → Option DeploymentTarget
+version_held (operating_system.Darwin version) = version
+version_held (operating_system.IOS version) = version
+version_held (operating_system.MacOSX version) = version
+version_held (operating_system.TvOS version) = version
+version_held (operating_system.VisionOS version) = version
+version_held (operating_system.WatchOS version) = version
+version_held (operating_system.XROS version) = version
+version_held _ = None
 
 -- whether a system is like Darwin
 abbrev pub is_like_darwin : OperatingSystem → Bool
-is_like_darwin (system.Darwin version) = true
-is_like_darwin (system.IOS version) = true
-is_like_darwin (system.MacOSX version) = true
-is_like_darwin (system.TvOS version) = true
-is_like_darwin (system.VisionOS version) = true
-is_like_darwin (system.WatchOS version) = true
-is_like_darwin (system.XROS version) = true
+is_like_darwin (operating_system.Darwin version) = true
+is_like_darwin (operating_system.IOS version) = true
+is_like_darwin (operating_system.MacOSX version) = true
+is_like_darwin (operating_system.TvOS version) = true
+is_like_darwin (operating_system.VisionOS version) = true
+is_like_darwin (operating_system.WatchOS version) = true
+is_like_darwin (operating_system.XROS version) = true
 is_like_darwin _ = false
 
 -- the systems with a fixed name
-abbrev pub fixed_systems : List OperatingSystem
-fixed_systems =
-    system.Unknown ∷ system.Aix ∷ system.AmdHsa ∷ system.Bitrig ∷ system.Cloudabi ∷ system.Cuda ∷
-    system.Cygwin ∷ system.Dragonfly ∷ system.Emscripten ∷ system.Espidf ∷ system.Freebsd ∷
-    system.Fuchsia ∷ system.Haiku ∷ system.Hermit ∷ system.Horizon ∷ system.Hurd ∷ system.Illumos ∷
-    system.L4re ∷ system.Linux ∷ system.Nebulet ∷ system.Netbsd ∷ system.None_ ∷ system.Openbsd ∷
-    system.Psp ∷ system.Redox ∷ system.Solaris ∷ system.SolidAsp3 ∷ system.Uefi ∷ system.VxWorks ∷
-    system.Wasi ∷ system.WasiP1 ∷ system.WasiP2 ∷ system.Windows ∷ []
+abbrev pub fixed_operating_systems : List OperatingSystem
+fixed_operating_systems =
+    operating_system.Unknown ∷ operating_system.Aix ∷ operating_system.AmdHsa ∷ operating_system.Bitrig ∷ operating_system.Cloudabi ∷ operating_system.Cuda ∷
+    operating_system.Cygwin ∷ operating_system.Dragonfly ∷ operating_system.Emscripten ∷ operating_system.Espidf ∷ operating_system.Freebsd ∷
+    operating_system.Fuchsia ∷ operating_system.Haiku ∷ operating_system.Hermit ∷ operating_system.Horizon ∷ operating_system.Hurd ∷ operating_system.Illumos ∷
+    operating_system.L4re ∷ operating_system.Linux ∷ operating_system.Nebulet ∷ operating_system.Netbsd ∷ operating_system.None_ ∷ operating_system.Openbsd ∷
+    operating_system.Psp ∷ operating_system.Redox ∷ operating_system.Solaris ∷ operating_system.SolidAsp3 ∷ operating_system.Uefi ∷ operating_system.VxWorks ∷
+    operating_system.Wasi ∷ operating_system.WasiP1 ∷ operating_system.WasiP2 ∷ operating_system.Windows ∷ []
 
 -- the prefixes of the systems like Darwin
 abbrev pub darwin_prefixes : List (Pair (Option DeploymentTarget → OperatingSystem))
 darwin_prefixes =
-    (codes "darwin", system.Darwin) ∷
-    (codes "ios", system.IOS) ∷
-    (codes "macosx", system.MacOSX) ∷
-    (codes "tvos", system.TvOS) ∷
-    (codes "visionos", system.VisionOS) ∷
-    (codes "watchos", system.WatchOS) ∷
-    (codes "xros", system.XROS) ∷
+    (codes "darwin", operating_system.Darwin) ∷
+    (codes "ios", operating_system.IOS) ∷
+    (codes "macosx", operating_system.MacOSX) ∷
+    (codes "tvos", operating_system.TvOS) ∷
+    (codes "visionos", operating_system.VisionOS) ∷
+    (codes "watchos", operating_system.WatchOS) ∷
+    (codes "xros", operating_system.XROS) ∷
     []
 
 -- the version that stands behind a prefix, which may be left out
@@ -106,7 +107,7 @@ optional_version_of (c ∷ cs) = option_map Some (version_of (c ∷ cs))
 
 -- a system like Darwin by what stands behind its prefix
 abbrev pub with_version : (Option DeploymentTarget → OperatingSystem) → List ℕ → Option OperatingSystem
-with_version system text = option_map system (optional_version_of text)
+with_version operating_system text = option_map operating_system (optional_version_of text)
 
 -- the text behind a prefix, if it begins with it
 abbrev pub behind_prefix : List ℕ → List ℕ → Option (List ℕ)
@@ -115,8 +116,8 @@ behind_prefix prefix text = if starts_with nat_eq text prefix then Some (drop (l
 -- the system like Darwin that a text reads as, by the first of these prefixes that gives one
 abbrev pub darwin_like_by : List (Pair (Option DeploymentTarget → OperatingSystem)) → List ℕ → Option OperatingSystem
 darwin_like_by [] text = None
-darwin_like_by (row ∷ rows) text = or_then (option_and_then (with_version row.1) (behind_prefix row.0 text)) (darwin_like_by rows text)
+darwin_like_by (row ∷ rows) text = option_or (option_and_then (with_version row.1) (behind_prefix row.0 text)) (darwin_like_by rows text)
 
 -- what a text reads as, if anything
-unfoldable pub system_of : List ℕ → Option OperatingSystem
-system_of text = or_then (value_of (named system_name fixed_systems) text) (darwin_like_by darwin_prefixes text)
+unfoldable pub operating_system_of : List ℕ → Option OperatingSystem
+operating_system_of text = option_or (value_of (named operating_system_name fixed_operating_systems) text) (darwin_like_by darwin_prefixes text)

@@ -1,17 +1,18 @@
 -- Vendors: the known ones, and the custom ones, which are any other text of a certain form.
 use Rattle.std.specs.Prelude.{◌≡◌, ℕ, ◌==◌, nat_le, Bool, true, false, ◌&&◌, ◌||◌, List, [], ◌∷◌, codes, Option, Some, None, is_none, option_map, if◌then◌else◌, string_bytes}
 use Rattle.std.specs.List.{list_all}
+use Rattle.std.specs.Option.{option_or}
 use Rattle.lexicon_fields.specs.declared.vendor.CustomVendor.{CustomVendor}
 use Rattle.lexicon_fields.specs.declared.vendor.CustomVendor.TheVariants.{Owned, Static}
 use Rattle.lexicon_fields.specs.declared.vendor.Vendor.{Vendor}
 use Rattle.lexicon_fields.specs.declared.vendor.Vendor.TheVariants as vendor
 use Rattle.lexicon_fields.specs.declared.vendor.VendorError.{VendorError}
 use Rattle.lexicon_fields.specs.declared.vendor.VendorError.TheVariants.{Unrecognized, OutOfMemory}
-use Rattle.lexicon_fields.specs.Names.{value_of, named, or_then}
+use Rattle.lexicon_fields.specs.Names.{value_of, named}
 use Rattle.lexicon_fields.specs.Architecture.{architecture_of}
-use Rattle.lexicon_fields.specs.OperatingSystem.{system_of}
+use Rattle.lexicon_fields.specs.OperatingSystem.{operating_system_of}
 use Rattle.lexicon_fields.specs.Environment.{environment_of}
-use Rattle.lexicon_fields.specs.BinaryFormat.{format_of}
+use Rattle.lexicon_fields.specs.BinaryFormat.{binary_format_of}
 
 -- the known vendors
 pub data KnownVendor : Type 0 where
@@ -117,8 +118,8 @@ has_vendor_form (c ∷ cs) = is_lowercase_letter c && list_all is_vendor_charact
 -- a text that reads as no other field and is no known vendor's name
 abbrev pub is_free : List ℕ → Bool
 is_free text =
-    is_none (known_vendor_of text) && is_none (architecture_of text) && is_none (system_of text)
-    && is_none (environment_of text) && is_none (format_of text)
+    is_none (known_vendor_of text) && is_none (architecture_of text) && is_none (operating_system_of text)
+    && is_none (environment_of text) && is_none (binary_format_of text)
 
 -- what is admitted as the text of a custom vendor
 unfoldable pub is_admitted : List ℕ → Bool
@@ -130,12 +131,21 @@ custom_of text = if is_admitted text then Some (Custom text) else None
 
 -- what a text reads as, if anything
 unfoldable pub vendor_of : List ℕ → Option VendorValue
-vendor_of text = or_then (option_map Known (known_vendor_of text)) (custom_of text)
+vendor_of text = option_or (option_map Known (known_vendor_of text)) (custom_of text)
 
 -- a known vendor, or a custom one with an admitted text
 abbrev pub is_plain : VendorValue → Bool
 is_plain (Known known) = true
 is_plain (Custom text) = is_admitted text
+
+-- the vendor is a custom one
+abbrev pub IsCustom : VendorValue → Type 0
+IsCustom (Known known) = ⊥
+IsCustom (Custom text) = Unit {0}
+
+-- a vendor that is a custom one has a text of its own
+abbrev pub OwnsCustomText : Vendor → Type 0
+OwnsCustomText v = IsCustom (vendor_value v) → owns_text v ≡ true
 
 -- why a text is refused as a vendor: it reads as none, or it is admitted and the memory for it was refused
 abbrev pub IsVendorFault : List ℕ → VendorError → Type 0

@@ -1,6 +1,5 @@
 -- Version texts, as `10.14.6` in `macosx10.14.6`.
 use Rattle.std.specs.Prelude.{ℕ, ◌==◌, ◌∷◌, ◌++◌, nat_lt, nat_le, ◌&&◌, List, [], length, Option, Some, None, if◌then◌else◌}
-use Rattle.std.specs.Borrow.{Bor}
 use Rattle.std.specs.Char.{is_ascii_digit}
 use Rattle.std.specs.List.{list_all, slice_split}
 use Rattle.std.specs.Str.Parse.{digits_value, without_leading_plus}
@@ -32,11 +31,6 @@ version_of_pieces _ = None
 -- what lies between the dots of a text
 abbrev pub pieces_of : List ℕ → List (List ℕ)
 pieces_of text = slice_split (λ c. c == 46) text
-
--- the pieces of what is left of a text, if anything is
-abbrev pub pieces_left : Option (Bor (List ℕ)) → List (List ℕ)
-pieces_left None = []
-pieces_left (Some rest) = pieces_of rest.now
 
 -- the version that a text reads as, if any
 unfoldable pub version_of : List ℕ → Option DeploymentTarget

@@ -1,9 +1,9 @@
 //! The architectures.
 ghost use Rattle.std.specs.Prelude.{◌≡◌, ◌↔◌, IsErr, Some};
 ghost use Rattle.std.specs.Cow.{cow_str_bytes, IsBorrowedStr};
-ghost use Rattle.lexicon_fields.specs.Names.{ReadsBy};
+ghost use Rattle.lexicon_fields.specs.Names.{Answers};
 ghost use Rattle.lexicon_fields.specs.Architecture.{architecture_name, architecture_of, family_of};
-ghost use Rattle.lexicon_fields.specs.ArchitectureQueries.{Answers, architecture_endianness, architecture_width, is_clever};
+ghost use Rattle.lexicon_fields.specs.ArchitectureQueries.{architecture_endianness, architecture_width, is_clever};
 
 mod aarch64;
 mod arm;
@@ -150,7 +150,7 @@ impl Architecture {
     /// The value whose name the text is, and `Aarch64` for `arm64`; every other text is refused.
     #[tactic(auto, unfolding(crate::specs::Architecture::architecture_of))]
     pub fn from_str(s: &str) -> Result<Self, ()>
-        ensures { ReadsBy architecture_of s.now result }
+        ensures { Answers (architecture_of s.now) result }
     {
         Ok(match s {
             "unknown" => Architecture::Unknown,
@@ -187,7 +187,7 @@ impl Architecture {
 
     /// The value with a sub-architecture whose name the text is, and `Aarch64` for `arm64`.
     fn with_sub_architecture(s: &str) -> Result<Self, ()>
-        ensures { ReadsBy family_of s.now result }
+        ensures { Answers (family_of s.now) result }
     {
         if let Ok(sub) = ArmArchitecture::from_str(s) {
             Ok(Architecture::Arm(sub))
@@ -268,7 +268,7 @@ impl Architecture {
 impl FromStr for Architecture {
     type Err = ();
 
-    ghost from_str_gives = { ReadsBy architecture_of };
+    ghost from_str_gives = { λ s. Answers (architecture_of s) };
 
     fn from_str(s: &str) -> Result<Architecture, ()> {
         Architecture::from_str(s)

@@ -1,8 +1,8 @@
 //! The binary formats.
 ghost use Rattle.std.specs.Prelude.{◌≡◌, Some};
 ghost use Rattle.std.specs.Cow.{cow_str_bytes, IsBorrowedStr};
-ghost use Rattle.lexicon_fields.specs.Names.{ReadsBy};
-ghost use Rattle.lexicon_fields.specs.BinaryFormat.{format_name, format_of};
+ghost use Rattle.lexicon_fields.specs.Names.{Answers};
+ghost use Rattle.lexicon_fields.specs.BinaryFormat.{binary_format_name, binary_format_of};
 
 use std::borrow::CowStr;
 use std::fmt;
@@ -25,9 +25,9 @@ pub enum BinaryFormat {
 
 impl BinaryFormat {
     /// The value whose name the text is; every other text is refused.
-    #[tactic(auto, unfolding(crate::specs::BinaryFormat::format_of))]
+    #[tactic(auto, unfolding(crate::specs::BinaryFormat::binary_format_of))]
     pub fn from_str(s: &str) -> Result<Self, ()>
-        ensures { ReadsBy format_of s.now result }
+        ensures { Answers (binary_format_of s.now) result }
     {
         Ok(match s {
             "unknown" => BinaryFormat::Unknown,
@@ -42,14 +42,14 @@ impl BinaryFormat {
 
     /// The name, which is always borrowed.
     pub fn into_str(self) -> CowStr<'static>
-        ensures name { cow_str_bytes result ≡ format_name self }
+        ensures name { cow_str_bytes result ≡ binary_format_name self }
         ensures borrowed { IsBorrowedStr result }
     {
         CowStr::Borrowed(self.name())
     }
 
     fn name(self) -> &'static str
-        ensures { result.now ≡ format_name self }
+        ensures { result.now ≡ binary_format_name self }
     {
         match self {
             BinaryFormat::Unknown => "unknown",
@@ -65,7 +65,7 @@ impl BinaryFormat {
 impl FromStr for BinaryFormat {
     type Err = ();
 
-    ghost from_str_gives = { ReadsBy format_of };
+    ghost from_str_gives = { λ s. Answers (binary_format_of s) };
 
     fn from_str(s: &str) -> Result<BinaryFormat, ()> {
         BinaryFormat::from_str(s)
@@ -73,9 +73,9 @@ impl FromStr for BinaryFormat {
 }
 
 impl fmt::Display for BinaryFormat {
-    ghost output = { λ it. Some (format_name it) };
+    ghost output = { λ it. Some (binary_format_name it) };
 
-    ghost styled_output = { λ it _. Some (format_name it) };
+    ghost styled_output = { λ it _. Some (binary_format_name it) };
 
     fn fmt<W: fmt::Write>(&self, f: &mut fmt::Formatter<W>) -> fmt::Result {
         f.write_str(self.name())

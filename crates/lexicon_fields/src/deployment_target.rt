@@ -1,7 +1,8 @@
 //! The versions of deployment targets.
 ghost use Rattle.std.specs.Prelude.{◌≡◌, ◌+◌, ◌<◌, [], ◌∷◌};
 ghost use Rattle.std.specs.Fmt.{WritesStyledOnOk, decimal};
-ghost use Rattle.lexicon_fields.specs.Version.{version_of, version_name, pieces_of, pieces_left};
+ghost use Rattle.lexicon_fields.specs.Version.{version_of, version_name, pieces_of};
+ghost use Rattle.lexicon_fields.specs.Private.{pieces_left};
 
 use std::fmt;
 

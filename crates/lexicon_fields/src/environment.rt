@@ -1,7 +1,7 @@
 //! The environments.
 ghost use Rattle.std.specs.Prelude.{◌≡◌, Some};
 ghost use Rattle.std.specs.Cow.{cow_str_bytes, IsBorrowedStr};
-ghost use Rattle.lexicon_fields.specs.Names.{ReadsBy};
+ghost use Rattle.lexicon_fields.specs.Names.{Answers};
 ghost use Rattle.lexicon_fields.specs.Environment.{environment_name, environment_of};
 
 use std::borrow::CowStr;
@@ -69,7 +69,7 @@ impl Environment {
     /// The value whose name the text is; every other text is refused.
     #[tactic(auto, unfolding(crate::specs::Environment::environment_of))]
     pub fn from_str(s: &str) -> Result<Self, ()>
-        ensures { ReadsBy environment_of s.now result }
+        ensures { Answers (environment_of s.now) result }
     {
         Ok(match s {
             "unknown" => Environment::Unknown,
@@ -165,7 +165,7 @@ impl Environment {
 impl FromStr for Environment {
     type Err = ();
 
-    ghost from_str_gives = { ReadsBy environment_of };
+    ghost from_str_gives = { λ s. Answers (environment_of s) };
 
     fn from_str(s: &str) -> Result<Environment, ()> {
         Environment::from_str(s)

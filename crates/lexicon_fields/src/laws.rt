@@ -1,21 +1,18 @@
 //! Laws of names, queries and equality: a call does nothing, and its contract is the law.
 ghost use Rattle.std.specs.Prelude.{◌≡◌, ◌↔◌, true};
-ghost use Rattle.lexicon_fields.specs.EqualityLaws.{ComparesByValue};
-ghost use Rattle.lexicon_fields.specs.NameLaws.{NamesReadBack, NamesHoldNoDash, TextsHoldNoDash};
+ghost use Rattle.lexicon_fields.specs.Laws.{NamesOfReadBack, NamesReadBack, HasVersionInRange, IsRefusedForUnknownAlone, ComparesByValue, version_cmp};
 ghost use Rattle.lexicon_fields.specs.SubArchitecture.{arm_name, arm_of, aarch64_name, aarch64_of, x86_32_name, x86_32_of};
 ghost use Rattle.lexicon_fields.specs.SubArchitecture.{mips32_name, mips32_of, mips64_name, mips64_of};
 ghost use Rattle.lexicon_fields.specs.SubArchitecture.{riscv32_name, riscv32_of, riscv64_name, riscv64_of};
 ghost use Rattle.lexicon_fields.specs.SubArchitecture.{clever_name, clever_of, z80_name, z80_of};
 ghost use Rattle.lexicon_fields.specs.Architecture.{architecture_name, architecture_of};
 ghost use Rattle.lexicon_fields.specs.Environment.{environment_name, environment_of};
-ghost use Rattle.lexicon_fields.specs.BinaryFormat.{format_name, format_of};
-ghost use Rattle.lexicon_fields.specs.ArchitectureLaws.{IsRefusedForUnknownAlone};
+ghost use Rattle.lexicon_fields.specs.OperatingSystem.{operating_system_name, operating_system_of};
+ghost use Rattle.lexicon_fields.specs.BinaryFormat.{binary_format_name, binary_format_of};
 ghost use Rattle.lexicon_fields.specs.ArchitectureQueries.{architecture_endianness, architecture_width};
-ghost use Rattle.lexicon_fields.specs.SystemLaws.{SystemNamesReadBack, SystemTextsHoldNoDash, SystemNamesHoldNoDash, version_cmp};
 ghost use Rattle.lexicon_fields.specs.declared.vendor.CustomVendor.{CustomVendor};
 ghost use Rattle.lexicon_fields.specs.declared.vendor.Vendor.{Vendor};
-ghost use Rattle.lexicon_fields.specs.Vendor.{custom_text, vendor_value};
-ghost use Rattle.lexicon_fields.specs.VendorLaws.{VendorNamesReadBack, VendorNamesHoldNoDash};
+ghost use Rattle.lexicon_fields.specs.Vendor.{custom_text, vendor_value, vendor_name, vendor_of, is_plain};
 
 use crate::architecture::{
     Aarch64Architecture, Architecture, ArmArchitecture, CleverArchitecture, Mips32Architecture,
@@ -30,7 +27,8 @@ use crate::vendor::{CustomVendor, Vendor, VendorError};
 use crate::width::{Endianness, PointerWidth};
 use std::hash::Hash;
 
-/// Each value reads back from its name as itself.
+/// Each value reads back from its name as itself, versions included, and neither a name nor any text that reads as a
+/// value holds a dash; of vendors, each plain one.
 pub fn names_read_back()
     ensures architecture { NamesReadBack architecture_name architecture_of }
     ensures arm { NamesReadBack arm_name arm_of }
@@ -42,40 +40,10 @@ pub fn names_read_back()
     ensures riscv64 { NamesReadBack riscv64_name riscv64_of }
     ensures clever { NamesReadBack clever_name clever_of }
     ensures z80 { NamesReadBack z80_name z80_of }
+    ensures operating_system { NamesOfReadBack HasVersionInRange operating_system_name operating_system_of }
     ensures environment { NamesReadBack environment_name environment_of }
-    ensures binary_format { NamesReadBack format_name format_of }
-{}
-
-/// No name holds a dash.
-pub fn names_hold_no_dash()
-    ensures architecture { NamesHoldNoDash architecture_name }
-    ensures arm { NamesHoldNoDash arm_name }
-    ensures aarch64 { NamesHoldNoDash aarch64_name }
-    ensures x86_32 { NamesHoldNoDash x86_32_name }
-    ensures mips32 { NamesHoldNoDash mips32_name }
-    ensures mips64 { NamesHoldNoDash mips64_name }
-    ensures riscv32 { NamesHoldNoDash riscv32_name }
-    ensures riscv64 { NamesHoldNoDash riscv64_name }
-    ensures clever { NamesHoldNoDash clever_name }
-    ensures z80 { NamesHoldNoDash z80_name }
-    ensures environment { NamesHoldNoDash environment_name }
-    ensures binary_format { NamesHoldNoDash format_name }
-{}
-
-/// No text that reads as a value holds a dash, the alias `arm64` included.
-pub fn texts_hold_no_dash()
-    ensures architecture { TextsHoldNoDash architecture_of }
-    ensures arm { TextsHoldNoDash arm_of }
-    ensures aarch64 { TextsHoldNoDash aarch64_of }
-    ensures x86_32 { TextsHoldNoDash x86_32_of }
-    ensures mips32 { TextsHoldNoDash mips32_of }
-    ensures mips64 { TextsHoldNoDash mips64_of }
-    ensures riscv32 { TextsHoldNoDash riscv32_of }
-    ensures riscv64 { TextsHoldNoDash riscv64_of }
-    ensures clever { TextsHoldNoDash clever_of }
-    ensures z80 { TextsHoldNoDash z80_of }
-    ensures environment { TextsHoldNoDash environment_of }
-    ensures binary_format { TextsHoldNoDash format_of }
+    ensures binary_format { NamesReadBack binary_format_name binary_format_of }
+    ensures vendor { NamesOfReadBack (λ v. is_plain v ≡ true) vendor_name vendor_of }
 {}
 
 /// An architecture has no byte order and no pointer width exactly where it is `Unknown`.
@@ -84,34 +52,9 @@ pub fn unknown_alone_is_refused()
     ensures pointer_width { IsRefusedForUnknownAlone architecture_width }
 {}
 
-/// Every system reads back from its name, with its version.
-pub fn system_names_read_back()
-    ensures { SystemNamesReadBack }
-{}
-
-/// No text that reads as a system holds a dash.
-pub fn system_texts_hold_no_dash()
-    ensures { SystemTextsHoldNoDash }
-{}
-
-/// No system's name holds a dash.
-pub fn system_names_hold_no_dash()
-    ensures { SystemNamesHoldNoDash }
-{}
-
 /// Versions are ordered by major, then by minor, then by patch.
 pub fn versions_are_ordered()
     ensures { (x y : DeploymentTarget) → ⟦<DeploymentTarget as Ord>⟧.cmp x y ≡ version_cmp x y }
-{}
-
-/// Every plain vendor reads back from its name.
-pub fn vendor_names_read_back()
-    ensures { VendorNamesReadBack }
-{}
-
-/// No plain vendor's name holds a dash.
-pub fn vendor_names_hold_no_dash()
-    ensures { VendorNamesHoldNoDash }
 {}
 
 /// Known vendors are equal by variant, custom ones by text, and a custom one never equals a known one.

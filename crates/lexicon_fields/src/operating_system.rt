@@ -1,9 +1,9 @@
 //! The operating systems.
 ghost use Rattle.std.specs.Prelude.{◌≡◌, ◌++◌, Some, None, IfOk, IsNone, IsOkAnd};
 ghost use Rattle.std.specs.Cow.{cow_str_bytes, IsBorrowedStr};
-ghost use Rattle.lexicon_fields.specs.Names.{ReadsBy, value_of, named};
+ghost use Rattle.lexicon_fields.specs.Names.{Answers, value_of, named};
 ghost use Rattle.lexicon_fields.specs.Version.{version_name};
-ghost use Rattle.lexicon_fields.specs.OperatingSystem.{system_name, system_of, fixed_systems, system_version, version_suffix, optional_version_of, darwin_like_by, darwin_prefixes, is_like_darwin};
+ghost use Rattle.lexicon_fields.specs.OperatingSystem.{operating_system_name, operating_system_of, fixed_operating_systems, version_held, version_suffix, optional_version_of, darwin_like_by, darwin_prefixes, is_like_darwin};
 
 #[cfg(test)]
 mod tests;
@@ -65,9 +65,9 @@ impl OperatingSystem {
     /// The value that the text reads as; every other text is refused. Behind the prefix of a system like Darwin stands
     /// nothing, or a version: one to three pieces between dots, each an optional plus and digits, the first up to 65535,
     /// the others up to 255.
-    #[tactic(auto, unfolding(crate::specs::OperatingSystem::system_of))]
+    #[tactic(auto, unfolding(crate::specs::OperatingSystem::operating_system_of))]
     pub fn from_str(s: &str) -> Result<Self, ()>
-        ensures { ReadsBy system_of s.now result }
+        ensures { Answers (operating_system_of s.now) result }
     {
         match OperatingSystem::of_fixed_name(s) {
             Some(system) => Ok(system),
@@ -77,7 +77,7 @@ impl OperatingSystem {
 
     /// The system of this fixed name.
     fn of_fixed_name(s: &str) -> Option<Self>
-        ensures { result ≡ value_of (named system_name fixed_systems) s.now }
+        ensures { result ≡ value_of (named operating_system_name fixed_operating_systems) s.now }
     {
         Some(match s {
             "unknown" => OperatingSystem::Unknown,
@@ -119,7 +119,7 @@ impl OperatingSystem {
 
     /// The system like Darwin that the text reads as.
     fn like_darwin(s: &str) -> Result<Self, ()>
-        ensures { ReadsBy (darwin_like_by darwin_prefixes) s.now result }
+        ensures { Answers (darwin_like_by darwin_prefixes s.now) result }
     {
         if let Some(rest) = s.strip_prefix("darwin") {
             return Ok(OperatingSystem::Darwin(version_behind(rest)?));
@@ -147,8 +147,8 @@ impl OperatingSystem {
 
     /// The name. Only the text of a version wants memory, and `Err` says that it was refused.
     pub fn into_str(self, alloc: Global) -> Result<CowStr<'static>, AllocError>
-        ensures name { IfOk result (λ text. cow_str_bytes text ≡ system_name self) }
-        ensures borrowed { IsNone (system_version self) → IsOkAnd result IsBorrowedStr }
+        ensures name { IfOk result (λ text. cow_str_bytes text ≡ operating_system_name self) }
+        ensures borrowed { IsNone (version_held self) → IsOkAnd result IsBorrowedStr }
     {
         match self.version() {
             None => Ok(CowStr::Borrowed(self.prefix())),
@@ -174,7 +174,7 @@ impl OperatingSystem {
 
     /// The name up to the version.
     fn prefix(self) -> &'static str
-        ensures { result.now ++ version_suffix (system_version self) ≡ system_name self }
+        ensures { result.now ++ version_suffix (version_held self) ≡ operating_system_name self }
     {
         match self {
             OperatingSystem::Unknown => "unknown",
@@ -222,7 +222,7 @@ impl OperatingSystem {
 
     /// The version, where the system holds one.
     fn version(self) -> Option<DeploymentTarget>
-        ensures { result ≡ system_version self }
+        ensures { result ≡ version_held self }
     {
         match self {
             OperatingSystem::Darwin(version)
@@ -239,7 +239,7 @@ impl OperatingSystem {
 
 /// The version that stands behind a prefix, which may be left out.
 fn version_behind(rest: &str) -> Result<Option<DeploymentTarget>, ()>
-    ensures { ReadsBy optional_version_of rest.now result }
+    ensures { Answers (optional_version_of rest.now) result }
 {
     if rest.is_empty() {
         return Ok(None);
@@ -253,7 +253,7 @@ fn version_behind(rest: &str) -> Result<Option<DeploymentTarget>, ()>
 impl FromStr for OperatingSystem {
     type Err = ();
 
-    ghost from_str_gives = { ReadsBy system_of };
+    ghost from_str_gives = { λ s. Answers (operating_system_of s) };
 
     fn from_str(s: &str) -> Result<OperatingSystem, ()> {
         OperatingSystem::from_str(s)
@@ -261,9 +261,9 @@ impl FromStr for OperatingSystem {
 }
 
 impl fmt::Display for OperatingSystem {
-    ghost output = { λ it. Some (system_name it) };
+    ghost output = { λ it. Some (operating_system_name it) };
 
-    ghost styled_output = { λ it _. Some (system_name it) };
+    ghost styled_output = { λ it _. Some (operating_system_name it) };
 
     fn fmt<W: fmt::Write>(&self, f: &mut fmt::Formatter<W>) -> fmt::Result {
         f.write_str(self.prefix())?;

@@ -1,44 +1,50 @@
 -- The parts of a text are one list.
 use Rattle.std.proofs.Common.{◌≡◌, ◌≢◌, ℕ, List, [], ◌∷◌, ◌++◌, Bool, true, false, nat_eq, refl, sym, length, ◌<◌, ◌∙◌, ap, arith, ◌⊎◌, inl, inr}
-use Rattle.std.specs.List.{join_with_byte, onto_first, before_first, after_first, position_or_len}
-use Rattle.std.specs.Prelude.{◌==◌}
+use Rattle.std.specs.List.{list_all, list_any, join_with_byte, onto_first, before_first, after_first, position_or_len}
+use Rattle.std.specs.Prelude.{◌==◌, ◌||◌, not}
+use Rattle.std.proofs.lemmas.Bool.{and_parts}
 use Rattle.std.proofs.lemmas.List.Sums.{fails_before_first}
 use Rattle.std.proofs.lemmas.List.Splits.{join_with_byte-slice_split, slice_split_first, slice_split_none}
-use Rattle.target_lexicon.specs.Parts.{IsDashFree, AreDashFree, ArePartsOf, parts_of}
+use Rattle.lexicon_fields.specs.Names.{is_dash_free}
+use Rattle.target_lexicon.specs.Parts.{ArePartsOf, parts_of}
 
 -- a test is true or false
 pub bool_cases : (b : Bool) → (b ≡ true) ⊎ (b ≡ false)
 bool_cases true = inl refl
 bool_cases false = inr refl
 
-not_dash : (b : ℕ) → b ≢ 45 → nat_eq b 45 ≡ false
-not_dash b ne = grind arith
+-- the first byte of a text without dashes is none, and the others have none
+dash_free-parts : (b : ℕ) (bs : List ℕ) → is_dash_free (b ∷ bs) ≡ true → (nat_eq b 45 ≡ false) × (is_dash_free bs ≡ true)
+dash_free-parts b bs free = by_head (nat_eq b 45) (list_any (λ c. c == 45) bs) free
+  where
+    by_head : (dash rest : Bool) → not (dash || rest) ≡ true → (dash ≡ false) × (not rest ≡ true)
+    by_head true rest free = absurd cc
+    by_head false rest free = (refl, free)
 
-is_dash : (b : ℕ) → nat_eq b 45 ≡ false → b ≢ 45
-is_dash b other = grind arith
-
-parts_of-one : (bs : List ℕ) → IsDashFree bs → parts_of bs ≡ bs ∷ []
+parts_of-one : (bs : List ℕ) → is_dash_free bs ≡ true → parts_of bs ≡ bs ∷ []
 parts_of-one [] free = refl
-parts_of-one (b ∷ bs) free = rw (not_dash b free.0, parts_of-one bs free.1) refl
+parts_of-one (b ∷ bs) free = let apart = dash_free-parts b bs free in rw (apart.0, parts_of-one bs apart.1) refl
 
-parts_of-more : (bs rest : List ℕ) → IsDashFree bs → parts_of (bs ++ (45 ∷ rest)) ≡ bs ∷ parts_of rest
+parts_of-more : (bs rest : List ℕ) → is_dash_free bs ≡ true → parts_of (bs ++ (45 ∷ rest)) ≡ bs ∷ parts_of rest
 parts_of-more [] rest free = refl
-parts_of-more (b ∷ bs) rest free = rw (not_dash b free.0, parts_of-more bs rest free.1) refl
+parts_of-more (b ∷ bs) rest free = let apart = dash_free-parts b bs free in rw (apart.0, parts_of-more bs rest apart.1) refl
 
-pub parts_of-joined : (p : List ℕ) (ps : List (List ℕ)) → AreDashFree (p ∷ ps) → parts_of (join_with_byte 45 (p ∷ ps)) ≡ p ∷ ps
-parts_of-joined p [] free = parts_of-one p free.0
-parts_of-joined p (q ∷ ps) free = parts_of-more p (join_with_byte 45 (q ∷ ps)) free.0 ∙ ap (λ k. p ∷ k) (parts_of-joined q ps free.1)
+pub parts_of-joined : (p : List ℕ) (ps : List (List ℕ)) → list_all is_dash_free (p ∷ ps) ≡ true → parts_of (join_with_byte 45 (p ∷ ps)) ≡ p ∷ ps
+parts_of-joined p [] free = parts_of-one p (and_parts _ _ free).0
+parts_of-joined p (q ∷ ps) free =
+    let apart = and_parts _ _ free in
+    parts_of-more p (join_with_byte 45 (q ∷ ps)) apart.0 ∙ ap (λ k. p ∷ k) (parts_of-joined q ps apart.1)
 
-onto_first-free : (b : ℕ) (ps : List (List ℕ)) → b ≢ 45 → AreDashFree ps → AreDashFree (onto_first b ps)
-onto_first-free b [] ne free = ((ne, tt), tt)
-onto_first-free b (p ∷ ps) ne free = ((ne, free.0), free.1)
+onto_first-free : (b : ℕ) (ps : List (List ℕ)) → nat_eq b 45 ≡ false → list_all is_dash_free ps ≡ true → list_all is_dash_free (onto_first b ps) ≡ true
+onto_first-free b [] other free = rw other refl
+onto_first-free b (p ∷ ps) other free = rw other free
 
-parts_of-free : (bs : List ℕ) → AreDashFree (parts_of bs)
-parts_of-free [] = (tt, tt)
+parts_of-free : (bs : List ℕ) → list_all is_dash_free (parts_of bs) ≡ true
+parts_of-free [] = refl
 parts_of-free (b ∷ bs) =
     elim (bool_cases (nat_eq b 45)) [
-      | inl dash ↦ rw dash (tt, parts_of-free bs)
-      | inr other ↦ rw other (onto_first-free b (parts_of bs) (is_dash b other) (parts_of-free bs))
+      | inl dash ↦ rw dash (parts_of-free bs)
+      | inr other ↦ rw other (onto_first-free b (parts_of bs) other (parts_of-free bs))
     ]
 
 onto_first-some : (b : ℕ) (ps : List (List ℕ)) → onto_first b ps ≢ []

@@ -1,6 +1,6 @@
 -- The placement that takes, field by field, each part at the first field that reads it.
 use Rattle.std.proofs.Common.{◌≡◌, ◌≢◌, ℕ, zero, suc, ◌+◌, ◌<◌, ◌≤◌, List, [], ◌∷◌, take, true, false, refl, subst, cond, arith, inl, inr}
-use Rattle.target_lexicon.specs.Field.{Field, Architecture, Vendor, System, Environment, Format, place, reads}
+use Rattle.target_lexicon.specs.Field.{Field, Architecture, Vendor, OperatingSystem, Environment, BinaryFormat, place, reads}
 use Rattle.target_lexicon.specs.Placement.{IsPlacedBehind, IsPlacement, AreNotBehind, IsLeast, HasPlacement}
 use Rattle.target_lexicon.specs.Laws.{HasOneLeast, OneLeastPlacement}
 use Rattle.target_lexicon.proofs.Cuts.{bool_cases}
@@ -33,17 +33,17 @@ filled-nil (f ∷ fs) = refl
 place_most : (f : Field) → place f ≤ 4
 place_most Architecture = omega arith
 place_most Vendor = omega arith
-place_most System = omega arith
+place_most OperatingSystem = omega arith
 place_most Environment = omega arith
-place_most Format = omega arith
+place_most BinaryFormat = omega arith
 
 -- fields of one place are one field
 pub place-injective : (f g : Field) → place f ≡ place g → f ≡ g
 place-injective Architecture Architecture e = refl
 place-injective Vendor Vendor e = refl
-place-injective System System e = refl
+place-injective OperatingSystem OperatingSystem e = refl
 place-injective Environment Environment e = refl
-place-injective Format Format e = refl
+place-injective BinaryFormat BinaryFormat e = refl
 place-injective f g e = cc
 
 not_skipped : (p : List ℕ) (f g : Field) → reads f p ≡ false → reads g p ≡ true → place g ≡ place f → ⊥
@@ -117,7 +117,7 @@ placement-front n (p ∷ ps) (f ∷ fs, w) = (f ∷ take n fs, (w.0, w.1, placed
 
 -- the fields behind the architecture
 abbrev pub behind_architecture : List Field
-behind_architecture = Vendor ∷ System ∷ Environment ∷ Format ∷ []
+behind_architecture = Vendor ∷ OperatingSystem ∷ Environment ∷ BinaryFormat ∷ []
 
 in_order : Follows Architecture behind_architecture
 in_order = (refl, (refl, (refl, (refl, refl))))

@@ -1,9 +1,9 @@
 -- The values that the steps take, one field after the other, are those of the greedy placement.
 use Rattle.std.proofs.Common.{◌≡◌, ℕ, List, [], ◌∷◌, true, false, nat_eq, refl, sym, ◌∙◌, ap, Option, Some, None, arith, inl, inr}
 use Rattle.std.specs.Prelude.{option_and_then, unwrap_or, is_some}
-use Rattle.target_lexicon.specs.Field.{Field, Architecture, Vendor, System, Environment, Format, place, reads}
-use Rattle.target_lexicon.specs.Reading.{part_at, field_behind, IsValueOf}
-use Rattle.target_lexicon.specs.Steps.{part_for, parts_behind, field_lacked}
+use Rattle.target_lexicon.specs.Field.{Field, Architecture, Vendor, OperatingSystem, Environment, BinaryFormat, place, reads}
+use Rattle.target_lexicon.specs.Reading.{part_at, lack_behind, last_of, IsValueOf}
+use Rattle.target_lexicon.specs.Private.{part_for, parts_behind, lack_of}
 use Rattle.target_lexicon.proofs.Cuts.{bool_cases}
 use Rattle.target_lexicon.proofs.Greedy.{filled, unread, unread-nil, filled-nil, behind_architecture}
 
@@ -60,54 +60,54 @@ part_at-later f g fs (p ∷ ps) h =
 
 -- the four steps, one after the other, leave what the greedy placement leaves
 pub unread-steps : (ps : List (List ℕ)) → unread behind_architecture ps
-    ≡ parts_behind Format (parts_behind Environment (parts_behind System (parts_behind Vendor ps)))
+    ≡ parts_behind BinaryFormat (parts_behind Environment (parts_behind OperatingSystem (parts_behind Vendor ps)))
 unread-steps ps =
-    unread-step Vendor (System ∷ Environment ∷ Format ∷ []) ps
-    ∙ unread-step System (Environment ∷ Format ∷ []) (parts_behind Vendor ps)
-    ∙ unread-step Environment (Format ∷ []) (parts_behind System (parts_behind Vendor ps))
-    ∙ unread-step Format [] (parts_behind Environment (parts_behind System (parts_behind Vendor ps)))
+    unread-step Vendor (OperatingSystem ∷ Environment ∷ BinaryFormat ∷ []) ps
+    ∙ unread-step OperatingSystem (Environment ∷ BinaryFormat ∷ []) (parts_behind Vendor ps)
+    ∙ unread-step Environment (BinaryFormat ∷ []) (parts_behind OperatingSystem (parts_behind Vendor ps))
+    ∙ unread-step BinaryFormat [] (parts_behind Environment (parts_behind OperatingSystem (parts_behind Vendor ps)))
 
 filled-steps : (ps : List (List ℕ)) → filled behind_architecture ps
     ≡ with_field Vendor (part_for Vendor ps)
-    (with_field System (part_for System (parts_behind Vendor ps))
-    (with_field Environment (part_for Environment (parts_behind System (parts_behind Vendor ps)))
-    (with_field Format (part_for Format (parts_behind Environment (parts_behind System (parts_behind Vendor ps)))) [])))
+    (with_field OperatingSystem (part_for OperatingSystem (parts_behind Vendor ps))
+    (with_field Environment (part_for Environment (parts_behind OperatingSystem (parts_behind Vendor ps)))
+    (with_field BinaryFormat (part_for BinaryFormat (parts_behind Environment (parts_behind OperatingSystem (parts_behind Vendor ps)))) [])))
 filled-steps ps =
-    filled-step Vendor (System ∷ Environment ∷ Format ∷ []) ps
+    filled-step Vendor (OperatingSystem ∷ Environment ∷ BinaryFormat ∷ []) ps
     ∙ ap (with_field Vendor (part_for Vendor ps))
-    (filled-step System (Environment ∷ Format ∷ []) (parts_behind Vendor ps)
-    ∙ ap (with_field System (part_for System (parts_behind Vendor ps)))
-    (filled-step Environment (Format ∷ []) (parts_behind System (parts_behind Vendor ps))
-    ∙ ap (with_field Environment (part_for Environment (parts_behind System (parts_behind Vendor ps))))
-    (filled-step Format [] (parts_behind Environment (parts_behind System (parts_behind Vendor ps))))))
+    (filled-step OperatingSystem (Environment ∷ BinaryFormat ∷ []) (parts_behind Vendor ps)
+    ∙ ap (with_field OperatingSystem (part_for OperatingSystem (parts_behind Vendor ps)))
+    (filled-step Environment (BinaryFormat ∷ []) (parts_behind OperatingSystem (parts_behind Vendor ps))
+    ∙ ap (with_field Environment (part_for Environment (parts_behind OperatingSystem (parts_behind Vendor ps))))
+    (filled-step BinaryFormat [] (parts_behind Environment (parts_behind OperatingSystem (parts_behind Vendor ps))))))
 
 pub part_at-vendor : (ps : List (List ℕ)) → part_at Vendor ps (filled behind_architecture ps) ≡ part_for Vendor ps
-part_at-vendor ps = part_at-first Vendor (System ∷ Environment ∷ Format ∷ []) ps (refl, (refl, (refl, tt)))
+part_at-vendor ps = part_at-first Vendor (OperatingSystem ∷ Environment ∷ BinaryFormat ∷ []) ps (refl, (refl, (refl, tt)))
 
-pub part_at-system : (ps : List (List ℕ)) → part_at System ps (filled behind_architecture ps) ≡ part_for System (parts_behind Vendor ps)
-part_at-system ps =
-    part_at-later System Vendor (System ∷ Environment ∷ Format ∷ []) ps refl
-    ∙ part_at-first System (Environment ∷ Format ∷ []) (parts_behind Vendor ps) (refl, (refl, tt))
+pub part_at-operating_system : (ps : List (List ℕ)) → part_at OperatingSystem ps (filled behind_architecture ps) ≡ part_for OperatingSystem (parts_behind Vendor ps)
+part_at-operating_system ps =
+    part_at-later OperatingSystem Vendor (OperatingSystem ∷ Environment ∷ BinaryFormat ∷ []) ps refl
+    ∙ part_at-first OperatingSystem (Environment ∷ BinaryFormat ∷ []) (parts_behind Vendor ps) (refl, (refl, tt))
 
 pub part_at-environment : (ps : List (List ℕ)) → part_at Environment ps (filled behind_architecture ps)
-    ≡ part_for Environment (parts_behind System (parts_behind Vendor ps))
+    ≡ part_for Environment (parts_behind OperatingSystem (parts_behind Vendor ps))
 part_at-environment ps =
-    part_at-later Environment Vendor (System ∷ Environment ∷ Format ∷ []) ps refl
-    ∙ part_at-later Environment System (Environment ∷ Format ∷ []) (parts_behind Vendor ps) refl
-    ∙ part_at-first Environment (Format ∷ []) (parts_behind System (parts_behind Vendor ps)) (refl, tt)
+    part_at-later Environment Vendor (OperatingSystem ∷ Environment ∷ BinaryFormat ∷ []) ps refl
+    ∙ part_at-later Environment OperatingSystem (Environment ∷ BinaryFormat ∷ []) (parts_behind Vendor ps) refl
+    ∙ part_at-first Environment (BinaryFormat ∷ []) (parts_behind OperatingSystem (parts_behind Vendor ps)) (refl, tt)
 
-pub part_at-format : (ps : List (List ℕ)) → part_at Format ps (filled behind_architecture ps)
-    ≡ part_for Format (parts_behind Environment (parts_behind System (parts_behind Vendor ps)))
-part_at-format ps =
-    part_at-later Format Vendor (System ∷ Environment ∷ Format ∷ []) ps refl
-    ∙ part_at-later Format System (Environment ∷ Format ∷ []) (parts_behind Vendor ps) refl
-    ∙ part_at-later Format Environment (Format ∷ []) (parts_behind System (parts_behind Vendor ps)) refl
-    ∙ part_at-first Format [] (parts_behind Environment (parts_behind System (parts_behind Vendor ps))) tt
+pub part_at-binary_format : (ps : List (List ℕ)) → part_at BinaryFormat ps (filled behind_architecture ps)
+    ≡ part_for BinaryFormat (parts_behind Environment (parts_behind OperatingSystem (parts_behind Vendor ps)))
+part_at-binary_format ps =
+    part_at-later BinaryFormat Vendor (OperatingSystem ∷ Environment ∷ BinaryFormat ∷ []) ps refl
+    ∙ part_at-later BinaryFormat OperatingSystem (Environment ∷ BinaryFormat ∷ []) (parts_behind Vendor ps) refl
+    ∙ part_at-later BinaryFormat Environment (BinaryFormat ∷ []) (parts_behind OperatingSystem (parts_behind Vendor ps)) refl
+    ∙ part_at-first BinaryFormat [] (parts_behind Environment (parts_behind OperatingSystem (parts_behind Vendor ps))) tt
 
--- the field behind the last that is filled
+-- what a part lacks behind the last field that is filled
 lacked-cases : (v s e f : Option (List ℕ))
-    → field_behind (Architecture ∷ with_field Vendor v (with_field System s (with_field Environment e (with_field Format f []))))
-    ≡ field_lacked (is_some v) (is_some s) (is_some e) (is_some f)
+    → lack_behind (last_of Architecture (with_field Vendor v (with_field OperatingSystem s (with_field Environment e (with_field BinaryFormat f [])))))
+    ≡ lack_of (is_some v) (is_some s) (is_some e) (is_some f)
 lacked-cases None None None None = refl
 lacked-cases None None None (Some d) = refl
 lacked-cases None None (Some c) None = refl
@@ -125,11 +125,11 @@ lacked-cases (Some a) (Some b) None (Some d) = refl
 lacked-cases (Some a) (Some b) (Some c) None = refl
 lacked-cases (Some a) (Some b) (Some c) (Some d) = refl
 
-pub lacked-steps : (ps : List (List ℕ)) → field_behind (Architecture ∷ filled behind_architecture ps)
-    ≡ field_lacked (is_some (part_for Vendor ps)) (is_some (part_for System (parts_behind Vendor ps)))
-    (is_some (part_for Environment (parts_behind System (parts_behind Vendor ps))))
-    (is_some (part_for Format (parts_behind Environment (parts_behind System (parts_behind Vendor ps)))))
-lacked-steps ps = ap (λ k. field_behind (Architecture ∷ k)) (filled-steps ps) ∙ lacked-cases _ _ _ _
+pub lacked-steps : (ps : List (List ℕ)) → lack_behind (last_of Architecture (filled behind_architecture ps))
+    ≡ lack_of (is_some (part_for Vendor ps)) (is_some (part_for OperatingSystem (parts_behind Vendor ps)))
+    (is_some (part_for Environment (parts_behind OperatingSystem (parts_behind Vendor ps))))
+    (is_some (part_for BinaryFormat (parts_behind Environment (parts_behind OperatingSystem (parts_behind Vendor ps)))))
+lacked-steps ps = ap (λ k. lack_behind (last_of Architecture k)) (filled-steps ps) ∙ lacked-cases _ _ _ _
 
 -- the value that a step gives its field
 abbrev pub value_for : {A : Type 0} → Field → (List ℕ → Option A) → A → List (List ℕ) → A

@@ -1,13 +1,15 @@
 -- The pieces that are written are the text of the triple.
-use Rattle.std.proofs.Common.{◌≡◌, ℕ, Bool, true, false, List, [], ◌∷◌, ◌++◌, refl, ap, ◌∙◌, append_assoc, Some, None, unwrap_or}
+use Rattle.std.proofs.Common.{◌≡◌, ℕ, Bool, true, false, List, [], ◌∷◌, ◌++◌, refl, ap, ◌∙◌, append_assoc, Option, Some, None, unwrap_or}
 use Rattle.std.specs.List.{join_with_byte}
 use Rattle.lexicon_fields.specs.Architecture.{architecture_name}
 use Rattle.lexicon_fields.specs.Vendor.{vendor_name}
-use Rattle.lexicon_fields.specs.OperatingSystem.{system_name}
+use Rattle.lexicon_fields.specs.OperatingSystem.{operating_system_name}
 use Rattle.lexicon_fields.specs.Environment.{environment_name}
-use Rattle.lexicon_fields.specs.BinaryFormat.{format_name}
+use Rattle.lexicon_fields.specs.BinaryFormat.{binary_format_name}
 use Rattle.target_lexicon.specs.Values.{Values}
-use Rattle.target_lexicon.specs.Printing.{special_text, shows_vendor, shows_system, shows_environment, shows_format, when, shown_parts, text_of, part_text}
+use Rattle.target_lexicon.specs.Printing.{shows_vendor, shows_operating_system, shows_environment, shows_binary_format, when, shown_parts, text_of}
+use Rattle.target_lexicon.specs.Private.{part_text}
+use Rattle.target_lexicon.specs.SpecialTexts.{special_text}
 
 append_nil : (s : List ℕ) → s ++ [] ≡ s
 append_nil [] = refl
@@ -40,13 +42,19 @@ five_parts a p q r s w x y z =
       append_nil (part_text z s),
     ) (simp append_assoc)
 
+abbrev special : Values → Option (List ℕ)
+special t = special_text t.operating_system t.vendor t.architecture
+
 -- where there is no special text: the names of the fields that are shown
-pub prints_parts : (t : Values) → None ≡ special_text t → (((architecture_name t.architecture ++ part_text (shows_vendor t) (vendor_name t.vendor)) ++ part_text (shows_system t) (system_name t.system)) ++ part_text (shows_environment t) (environment_name t.environment)) ++ part_text (shows_format t) (format_name t.format) ≡ text_of t
+pub prints_parts : (t : Values) → None ≡ special t
+    → (((architecture_name t.architecture ++ part_text (shows_vendor t.vendor t.operating_system t.environment t.architecture) (vendor_name t.vendor))
+    ++ part_text (shows_operating_system t.operating_system t.architecture) (operating_system_name t.operating_system))
+    ++ part_text (shows_environment t.environment t.operating_system t.vendor) (environment_name t.environment))
+    ++ part_text (shows_binary_format t) (binary_format_name t.binary_format) ≡ text_of t
 unfolding text_of shown_parts
 prints_parts t none =
-    five_parts (architecture_name t.architecture) (vendor_name t.vendor) (system_name t.system) (environment_name t.environment) (format_name t.format) (shows_vendor t) (shows_system t) (shows_environment t) (shows_format t)
-    ∙ ap (λ special. unwrap_or special (join_with_byte 45 (shown_parts t))) none
+    five_parts _ _ _ _ _ _ _ _ _ ∙ ap (λ special. unwrap_or special (join_with_byte 45 (shown_parts t))) none
 
-pub prints_special : (t : Values) (text : List ℕ) → Some text ≡ special_text t → text ≡ text_of t
+pub prints_special : (t : Values) (text : List ℕ) → Some text ≡ special t → text ≡ text_of t
 unfolding text_of
 prints_special t text special = ap (λ o. unwrap_or o (join_with_byte 45 (shown_parts t))) special

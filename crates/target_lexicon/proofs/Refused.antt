@@ -4,7 +4,8 @@ use Rattle.std.proofs.lemmas.List.{take-append-le}
 use Rattle.std.specs.Prelude.{slice_get}
 use Rattle.target_lexicon.specs.Field.{Field, Architecture, reads}
 use Rattle.target_lexicon.specs.Placement.{HasPlacement}
-use Rattle.target_lexicon.specs.Reading.{IsRefusal, IsLackedBehind, field_behind}
+use Rattle.target_lexicon.specs.Reading.{IsRefusal, IsLackedBehind, lack_behind, last_of}
+use Rattle.target_lexicon.specs.Refusal.{Lacks, refused}
 use Rattle.target_lexicon.proofs.Cuts.{bool_cases}
 use Rattle.target_lexicon.proofs.Greedy.{filled, unread, filled-nil, behind_architecture, greedy-least, greedy-finds, placement-front}
 
@@ -62,7 +63,7 @@ stop (f ∷ fs) (p ∷ ps) q rest e =
     skipped f fs p ps q rest skips s = by_front f fs p ps q rest s.front skips s.split s.taken s.same s.stuck
 
 -- the first part is refused where it reads as no architecture
-pub first-refused : (p : List ℕ) (ps : List (List ℕ)) → reads Architecture p ≡ false → IsRefusal (p ∷ ps) (Some Architecture) p
+pub first-refused : (p : List ℕ) (ps : List (List ℕ)) → reads Architecture p ≡ false → IsRefusal (p ∷ ps) (refused (Lacks Architecture) p)
 first-refused p ps skips = record {
   count = 0;
   refused = refl;
@@ -93,7 +94,7 @@ take-past (r ∷ front) q rest = ap (λ k. r ∷ k) (take-past front q rest)
 -- the part behind a front that the fields take whole, at which they stop, is refused
 refused-at : (p : List ℕ) (front : List (List ℕ)) (q : List ℕ) (rest : List (List ℕ)) → reads Architecture p ≡ true → unread behind_architecture front ≡ []
     → unread behind_architecture (front ++ (q ∷ [])) ≡ q ∷ []
-    → IsRefusal (p ∷ (front ++ (q ∷ rest))) (field_behind (Architecture ∷ filled behind_architecture front)) q
+    → IsRefusal (p ∷ (front ++ (q ∷ rest))) (refused (lack_behind (last_of Architecture (filled behind_architecture front))) q)
 refused-at p front q rest takes taken stuck =
     let least = greedy-least p front takes taken in
     let placed : HasPlacement (p ∷ front) = (Architecture ∷ filled behind_architecture front, least.placed) in
@@ -102,7 +103,8 @@ refused-at p front q rest takes taken stuck =
       refused = get-at front q rest;
       unplaced = subst (λ k. HasPlacement (p ∷ k) → ⊥) (sym (take-past front q rest)) (left-unplaced p (front ++ (q ∷ [])) q [] stuck);
       placed = λ k h. fewer k (omega (arith, h)) (placement-front k (p ∷ front) placed);
-      lacked = subst (λ k. IsLackedBehind (p ∷ k) (field_behind (Architecture ∷ filled behind_architecture front))) (sym (take-at front q rest)) (Architecture ∷ filled behind_architecture front, least, refl);
+      lacked = subst (λ k. IsLackedBehind (p ∷ k) (lack_behind (last_of Architecture (filled behind_architecture front)))) (sym (take-at front q rest))
+          (Architecture, (filled behind_architecture front, least, refl));
     }
   where
     fewer : (k : ℕ) → k ≤ length front → HasPlacement (p ∷ take k front) → HasPlacement (p ∷ take k (front ++ (q ∷ rest)))
@@ -110,10 +112,10 @@ refused-at p front q rest takes taken stuck =
 
 -- and the first of them is refused
 pub left-refused : (p : List ℕ) (ps : List (List ℕ)) (q : List ℕ) (rest : List (List ℕ)) → reads Architecture p ≡ true → unread behind_architecture ps ≡ q ∷ rest
-    → IsRefusal (p ∷ ps) (field_behind (Architecture ∷ filled behind_architecture ps)) q
+    → IsRefusal (p ∷ ps) (refused (lack_behind (last_of Architecture (filled behind_architecture ps))) q)
 left-refused p ps q rest takes left =
     let s = stop behind_architecture ps q rest left in
     let at = refused-at p s.front q rest takes s.taken s.stuck in
-    let same : IsRefusal (p ∷ (s.front ++ (q ∷ rest))) (field_behind (Architecture ∷ filled behind_architecture ps)) q =
-    subst (λ k. IsRefusal (p ∷ (s.front ++ (q ∷ rest))) (field_behind (Architecture ∷ k)) q) s.same at in
-    subst (λ k. IsRefusal (p ∷ k) (field_behind (Architecture ∷ filled behind_architecture ps)) q) (sym s.split) same
+    let same : IsRefusal (p ∷ (s.front ++ (q ∷ rest))) (refused (lack_behind (last_of Architecture (filled behind_architecture ps))) q) =
+    subst (λ k. IsRefusal (p ∷ (s.front ++ (q ∷ rest))) (refused (lack_behind (last_of Architecture k)) q)) s.same at in
+    subst (λ k. IsRefusal (p ∷ k) (refused (lack_behind (last_of Architecture (filled behind_architecture ps))) q)) (sym s.split) same

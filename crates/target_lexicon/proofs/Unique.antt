@@ -1,17 +1,19 @@
 -- A text has one outcome at most.
 use Rattle.std.proofs.Common.{◌≡◌, ℕ, zero, suc, ◌<◌, List, [], ◌∷◌, take, Bool, true, false, refl, sym, ◌∙◌, ap, subst, cond, Option, Some, None, arith, ◌⊎◌, inl, inr}
-use Rattle.std.specs.Prelude.{MatchOption, slice_get, codes}
+use Rattle.std.specs.Prelude.{MatchOption, slice_get}
 use Rattle.std.specs.Str.{bytes_eq}
 use Rattle.lexicon_fields.specs.Architecture.{architecture_of}
 use Rattle.lexicon_fields.specs.Vendor.{VendorValue, vendor_of, is_plain}
-use Rattle.lexicon_fields.specs.OperatingSystem.{system_of}
+use Rattle.lexicon_fields.specs.OperatingSystem.{operating_system_of}
 use Rattle.lexicon_fields.specs.Environment.{environment_of}
-use Rattle.lexicon_fields.specs.BinaryFormat.{format_of}
+use Rattle.lexicon_fields.specs.BinaryFormat.{binary_format_of}
 use Rattle.target_lexicon.specs.Field.{Field}
-use Rattle.target_lexicon.specs.ImpliedFormat.{implied_format}
+use Rattle.target_lexicon.specs.ImpliedFormat.{implied}
 use Rattle.target_lexicon.specs.Parts.{ArePartsOf, parts_of}
 use Rattle.target_lexicon.specs.Placement.{HasPlacement}
-use Rattle.target_lexicon.specs.Reading.{IsValueOf, HoldsParts, special_values, nintendo_3ds, esp_idf, ReadsAsLeast, ReadsAs, IsRefusal, IsLackedBehind, IsRefusedAs, IsRefused, field_behind}
+use Rattle.target_lexicon.specs.Reading.{IsValueOf, HoldsParts, ReadsAsLeast, ReadsAs, IsRefusal, IsLackedBehind, IsRefusedAs, IsRefused, lack_behind, last_of}
+use Rattle.target_lexicon.specs.Refusal.{Lack, LacksAnyField, Refusal, refused}
+use Rattle.target_lexicon.specs.SpecialTexts.{special_values, nintendo_3ds_text, nintendo_3ds, esp_idf_text, esp_idf}
 use Rattle.target_lexicon.specs.Laws.{ReadVendorsArePlain}
 use Rattle.target_lexicon.specs.Values.{Values}
 use Rattle.target_lexicon.proofs.Greedy.{placement-front, least-unique}
@@ -27,10 +29,10 @@ same_held : (parts : List (List ℕ)) (fields : List Field) (t u : Values) → H
 same_held parts fields t u h k =
     let a = same_value architecture_of _ _ _ t.architecture u.architecture refl h.architecture k.architecture in
     let v = same_value vendor_of _ _ _ t.vendor u.vendor refl h.vendor k.vendor in
-    let s = same_value system_of _ _ _ t.system u.system refl h.system k.system in
+    let s = same_value operating_system_of _ _ _ t.operating_system u.operating_system refl h.operating_system k.operating_system in
     let e = same_value environment_of _ _ _ t.environment u.environment refl h.environment k.environment in
-    let i : implied_format t.architecture t.system t.environment ≡ implied_format u.architecture u.system u.environment = cc in
-    let f = same_value format_of _ _ _ t.format u.format i h.format k.format in
+    let i : implied t ≡ implied u = cc in
+    let f = same_value binary_format_of _ _ _ t.binary_format u.binary_format i h.binary_format k.binary_format in
     same_values t u a v s e f
 
 same_least : (parts : List (List ℕ)) (t u : Values) → ReadsAsLeast parts t → ReadsAsLeast parts u → t ≡ u
@@ -48,8 +50,8 @@ values-unique text t u h k = by_special (special_values text) h k
         same_least qs t u (subst (λ parts. ReadsAsLeast parts t) (parts-only text ps are ∙ sym (parts-only text qs others)) h) k
 
 -- a refusal of the same parts stands at the same place
-same_count : (parts : List (List ℕ)) (j k : Option Field) (p q : List ℕ) (a : IsRefusal parts j p) (b : IsRefusal parts k q) → a.count ≡ b.count
-same_count parts j k p q a b = by_order (order a.count b.count)
+same_count : (parts : List (List ℕ)) (x y : Refusal) (a : IsRefusal parts x) (b : IsRefusal parts y) → a.count ≡ b.count
+same_count parts x y a b = by_order (order a.count b.count)
   where
     order : (m n : ℕ) → (m < n) ⊎ ((n < m) ⊎ (m ≡ n))
     order zero zero = inr (inr refl)
@@ -62,38 +64,43 @@ same_count parts j k p q a b = by_order (order a.count b.count)
     by_order (inr (inl h)) = absurd (b.unplaced (a.placed b.count h))
     by_order (inr (inr e)) = e
 
-same_lacked : (front : List (List ℕ)) (j k : Option Field) → IsLackedBehind front j → IsLackedBehind front k → j ≡ k
+abbrev lack_behind_all : List Field → Lack
+lack_behind_all [] = LacksAnyField
+lack_behind_all (f ∷ fs) = lack_behind (last_of f fs)
+
+same_lacked : (front : List (List ℕ)) (j k : Lack) → IsLackedBehind front j → IsLackedBehind front k → j ≡ k
 same_lacked [] j k h l = h ∙ sym l
-same_lacked (p ∷ ps) j k (fs, least, h) (gs, other, l) =
-    h ∙ ap field_behind (least-unique (p ∷ ps) fs gs least other) ∙ sym l
+same_lacked (p ∷ ps) j k (f, (fs, least, h)) (g, (gs, other, l)) =
+    h ∙ ap lack_behind_all (least-unique (p ∷ ps) (f ∷ fs) (g ∷ gs) least other) ∙ sym l
 
-same_refusal : (parts : List (List ℕ)) (j k : Option Field) (p q : List ℕ) → IsRefusal parts j p → IsRefusal parts k q → (j ≡ k) × (p ≡ q)
-same_refusal parts j k p q a b =
-    let same = same_count parts j k p q a b in
-    let at : slice_get parts b.count ≡ Some p = subst (λ n. slice_get parts n ≡ Some p) same a.refused in
+same_refusal : (parts : List (List ℕ)) (x y : Refusal) → IsRefusal parts x → IsRefusal parts y → x ≡ y
+same_refusal parts x y a b =
+    let same = same_count parts x y a b in
+    let at : slice_get parts b.count ≡ Some x.part = subst (λ n. slice_get parts n ≡ Some x.part) same a.refused in
     let other = b.refused in
-    let behind : IsLackedBehind (take b.count parts) j = subst (λ n. IsLackedBehind (take n parts) j) same a.lacked in
-    (same_lacked (take b.count parts) j k behind b.lacked, cc)
+    let behind : IsLackedBehind (take b.count parts) x.lack = subst (λ n. IsLackedBehind (take n parts) x.lack) same a.lacked in
+    let part : x.part ≡ y.part = cc in
+    ap (λ lack. refused lack x.part) (same_lacked (take b.count parts) x.lack y.lack behind b.lacked) ∙ ap (refused y.lack) part
 
-refusal_at : (text : List ℕ) (kind : Option Field) (part : List ℕ) → IsRefusedAs text kind part → IsRefusal (parts_of text) kind part
-refusal_at text kind part (ordinary, (parts, are, h)) = subst (λ parts. IsRefusal parts kind part) (parts-only text parts are) h
+refusal_at : (text : List ℕ) (x : Refusal) → IsRefusedAs text x → IsRefusal (parts_of text) x
+refusal_at text x (ordinary, (parts, are, h)) = subst (λ parts. IsRefusal parts x) (parts-only text parts are) h
 
 -- a text is refused in one way at most
-pub refusal-unique : (text : List ℕ) (j k : Option Field) (p q : List ℕ) → IsRefusedAs text j p → IsRefusedAs text k q → (j ≡ k) × (p ≡ q)
-refusal-unique text j k p q h r = same_refusal (parts_of text) j k p q (refusal_at text j p h) (refusal_at text k q r)
+pub refusal-unique : (text : List ℕ) (x y : Refusal) → IsRefusedAs text x → IsRefusedAs text y → x ≡ y
+refusal-unique text x y h r = same_refusal (parts_of text) x y (refusal_at text x h) (refusal_at text y r)
 
 -- a text that is refused doesn't read
 pub read-not_refused : (text : List ℕ) (t : Values) → ReadsAs text t → IsRefused text → ⊥
-read-not_refused text t h (kind, (part, r)) =
+read-not_refused text t h (refusal, r) =
     let read = rw (r.0) at h in
     by_parts read
   where
-    unplaced : (parts : List (List ℕ)) (k : Option Field) (q : List ℕ) → IsRefusal parts k q → HasPlacement parts → ⊥
-    unplaced parts k q r has = r.unplaced (placement-front r.count parts has)
+    unplaced : (parts : List (List ℕ)) (x : Refusal) → IsRefusal parts x → HasPlacement parts → ⊥
+    unplaced parts x r has = r.unplaced (placement-front r.count parts has)
 
     by_parts : (parts : List (List ℕ)) × ArePartsOf text parts × ReadsAsLeast parts t → ⊥
     by_parts (parts, are, (fs, least, holds)) =
-        unplaced (parts_of text) kind part (refusal_at text kind part r)
+        unplaced (parts_of text) refusal (refusal_at text refusal r)
         (subst HasPlacement (parts-only text parts are) (fs, least.placed))
 
 one_of : (a b : Bool) (x y t : Values) → cond a (Some x) (cond b (Some y) None) ≡ Some t → (x ≡ t) ⊎ (y ≡ t)
@@ -104,7 +111,7 @@ one_of false false x y t h = cc
 special-plain : (text : List ℕ) (t : Values) → special_values text ≡ Some t → is_plain t.vendor ≡ true
 unfolding special_values
 special-plain text t h =
-    elim (one_of (bytes_eq text (codes "armv6k-nintendo-3ds")) (bytes_eq text (codes "riscv32imc-esp-espidf")) nintendo_3ds esp_idf t h) [
+    elim (one_of (bytes_eq text nintendo_3ds_text) (bytes_eq text esp_idf_text) nintendo_3ds esp_idf t h) [
       | inl e ↦ subst (λ (u : Values). is_plain u.vendor ≡ true) e refl
       | inr e ↦ subst (λ (u : Values). is_plain u.vendor ≡ true) e refl
     ]

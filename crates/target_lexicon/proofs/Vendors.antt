@@ -1,10 +1,9 @@
 -- What reads as a vendor.
 use Rattle.std.proofs.Common.{◌≡◌, ℕ, List, Bool, true, refl, sym, ◌∙◌, subst, Option, Some, None, inl, inr}
 use Rattle.std.specs.Prelude.{is_none, ◌&&◌, option_map}
-use Rattle.lexicon_fields.specs.Names.{or_then}
-use Rattle.lexicon_fields.specs.Vendor.{KnownVendor, VendorValue, Known, Custom, known_vendor_of, is_admitted, custom_of, vendor_of, vendor_value, owns_text, is_plain}
+use Rattle.std.specs.Option.{option_or}
+use Rattle.lexicon_fields.specs.Vendor.{KnownVendor, VendorValue, Known, Custom, known_vendor_of, is_admitted, custom_of, vendor_of, vendor_value, owns_text, is_plain, IsCustom, OwnsCustomText}
 use Rattle.lexicon_fields.specs.declared.vendor.Vendor.{Vendor}
-use Rattle.target_lexicon.specs.Reading.{IsCustom, OwnsCustomText}
 use Rattle.target_lexicon.proofs.Cuts.{bool_cases}
 
 -- no admitted text is a known vendor's name
@@ -36,7 +35,7 @@ pub vendor-plain : (text : List ℕ) (v : VendorValue) → vendor_of text ≡ So
 unfolding vendor_of
 vendor-plain text v h = by_known (known_vendor_of text) h
   where
-    by_known : (o : Option KnownVendor) → or_then (option_map Known o) (custom_of text) ≡ Some v → is_plain v ≡ true
+    by_known : (o : Option KnownVendor) → option_or (option_map Known o) (custom_of text) ≡ Some v → is_plain v ≡ true
     by_known None h = custom-plain text v h
     by_known (Some known) h =
         let same : Known known ≡ v = cc in
@@ -54,7 +53,7 @@ custom-admitted : (text : List ℕ) (v : VendorValue) → vendor_of text ≡ Som
 unfolding vendor_of
 custom-admitted text v h = by_known (known_vendor_of text) h
   where
-    by_known : (o : Option KnownVendor) → or_then (option_map Known o) (custom_of text) ≡ Some v → IsCustom v → is_admitted text ≡ true
+    by_known : (o : Option KnownVendor) → option_or (option_map Known o) (custom_of text) ≡ Some v → IsCustom v → is_admitted text ≡ true
     by_known None h custom = admitted-if-custom text v h
     by_known (Some known) h custom =
         let same : Known known ≡ v = cc in

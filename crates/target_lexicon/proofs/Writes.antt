@@ -4,7 +4,7 @@ use Rattle.std.specs.Fmt.{WritesOnOk, WritesStyledOnOk, DisplaysStyledOnOk, HasW
 use Rattle.std.specs.declared.fmt.Formatter.{Formatter}
 use Rattle.std.specs.declared.fmt.Error.{Error}
 use Rattle.std.proofs.Output.{has_written_styled_append}
-use Rattle.target_lexicon.specs.Printing.{part_text}
+use Rattle.target_lexicon.specs.Private.{part_text}
 
 module _ {W : Type 0} (took : W → List ℕ → W → Type 0) where
   -- what is written whatever the options is written without options

@@ -2,30 +2,30 @@
 use Rattle.std.specs.Prelude.{ℕ, List, Bool, is_some}
 use Rattle.lexicon_fields.specs.Architecture.{architecture_of}
 use Rattle.lexicon_fields.specs.Vendor.{vendor_of}
-use Rattle.lexicon_fields.specs.OperatingSystem.{system_of}
+use Rattle.lexicon_fields.specs.OperatingSystem.{operating_system_of}
 use Rattle.lexicon_fields.specs.Environment.{environment_of}
-use Rattle.lexicon_fields.specs.BinaryFormat.{format_of}
+use Rattle.lexicon_fields.specs.BinaryFormat.{binary_format_of}
 
 -- the fields, in their order
 pub data Field : Type 0 where
   Architecture : Field
   Vendor : Field
-  System : Field
+  OperatingSystem : Field
   Environment : Field
-  Format : Field
+  BinaryFormat : Field
 
 -- the place of a field in the order
 abbrev pub place : Field → ℕ
 place Architecture = 0
 place Vendor = 1
-place System = 2
+place OperatingSystem = 2
 place Environment = 3
-place Format = 4
+place BinaryFormat = 4
 
 -- whether a text reads as a value of the field
 unfoldable pub reads : Field → List ℕ → Bool
 reads Architecture text = is_some (architecture_of text)
 reads Vendor text = is_some (vendor_of text)
-reads System text = is_some (system_of text)
+reads OperatingSystem text = is_some (operating_system_of text)
 reads Environment text = is_some (environment_of text)
-reads Format text = is_some (format_of text)
+reads BinaryFormat text = is_some (binary_format_of text)

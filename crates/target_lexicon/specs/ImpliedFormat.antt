@@ -3,38 +3,43 @@ use Rattle.std.specs.Prelude.{if◌then◌else◌}
 use Rattle.lexicon_fields.specs.declared.architecture.Architecture.{Architecture}
 use Rattle.lexicon_fields.specs.declared.architecture.Architecture.TheVariants as architecture
 use Rattle.lexicon_fields.specs.declared.operating_system.OperatingSystem.{OperatingSystem}
-use Rattle.lexicon_fields.specs.declared.operating_system.OperatingSystem.TheVariants as system
+use Rattle.lexicon_fields.specs.declared.operating_system.OperatingSystem.TheVariants as operating_system
 use Rattle.lexicon_fields.specs.declared.environment.Environment.{Environment}
 use Rattle.lexicon_fields.specs.declared.environment.Environment.TheVariants as environment
 use Rattle.lexicon_fields.specs.declared.binary_format.BinaryFormat.{BinaryFormat}
-use Rattle.lexicon_fields.specs.declared.binary_format.BinaryFormat.TheVariants as format
+use Rattle.lexicon_fields.specs.declared.binary_format.BinaryFormat.TheVariants as binary_format
 use Rattle.lexicon_fields.specs.OperatingSystem.{is_like_darwin}
+use Rattle.target_lexicon.specs.Values.{Values}
 
 -- without a system only the embedded ABIs imply a format
 abbrev pub bare_format : Environment → BinaryFormat
-bare_format environment.Eabi = format.Elf
-bare_format environment.Eabihf = format.Elf
-bare_format _ = format.Unknown
+bare_format environment.Eabi = binary_format.Elf
+bare_format environment.Eabihf = binary_format.Elf
+bare_format _ = binary_format.Unknown
 
 -- Wasm on the WebAssembly architectures, and Elf elsewhere; on an unknown architecture nothing is known
 abbrev pub wasm_or_elf : Architecture → BinaryFormat
-wasm_or_elf architecture.Wasm32 = format.Wasm
-wasm_or_elf architecture.Wasm64 = format.Wasm
-wasm_or_elf architecture.Unknown = format.Unknown
-wasm_or_elf _ = format.Elf
+wasm_or_elf architecture.Wasm32 = binary_format.Wasm
+wasm_or_elf architecture.Wasm64 = binary_format.Wasm
+wasm_or_elf architecture.Unknown = binary_format.Unknown
+wasm_or_elf _ = binary_format.Elf
 
 -- the format on a system that isn't like Darwin
 abbrev pub other_format : Architecture → OperatingSystem → Environment → BinaryFormat
-other_format a system.None_ e = bare_format e
-other_format a system.Aix e = format.Xcoff
-other_format a system.Windows e = format.Coff
-other_format a system.Nebulet e = wasm_or_elf a
-other_format a system.Emscripten e = wasm_or_elf a
-other_format a system.VxWorks e = wasm_or_elf a
-other_format a system.Wasi e = wasm_or_elf a
-other_format a system.Unknown e = wasm_or_elf a
-other_format a _ e = format.Elf
+other_format a operating_system.None_ e = bare_format e
+other_format a operating_system.Aix e = binary_format.Xcoff
+other_format a operating_system.Windows e = binary_format.Coff
+other_format a operating_system.Nebulet e = wasm_or_elf a
+other_format a operating_system.Emscripten e = wasm_or_elf a
+other_format a operating_system.VxWorks e = wasm_or_elf a
+other_format a operating_system.Wasi e = wasm_or_elf a
+other_format a operating_system.Unknown e = wasm_or_elf a
+other_format a _ e = binary_format.Elf
 
 -- the format that architecture, system and environment imply
 unfoldable pub implied_format : Architecture → OperatingSystem → Environment → BinaryFormat
-implied_format a s e = if is_like_darwin s then format.Macho else other_format a s e
+implied_format a s e = if is_like_darwin s then binary_format.Macho else other_format a s e
+
+-- the format that the other fields of a triple imply
+abbrev pub implied : Values → BinaryFormat
+implied t = implied_format t.architecture t.operating_system t.environment

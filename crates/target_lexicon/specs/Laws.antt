@@ -1,9 +1,17 @@
--- Laws of reading.
-use Rattle.std.specs.Prelude.{◌≡◌, ℕ, suc, List, true, Option, take, ◌⊎◌}
-use Rattle.lexicon_fields.specs.Vendor.{is_plain}
+-- Laws of reading and printing.
+use Rattle.std.specs.Prelude.{◌≡◌, ◌↔◌, ℕ, suc, List, true, Ok, Err, take, ◌⊎◌}
+use Rattle.lexicon_fields.specs.Laws.{NamesReadBack, NamesOfReadBack, HasVersionInRange}
+use Rattle.lexicon_fields.specs.Architecture.{architecture_name, architecture_of}
+use Rattle.lexicon_fields.specs.Vendor.{VendorValue, vendor_name, vendor_of, is_plain}
+use Rattle.lexicon_fields.specs.OperatingSystem.{operating_system_name, operating_system_of}
+use Rattle.lexicon_fields.specs.Environment.{environment_name, environment_of}
+use Rattle.lexicon_fields.specs.BinaryFormat.{binary_format_name, binary_format_of}
 use Rattle.target_lexicon.specs.Field.{Field}
 use Rattle.target_lexicon.specs.Placement.{IsLeast, HasPlacement}
+use Rattle.target_lexicon.specs.Printing.{text_of}
 use Rattle.target_lexicon.specs.Reading.{ReadsAs, IsRefusedAs, IsRefused}
+use Rattle.target_lexicon.specs.ReadingByFields.{reading}
+use Rattle.target_lexicon.specs.Refusal.{Refusal}
 use Rattle.target_lexicon.specs.Values.{Values}
 
 -- the parts have exactly one least placement
@@ -20,13 +28,38 @@ OneLeastPlacement = (parts : List (List ℕ)) → HasPlacement parts → HasOneL
 pub record HasOneOutcome (text : List ℕ) : Type 0 where
   pub some : ((t : Values) × ReadsAs text t) ⊎ IsRefused text
   pub values : (t u : Values) → ReadsAs text t → ReadsAs text u → t ≡ u
-  pub refusal : (j k : Option Field) (p q : List ℕ) → IsRefusedAs text j p → IsRefusedAs text k q → (j ≡ k) × (p ≡ q)
+  pub refusal : (x y : Refusal) → IsRefusedAs text x → IsRefusedAs text y → x ≡ y
   pub apart : (t : Values) → ReadsAs text t → IsRefused text → ⊥
 
 -- every text has exactly one outcome
 abbrev pub OneOutcomeEach : Type 0
 OneOutcomeEach = (text : List ℕ) → HasOneOutcome text
 
+-- the function `reading` gives what the text reads as, and how it is refused
+pub record IsComputed (text : List ℕ) : Type 0 where
+  pub read : (t : Values) → ReadsAs text t ↔ (reading text ≡ Ok t)
+  pub refused : (refusal : Refusal) → IsRefusedAs text refusal ↔ (reading text ≡ Err refusal)
+
+-- so it does for every text
+abbrev pub ReadingIsComputed : Type 0
+ReadingIsComputed = (text : List ℕ) → IsComputed text
+
 -- every text that is read has a plain vendor
 abbrev pub ReadVendorsArePlain : Type 0
 ReadVendorsArePlain = (text : List ℕ) (t : Values) → ReadsAs text t → is_plain t.vendor ≡ true
+
+-- every value of the five fields reads back from its name, but custom vendors that aren't plain
+pub record FieldNamesReadBack : Type 0 where
+  pub architecture : NamesReadBack architecture_name architecture_of
+  pub vendor : NamesOfReadBack (λ (v : VendorValue). is_plain v ≡ true) vendor_name vendor_of
+  pub operating_system : NamesOfReadBack HasVersionInRange operating_system_name operating_system_of
+  pub environment : NamesReadBack environment_name environment_of
+  pub binary_format : NamesReadBack binary_format_name binary_format_of
+
+-- printed and read, the triple is itself
+abbrev pub ComesBack : Values → Type 0
+ComesBack t = ReadsAs (text_of t) t
+
+-- two triples that come back are equal exactly where their texts are
+abbrev pub EqualTextsEqualTriples : Type 0
+EqualTextsEqualTriples = (t u : Values) → ComesBack t → ComesBack u → (t ≡ u) ↔ (text_of t ≡ text_of u)

@@ -1,26 +1,22 @@
 -- What a text reads as, and how it is refused.
-use Rattle.std.specs.Prelude.{◌≡◌, ℕ, ◌<◌, suc, List, [], ◌∷◌, true, Option, Some, None, take, slice_get, codes, if◌then◌else◌, ◌==◌, MatchOption, ◌⊎◌}
-use Rattle.std.specs.Str.{bytes_eq}
+use Rattle.std.specs.Prelude.{◌≡◌, ℕ, ◌<◌, suc, List, [], ◌∷◌, Option, Some, None, take, slice_get, if◌then◌else◌, ◌==◌, MatchOption, ◌⊎◌}
 use Rattle.lexicon_fields.specs.declared.architecture.Architecture.TheVariants as architecture
-use Rattle.lexicon_fields.specs.declared.architecture.arm.ArmArchitecture.TheVariants as arm
-use Rattle.lexicon_fields.specs.declared.architecture.riscv.Riscv32Architecture.TheVariants as riscv32
-use Rattle.lexicon_fields.specs.declared.operating_system.OperatingSystem.TheVariants as system
+use Rattle.lexicon_fields.specs.declared.operating_system.OperatingSystem.TheVariants as operating_system
 use Rattle.lexicon_fields.specs.declared.environment.Environment.TheVariants as environment
-use Rattle.lexicon_fields.specs.declared.binary_format.BinaryFormat.TheVariants as format
 use Rattle.lexicon_fields.specs.Architecture.{architecture_of}
 use Rattle.lexicon_fields.specs.Vendor as vendor
-use Rattle.lexicon_fields.specs.declared.vendor.Vendor.{Vendor}
-use Rattle.lexicon_fields.specs.Vendor.{VendorValue, vendor_of, vendor_value, owns_text}
-use Rattle.lexicon_fields.specs.OperatingSystem.{system_of}
+use Rattle.lexicon_fields.specs.Vendor.{IsCustom, vendor_of}
+use Rattle.lexicon_fields.specs.OperatingSystem.{operating_system_of}
 use Rattle.lexicon_fields.specs.Environment.{environment_of}
-use Rattle.lexicon_fields.specs.BinaryFormat.{format_of}
+use Rattle.lexicon_fields.specs.BinaryFormat.{binary_format_of}
 use Rattle.target_lexicon.specs.declared.parse_error.ParseError.{ParseError}
 use Rattle.target_lexicon.specs.Field as field
 use Rattle.target_lexicon.specs.Field.{Field, place}
-use Rattle.target_lexicon.specs.ImpliedFormat.{implied_format}
-use Rattle.target_lexicon.specs.ParseError.{refusal_of}
+use Rattle.target_lexicon.specs.ImpliedFormat.{implied}
 use Rattle.target_lexicon.specs.Parts.{ArePartsOf}
 use Rattle.target_lexicon.specs.Placement.{IsLeast, HasPlacement}
+use Rattle.target_lexicon.specs.Refusal.{Lack, Lacks, LacksAnyField, Refusal, refusal_of}
+use Rattle.target_lexicon.specs.SpecialTexts.{special_values}
 use Rattle.target_lexicon.specs.Values.{Values}
 
 -- the part that a placement gives to the field, if any
@@ -38,36 +34,9 @@ IsValueOf find unfilled (Some part) value = find part ≡ Some value
 pub record HoldsParts (parts : List (List ℕ)) (fields : List Field) (t : Values) : Type 0 where
   pub architecture : IsValueOf architecture_of architecture.Unknown (part_at field.Architecture parts fields) t.architecture
   pub vendor : IsValueOf vendor_of (vendor.Known vendor.Unknown) (part_at field.Vendor parts fields) t.vendor
-  pub system : IsValueOf system_of system.Unknown (part_at field.System parts fields) t.system
+  pub operating_system : IsValueOf operating_system_of operating_system.Unknown (part_at field.OperatingSystem parts fields) t.operating_system
   pub environment : IsValueOf environment_of environment.Unknown (part_at field.Environment parts fields) t.environment
-  pub format : IsValueOf format_of (implied_format t.architecture t.system t.environment) (part_at field.Format parts fields) t.format
-
--- what the special text `armv6k-nintendo-3ds` gives
-abbrev pub nintendo_3ds : Values
-nintendo_3ds = record {
-  architecture = architecture.Arm arm.Armv6k;
-  vendor = vendor.Known vendor.Nintendo;
-  system = system.Horizon;
-  environment = environment.Newlib;
-  format = format.Elf;
-}
-
--- what the special text `riscv32imc-esp-espidf` gives
-abbrev pub esp_idf : Values
-esp_idf = record {
-  architecture = architecture.Riscv32 riscv32.Riscv32imc;
-  vendor = vendor.Known vendor.Espressif;
-  system = system.Espidf;
-  environment = environment.Newlib;
-  format = format.Elf;
-}
-
--- the values of a special text
-unfoldable pub special_values : List ℕ → Option Values
-special_values text =
-    if bytes_eq text (codes "armv6k-nintendo-3ds") then Some nintendo_3ds
-    else if bytes_eq text (codes "riscv32imc-esp-espidf") then Some esp_idf
-    else None
+  pub binary_format : IsValueOf binary_format_of (implied t) (part_at field.BinaryFormat parts fields) t.binary_format
 
 -- what the least placement of the parts gives
 abbrev pub ReadsAsLeast : List (List ℕ) → Values → Type 0
@@ -78,50 +47,44 @@ abbrev pub ReadsAs : List ℕ → Values → Type 0
 ReadsAs text t = MatchOption (special_values text)
     ((parts : List (List ℕ)) × ArePartsOf text parts × ReadsAsLeast parts t) (λ values. t ≡ values)
 
--- the field behind one, in their order
-abbrev pub next_field : Field → Option Field
-next_field field.Architecture = Some field.Vendor
-next_field field.Vendor = Some field.System
-next_field field.System = Some field.Environment
-next_field field.Environment = Some field.Format
-next_field field.Format = None
+-- what a part lacks whose predecessors fill the fields up to this one: the next field, of which there is none behind the
+-- binary format
+abbrev pub lack_behind : Field → Lack
+lack_behind field.Architecture = Lacks field.Vendor
+lack_behind field.Vendor = Lacks field.OperatingSystem
+lack_behind field.OperatingSystem = Lacks field.Environment
+lack_behind field.Environment = Lacks field.BinaryFormat
+lack_behind field.BinaryFormat = LacksAnyField
 
--- the field behind the last of a placement's, and the architecture where there is none
-abbrev pub field_behind : List Field → Option Field
-field_behind [] = Some field.Architecture
-field_behind (f ∷ []) = next_field f
-field_behind (f ∷ g ∷ gs) = field_behind (g ∷ gs)
+-- the last of these fields
+abbrev pub last_of : Field → List Field → Field
+last_of f [] = f
+last_of f (g ∷ gs) = last_of g gs
 
--- the field that a part lacks behind these: the one behind the last that their least placement fills
-abbrev pub IsLackedBehind : List (List ℕ) → Option Field → Type 0
-IsLackedBehind [] kind = kind ≡ Some field.Architecture
-IsLackedBehind (p ∷ ps) kind = (fields : List Field) × IsLeast (p ∷ ps) fields × (kind ≡ field_behind fields)
+-- what a part lacks behind these parts: the field behind the last that their least placement fills, and the architecture
+-- where there are none
+abbrev pub IsLackedBehind : List (List ℕ) → Lack → Type 0
+IsLackedBehind [] lack = lack ≡ Lacks field.Architecture
+IsLackedBehind (p ∷ ps) lack =
+    (first : Field) × ((others : List Field) × IsLeast (p ∷ ps) (first ∷ others) × (lack ≡ lack_behind (last_of first others)))
 
--- the first part up to which no placement exists, and the field that it lacks, of which there is none behind the format
-pub record IsRefusal (parts : List (List ℕ)) (kind : Option Field) (part : List ℕ) : Type 0 where
+-- the first part up to which no placement exists, and what it lacks
+pub record IsRefusal (parts : List (List ℕ)) (refusal : Refusal) : Type 0 where
   -- how many parts are before it
   pub count : ℕ
-  pub refused : slice_get parts count ≡ Some part
+  pub refused : slice_get parts count ≡ Some refusal.part
   pub unplaced : HasPlacement (take (suc count) parts) → ⊥
   pub placed : (k : ℕ) → k < count → HasPlacement (take (suc k) parts)
-  pub lacked : IsLackedBehind (take count parts) kind
+  pub lacked : IsLackedBehind (take count parts) refusal.lack
 
 -- the text isn't special, and this part of it is refused
-abbrev pub IsRefusedAs : List ℕ → Option Field → List ℕ → Type 0
-IsRefusedAs text kind part = (special_values text ≡ None) × ((parts : List (List ℕ)) × ArePartsOf text parts × IsRefusal parts kind part)
+abbrev pub IsRefusedAs : List ℕ → Refusal → Type 0
+IsRefusedAs text refusal =
+    (special_values text ≡ None) × ((parts : List (List ℕ)) × ArePartsOf text parts × IsRefusal parts refusal)
 
 -- some part of the text is refused
 abbrev pub IsRefused : List ℕ → Type 0
-IsRefused text = (kind : Option Field) × ((part : List ℕ) × IsRefusedAs text kind part)
-
--- the vendor is a custom one
-abbrev pub IsCustom : VendorValue → Type 0
-IsCustom (vendor.Known known) = ⊥
-IsCustom (vendor.Custom text) = Unit {0}
-
--- a custom vendor that is read has a text of its own
-abbrev pub OwnsCustomText : Vendor → Type 0
-OwnsCustomText v = IsCustom (vendor_value v) → owns_text v ≡ true
+IsRefused text = (refusal : Refusal) × IsRefusedAs text refusal
 
 -- the only texts that may want memory: those that are refused, or read with a custom vendor
 abbrev pub MayWantMemory : List ℕ → Type 0
@@ -129,4 +92,4 @@ MayWantMemory text = IsRefused text ⊎ ((t : Values) × ReadsAs text t × IsCus
 
 -- the error names the refusal of the text, or tells of memory where memory may be wanted
 abbrev pub IsFaultOf : List ℕ → ParseError → Type 0
-IsFaultOf text error = MatchOption (refusal_of error) (MayWantMemory text) (λ refusal. IsRefusedAs text refusal.0 refusal.1)
+IsFaultOf text error = MatchOption (refusal_of error) (MayWantMemory text) (λ refusal. IsRefusedAs text refusal)

@@ -1,15 +1,15 @@
 //! The text of a triple.
-ghost use Rattle.std.specs.Prelude.{◌≡◌, Some, IfOk, option_map, string_bytes, ℕ, List};
+ghost use Rattle.std.specs.Prelude.{◌≡◌, Some, IfOk, option_map, string_bytes};
+ghost use Rattle.lexicon_fields.specs.Vendor.{vendor_value};
 ghost use Rattle.std.specs.Fmt.{DisplaysStyledOnOk, formatter_spec};
-ghost use Rattle.target_lexicon.specs.Kinds.{is_bare, omits_format};
-ghost use Rattle.target_lexicon.specs.Printing.{text_of, special_text, names_no_vendor, shows_vendor, shows_system, shows_environment, shows_format, shows_format_without_system, part_text};
+ghost use Rattle.target_lexicon.specs.Printing.{text_of, is_bare_arm, goes_without_vendor, shows_vendor, shows_operating_system, shows_environment, shows_binary_format, shows_implied_format, architecture_implies_format};
+ghost use Rattle.target_lexicon.specs.Private.{part_text};
 ghost use Rattle.target_lexicon.specs.Values.{values_of};
 
 use crate::default_format::default_binary_format;
 use crate::triple::Triple;
 use lexicon_fields::{
-    Architecture, ArmArchitecture, BinaryFormat, Environment, OperatingSystem, Riscv32Architecture,
-    Vendor,
+    Architecture, ArmArchitecture, BinaryFormat, Environment, OperatingSystem, Vendor,
 };
 use std::alloc::{AllocError, Global};
 use std::fmt;
@@ -59,44 +59,21 @@ impl Triple {
         Ok(text)
     }
 
-    /// The text of a triple that has one of its own.
-    #[tactic(auto, unfolding(crate::specs::Printing::special_text))]
-    fn special_text(&self) -> Option<&'static str>
-        ensures { option_map {U = List ℕ} (λ text. text.now) result ≡ special_text (values_of self.now) }
-    {
-        match self {
-            Triple {
-                architecture: Architecture::Arm(ArmArchitecture::Armv6k),
-                vendor: Vendor::Nintendo,
-                operating_system: OperatingSystem::Horizon,
-                ..
-            } => Some("armv6k-nintendo-3ds"),
-            Triple {
-                architecture: Architecture::Riscv32(Riscv32Architecture::Riscv32imc),
-                vendor: Vendor::Espressif,
-                operating_system: OperatingSystem::Espidf,
-                ..
-            } => Some("riscv32imc-esp-espidf"),
-            _ => None,
-        }
-    }
-
     /// Whether the vendor is shown.
     #[tactic(auto, unfolding(crate::specs::Printing::shows_vendor))]
     fn shows_vendor(&self) -> bool
-        ensures { result ≡ shows_vendor (values_of self.now) }
+        ensures { result ≡ shows_vendor (vendor_value self.now.vendor) self.now.operating_system self.now.environment self.now.architecture }
     {
-        !(self.names_no_vendor()
-            && matches!(self.vendor, Vendor::Unknown)
-            && !matches!(
-                self.environment,
-                Environment::HermitKernel | Environment::LinuxKernel
-            ))
+        match (&self.vendor, self.environment) {
+            (Vendor::Unknown, Environment::HermitKernel | Environment::LinuxKernel) => true,
+            (Vendor::Unknown, _) => !self.goes_without_vendor(),
+            _ => true,
+        }
     }
 
     /// Whether an unknown vendor goes without saying.
-    fn names_no_vendor(&self) -> bool
-        ensures { result ≡ names_no_vendor self.now.architecture self.now.operating_system self.now.environment }
+    fn goes_without_vendor(&self) -> bool
+        ensures { result ≡ goes_without_vendor self.now.operating_system self.now.environment self.now.architecture }
     {
         match self.operating_system {
             OperatingSystem::Linux => matches!(
@@ -104,46 +81,50 @@ impl Triple {
                 Environment::Android | Environment::Androideabi | Environment::Kernel
             ),
             OperatingSystem::Wasi | OperatingSystem::WasiP1 | OperatingSystem::WasiP2 => true,
-            OperatingSystem::None_ => is_bare(self.architecture),
+            OperatingSystem::None_ => match self.architecture {
+                Architecture::Msp430 => true,
+                Architecture::Arm(sub) => is_bare_arm(sub),
+                _ => false,
+            },
             _ => false,
         }
     }
 
     /// Whether the operating system is shown.
-    #[tactic(auto, unfolding(crate::specs::Printing::shows_system))]
+    #[tactic(auto, unfolding(crate::specs::Printing::shows_operating_system))]
     fn shows_operating_system(&self) -> bool
-        ensures { result ≡ shows_system (values_of self.now) }
+        ensures { result ≡ shows_operating_system self.now.operating_system self.now.architecture }
     {
         !matches!(
-            (self.architecture, self.operating_system),
-            (Architecture::Clever(_), OperatingSystem::Unknown)
+            (self.operating_system, self.architecture),
+            (OperatingSystem::Unknown, Architecture::Clever(_))
         )
     }
 
     /// Whether the environment is shown.
     #[tactic(auto, unfolding(crate::specs::Printing::shows_environment))]
     fn shows_environment(&self) -> bool
-        ensures { result ≡ shows_environment (values_of self.now) }
+        ensures { result ≡ shows_environment self.now.environment self.now.operating_system (vendor_value self.now.vendor) }
     {
-        match (&self.vendor, self.operating_system, self.environment) {
-            (Vendor::Nintendo, OperatingSystem::Horizon, Environment::Newlib)
-            | (Vendor::Espressif, OperatingSystem::Espidf, Environment::Newlib)
-            | (_, _, Environment::Unknown) => false,
+        match (self.environment, self.operating_system, &self.vendor) {
+            (Environment::Unknown, _, _)
+            | (Environment::Newlib, OperatingSystem::Horizon, Vendor::Nintendo)
+            | (Environment::Newlib, OperatingSystem::Espidf, Vendor::Espressif) => false,
             _ => true,
         }
     }
 
     /// Whether the binary format is shown.
-    #[tactic(auto, unfolding(crate::specs::Printing::shows_format))]
+    #[tactic(auto, unfolding(crate::specs::Printing::shows_binary_format))]
     fn shows_binary_format(&self) -> bool
-        ensures { result ≡ shows_format (values_of self.now) }
+        ensures { result ≡ shows_binary_format (values_of self.now) }
     {
-        self.binary_format != default_binary_format(self) || self.shows_format_without_system()
+        self.binary_format != default_binary_format(self) || self.shows_implied_format()
     }
 
     /// Whether the binary format is shown even where it is the implied one.
-    fn shows_format_without_system(&self) -> bool
-        ensures { result ≡ shows_format_without_system (values_of self.now) }
+    fn shows_implied_format(&self) -> bool
+        ensures { result ≡ shows_implied_format self.now.binary_format self.now.operating_system self.now.environment self.now.architecture }
     {
         matches!(
             self.operating_system,
@@ -153,43 +134,39 @@ impl Triple {
                 self.environment,
                 Environment::Eabi | Environment::Eabihf | Environment::Sgx
             )
-            && !omits_format(self.architecture)
-    }
-}
-
-/// Whether a triple of this architecture without a system names no vendor.
-fn is_bare(architecture: Architecture) -> bool
-    ensures { result ≡ is_bare architecture }
-{
-    match architecture {
-        Architecture::Msp430 => true,
-        Architecture::Arm(sub) => matches!(
-            sub,
-            ArmArchitecture::Armv4t
-                | ArmArchitecture::Armv5te
-                | ArmArchitecture::Armebv7r
-                | ArmArchitecture::Armv7a
-                | ArmArchitecture::Armv7r
-                | ArmArchitecture::Armv8r
-                | ArmArchitecture::Thumbv4t
-                | ArmArchitecture::Thumbv5te
-                | ArmArchitecture::Thumbv6m
-                | ArmArchitecture::Thumbv7em
-                | ArmArchitecture::Thumbv7m
-                | ArmArchitecture::Thumbv8mBase
-                | ArmArchitecture::Thumbv8mMain
-        ),
-        _ => false,
+            && !architecture_implies_format(self.architecture)
     }
 }
 
 /// Whether a triple of this architecture leaves out an implied format even without a system.
-fn omits_format(architecture: Architecture) -> bool
-    ensures { result ≡ omits_format architecture }
+fn architecture_implies_format(architecture: Architecture) -> bool
+    ensures { result ≡ architecture_implies_format architecture }
 {
     matches!(
         architecture,
         Architecture::ZkAsm | Architecture::Avr | Architecture::Wasm32 | Architecture::Wasm64
+    )
+}
+
+/// Whether a triple of this architecture without a system names no vendor.
+fn is_bare_arm(architecture: ArmArchitecture) -> bool
+    ensures { result ≡ is_bare_arm architecture }
+{
+    matches!(
+        architecture,
+        ArmArchitecture::Armv4t
+            | ArmArchitecture::Armv5te
+            | ArmArchitecture::Armebv7r
+            | ArmArchitecture::Armv7a
+            | ArmArchitecture::Armv7r
+            | ArmArchitecture::Armv8r
+            | ArmArchitecture::Thumbv4t
+            | ArmArchitecture::Thumbv5te
+            | ArmArchitecture::Thumbv6m
+            | ArmArchitecture::Thumbv7em
+            | ArmArchitecture::Thumbv7m
+            | ArmArchitecture::Thumbv8mBase
+            | ArmArchitecture::Thumbv8mMain
     )
 }
 

@@ -1,8 +1,7 @@
 //! Laws over the definitions alone: each function's contract is one, and it does nothing.
 ghost use Rattle.std.specs.Prelude.{◌≡◌, ◌↔◌, true};
-ghost use Rattle.target_lexicon.specs.Laws.{OneLeastPlacement, OneOutcomeEach, ReadVendorsArePlain};
-ghost use Rattle.target_lexicon.specs.PrintingLaws.{NamesReadBack, EqualTextsEqualTriples};
-ghost use Rattle.target_lexicon.specs.ParseError.{refusal_of};
+ghost use Rattle.target_lexicon.specs.Laws.{OneLeastPlacement, OneOutcomeEach, ReadingIsComputed, ReadVendorsArePlain, FieldNamesReadBack, EqualTextsEqualTriples};
+ghost use Rattle.target_lexicon.specs.Refusal.{refusal_of};
 ghost use Rattle.target_lexicon.specs.Values.{values_of};
 ghost use Rattle.target_lexicon.specs.declared.parse_error.ParseError.{ParseError};
 ghost use Rattle.target_lexicon.specs.declared.triple.Triple.{Triple};
@@ -20,6 +19,12 @@ pub fn one_outcome_each()
     ensures { OneOutcomeEach }
 {}
 
+/// The function `reading` of the definitions gives what a text reads as, and how it is refused; so a caller's proof can
+/// compute what a text reads as.
+pub fn reading_is_computed()
+    ensures { ReadingIsComputed }
+{}
+
 /// Every text that is read has a plain vendor.
 pub fn read_vendors_are_plain()
     ensures { ReadVendorsArePlain }
@@ -28,14 +33,9 @@ pub fn read_vendors_are_plain()
 /// Every value but a custom vendor reads back from its name as itself, and its name holds no dash.
 /// A custom vendor does so where its text is admitted.
 pub fn names_read_back()
-    ensures { NamesReadBack }
+    ensures { FieldNamesReadBack }
 {
     lexicon_fields::laws::names_read_back();
-    lexicon_fields::laws::names_hold_no_dash();
-    lexicon_fields::laws::system_names_read_back();
-    lexicon_fields::laws::system_names_hold_no_dash();
-    lexicon_fields::laws::vendor_names_read_back();
-    lexicon_fields::laws::vendor_names_hold_no_dash();
 }
 
 /// Two triples that come back when they are printed and read are equal exactly where their texts are.

@@ -6,6 +6,7 @@ mod display;
 pub mod laws;
 mod parse_error;
 mod read;
+mod special;
 #[cfg(test)]
 mod tests;
 mod triple;

@@ -26,7 +26,7 @@ pub enum ParseError {
 }
 
 impl ParseError {
-    ghost use Rattle.target_lexicon.specs.ParseError.{refusal_of};
+    ghost use Rattle.target_lexicon.specs.Refusal.{refusal_of};
 
     /// A copy. `Err` says that the memory for the part was refused.
     pub fn clone(&self, alloc: Global) -> Result<Self, AllocError>
@@ -76,7 +76,7 @@ fn write_refusal<W: fmt::Write>(f: &mut fmt::Formatter<W>, what: &str, part: &st
 }
 
 impl fmt::Display for ParseError {
-    ghost use Rattle.target_lexicon.specs.ParseError.{error_line};
+    ghost use Rattle.target_lexicon.specs.Refusal.{error_line};
 
     ghost output = { λ error. Some (error_line error) };
 

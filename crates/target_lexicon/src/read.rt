@@ -1,24 +1,21 @@
 //! Reading a triple.
-ghost use Rattle.std.specs.Prelude.{◌≡◌, ◌∷◌, Option, Some, None, true, IfOk, IfErr, OnErr, IfSome, MatchOption, option_map, string_bytes};
-ghost use Rattle.lexicon_fields.specs.Vendor.{vendor_of, vendor_value, is_admitted};
-ghost use Rattle.lexicon_fields.specs.OperatingSystem.{system_of};
-ghost use Rattle.lexicon_fields.specs.Environment.{environment_of};
-ghost use Rattle.lexicon_fields.specs.BinaryFormat.{format_of};
+ghost use Rattle.std.specs.Prelude.{◌≡◌, ◌∷◌, Some, true, IfOk, IfErr, OnErr, IfSome, MatchOption, option_map, string_bytes};
+ghost use Rattle.lexicon_fields.specs.Vendor.{OwnsCustomText, vendor_of, vendor_value, is_admitted};
 ghost use Rattle.target_lexicon.specs.Field as field;
-ghost use Rattle.target_lexicon.specs.ParseError.{refusal_of};
-ghost use Rattle.target_lexicon.specs.Parts.{parts_of, parts_behind_dash, parts_left};
-ghost use Rattle.target_lexicon.specs.Reading.{ReadsAs, IsFaultOf, OwnsCustomText, special_values};
-ghost use Rattle.target_lexicon.specs.Steps.{part_for, Takes, field_lacked};
+ghost use Rattle.target_lexicon.specs.Parts.{parts_of};
+ghost use Rattle.target_lexicon.specs.Private.{parts_behind_dash, parts_left, part_for, Takes, TakesBy, lack_of};
+ghost use Rattle.target_lexicon.specs.Reading.{ReadsAs, IsFaultOf};
+ghost use Rattle.target_lexicon.specs.Refusal.{refused, refusal_of};
 ghost use Rattle.target_lexicon.specs.Values.{values_of};
 
-use crate::default_format::default_binary_format;
+use crate::default_format::implied_format;
 use crate::parse_error::ParseError;
 use crate::triple::Triple;
 use lexicon_fields::{
-    Architecture, ArmArchitecture, BinaryFormat, Environment, OperatingSystem, Riscv32Architecture,
-    Vendor, VendorError,
+    Architecture, BinaryFormat, Environment, OperatingSystem, Vendor, VendorError,
 };
 use std::alloc::{AllocError, Global};
+use std::str::FromStr;
 
 /// The parts that are left: the first of them, and what is behind its dash.
 type Parts<'a> = (&'a str, Option<&'a str>);
@@ -64,47 +61,18 @@ fn take_vendor<'a>(
     }
 }
 
-/// The first part as an operating system, and the parts that are left then.
-#[tactic(auto, unfolding(crate::specs::Field::reads))]
-fn take_operating_system<'a>(
-    parts: Option<Parts<'a>>,
-) -> (Option<OperatingSystem>, Option<Parts<'a>>)
-    ensures { Takes field.System system_of (parts_left parts.entry) result.0 (parts_left result.1) }
+/// What the first part reads as, if it does, and the parts that are left then.
+fn take<'a, T: FromStr>(parts: Option<Parts<'a>>) -> (Option<T>, Option<Parts<'a>>)
+where
+    T::Err: Drop,
+    ensures { TakesBy T.from_str_gives (parts_left parts.entry) result.0 (parts_left result.1) }
 {
     let Some((part, behind)) = parts else {
         return (None, None);
     };
-    match OperatingSystem::from_str(part) {
-        Ok(operating_system) => (Some(operating_system), parts_in(behind)),
-        Err(()) => (None, parts),
-    }
-}
-
-/// The first part as an environment, and the parts that are left then.
-#[tactic(auto, unfolding(crate::specs::Field::reads))]
-fn take_environment<'a>(parts: Option<Parts<'a>>) -> (Option<Environment>, Option<Parts<'a>>)
-    ensures { Takes field.Environment environment_of (parts_left parts.entry) result.0 (parts_left result.1) }
-{
-    let Some((part, behind)) = parts else {
-        return (None, None);
-    };
-    match Environment::from_str(part) {
-        Ok(environment) => (Some(environment), parts_in(behind)),
-        Err(()) => (None, parts),
-    }
-}
-
-/// The first part as a binary format, and the parts that are left then.
-#[tactic(auto, unfolding(crate::specs::Field::reads))]
-fn take_binary_format<'a>(parts: Option<Parts<'a>>) -> (Option<BinaryFormat>, Option<Parts<'a>>)
-    ensures { Takes field.Format format_of (parts_left parts.entry) result.0 (parts_left result.1) }
-{
-    let Some((part, behind)) = parts else {
-        return (None, None);
-    };
-    match BinaryFormat::from_str(part) {
-        Ok(binary_format) => (Some(binary_format), parts_in(behind)),
-        Err(()) => (None, parts),
+    match T::from_str(part) {
+        Ok(value) => (Some(value), parts_in(behind)),
+        Err(_) => (None, parts),
     }
 }
 
@@ -116,10 +84,7 @@ fn refusal(
     has_environment: bool,
     has_binary_format: bool,
 ) -> ParseError
-    ensures { refusal_of result ≡ Some (
-      field_lacked has_vendor has_operating_system has_environment has_binary_format,
-      string_bytes part,
-    ) }
+    ensures { refusal_of result ≡ Some (refused (lack_of has_vendor has_operating_system has_environment has_binary_format) (string_bytes part)) }
 {
     if has_binary_format {
         ParseError::UnrecognizedField(part)
@@ -151,7 +116,7 @@ impl Triple {
         ensures owned { IfOk result (λ triple. OwnsCustomText triple.vendor) }
         ensures err { IfErr result (λ error. IsFaultOf text.now error) }
     {
-        if let Some(triple) = Triple::special_case_from_str(text) {
+        if let Some(triple) = Triple::of_special_text(text) {
             return Ok(triple);
         }
         let (first, behind) = cut(text);
@@ -160,9 +125,9 @@ impl Triple {
             return Err(ParseError::UnrecognizedArchitecture(part));
         };
         let (vendor, parts) = take_vendor(alloc, parts_in(behind))?;
-        let (operating_system, parts) = take_operating_system(parts);
-        let (environment, parts) = take_environment(parts);
-        let (binary_format, parts) = take_binary_format(parts);
+        let (operating_system, parts) = take::<OperatingSystem>(parts);
+        let (environment, parts) = take::<Environment>(parts);
+        let (binary_format, parts) = take::<BinaryFormat>(parts);
         if let Some((part, _)) = parts {
             let part = String::from_str(alloc, part)?;
             return Err(refusal(
@@ -173,40 +138,16 @@ impl Triple {
                 binary_format.is_some(),
             ));
         }
-        let mut triple = Triple {
+        let operating_system = operating_system.unwrap_or(OperatingSystem::Unknown);
+        let environment = environment.unwrap_or(Environment::Unknown);
+        let implied = implied_format(architecture, operating_system, environment);
+        Ok(Triple {
             architecture,
             vendor: vendor.unwrap_or(Vendor::Unknown),
-            operating_system: operating_system.unwrap_or(OperatingSystem::Unknown),
-            environment: environment.unwrap_or(Environment::Unknown),
-            binary_format: BinaryFormat::Unknown,
-        };
-        triple.binary_format = binary_format.unwrap_or(default_binary_format(&triple));
-        Ok(triple)
-    }
-
-    /// The triples of the two texts that have one of their own.
-    #[tactic(auto, unfolding(crate::specs::Reading::special_values))]
-    fn special_case_from_str(text: &str) -> Option<Triple>
-        ensures values { option_map values_of result ≡ special_values text.now }
-        ensures owned { IfSome result (λ triple. OwnsCustomText triple.vendor) }
-    {
-        match text {
-            "armv6k-nintendo-3ds" => Some(Triple {
-                architecture: Architecture::Arm(ArmArchitecture::Armv6k),
-                vendor: Vendor::Nintendo,
-                operating_system: OperatingSystem::Horizon,
-                environment: Environment::Newlib,
-                binary_format: BinaryFormat::Elf,
-            }),
-            "riscv32imc-esp-espidf" => Some(Triple {
-                architecture: Architecture::Riscv32(Riscv32Architecture::Riscv32imc),
-                vendor: Vendor::Espressif,
-                operating_system: OperatingSystem::Espidf,
-                environment: Environment::Newlib,
-                binary_format: BinaryFormat::Elf,
-            }),
-            _ => None,
-        }
+            operating_system,
+            environment,
+            binary_format: binary_format.unwrap_or(implied),
+        })
     }
 }
 

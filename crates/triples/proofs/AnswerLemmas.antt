@@ -1,23 +1,23 @@
 -- The answers of an input's lines, one after another.
 use Rattle.std.proofs.Common.{◌≢◌, Some, inr, string_bytes, ◌≡◌, ℕ, List, [], ◌∷◌, ◌++◌, Result, Ok, Err, OnOk, None, codes, refl, ap, ◌∙◌, append_assoc, length, arith}
 use Rattle.std.proofs.lemmas.List.{append-nil}
-use Rattle.target_lexicon.specs.Field as field
-use Rattle.target_lexicon.specs.ParseError.{error_line}
+use Rattle.target_lexicon.specs.Refusal.{Refusal, error_line, refusal_of, refusal_line}
 use Rattle.target_lexicon.specs.Reading.{IsFaultOf}
 use Rattle.target_lexicon.specs.declared.parse_error.ParseError.{ParseError}
 use Rattle.target_lexicon.specs.declared.parse_error.ParseError.TheVariants.{UnrecognizedArchitecture, UnrecognizedVendor, UnrecognizedOperatingSystem, UnrecognizedEnvironment, UnrecognizedBinaryFormat, UnrecognizedField, OutOfMemory}
 use Rattle.triples.specs.Lines.{lines_of}
-use Rattle.triples.specs.Output.{IsRefusalTold, AddsAnswer, AreAnswered}
+use Rattle.triples.specs.Output.{IsRefusalTold, AreAnswered}
+use Rattle.triples.specs.Private.{AddsAnswer}
 
 -- what an error that isn't want of memory says is the line of the refusal
 refusal_is_told : (line text : List ℕ) (error : ParseError) → error ≢ OutOfMemory → IsFaultOf line error → text ≡ error_line error
     → IsRefusalTold line (codes "error: " ++ text)
-refusal_is_told line text (UnrecognizedArchitecture part) other fault same = (Some field.Architecture, (string_bytes part, fault, ap (λ (t : List ℕ). codes "error: " ++ t) same))
-refusal_is_told line text (UnrecognizedVendor part) other fault same = (Some field.Vendor, (string_bytes part, fault, ap (λ (t : List ℕ). codes "error: " ++ t) same))
-refusal_is_told line text (UnrecognizedOperatingSystem part) other fault same = (Some field.System, (string_bytes part, fault, ap (λ (t : List ℕ). codes "error: " ++ t) same))
-refusal_is_told line text (UnrecognizedEnvironment part) other fault same = (Some field.Environment, (string_bytes part, fault, ap (λ (t : List ℕ). codes "error: " ++ t) same))
-refusal_is_told line text (UnrecognizedBinaryFormat part) other fault same = (Some field.Format, (string_bytes part, fault, ap (λ (t : List ℕ). codes "error: " ++ t) same))
-refusal_is_told line text (UnrecognizedField part) other fault same = (None, (string_bytes part, fault, ap (λ (t : List ℕ). codes "error: " ++ t) same))
+refusal_is_told line text (UnrecognizedArchitecture part) other fault same = (_, fault, ap (λ (t : List ℕ). codes "error: " ++ t) same)
+refusal_is_told line text (UnrecognizedVendor part) other fault same = (_, fault, ap (λ (t : List ℕ). codes "error: " ++ t) same)
+refusal_is_told line text (UnrecognizedOperatingSystem part) other fault same = (_, fault, ap (λ (t : List ℕ). codes "error: " ++ t) same)
+refusal_is_told line text (UnrecognizedEnvironment part) other fault same = (_, fault, ap (λ (t : List ℕ). codes "error: " ++ t) same)
+refusal_is_told line text (UnrecognizedBinaryFormat part) other fault same = (_, fault, ap (λ (t : List ℕ). codes "error: " ++ t) same)
+refusal_is_told line text (UnrecognizedField part) other fault same = (_, fault, ap (λ (t : List ℕ). codes "error: " ++ t) same)
 refusal_is_told line text OutOfMemory other fault same = absurd (other refl)
 
 -- a refused line is answered by its refusal

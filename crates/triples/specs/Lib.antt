@@ -1,5 +1,6 @@
 pub mod Device
 pub mod Lines
 pub mod Output
+pub mod Private
 pub mod Run
 pub mod Words

@@ -1,9 +1,8 @@
 -- What a mode writes for an input.
-use Rattle.std.specs.Prelude.{ℕ, ◌≡◌, ◌⊎◌, List, [], ◌∷◌, ◌++◌, codes, Option}
-use Rattle.target_lexicon.specs.Field.{Field}
-use Rattle.target_lexicon.specs.ParseError.{refusal_line}
+use Rattle.std.specs.Prelude.{ℕ, ◌≡◌, ◌⊎◌, List, [], ◌∷◌, ◌++◌, codes}
 use Rattle.target_lexicon.specs.Printing.{text_of}
 use Rattle.target_lexicon.specs.Reading.{ReadsAs, IsRefusedAs}
+use Rattle.target_lexicon.specs.Refusal.{Refusal, refusal_line}
 use Rattle.target_lexicon.specs.Values.{Values}
 use Rattle.triples.specs.declared.mode.Mode.{Mode}
 use Rattle.triples.specs.declared.mode.Mode.TheVariants.{Print}
@@ -16,15 +15,11 @@ IsPrinted line answer = (values : Values) × ReadsAs line values × (answer ≡ 
 -- `error: ` and the line of the refusal of a line
 abbrev pub IsRefusalTold : List ℕ → List ℕ → Type 0
 IsRefusalTold line answer =
-    (kind : Option Field) × ((part : List ℕ) × IsRefusedAs line kind part × (answer ≡ codes "error: " ++ refusal_line kind part))
+    (refusal : Refusal) × IsRefusedAs line refusal × (answer ≡ codes "error: " ++ refusal_line refusal)
 
 -- what is printed for a line
 abbrev pub IsAnswer : List ℕ → List ℕ → Type 0
 IsAnswer line answer = IsPrinted line answer ⊎ IsRefusalTold line answer
-
--- a text grew by the answer of a line, and a line feed
-abbrev pub AddsAnswer : List ℕ → List ℕ → List ℕ → Type 0
-AddsAnswer line old new = (answer : List ℕ) × IsAnswer line answer × (new ≡ old ++ (answer ++ 10 ∷ []))
 
 -- the answer of each line, in order, and a line feed behind each
 abbrev pub AreAnswered : List (List ℕ) → List ℕ → Type 0

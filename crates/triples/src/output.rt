@@ -1,7 +1,8 @@
 //! What a mode writes for an input.
 ghost use Rattle.std.specs.Prelude.{◌≡◌, ◌<◌, ◌++◌, ◌∷◌, [], length, string_bytes, IfOk, OnOk, OnErr};
 ghost use Rattle.triples.specs.Lines.{lines_of};
-ghost use Rattle.triples.specs.Output.{AddsAnswer, AreAnswered, IsOutput};
+ghost use Rattle.triples.specs.Output.{AreAnswered, IsOutput};
+ghost use Rattle.triples.specs.Private.{AddsAnswer};
 
 use crate::lines::first_line;
 use crate::mode::Mode;

@@ -1,7 +1,7 @@
 //! The 64-bit Arm architectures.
 ghost use Rattle.std.specs.Prelude.{◌≡◌, false, Some};
 ghost use Rattle.std.specs.Cow.{cow_str_bytes, IsBorrowedStr};
-ghost use Rattle.lexicon_fields.specs.Names.{ReadsBy};
+ghost use Rattle.lexicon_fields.specs.Names.{Answers};
 ghost use Rattle.lexicon_fields.specs.SubArchitecture.{aarch64_name, aarch64_of};
 ghost use Rattle.lexicon_fields.specs.ArchitectureQueries.{aarch64_endianness};
 
@@ -47,7 +47,7 @@ impl Aarch64Architecture {
     /// The value whose name the text is, and `Aarch64` for `arm64`; every other text is refused.
     #[tactic(auto, unfolding(crate::specs::SubArchitecture::aarch64_of))]
     pub fn from_str(s: &str) -> Result<Self, ()>
-        ensures { ReadsBy aarch64_of s.now result }
+        ensures { Answers (aarch64_of s.now) result }
     {
         Ok(match s {
             "aarch64" => Aarch64Architecture::Aarch64,
@@ -78,7 +78,7 @@ impl Aarch64Architecture {
 impl FromStr for Aarch64Architecture {
     type Err = ();
 
-    ghost from_str_gives = { ReadsBy aarch64_of };
+    ghost from_str_gives = { λ s. Answers (aarch64_of s) };
 
     fn from_str(s: &str) -> Result<Aarch64Architecture, ()> {
         Aarch64Architecture::from_str(s)

@@ -1,7 +1,7 @@
 //! The 32-bit Arm architectures.
 ghost use Rattle.std.specs.Prelude.{◌≡◌, Some};
 ghost use Rattle.std.specs.Cow.{cow_str_bytes, IsBorrowedStr};
-ghost use Rattle.lexicon_fields.specs.Names.{ReadsBy};
+ghost use Rattle.lexicon_fields.specs.Names.{Answers};
 ghost use Rattle.lexicon_fields.specs.SubArchitecture.{arm_name, arm_of};
 ghost use Rattle.lexicon_fields.specs.ArchitectureQueries.{is_thumb, arm_endianness};
 
@@ -109,7 +109,7 @@ impl ArmArchitecture {
     /// The value whose name the text is; every other text is refused.
     #[tactic(auto, unfolding(crate::specs::SubArchitecture::arm_of))]
     pub fn from_str(s: &str) -> Result<Self, ()>
-        ensures { ReadsBy arm_of s.now result }
+        ensures { Answers (arm_of s.now) result }
     {
         Ok(match s {
             "arm" => ArmArchitecture::Arm,
@@ -219,7 +219,7 @@ impl ArmArchitecture {
 impl FromStr for ArmArchitecture {
     type Err = ();
 
-    ghost from_str_gives = { ReadsBy arm_of };
+    ghost from_str_gives = { λ s. Answers (arm_of s) };
 
     fn from_str(s: &str) -> Result<ArmArchitecture, ()> {
         ArmArchitecture::from_str(s)

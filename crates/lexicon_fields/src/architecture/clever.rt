@@ -1,7 +1,7 @@
 //! The Clever architectures.
 ghost use Rattle.std.specs.Prelude.{◌≡◌, Some};
 ghost use Rattle.std.specs.Cow.{cow_str_bytes, IsBorrowedStr};
-ghost use Rattle.lexicon_fields.specs.Names.{ReadsBy};
+ghost use Rattle.lexicon_fields.specs.Names.{Answers};
 ghost use Rattle.lexicon_fields.specs.SubArchitecture.{clever_name, clever_of};
 
 use std::borrow::CowStr;
@@ -20,7 +20,7 @@ impl CleverArchitecture {
     /// The value whose name the text is; every other text is refused.
     #[tactic(auto, unfolding(crate::specs::SubArchitecture::clever_of))]
     pub fn from_str(s: &str) -> Result<Self, ()>
-        ensures { ReadsBy clever_of s.now result }
+        ensures { Answers (clever_of s.now) result }
     {
         Ok(match s {
             "clever" => CleverArchitecture::Clever,
@@ -50,7 +50,7 @@ impl CleverArchitecture {
 impl FromStr for CleverArchitecture {
     type Err = ();
 
-    ghost from_str_gives = { ReadsBy clever_of };
+    ghost from_str_gives = { λ s. Answers (clever_of s) };
 
     fn from_str(s: &str) -> Result<CleverArchitecture, ()> {
         CleverArchitecture::from_str(s)

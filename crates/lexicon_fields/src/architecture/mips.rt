@@ -1,7 +1,7 @@
 //! The MIPS architectures.
 ghost use Rattle.std.specs.Prelude.{◌≡◌, Some};
 ghost use Rattle.std.specs.Cow.{cow_str_bytes, IsBorrowedStr};
-ghost use Rattle.lexicon_fields.specs.Names.{ReadsBy};
+ghost use Rattle.lexicon_fields.specs.Names.{Answers};
 ghost use Rattle.lexicon_fields.specs.SubArchitecture.{mips32_name, mips32_of, mips64_name, mips64_of};
 
 use std::borrow::CowStr;
@@ -25,7 +25,7 @@ impl Mips32Architecture {
     /// The value whose name the text is; every other text is refused.
     #[tactic(auto, unfolding(crate::specs::SubArchitecture::mips32_of))]
     pub fn from_str(s: &str) -> Result<Self, ()>
-        ensures { ReadsBy mips32_of s.now result }
+        ensures { Answers (mips32_of s.now) result }
     {
         Ok(match s {
             "mips" => Mips32Architecture::Mips,
@@ -59,7 +59,7 @@ impl Mips32Architecture {
 impl FromStr for Mips32Architecture {
     type Err = ();
 
-    ghost from_str_gives = { ReadsBy mips32_of };
+    ghost from_str_gives = { λ s. Answers (mips32_of s) };
 
     fn from_str(s: &str) -> Result<Mips32Architecture, ()> {
         Mips32Architecture::from_str(s)
@@ -93,7 +93,7 @@ impl Mips64Architecture {
     /// The value whose name the text is; every other text is refused.
     #[tactic(auto, unfolding(crate::specs::SubArchitecture::mips64_of))]
     pub fn from_str(s: &str) -> Result<Self, ()>
-        ensures { ReadsBy mips64_of s.now result }
+        ensures { Answers (mips64_of s.now) result }
     {
         Ok(match s {
             "mips64" => Mips64Architecture::Mips64,
@@ -127,7 +127,7 @@ impl Mips64Architecture {
 impl FromStr for Mips64Architecture {
     type Err = ();
 
-    ghost from_str_gives = { ReadsBy mips64_of };
+    ghost from_str_gives = { λ s. Answers (mips64_of s) };
 
     fn from_str(s: &str) -> Result<Mips64Architecture, ()> {
         Mips64Architecture::from_str(s)

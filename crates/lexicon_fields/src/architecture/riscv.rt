@@ -1,7 +1,7 @@
 //! The RISC-V architectures.
 ghost use Rattle.std.specs.Prelude.{◌≡◌, Some};
 ghost use Rattle.std.specs.Cow.{cow_str_bytes, IsBorrowedStr};
-ghost use Rattle.lexicon_fields.specs.Names.{ReadsBy};
+ghost use Rattle.lexicon_fields.specs.Names.{Answers};
 ghost use Rattle.lexicon_fields.specs.SubArchitecture.{riscv32_name, riscv32_of, riscv64_name, riscv64_of};
 
 use std::borrow::CowStr;
@@ -27,7 +27,7 @@ impl Riscv32Architecture {
     /// The value whose name the text is; every other text is refused.
     #[tactic(auto, unfolding(crate::specs::SubArchitecture::riscv32_of))]
     pub fn from_str(s: &str) -> Result<Self, ()>
-        ensures { ReadsBy riscv32_of s.now result }
+        ensures { Answers (riscv32_of s.now) result }
     {
         Ok(match s {
             "riscv32" => Riscv32Architecture::Riscv32,
@@ -69,7 +69,7 @@ impl Riscv32Architecture {
 impl FromStr for Riscv32Architecture {
     type Err = ();
 
-    ghost from_str_gives = { ReadsBy riscv32_of };
+    ghost from_str_gives = { λ s. Answers (riscv32_of s) };
 
     fn from_str(s: &str) -> Result<Riscv32Architecture, ()> {
         Riscv32Architecture::from_str(s)
@@ -102,7 +102,7 @@ impl Riscv64Architecture {
     /// The value whose name the text is; every other text is refused.
     #[tactic(auto, unfolding(crate::specs::SubArchitecture::riscv64_of))]
     pub fn from_str(s: &str) -> Result<Self, ()>
-        ensures { ReadsBy riscv64_of s.now result }
+        ensures { Answers (riscv64_of s.now) result }
     {
         Ok(match s {
             "riscv64" => Riscv64Architecture::Riscv64,
@@ -136,7 +136,7 @@ impl Riscv64Architecture {
 impl FromStr for Riscv64Architecture {
     type Err = ();
 
-    ghost from_str_gives = { ReadsBy riscv64_of };
+    ghost from_str_gives = { λ s. Answers (riscv64_of s) };
 
     fn from_str(s: &str) -> Result<Riscv64Architecture, ()> {
         Riscv64Architecture::from_str(s)

@@ -1,7 +1,7 @@
 //! The 32-bit x86 architectures.
 ghost use Rattle.std.specs.Prelude.{◌≡◌, Some};
 ghost use Rattle.std.specs.Cow.{cow_str_bytes, IsBorrowedStr};
-ghost use Rattle.lexicon_fields.specs.Names.{ReadsBy};
+ghost use Rattle.lexicon_fields.specs.Names.{Answers};
 ghost use Rattle.lexicon_fields.specs.SubArchitecture.{x86_32_name, x86_32_of};
 
 use std::borrow::CowStr;
@@ -20,7 +20,7 @@ impl X86_32Architecture {
     /// The value whose name the text is; every other text is refused.
     #[tactic(auto, unfolding(crate::specs::SubArchitecture::x86_32_of))]
     pub fn from_str(s: &str) -> Result<Self, ()>
-        ensures { ReadsBy x86_32_of s.now result }
+        ensures { Answers (x86_32_of s.now) result }
     {
         Ok(match s {
             "i386" => X86_32Architecture::I386,
@@ -52,7 +52,7 @@ impl X86_32Architecture {
 impl FromStr for X86_32Architecture {
     type Err = ();
 
-    ghost from_str_gives = { ReadsBy x86_32_of };
+    ghost from_str_gives = { λ s. Answers (x86_32_of s) };
 
     fn from_str(s: &str) -> Result<X86_32Architecture, ()> {
         X86_32Architecture::from_str(s)

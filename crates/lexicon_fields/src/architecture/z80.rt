@@ -1,7 +1,7 @@
 //! The architectures of the Z80 family.
 ghost use Rattle.std.specs.Prelude.{◌≡◌, Some};
 ghost use Rattle.std.specs.Cow.{cow_str_bytes, IsBorrowedStr};
-ghost use Rattle.lexicon_fields.specs.Names.{ReadsBy};
+ghost use Rattle.lexicon_fields.specs.Names.{Answers};
 ghost use Rattle.lexicon_fields.specs.SubArchitecture.{z80_name, z80_of};
 
 use std::borrow::CowStr;
@@ -30,7 +30,7 @@ impl Z80Architecture {
     /// The value whose name the text is; every other text is refused.
     #[tactic(auto, unfolding(crate::specs::SubArchitecture::z80_of))]
     pub fn from_str(s: &str) -> Result<Self, ()>
-        ensures { ReadsBy z80_of s.now result }
+        ensures { Answers (z80_of s.now) result }
     {
         Ok(match s {
             "z80" => Z80Architecture::Z80,
@@ -76,7 +76,7 @@ impl Z80Architecture {
 impl FromStr for Z80Architecture {
     type Err = ();
 
-    ghost from_str_gives = { ReadsBy z80_of };
+    ghost from_str_gives = { λ s. Answers (z80_of s) };
 
     fn from_str(s: &str) -> Result<Z80Architecture, ()> {
         Z80Architecture::from_str(s)

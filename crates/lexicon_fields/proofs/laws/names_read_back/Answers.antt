@@ -1,10 +1,22 @@
-use Rattle.std.proofs.Common.{rules}
-use Rattle.lexicon_fields.specs.Architecture.{architecture_of}
-use Rattle.lexicon_fields.specs.SubArchitecture.{arm_of, aarch64_of, x86_32_of, mips32_of, mips64_of, riscv32_of, riscv64_of, clever_of, z80_of}
-use Rattle.lexicon_fields.specs.Environment.{environment_of}
-use Rattle.lexicon_fields.specs.BinaryFormat.{format_of}
+use Rattle.lexicon_fields.proofs.NamesReadBack.{architecture_names, arm_names, aarch64_names, x86_32_names, mips32_names, mips64_names, riscv32_names, riscv64_names, clever_names, z80_names, environment_names, binary_format_names}
+use Rattle.lexicon_fields.proofs.OperatingSystemsDashFree.{operating_system_names}
+use Rattle.lexicon_fields.proofs.VendorsReadBack.{vendor_names_read_back}
 use Rattle.lexicon_fields.proofs.laws.names_read_back.Goals as goal
 
 pub returns : goal.returns
-unfolding architecture_of arm_of aarch64_of x86_32_of mips32_of mips64_of riscv32_of riscv64_of clever_of z80_of environment_of format_of
-returns c = search rules
+returns c = record {
+  architecture = architecture_names;
+  arm = arm_names;
+  aarch64 = aarch64_names;
+  x86_32 = x86_32_names;
+  mips32 = mips32_names;
+  mips64 = mips64_names;
+  riscv32 = riscv32_names;
+  riscv64 = riscv64_names;
+  clever = clever_names;
+  z80 = z80_names;
+  operating_system = operating_system_names;
+  environment = environment_names;
+  binary_format = binary_format_names;
+  vendor = vendor_names_read_back;
+}

@@ -2,7 +2,7 @@ use Rattle.std.proofs.Common.{◌≡◌, refl, ap}
 use Rattle.std.proofs.lemmas.Bool.{false≢true}
 use Rattle.std.proofs.lemmas.Bool.Decides.{Decides-like}
 use Rattle.lexicon_fields.specs.declared.architecture.Architecture.TheVariants as architecture
-use Rattle.lexicon_fields.specs.declared.operating_system.OperatingSystem.TheVariants as system
+use Rattle.lexicon_fields.specs.declared.operating_system.OperatingSystem.TheVariants as operating_system
 use Rattle.lexicon_fields.specs.contracts.architecture.arm.ArmArchitecture as arm
 use Rattle.lexicon_fields.specs.contracts.architecture.aarch64.Aarch64Architecture as aarch64
 use Rattle.lexicon_fields.specs.contracts.architecture.x86_32.X86_32Architecture as x86_32
@@ -12,7 +12,7 @@ use Rattle.lexicon_fields.specs.contracts.architecture.riscv.Riscv32Architecture
 use Rattle.lexicon_fields.specs.contracts.architecture.riscv.Riscv64Architecture as riscv64
 use Rattle.lexicon_fields.specs.contracts.architecture.clever.CleverArchitecture as clever
 use Rattle.lexicon_fields.specs.contracts.architecture.z80.Z80Architecture as z80
-use Rattle.lexicon_fields.proofs.EqualityLemmas.{bare-Decides, option_eq-Decides, version-Decides}
+use Rattle.lexicon_fields.proofs.EqualByValue.{bare-Decides, option_eq-Decides, version-Decides}
 use Rattle.lexicon_fields.proofs.laws.values_are_equal_by_variant_and_fields.Goals as goal
 
 pub returns-clause-architecture : goal.returns-clause-architecture
@@ -65,51 +65,51 @@ returns-clause-architecture c architecture.ZkAsm architecture.ZkAsm = (λ _. ref
 returns-clause-architecture c _ _ = (λ same. absurd (false≢true same), λ same. absurd cc)
 
 pub returns-clause-operating_system : goal.returns-clause-operating_system
-returns-clause-operating_system c (system.Darwin a) (system.Darwin b) =
-    Decides-like _ (λ same. ap system.Darwin same) (λ same. let versions : a ≡ b = cc in versions) (option_eq-Decides _ version-Decides a b)
-returns-clause-operating_system c (system.IOS a) (system.IOS b) =
-    Decides-like _ (λ same. ap system.IOS same) (λ same. let versions : a ≡ b = cc in versions) (option_eq-Decides _ version-Decides a b)
-returns-clause-operating_system c (system.MacOSX a) (system.MacOSX b) =
-    Decides-like _ (λ same. ap system.MacOSX same) (λ same. let versions : a ≡ b = cc in versions) (option_eq-Decides _ version-Decides a b)
-returns-clause-operating_system c (system.TvOS a) (system.TvOS b) =
-    Decides-like _ (λ same. ap system.TvOS same) (λ same. let versions : a ≡ b = cc in versions) (option_eq-Decides _ version-Decides a b)
-returns-clause-operating_system c (system.VisionOS a) (system.VisionOS b) =
-    Decides-like _ (λ same. ap system.VisionOS same) (λ same. let versions : a ≡ b = cc in versions) (option_eq-Decides _ version-Decides a b)
-returns-clause-operating_system c (system.WatchOS a) (system.WatchOS b) =
-    Decides-like _ (λ same. ap system.WatchOS same) (λ same. let versions : a ≡ b = cc in versions) (option_eq-Decides _ version-Decides a b)
-returns-clause-operating_system c (system.XROS a) (system.XROS b) =
-    Decides-like _ (λ same. ap system.XROS same) (λ same. let versions : a ≡ b = cc in versions) (option_eq-Decides _ version-Decides a b)
-returns-clause-operating_system c system.Unknown system.Unknown = (λ _. refl, λ _. refl)
-returns-clause-operating_system c system.Aix system.Aix = (λ _. refl, λ _. refl)
-returns-clause-operating_system c system.AmdHsa system.AmdHsa = (λ _. refl, λ _. refl)
-returns-clause-operating_system c system.Bitrig system.Bitrig = (λ _. refl, λ _. refl)
-returns-clause-operating_system c system.Cloudabi system.Cloudabi = (λ _. refl, λ _. refl)
-returns-clause-operating_system c system.Cuda system.Cuda = (λ _. refl, λ _. refl)
-returns-clause-operating_system c system.Cygwin system.Cygwin = (λ _. refl, λ _. refl)
-returns-clause-operating_system c system.Dragonfly system.Dragonfly = (λ _. refl, λ _. refl)
-returns-clause-operating_system c system.Emscripten system.Emscripten = (λ _. refl, λ _. refl)
-returns-clause-operating_system c system.Espidf system.Espidf = (λ _. refl, λ _. refl)
-returns-clause-operating_system c system.Freebsd system.Freebsd = (λ _. refl, λ _. refl)
-returns-clause-operating_system c system.Fuchsia system.Fuchsia = (λ _. refl, λ _. refl)
-returns-clause-operating_system c system.Haiku system.Haiku = (λ _. refl, λ _. refl)
-returns-clause-operating_system c system.Hermit system.Hermit = (λ _. refl, λ _. refl)
-returns-clause-operating_system c system.Horizon system.Horizon = (λ _. refl, λ _. refl)
-returns-clause-operating_system c system.Hurd system.Hurd = (λ _. refl, λ _. refl)
-returns-clause-operating_system c system.Illumos system.Illumos = (λ _. refl, λ _. refl)
-returns-clause-operating_system c system.L4re system.L4re = (λ _. refl, λ _. refl)
-returns-clause-operating_system c system.Linux system.Linux = (λ _. refl, λ _. refl)
-returns-clause-operating_system c system.Nebulet system.Nebulet = (λ _. refl, λ _. refl)
-returns-clause-operating_system c system.Netbsd system.Netbsd = (λ _. refl, λ _. refl)
-returns-clause-operating_system c system.None_ system.None_ = (λ _. refl, λ _. refl)
-returns-clause-operating_system c system.Openbsd system.Openbsd = (λ _. refl, λ _. refl)
-returns-clause-operating_system c system.Psp system.Psp = (λ _. refl, λ _. refl)
-returns-clause-operating_system c system.Redox system.Redox = (λ _. refl, λ _. refl)
-returns-clause-operating_system c system.Solaris system.Solaris = (λ _. refl, λ _. refl)
-returns-clause-operating_system c system.SolidAsp3 system.SolidAsp3 = (λ _. refl, λ _. refl)
-returns-clause-operating_system c system.Uefi system.Uefi = (λ _. refl, λ _. refl)
-returns-clause-operating_system c system.VxWorks system.VxWorks = (λ _. refl, λ _. refl)
-returns-clause-operating_system c system.Wasi system.Wasi = (λ _. refl, λ _. refl)
-returns-clause-operating_system c system.WasiP1 system.WasiP1 = (λ _. refl, λ _. refl)
-returns-clause-operating_system c system.WasiP2 system.WasiP2 = (λ _. refl, λ _. refl)
-returns-clause-operating_system c system.Windows system.Windows = (λ _. refl, λ _. refl)
+returns-clause-operating_system c (operating_system.Darwin a) (operating_system.Darwin b) =
+    Decides-like _ (λ same. ap operating_system.Darwin same) (λ same. let versions : a ≡ b = cc in versions) (option_eq-Decides _ version-Decides a b)
+returns-clause-operating_system c (operating_system.IOS a) (operating_system.IOS b) =
+    Decides-like _ (λ same. ap operating_system.IOS same) (λ same. let versions : a ≡ b = cc in versions) (option_eq-Decides _ version-Decides a b)
+returns-clause-operating_system c (operating_system.MacOSX a) (operating_system.MacOSX b) =
+    Decides-like _ (λ same. ap operating_system.MacOSX same) (λ same. let versions : a ≡ b = cc in versions) (option_eq-Decides _ version-Decides a b)
+returns-clause-operating_system c (operating_system.TvOS a) (operating_system.TvOS b) =
+    Decides-like _ (λ same. ap operating_system.TvOS same) (λ same. let versions : a ≡ b = cc in versions) (option_eq-Decides _ version-Decides a b)
+returns-clause-operating_system c (operating_system.VisionOS a) (operating_system.VisionOS b) =
+    Decides-like _ (λ same. ap operating_system.VisionOS same) (λ same. let versions : a ≡ b = cc in versions) (option_eq-Decides _ version-Decides a b)
+returns-clause-operating_system c (operating_system.WatchOS a) (operating_system.WatchOS b) =
+    Decides-like _ (λ same. ap operating_system.WatchOS same) (λ same. let versions : a ≡ b = cc in versions) (option_eq-Decides _ version-Decides a b)
+returns-clause-operating_system c (operating_system.XROS a) (operating_system.XROS b) =
+    Decides-like _ (λ same. ap operating_system.XROS same) (λ same. let versions : a ≡ b = cc in versions) (option_eq-Decides _ version-Decides a b)
+returns-clause-operating_system c operating_system.Unknown operating_system.Unknown = (λ _. refl, λ _. refl)
+returns-clause-operating_system c operating_system.Aix operating_system.Aix = (λ _. refl, λ _. refl)
+returns-clause-operating_system c operating_system.AmdHsa operating_system.AmdHsa = (λ _. refl, λ _. refl)
+returns-clause-operating_system c operating_system.Bitrig operating_system.Bitrig = (λ _. refl, λ _. refl)
+returns-clause-operating_system c operating_system.Cloudabi operating_system.Cloudabi = (λ _. refl, λ _. refl)
+returns-clause-operating_system c operating_system.Cuda operating_system.Cuda = (λ _. refl, λ _. refl)
+returns-clause-operating_system c operating_system.Cygwin operating_system.Cygwin = (λ _. refl, λ _. refl)
+returns-clause-operating_system c operating_system.Dragonfly operating_system.Dragonfly = (λ _. refl, λ _. refl)
+returns-clause-operating_system c operating_system.Emscripten operating_system.Emscripten = (λ _. refl, λ _. refl)
+returns-clause-operating_system c operating_system.Espidf operating_system.Espidf = (λ _. refl, λ _. refl)
+returns-clause-operating_system c operating_system.Freebsd operating_system.Freebsd = (λ _. refl, λ _. refl)
+returns-clause-operating_system c operating_system.Fuchsia operating_system.Fuchsia = (λ _. refl, λ _. refl)
+returns-clause-operating_system c operating_system.Haiku operating_system.Haiku = (λ _. refl, λ _. refl)
+returns-clause-operating_system c operating_system.Hermit operating_system.Hermit = (λ _. refl, λ _. refl)
+returns-clause-operating_system c operating_system.Horizon operating_system.Horizon = (λ _. refl, λ _. refl)
+returns-clause-operating_system c operating_system.Hurd operating_system.Hurd = (λ _. refl, λ _. refl)
+returns-clause-operating_system c operating_system.Illumos operating_system.Illumos = (λ _. refl, λ _. refl)
+returns-clause-operating_system c operating_system.L4re operating_system.L4re = (λ _. refl, λ _. refl)
+returns-clause-operating_system c operating_system.Linux operating_system.Linux = (λ _. refl, λ _. refl)
+returns-clause-operating_system c operating_system.Nebulet operating_system.Nebulet = (λ _. refl, λ _. refl)
+returns-clause-operating_system c operating_system.Netbsd operating_system.Netbsd = (λ _. refl, λ _. refl)
+returns-clause-operating_system c operating_system.None_ operating_system.None_ = (λ _. refl, λ _. refl)
+returns-clause-operating_system c operating_system.Openbsd operating_system.Openbsd = (λ _. refl, λ _. refl)
+returns-clause-operating_system c operating_system.Psp operating_system.Psp = (λ _. refl, λ _. refl)
+returns-clause-operating_system c operating_system.Redox operating_system.Redox = (λ _. refl, λ _. refl)
+returns-clause-operating_system c operating_system.Solaris operating_system.Solaris = (λ _. refl, λ _. refl)
+returns-clause-operating_system c operating_system.SolidAsp3 operating_system.SolidAsp3 = (λ _. refl, λ _. refl)
+returns-clause-operating_system c operating_system.Uefi operating_system.Uefi = (λ _. refl, λ _. refl)
+returns-clause-operating_system c operating_system.VxWorks operating_system.VxWorks = (λ _. refl, λ _. refl)
+returns-clause-operating_system c operating_system.Wasi operating_system.Wasi = (λ _. refl, λ _. refl)
+returns-clause-operating_system c operating_system.WasiP1 operating_system.WasiP1 = (λ _. refl, λ _. refl)
+returns-clause-operating_system c operating_system.WasiP2 operating_system.WasiP2 = (λ _. refl, λ _. refl)
+returns-clause-operating_system c operating_system.Windows operating_system.Windows = (λ _. refl, λ _. refl)
 returns-clause-operating_system c _ _ = (λ same. absurd (false≢true same), λ same. absurd cc)

@@ -1,6 +1,6 @@
 -- A refused line is answered by its refusal.
 use Rattle.std.proofs.Common.{◌≡◌, ◌≢◌, ◌∙◌, string_bytes, rules}
-use Rattle.target_lexicon.specs.ParseError.{error_line}
+use Rattle.target_lexicon.specs.Refusal.{error_line}
 use Rattle.target_lexicon.specs.declared.parse_error.ParseError.TheVariants.{OutOfMemory}
 use Rattle.triples.proofs.AnswerLemmas.{refusal_is_answer}
 use Rattle.triples.proofs.output.push_answer.Goals as goal

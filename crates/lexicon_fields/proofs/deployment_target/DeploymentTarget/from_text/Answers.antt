@@ -1,5 +1,5 @@
 use Rattle.std.proofs.Common.{◌∙◌, is_some, sym, ap}
-use Rattle.lexicon_fields.proofs.VersionLemmas.{major_read, part_read, pieces-last, pieces-more, pieces_left-some, no_major, no_minor, no_patch, one_piece, two_pieces, three_pieces, too_many_pieces}
+use Rattle.lexicon_fields.proofs.VersionsReadBack.{major_read, part_read, pieces-last, pieces-more, pieces_left-some, no_major, no_minor, no_patch, one_piece, two_pieces, three_pieces, too_many_pieces}
 use Rattle.lexicon_fields.proofs.deployment_target.DeploymentTarget.from_text.Goals as goal
 
 pub returns-in_err-major : goal.returns-in_err-major

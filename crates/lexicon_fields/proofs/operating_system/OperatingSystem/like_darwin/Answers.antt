@@ -1,4 +1,4 @@
-use Rattle.lexicon_fields.proofs.SystemLemmas.{no_darwin_prefix}
+use Rattle.lexicon_fields.proofs.OperatingSystemsReadBack.{no_darwin_prefix}
 use Rattle.lexicon_fields.proofs.operating_system.OperatingSystem.like_darwin.Goals as goal
 
 pub returns : goal.returns

@@ -1,6 +1,6 @@
 use Rattle.std.proofs.Common.{◌∙◌, sym, ap}
 use Rattle.lexicon_fields.specs.Vendor.{vendor_value, is_admitted, is_plain}
-use Rattle.lexicon_fields.proofs.VendorLemmas.{found_not_admitted}
+use Rattle.lexicon_fields.proofs.VendorsReadBack.{found_not_admitted}
 use Rattle.lexicon_fields.proofs.vendor.Vendor.is_plain.Goals as goal
 
 pub returns-else-is_none : goal.returns-else-is_none

@@ -16,12 +16,12 @@ pub returns-clause-styled : goal.returns-clause-styled
 returns-clause-styled g c = λ flush ok.
     let architecture = c.fmt.ensures.styled flush (search rules) in
     let vendor = c.write_part.ensures architecture.flush (search rules) in
-    let system = c.write_part-2.ensures vendor.flush (search rules) in
-    let environment = c.write_part-3.ensures system.flush (search rules) in
-    let format = c.write_part-4.ensures environment.flush ok in
+    let operating_system = c.write_part-2.ensures vendor.flush (search rules) in
+    let environment = c.write_part-3.ensures operating_system.flush (search rules) in
+    let binary_format = c.write_part-4.ensures environment.flush ok in
     has_written_styled_of_eq _ _ _ _ _
     (rw (c.shows_vendor.ensures, c.shows_operating_system.ensures, c.shows_environment.ensures, c.shows_binary_format.ensures) (prints_parts (values_of c.args.self.now) c.in_default.ensures))
-    (has_written_styled_append _ _ _ _ _ _ (has_written_styled_append _ _ _ _ _ _ (has_written_styled_append _ _ _ _ _ _ (has_written_styled_append _ _ _ _ _ _ architecture vendor) system) environment) format)
+    (has_written_styled_append _ _ _ _ _ _ (has_written_styled_append _ _ _ _ _ _ (has_written_styled_append _ _ _ _ _ _ (has_written_styled_append _ _ _ _ _ _ architecture vendor) operating_system) environment) binary_format)
 
 pub returns-clause-writes : goal.returns-clause-writes
 returns-clause-writes g c = plain_from_styled _ _ _ _ _ (returns-clause-styled g c)

@@ -1,6 +1,11 @@
 use Rattle.std.proofs.Common.{ap, sym, refl}
-use Rattle.target_lexicon.specs.Parts.{parts_left}
-use Rattle.target_lexicon.proofs.Returned.{cut_parts, taken_by, memory_fault, refuses_first, lacks_memory_first, lacks_memory_vendor, lacks_memory_left, refuses_left, reads_taken}
+use Rattle.lexicon_fields.specs.OperatingSystem.{operating_system_of}
+use Rattle.lexicon_fields.specs.Environment.{environment_of}
+use Rattle.lexicon_fields.specs.BinaryFormat.{binary_format_of}
+use Rattle.target_lexicon.specs.Field.{OperatingSystem, Environment, BinaryFormat}
+use Rattle.target_lexicon.proofs.Taken.{reads-operating_system, reads-environment, reads-binary_format}
+use Rattle.target_lexicon.specs.Private.{parts_left}
+use Rattle.target_lexicon.proofs.Returned.{cut_parts, takes_by, taken_by, memory_fault, refuses_first, lacks_memory_first, lacks_memory_vendor, lacks_memory_left, refuses_left, reads_taken}
 use Rattle.target_lexicon.proofs.triple.Triple.from_str.Goals as goal
 
 pub returns-in_err-part-clause-err : goal.returns-in_err-part-clause-err
@@ -22,14 +27,18 @@ returns-in_err-part-2-clause-err c =
     memory_fault _ _ c.from_residual-in_err-part-2.ensures.1
     (lacks_memory_left c.args.text.now _ _ (sym c.in_default.ensures.values) (cut_parts c.args.text.now _ _ _ c.cut.ensures c.parts_in.ensures) _ _ _ _ _ _ c.in-Ok.ensures
     (taken_by _ _ _ _ _ c.in_ok-vendor.vendor _ _ _ c.in_ok-vendor.ensures.ok
-    c.take_operating_system-operating_system.ensures c.take_environment-environment.ensures c.take_binary_format-binary_format.ensures)
+    (takes_by OperatingSystem operating_system_of _ _ _ _ reads-operating_system (λ _ _ h. h) c.take-operating_system.ensures)
+    (takes_by Environment environment_of _ _ _ _ reads-environment (λ _ _ h. h) c.take-environment.ensures)
+    (takes_by BinaryFormat binary_format_of _ _ _ _ reads-binary_format (λ _ _ h. h) c.take-binary_format.ensures))
     _ _ (ap parts_left c.in-Some-parts.is))
 
 pub returns-in-Some-parts-clause-err : goal.returns-in-Some-parts-clause-err
 returns-in-Some-parts-clause-err c =
     refuses_left c.args.text.now _ _ (sym c.in_default.ensures.values) (cut_parts c.args.text.now _ _ _ c.cut.ensures c.parts_in.ensures) _ _ _ _ _ _ c.in-Ok.ensures
     (taken_by _ _ _ _ _ c.in_ok-vendor.vendor _ _ _ c.in_ok-vendor.ensures.ok
-    c.take_operating_system-operating_system.ensures c.take_environment-environment.ensures c.take_binary_format-binary_format.ensures)
+    (takes_by OperatingSystem operating_system_of _ _ _ _ reads-operating_system (λ _ _ h. h) c.take-operating_system.ensures)
+    (takes_by Environment environment_of _ _ _ _ reads-environment (λ _ _ h. h) c.take-environment.ensures)
+    (takes_by BinaryFormat binary_format_of _ _ _ _ reads-binary_format (λ _ _ h. h) c.take-binary_format.ensures))
     _ _ c.refusal.result (ap parts_left c.in-Some-parts.is)
     (let part = c.in_ok-part-2.ensures.ok in
     let r = c.refusal.ensures in
@@ -43,6 +52,8 @@ pub returns-clause-ok : goal.returns-clause-ok
 returns-clause-ok c =
     reads_taken c.args.text.now _ _ (sym c.in_default.ensures.values) (cut_parts c.args.text.now _ _ _ c.cut.ensures c.parts_in.ensures) _ _ _ _ _ _ c.in-Ok.ensures
     (taken_by _ _ _ _ _ c.in_ok-vendor.vendor _ _ _ c.in_ok-vendor.ensures.ok
-    c.take_operating_system-operating_system.ensures c.take_environment-environment.ensures c.take_binary_format-binary_format.ensures)
-    _ refl (ap parts_left c.in_default-parts.is) c.unwrap_or.ensures c.unwrap_or-2.ensures c.unwrap_or-3.ensures
-    (let i = c.default_binary_format.ensures in let b = c.unwrap_or-triple.ensures in cc)
+    (takes_by OperatingSystem operating_system_of _ _ _ _ reads-operating_system (λ _ _ h. h) c.take-operating_system.ensures)
+    (takes_by Environment environment_of _ _ _ _ reads-environment (λ _ _ h. h) c.take-environment.ensures)
+    (takes_by BinaryFormat binary_format_of _ _ _ _ reads-binary_format (λ _ _ h. h) c.take-binary_format.ensures))
+    _ refl (ap parts_left c.in_default-parts.is) c.unwrap_or.ensures c.unwrap_or-operating_system.ensures c.unwrap_or-environment.ensures
+    (let i = c.implied_format-implied.ensures in let b = c.unwrap_or-2.ensures in cc)

@@ -5,11 +5,12 @@ use Rattle.std.proofs.lemmas.Bool.{false_from_ne_true, cond-false}
 use Rattle.std.proofs.lemmas.List.{take-append-drop}
 use Rattle.std.proofs.lemmas.Slice.Eq.{bytes_eq-Decides}
 use Rattle.lexicon_fields.specs.declared.deployment_target.DeploymentTarget.{DeploymentTarget}
-use Rattle.lexicon_fields.specs.declared.operating_system.OperatingSystem.TheVariants as system
-use Rattle.lexicon_fields.specs.SystemLaws.{IsVersionInRange, SystemNamesReadBack}
+use Rattle.lexicon_fields.specs.declared.operating_system.OperatingSystem.{OperatingSystem}
+use Rattle.lexicon_fields.specs.declared.operating_system.OperatingSystem.TheVariants as operating_system
+use Rattle.lexicon_fields.specs.Laws.{IsVersionInRange, HasVersionInRange}
 use Rattle.lexicon_fields.specs.Version.{version_of, version_name}
-use Rattle.lexicon_fields.proofs.VersionLemmas.{version_of-name}
-use Rattle.lexicon_fields.specs.OperatingSystem.{system_of, optional_version_of, version_suffix, behind_prefix, darwin_like_by, darwin_prefixes}
+use Rattle.lexicon_fields.proofs.VersionsReadBack.{version_of-name}
+use Rattle.lexicon_fields.specs.OperatingSystem.{operating_system_name, operating_system_of, optional_version_of, version_suffix, behind_prefix, darwin_like_by, darwin_prefixes}
 
 -- a text that does not begin with a prefix has nothing behind it
 lacks_prefix : (prefix text : List ℕ) → ((rest : List ℕ) → text ≢ prefix ++ rest) → behind_prefix prefix text ≡ None
@@ -45,14 +46,14 @@ suffix_reads : (version : Option DeploymentTarget) → IfSome version IsVersionI
 suffix_reads None range = refl
 suffix_reads (Some v) range = some_version (version_name v) v (version_of-name v range.0 range.1 range.2)
 
-pub system_names_read_back_lem : SystemNamesReadBack
-unfolding system_of
-system_names_read_back_lem (system.Darwin version) range = rw (suffix_reads version range) refl
-system_names_read_back_lem (system.IOS version) range = rw (suffix_reads version range) refl
-system_names_read_back_lem (system.MacOSX version) range = rw (suffix_reads version range) refl
-system_names_read_back_lem (system.TvOS version) range = rw (suffix_reads version range) refl
-system_names_read_back_lem (system.VisionOS version) range = rw (suffix_reads version range) refl
-system_names_read_back_lem (system.WatchOS version) range = rw (suffix_reads version range) refl
-system_names_read_back_lem (system.XROS version) range = rw (suffix_reads version range) refl
-system_names_read_back_lem system.Unknown range = refl
-system_names_read_back_lem _ range = refl
+pub operating_system_of-name : (s : OperatingSystem) → HasVersionInRange s → operating_system_of (operating_system_name s) ≡ Some s
+unfolding operating_system_of
+operating_system_of-name (operating_system.Darwin version) range = rw (suffix_reads version range) refl
+operating_system_of-name (operating_system.IOS version) range = rw (suffix_reads version range) refl
+operating_system_of-name (operating_system.MacOSX version) range = rw (suffix_reads version range) refl
+operating_system_of-name (operating_system.TvOS version) range = rw (suffix_reads version range) refl
+operating_system_of-name (operating_system.VisionOS version) range = rw (suffix_reads version range) refl
+operating_system_of-name (operating_system.WatchOS version) range = rw (suffix_reads version range) refl
+operating_system_of-name (operating_system.XROS version) range = rw (suffix_reads version range) refl
+operating_system_of-name operating_system.Unknown range = refl
+operating_system_of-name _ range = refl

@@ -1,0 +1,63 @@
+-- What a look-up tells of the text, and how names are shown to read back.
+use Rattle.std.proofs.Common.{◌≡◌, ◌∙◌, ℕ, List, [], ◌∷◌, Bool, true, false, Option, Some, None, option_map, refl, ap, sym, subst, cond}
+use Rattle.std.specs.Option.{option_or}
+use Rattle.std.specs.Str.{bytes_eq}
+use Rattle.std.specs.List.{list_all}
+use Rattle.std.proofs.lemmas.Bool.{and_parts}
+use Rattle.std.proofs.lemmas.Slice.Eq.{bytes_eq-Decides}
+use Rattle.lexicon_fields.specs.Names.{Pair, value_of, is_dash_free}
+use Rattle.lexicon_fields.specs.Laws.{NamesOfReadBack, NamesReadBack}
+
+-- a test that every pair passes holds of each text with the value that it reads as
+pub value_of-all : {V : Type 0} (test : Pair V → Bool) (pairs : List (Pair V)) (text : List ℕ) (v : V) → list_all test pairs ≡ true → value_of pairs text ≡ Some v → test (text, v) ≡ true
+value_of-all test [] text v all found = cc
+value_of-all {V} test (pair ∷ pairs) text v all found =
+    let parts = and_parts (test pair) (list_all test pairs) all in
+    let P : Bool → Type 0 = λ b. bytes_eq text pair.0 ≡ b → cond b (Some pair.1) (value_of pairs text) ≡ Some v → test (text, v) ≡ true in
+    (elim (bytes_eq text pair.0) as P [
+      | true ↦ λ same is.
+          (let the_text : text ≡ pair.0 = (bytes_eq-Decides text pair.0).0 same in
+          let the_value : pair.1 ≡ v = cc in
+          let whole : ◌≡◌ {A = Pair V} pair (text, v) = ap (λ (t : List ℕ). (t, pair.1)) (sym the_text) ∙ ap (λ (x : V). (text, x)) the_value in
+          subst (λ (r : Pair V). test r ≡ true) whole parts.0)
+      | false ↦ λ _ is. value_of-all test pairs text v parts.1 is
+    ]) refl found
+
+-- a text has no dash if it is read to a value
+unfoldable pub IsDashFreeIfRead : {V : Type 0} → List ℕ → Option V → Type 0
+IsDashFreeIfRead {V} text reading = (v : V) → reading ≡ Some v → is_dash_free text ≡ true
+
+-- a text that a table without dashes holds has none
+pub value_of-dash_free : {V : Type 0} (pairs : List (Pair V)) (text : List ℕ) (v : V) → list_all (λ pair. is_dash_free pair.0) pairs ≡ true → value_of pairs text ≡ Some v → is_dash_free text ≡ true
+value_of-dash_free pairs text v dashless found = value_of-all (λ pair. is_dash_free pair.0) pairs text v dashless found
+
+-- as it is for a part, so it is for the whole that holds it
+pub option_map-dash_free : {V U : Type 0} (whole : V → U) (part : Option V) (text : List ℕ) → IsDashFreeIfRead text part → IsDashFreeIfRead text (option_map whole part)
+unfolding IsDashFreeIfRead
+option_map-dash_free whole (Some v) text of_part u found = of_part v refl
+option_map-dash_free whole None text of_part u found = cc
+
+-- as it is for two readings, so it is for the first of them that reads
+pub option_or-dash_free : {V : Type 0} (first next : Option V) (text : List ℕ) → IsDashFreeIfRead text first → IsDashFreeIfRead text next → IsDashFreeIfRead text (option_or first next)
+unfolding IsDashFreeIfRead
+option_or-dash_free (Some _) next text of_first of_next v found = of_first v found
+option_or-dash_free None next text of_first of_next v found = of_next v found
+
+-- a test that gave a value has passed
+pub passed : {V : Type 0} (b : Bool) (value v : V) → cond b (Some value) None ≡ Some v → b ≡ true
+passed true value v found = refl
+passed false value v found = cc
+
+-- names that read back hold no dash where no text that reads does
+pub of_kind-read_back : {V : Type 0} (IsOfKind : V → Type 0) (name : V → List ℕ) (find : List ℕ → Option V)
+    → ((v : V) → IsOfKind v → find (name v) ≡ Some v) → ((text : List ℕ) (v : V) → find text ≡ Some v → is_dash_free text ≡ true)
+    → NamesOfReadBack IsOfKind name find
+of_kind-read_back IsOfKind name find reads free = record {
+  reads_back = reads;
+  name_dash_free = λ v kind. free (name v) v (reads v kind);
+  text_dash_free = free;
+}
+
+pub each-read_back : {V : Type 0} (name : V → List ℕ) (find : List ℕ → Option V) → ((v : V) → find (name v) ≡ Some v)
+    → ((text : List ℕ) (v : V) → find text ≡ Some v → is_dash_free text ≡ true) → NamesReadBack name find
+each-read_back {V} name find reads free = of_kind-read_back (λ (v : V). Unit {0}) name find (λ v _. reads v) free

@@ -1,0 +1,41 @@
+-- Laws of names, queries, versions and equality.
+use Rattle.std.specs.Prelude.{◌≡◌, ◌↔◌, ℕ, ◌<◌, ◌^◌, Bool, true, List, Option, Some, None, IfSome, Decides}
+use Rattle.std.specs.Ordering.{nat_cmp, on, then_cmp}
+use Rattle.std.specs.declared.cmp.Ordering.{Ordering}
+use Rattle.lexicon_fields.specs.declared.architecture.Architecture.{Architecture}
+use Rattle.lexicon_fields.specs.declared.architecture.Architecture.TheVariants.{Unknown}
+use Rattle.lexicon_fields.specs.declared.deployment_target.DeploymentTarget.{DeploymentTarget}
+use Rattle.lexicon_fields.specs.declared.operating_system.OperatingSystem.{OperatingSystem}
+use Rattle.lexicon_fields.specs.Names.{is_dash_free}
+use Rattle.lexicon_fields.specs.OperatingSystem.{version_held}
+
+-- each value of this kind reads back from its name as itself, and neither such a name nor any text that reads as
+-- a value holds a dash
+pub record NamesOfReadBack {V : Type 0} (IsOfKind : V → Type 0) (name : V → List ℕ) (find : List ℕ → Option V) : Type 0 where
+  pub reads_back : (v : V) → IsOfKind v → find (name v) ≡ Some v
+  pub name_dash_free : (v : V) → IsOfKind v → is_dash_free (name v) ≡ true
+  pub text_dash_free : (text : List ℕ) (v : V) → find text ≡ Some v → is_dash_free text ≡ true
+
+-- so does each value of the type
+abbrev pub NamesReadBack : {V : Type 0} → (V → List ℕ) → (List ℕ → Option V) → Type 0
+NamesReadBack {V} name find = NamesOfReadBack (λ (v : V). Unit {0}) name find
+
+-- a version whose numbers fit their fields
+abbrev pub IsVersionInRange : DeploymentTarget → Type 0
+IsVersionInRange v = (v.major < 2 ^ 16) × (v.minor < 2 ^ 8) × (v.patch < 2 ^ 8)
+
+-- an operating system whose version, if it holds one, is in range
+abbrev pub HasVersionInRange : OperatingSystem → Type 0
+HasVersionInRange s = IfSome (version_held s) IsVersionInRange
+
+-- the order of versions: by major, then by minor, then by patch
+abbrev pub version_cmp : DeploymentTarget → DeploymentTarget → Ordering
+version_cmp = then_cmp (on (λ v. v.major) nat_cmp) (then_cmp (on (λ v. v.minor) nat_cmp) (on (λ v. v.patch) nat_cmp))
+
+-- a query of architectures has no answer for `Unknown` alone
+abbrev pub IsRefusedForUnknownAlone : {V : Type 0} → (Architecture → Option V) → Type 0
+IsRefusedForUnknownAlone query = (a : Architecture) → (query a ≡ None) ↔ (a ≡ Unknown)
+
+-- two values are told equal exactly where they are the same
+abbrev pub ComparesByValue : {V : Type 0} → (V → V → Bool) → Type 0
+ComparesByValue {V} eq = (x y : V) → Decides (eq x y) (x ≡ y)

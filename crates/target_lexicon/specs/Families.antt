@@ -1,0 +1,61 @@
+-- The six families of triples that are another triple, or none, when they are printed and read again.
+use Rattle.std.specs.Prelude.{◌≡◌, ◌≢◌, ◌⊎◌, true, false, codes}
+use Rattle.lexicon_fields.specs.declared.architecture.Architecture.TheVariants as architecture
+use Rattle.lexicon_fields.specs.declared.architecture.arm.ArmArchitecture.TheVariants as arm
+use Rattle.lexicon_fields.specs.declared.architecture.riscv.Riscv32Architecture.TheVariants as riscv32
+use Rattle.lexicon_fields.specs.declared.operating_system.OperatingSystem.TheVariants as operating_system
+use Rattle.lexicon_fields.specs.declared.environment.Environment.TheVariants as environment
+use Rattle.lexicon_fields.specs.declared.binary_format.BinaryFormat.TheVariants as binary_format
+use Rattle.lexicon_fields.specs.ArchitectureQueries.{is_clever}
+use Rattle.lexicon_fields.specs.Vendor.{Known, Custom, Nintendo, Espressif, is_plain}
+use Rattle.target_lexicon.specs.ImpliedFormat.{implied}
+use Rattle.target_lexicon.specs.Values.{Values, values}
+
+-- environment and format are unknown, and another format is implied
+pub record HidesUnknowns (t : Values) : Type 0 where
+  pub implied : implied t ≢ binary_format.Unknown
+  pub environment : t.environment ≡ environment.Unknown
+  pub binary_format : t.binary_format ≡ binary_format.Unknown
+
+-- the fields by which a triple prints `armv6k-nintendo-3ds`
+pub record IsNintendo3ds (t : Values) : Type 0 where
+  pub architecture : t.architecture ≡ architecture.Arm arm.Armv6k
+  pub vendor : t.vendor ≡ Known Nintendo
+  pub operating_system : t.operating_system ≡ operating_system.Horizon
+
+-- the fields by which a triple prints `riscv32imc-esp-espidf`
+pub record IsEspIdf (t : Values) : Type 0 where
+  pub architecture : t.architecture ≡ architecture.Riscv32 riscv32.Riscv32imc
+  pub vendor : t.vendor ≡ Known Espressif
+  pub operating_system : t.operating_system ≡ operating_system.Espidf
+
+-- a special text is printed, which says nothing of the environment and the format, and they aren't `Newlib` and `Elf`
+pub record PrintsAsSpecial (t : Values) : Type 0 where
+  pub fields : IsNintendo3ds t ⊎ IsEspIdf t
+  pub others : ¬ ((t.environment ≡ environment.Newlib) × (t.binary_format ≡ binary_format.Elf))
+
+-- `Newlib` isn't shown, and the text isn't special
+abbrev pub HidesNewlib : Values → Type 0
+HidesNewlib t = (t.environment ≡ environment.Newlib)
+    × (((t.vendor ≡ Known Nintendo) × (t.operating_system ≡ operating_system.Horizon) × (t.architecture ≢ architecture.Arm arm.Armv6k))
+    ⊎ ((t.vendor ≡ Known Espressif) × (t.operating_system ≡ operating_system.Espidf) × (t.architecture ≢ architecture.Riscv32 riscv32.Riscv32imc)))
+
+-- the vendor is the custom `esp`, and the text is the special one
+abbrev pub PrintsTheEspIdfText : Values → Type 0
+PrintsTheEspIdfText t =
+    t ≡ values (architecture.Riscv32 riscv32.Riscv32imc) (Custom (codes "esp")) operating_system.Espidf environment.Unknown binary_format.Elf
+
+-- on Clever without a system the environment `none` is shown alone, and reads as the system
+pub record ShowsNoneAlone (t : Values) : Type 0 where
+  pub architecture : is_clever t.architecture ≡ true
+  pub operating_system : t.operating_system ≡ operating_system.Unknown
+  pub environment : t.environment ≡ environment.None
+
+-- no text reads with this vendor
+abbrev pub IsNotPlain : Values → Type 0
+IsNotPlain t = is_plain t.vendor ≡ false
+
+-- the triple is in one of the families
+abbrev pub IsInSomeFamily : Values → Type 0
+IsInSomeFamily t =
+    HidesUnknowns t ⊎ (PrintsAsSpecial t ⊎ (HidesNewlib t ⊎ (PrintsTheEspIdfText t ⊎ (ShowsNoneAlone t ⊎ IsNotPlain t))))

@@ -1,0 +1,65 @@
+-- What a triple with a plain vendor becomes by a round, that is when it is printed and read again.
+use Rattle.std.specs.Prelude.{Bool, true, false, codes, if◌then◌else◌}
+use Rattle.std.specs.Str.{bytes_eq}
+use Rattle.lexicon_fields.specs.declared.architecture.Architecture.{Architecture}
+use Rattle.lexicon_fields.specs.declared.architecture.Architecture.TheVariants as architecture
+use Rattle.lexicon_fields.specs.declared.architecture.arm.ArmArchitecture.TheVariants as arm
+use Rattle.lexicon_fields.specs.declared.architecture.riscv.Riscv32Architecture.TheVariants as riscv32
+use Rattle.lexicon_fields.specs.declared.operating_system.OperatingSystem.{OperatingSystem}
+use Rattle.lexicon_fields.specs.declared.operating_system.OperatingSystem.TheVariants as operating_system
+use Rattle.lexicon_fields.specs.declared.environment.Environment.{Environment}
+use Rattle.lexicon_fields.specs.declared.environment.Environment.TheVariants as environment
+use Rattle.lexicon_fields.specs.declared.binary_format.BinaryFormat.{BinaryFormat}
+use Rattle.lexicon_fields.specs.declared.binary_format.BinaryFormat.TheVariants as binary_format
+use Rattle.lexicon_fields.specs.Vendor.{VendorValue, Known, Custom, Nintendo, Espressif}
+use Rattle.target_lexicon.specs.ImpliedFormat.{implied}
+use Rattle.target_lexicon.specs.Values.{Values}
+
+-- the tests of the families but the last, one for each, with its name
+
+abbrev pub prints_as_special : OperatingSystem → VendorValue → Architecture → Environment → BinaryFormat → Bool
+prints_as_special operating_system.Horizon (Known Nintendo) (architecture.Arm arm.Armv6k) environment.Newlib binary_format.Elf = false
+prints_as_special operating_system.Horizon (Known Nintendo) (architecture.Arm arm.Armv6k) e f = true
+prints_as_special operating_system.Espidf (Known Espressif) (architecture.Riscv32 riscv32.Riscv32imc) environment.Newlib binary_format.Elf = false
+prints_as_special operating_system.Espidf (Known Espressif) (architecture.Riscv32 riscv32.Riscv32imc) e f = true
+prints_as_special _ _ _ e f = false
+
+abbrev pub hides_newlib : Environment → OperatingSystem → VendorValue → Architecture → Bool
+hides_newlib environment.Newlib operating_system.Horizon (Known Nintendo) (architecture.Arm arm.Armv6k) = false
+hides_newlib environment.Newlib operating_system.Horizon (Known Nintendo) a = true
+hides_newlib environment.Newlib operating_system.Espidf (Known Espressif) (architecture.Riscv32 riscv32.Riscv32imc) = false
+hides_newlib environment.Newlib operating_system.Espidf (Known Espressif) a = true
+hides_newlib _ _ _ a = false
+
+abbrev pub prints_the_esp_idf_text : Environment → BinaryFormat → OperatingSystem → Architecture → VendorValue → Bool
+prints_the_esp_idf_text environment.Unknown binary_format.Elf operating_system.Espidf (architecture.Riscv32 riscv32.Riscv32imc) (Custom text) = bytes_eq text (codes "esp")
+prints_the_esp_idf_text _ _ _ _ _ = false
+
+abbrev pub shows_none_alone : Environment → OperatingSystem → Architecture → Bool
+shows_none_alone environment.None operating_system.Unknown (architecture.Clever sub) = true
+shows_none_alone _ _ _ = false
+
+-- the last column is the implied format
+abbrev pub hides_unknowns : Environment → BinaryFormat → BinaryFormat → Bool
+hides_unknowns environment.Unknown binary_format.Unknown binary_format.Unknown = false
+hides_unknowns environment.Unknown binary_format.Unknown i = true
+hides_unknowns _ _ i = false
+
+abbrev pub elf_if_unknown : BinaryFormat → BinaryFormat
+elf_if_unknown binary_format.Unknown = binary_format.Elf
+elf_if_unknown f = f
+
+-- the first of the families that holds tells what changes; outside them nothing does
+unfoldable pub normal_step : Values → Values
+normal_step t =
+    if prints_as_special t.operating_system t.vendor t.architecture t.environment t.binary_format
+    then record t { environment = environment.Newlib; binary_format = binary_format.Elf }
+    else if hides_newlib t.environment t.operating_system t.vendor t.architecture
+    then record t { environment = environment.Unknown; binary_format = elf_if_unknown t.binary_format }
+    else if prints_the_esp_idf_text t.environment t.binary_format t.operating_system t.architecture t.vendor
+    then record t { vendor = Known Espressif; environment = environment.Newlib; binary_format = binary_format.Elf }
+    else if shows_none_alone t.environment t.operating_system t.architecture
+    then record t { operating_system = operating_system.None_; environment = environment.Unknown }
+    else if hides_unknowns t.environment t.binary_format (implied t)
+    then record t { binary_format = implied t }
+    else t

@@ -1,0 +1,57 @@
+-- Words of the contracts of private functions, which no public contract cites.
+use Rattle.std.specs.Prelude.{◌≡◌, ℕ, ◌∷◌, List, [], Bool, Option, Some, None, Result, MatchResult, option_and_then, if◌then◌else◌}
+use Rattle.std.specs.Borrow.{Bor}
+use Rattle.target_lexicon.specs.Field as field
+use Rattle.target_lexicon.specs.Field.{Field, reads}
+use Rattle.target_lexicon.specs.Parts.{parts_of}
+use Rattle.target_lexicon.specs.Reading.{lack_behind}
+use Rattle.target_lexicon.specs.Refusal.{Lack}
+
+-- the parts behind a dash, if there is one
+abbrev pub parts_behind_dash : Option (Bor (List ℕ)) → List (List ℕ)
+parts_behind_dash None = []
+parts_behind_dash (Some text) = parts_of text.now
+
+-- the parts that are left, of which the first, if any, is cut off
+abbrev pub parts_left : Option (Bor (List ℕ) × Option (Bor (List ℕ))) → List (List ℕ)
+parts_left None = []
+parts_left (Some left) = left.0.now ∷ parts_behind_dash left.1
+
+-- the first part, if it reads as the field
+abbrev pub part_for : Field → List (List ℕ) → Option (List ℕ)
+part_for f [] = None
+part_for f (p ∷ ps) = if reads f p then Some p else None
+
+-- the parts that are left then
+abbrev pub parts_behind : Field → List (List ℕ) → List (List ℕ)
+parts_behind f [] = []
+parts_behind f (p ∷ ps) = if reads f p then ps else p ∷ ps
+
+-- a step gives the value of the first part, if that reads as the field, and leaves the others
+pub record Takes {A : Type 0} (f : Field) (find : List ℕ → Option A) (parts : List (List ℕ)) (value : Option A) (left : List (List ℕ)) : Type 0 where
+  pub taken : value ≡ option_and_then find (part_for f parts)
+  pub others : left ≡ parts_behind f parts
+
+-- a step by this way of reading: the value is what the first part reads as, if it does, and the other parts are left
+abbrev pub TakesBy : {A E : Type 0} → (List ℕ → Result A E → Type 0) → List (List ℕ) → Option A → List (List ℕ) → Type 0
+TakesBy gives [] value left = (value ≡ None) × (left ≡ [])
+TakesBy {A} {E} gives (p ∷ ps) value left = (answer : Result A E) × gives p answer
+    × MatchResult answer (λ v. (value ≡ Some v) × (left ≡ ps)) (λ _. (value ≡ None) × (left ≡ p ∷ ps))
+
+-- the last field that is filled, by which of the fields behind the architecture are
+abbrev pub last_filled : Bool → Bool → Bool → Bool → Field
+last_filled has_vendor has_operating_system has_environment has_binary_format =
+    if has_binary_format then field.BinaryFormat
+    else if has_environment then field.Environment
+    else if has_operating_system then field.OperatingSystem
+    else if has_vendor then field.Vendor
+    else field.Architecture
+
+-- what the part that is left over lacks then
+abbrev pub lack_of : Bool → Bool → Bool → Bool → Lack
+lack_of has_vendor has_operating_system has_environment has_binary_format =
+    lack_behind (last_filled has_vendor has_operating_system has_environment has_binary_format)
+
+-- a dash and the part, where it is shown
+abbrev pub part_text : Bool → List ℕ → List ℕ
+part_text is_shown part = if is_shown then 45 ∷ part else []

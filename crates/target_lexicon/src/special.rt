@@ -1,0 +1,63 @@
+//! The two texts that have a triple of their own.
+ghost use Rattle.std.specs.Prelude.{◌≡◌, Option, option_map, IfSome, List, ℕ};
+ghost use Rattle.lexicon_fields.specs.Vendor.{OwnsCustomText, vendor_value};
+ghost use Rattle.target_lexicon.specs.SpecialTexts.{special_text, special_values};
+ghost use Rattle.target_lexicon.specs.Values.{values_of};
+
+use crate::triple::Triple;
+use lexicon_fields::{
+    Architecture, ArmArchitecture, BinaryFormat, Environment, OperatingSystem, Riscv32Architecture,
+    Vendor,
+};
+
+const NINTENDO_3DS: &str = "armv6k-nintendo-3ds";
+
+const ESP_IDF: &str = "riscv32imc-esp-espidf";
+
+impl Triple {
+    /// The triple of a special text.
+    #[tactic(auto, unfolding(crate::specs::SpecialTexts::special_values))]
+    pub(crate) fn of_special_text(text: &str) -> Option<Triple>
+        ensures values { option_map values_of result ≡ special_values text.now }
+        ensures owned { IfSome result (λ triple. OwnsCustomText triple.vendor) }
+    {
+        match text {
+            NINTENDO_3DS => Some(Triple {
+                architecture: Architecture::Arm(ArmArchitecture::Armv6k),
+                vendor: Vendor::Nintendo,
+                operating_system: OperatingSystem::Horizon,
+                environment: Environment::Newlib,
+                binary_format: BinaryFormat::Elf,
+            }),
+            ESP_IDF => Some(Triple {
+                architecture: Architecture::Riscv32(Riscv32Architecture::Riscv32imc),
+                vendor: Vendor::Espressif,
+                operating_system: OperatingSystem::Espidf,
+                environment: Environment::Newlib,
+                binary_format: BinaryFormat::Elf,
+            }),
+            _ => None,
+        }
+    }
+
+    /// The special text that the triple prints, whatever its environment and its format.
+    #[tactic(auto, unfolding(crate::specs::SpecialTexts::special_text))]
+    pub(crate) fn special_text(&self) -> Option<&'static str>
+        ensures { option_map {U = List ℕ} (λ text. text.now) result
+            ≡ special_text self.now.operating_system (vendor_value self.now.vendor) self.now.architecture }
+    {
+        match (self.operating_system, &self.vendor, self.architecture) {
+            (
+                OperatingSystem::Horizon,
+                Vendor::Nintendo,
+                Architecture::Arm(ArmArchitecture::Armv6k),
+            ) => Some(NINTENDO_3DS),
+            (
+                OperatingSystem::Espidf,
+                Vendor::Espressif,
+                Architecture::Riscv32(Riscv32Architecture::Riscv32imc),
+            ) => Some(ESP_IDF),
+            _ => None,
+        }
+    }
+}
