@@ -1,5 +1,8 @@
+pub mod DataModel
 pub mod Families
 pub mod Field
+pub mod FixedPoints
+pub mod Host
 pub mod ImpliedFormat
 pub mod Laws
 pub mod NormalStep
@@ -7,6 +10,8 @@ pub mod Parts
 pub mod Placement
 pub mod Printing
 pub mod Private
+pub mod Queries
+pub mod QueryLaws
 pub mod Reading
 pub mod ReadingByFields
 pub mod Refusal

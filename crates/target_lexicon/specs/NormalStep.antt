@@ -1,5 +1,5 @@
 -- What a triple with a plain vendor becomes by a round, that is when it is printed and read again.
-use Rattle.std.specs.Prelude.{Bool, true, false, codes, if◌then◌else◌}
+use Rattle.std.specs.Prelude.{Bool, true, false, not, ◌&&◌, codes, if◌then◌else◌}
 use Rattle.std.specs.Str.{bytes_eq}
 use Rattle.lexicon_fields.specs.declared.architecture.Architecture.{Architecture}
 use Rattle.lexicon_fields.specs.declared.architecture.Architecture.TheVariants as architecture
@@ -48,6 +48,15 @@ hides_unknowns _ _ i = false
 abbrev pub elf_if_unknown : BinaryFormat → BinaryFormat
 elf_if_unknown binary_format.Unknown = binary_format.Elf
 elf_if_unknown f = f
+
+-- whether none of them holds
+unfoldable pub is_outside : Values → Bool
+is_outside t =
+    not (prints_as_special t.operating_system t.vendor t.architecture t.environment t.binary_format)
+    && not (hides_newlib t.environment t.operating_system t.vendor t.architecture)
+    && not (prints_the_esp_idf_text t.environment t.binary_format t.operating_system t.architecture t.vendor)
+    && not (shows_none_alone t.environment t.operating_system t.architecture)
+    && not (hides_unknowns t.environment t.binary_format (implied t))
 
 -- the first of the families that holds tells what changes; outside them nothing does
 unfoldable pub normal_step : Values → Values

@@ -1,11 +1,19 @@
 //! Laws over the definitions alone: each function's contract is one, and it does nothing.
 ghost use Rattle.std.specs.Prelude.{◌≡◌, ◌↔◌, true};
 ghost use Rattle.target_lexicon.specs.Laws.{OneLeastPlacement, OneOutcomeEach, ReadingIsComputed, ReadVendorsArePlain, FieldNamesReadBack, EqualTextsEqualTriples};
+ghost use Rattle.lexicon_fields.specs.Laws.{ComparesByValue};
+ghost use Rattle.target_lexicon.specs.FixedPoints.{FixedExactlyOutsideFamilies, RoundIsNormalStep, SecondStepChangesOne, SettledTextsAreKeys, RoundsAreKnown};
+ghost use Rattle.target_lexicon.specs.QueryLaws.{ModelWidth, NoRareModel, IntegersGrowInEach, BytesHaveEightBits, QueriesKept};
 ghost use Rattle.target_lexicon.specs.Refusal.{refusal_of};
 ghost use Rattle.target_lexicon.specs.Values.{values_of};
 ghost use Rattle.target_lexicon.specs.declared.parse_error.ParseError.{ParseError};
 ghost use Rattle.target_lexicon.specs.declared.triple.Triple.{Triple};
+ghost use Rattle.target_lexicon.specs.declared.defaults.DefaultToHost.{DefaultToHost};
+ghost use Rattle.target_lexicon.specs.declared.defaults.DefaultToUnknown.{DefaultToUnknown};
 
+use crate::calling_convention::CallingConvention;
+use crate::data_model::{CDataModel, Size};
+use crate::defaults::{DefaultToHost, DefaultToUnknown};
 use crate::parse_error::ParseError;
 use crate::triple::Triple;
 
@@ -55,3 +63,79 @@ pub fn triples_are_equal_by_value()
 pub fn errors_are_equal_by_value()
     ensures { (x y : ParseError) → (⟦<ParseError as PartialEq>⟧.eq x y ≡ true) ↔ (refusal_of x ≡ refusal_of y) }
 {}
+
+/// Where a triple has a data model, the model's pointers have as many bits as the triple's.
+pub fn model_width()
+    ensures { ModelWidth }
+{}
+
+/// No triple has the data model `LP32` or `ILP64`.
+pub fn no_rare_model()
+    ensures { NoRareModel }
+{}
+
+/// In each data model `short`, `int`, `long` and `long long` don't decrease.
+pub fn integers_grow_in_each()
+    ensures { IntegersGrowInEach }
+{}
+
+/// A size has eight times as many bits as bytes.
+pub fn bytes_have_eight_bits()
+    ensures { BytesHaveEightBits }
+{}
+
+/// The normal step keeps the architecture of a triple, and what the four queries answer or refuse.
+pub fn queries_kept()
+    ensures { QueriesKept }
+{}
+
+/// Sizes, data models and calling conventions are equal, as `==` tells, exactly where their variants are.
+pub fn answers_are_equal_by_variant()
+    ensures size { ComparesByValue ⟦<Size as PartialEq>⟧.eq }
+    ensures data_model { ComparesByValue ⟦<CDataModel as PartialEq>⟧.eq }
+    ensures calling_convention { ComparesByValue ⟦<CallingConvention as PartialEq>⟧.eq }
+{}
+
+/// Triples with a default are equal, as `==` tells, exactly where their five values are.
+pub fn defaults_are_equal_by_value()
+    ensures host { (x y : DefaultToHost) → (⟦<DefaultToHost as PartialEq>⟧.eq x y ≡ true) ↔ (values_of x.0 ≡ values_of y.0) }
+    ensures unknown { (x y : DefaultToUnknown) → (⟦<DefaultToUnknown as PartialEq>⟧.eq x y ≡ true) ↔ (values_of x.0 ≡ values_of y.0) }
+{
+    triples_are_equal_by_value();
+}
+
+/// A triple that is printed and read again is itself exactly outside six families, whatever its vendor's text; and each
+/// triple comes back or is in a family.
+pub fn fixed_exactly_outside_families()
+    ensures { FixedExactlyOutsideFamilies }
+{}
+
+/// The text of each triple with a plain vendor is read, as the triple's normal step.
+pub fn round_is_normal_step()
+    ensures { RoundIsNormalStep }
+{}
+
+/// A second normal step changes one triple alone, and a third none.
+pub fn second_step_changes_one()
+    ensures { SecondStepChangesOne }
+{}
+
+/// What two normal steps make of a triple with a plain vendor comes back, and no other such triple has its text.
+pub fn settled_texts_are_keys()
+    ensures { SettledTextsAreKeys }
+{}
+
+/// The headline, all of these laws in one: every text is read or refused, in one way. A triple that is printed and read
+/// again is itself exactly outside six families. From each triple with a plain vendor that succeeds, is the normal step,
+/// keeps the four queries, and is settled at once, save one triple that takes two steps; and what is settled has a text of
+/// its own.
+pub fn rounds_are_known()
+    ensures { RoundsAreKnown }
+{
+    one_outcome_each();
+    fixed_exactly_outside_families();
+    round_is_normal_step();
+    queries_kept();
+    second_step_changes_one();
+    settled_texts_are_keys();
+}

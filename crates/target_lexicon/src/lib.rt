@@ -1,17 +1,26 @@
 //! Target triples: read, printed and asked.
 #![tactic(auto)]
 
+mod calling_convention;
+mod data_model;
 mod default_format;
+mod defaults;
 mod display;
+mod families;
+mod host;
 pub mod laws;
 mod parse_error;
+mod queries;
 mod read;
 mod special;
 #[cfg(test)]
 mod tests;
 mod triple;
 
+pub use calling_convention::CallingConvention;
+pub use data_model::{CDataModel, Size};
 pub use default_format::default_binary_format;
+pub use defaults::{DefaultToHost, DefaultToUnknown};
 pub use lexicon_fields::{
     Aarch64Architecture, Architecture, ArmArchitecture, BinaryFormat, CleverArchitecture,
     CustomVendor, DeploymentTarget, Endianness, Environment, Mips32Architecture,

@@ -1,8 +1,11 @@
 //! Triples that are read from texts and printed.
 
-mod known_triples;
+pub(crate) mod fixtures;
+pub(crate) mod known_triples;
 
-use crate::{BinaryFormat, Environment, ParseError, Triple, Vendor};
+use crate::{Architecture, BinaryFormat, Environment, OperatingSystem, ParseError, Triple, Vendor};
+use fixtures::{custom, plain};
+use std::alloc::Global;
 use std::test::Fail;
 
 /// A text, and behind `=` what the triple that it reads as prints.
@@ -50,14 +53,33 @@ fn read_triples_print(rt: HostRuntime) -> Result<(), Fail> {
     Ok(())
 }
 
+/// What the triple that a text reads as prints, read again.
+fn round(alloc: Global, text: &str) -> Result<Triple, Fail> {
+    let triple = Triple::from_str(alloc, text)?;
+    let printed = triple.to_text(alloc)?;
+    Ok(Triple::from_str(alloc, printed.as_str())?)
+}
+
 #[test]
 fn a_print_may_read_as_another_triple(rt: HostRuntime) -> Result<(), Fail> {
-    let read = Triple::from_str(rt.alloc(), "riscv32imc-esp-espidf")?;
-    assert_eq!(rt; read.vendor, Vendor::Espressif);
-    assert_eq!(rt; read.environment, Environment::Newlib);
-    let read = Triple::from_str(rt.alloc(), "x86_64-unknown-linux-unknown")?;
-    assert_eq!(rt; read.binary_format, BinaryFormat::Elf);
-    let refused = Triple::from_str(rt.alloc(), "x86_64-a-b-linux");
+    let read = Triple::from_str(rt.alloc(), "riscv32imc-esp-espidf-unknown")?;
+    assert_eq!(rt; read.vendor, custom("esp"));
+    let again = round(rt.alloc(), "riscv32imc-esp-espidf-unknown")?;
+    assert_eq!(rt; again.vendor, Vendor::Espressif);
+    assert_eq!(rt; again.environment, Environment::Newlib);
+    let read = Triple::from_str(rt.alloc(), "x86_64-unknown-linux-unknown-unknown")?;
+    assert_eq!(rt; read.binary_format, BinaryFormat::Unknown);
+    let again = round(rt.alloc(), "x86_64-unknown-linux-unknown-unknown")?;
+    assert_eq!(rt; again.binary_format, BinaryFormat::Elf);
+    Ok(())
+}
+
+#[test]
+fn a_print_may_be_refused(rt: HostRuntime) -> Result<(), Fail> {
+    let built = plain(Architecture::X86_64, custom("a-b"), OperatingSystem::Linux);
+    let printed = built.to_text(rt.alloc())?;
+    assert_eq!(rt; printed.as_str(), "x86_64-a-b-linux");
+    let refused = Triple::from_str(rt.alloc(), printed.as_str());
     assert!(rt;
         matches!(&refused, Err(ParseError::UnrecognizedOperatingSystem(part)) if part.as_str() == "b")
     );

@@ -1,8 +1,9 @@
 -- The answers of an input's lines, one after another.
-use Rattle.std.proofs.Common.{◌≢◌, Some, inr, string_bytes, ◌≡◌, ℕ, List, [], ◌∷◌, ◌++◌, Result, Ok, Err, OnOk, None, codes, refl, ap, ◌∙◌, append_assoc, length, arith}
+use Rattle.std.proofs.Common.{◌≢◌, Some, inl, inr, string_bytes, ◌≡◌, ℕ, List, [], ◌∷◌, ◌++◌, Result, Ok, Err, OnOk, None, codes, refl, ap, ◌∙◌, append_assoc, length, arith}
 use Rattle.std.proofs.lemmas.List.{append-nil}
 use Rattle.target_lexicon.specs.Refusal.{Refusal, error_line, refusal_of, refusal_line}
-use Rattle.target_lexicon.specs.Reading.{IsFaultOf}
+use Rattle.target_lexicon.specs.Reading.{ReadsAs, IsFaultOf}
+use Rattle.target_lexicon.specs.Values.{Values}
 use Rattle.target_lexicon.specs.declared.parse_error.ParseError.{ParseError}
 use Rattle.target_lexicon.specs.declared.parse_error.ParseError.TheVariants.{UnrecognizedArchitecture, UnrecognizedVendor, UnrecognizedOperatingSystem, UnrecognizedEnvironment, UnrecognizedBinaryFormat, UnrecognizedField, OutOfMemory}
 use Rattle.triples.specs.Lines.{lines_of}
@@ -21,25 +22,32 @@ refusal_is_told line text (UnrecognizedField part) other fault same = (_, fault,
 refusal_is_told line text OutOfMemory other fault same = absurd (other refl)
 
 -- a refused line is answered by its refusal
-pub refusal_is_answer : {T E : Type 0} (done : Result T E) (line text : List ℕ) (error : ParseError) (old new : List ℕ) → error ≢ OutOfMemory
-    → IsFaultOf line error → text ≡ error_line error → OnOk done (new ≡ old ++ ((codes "error: " ++ text) ++ 10 ∷ [])) → OnOk done (AddsAnswer line old new)
-refusal_is_answer (Ok _) line text error old new other fault same grown =
+pub refusal_is_answer : {T E : Type 0} (shown : Values → List ℕ) (done : Result T E) (line text : List ℕ) (error : ParseError) (old new : List ℕ) → error ≢ OutOfMemory
+    → IsFaultOf line error → text ≡ error_line error → OnOk done (new ≡ old ++ ((codes "error: " ++ text) ++ 10 ∷ [])) → OnOk done (AddsAnswer shown line old new)
+refusal_is_answer shown (Ok _) line text error old new other fault same grown =
     (codes "error: " ++ text, inr (refusal_is_told line text error other fault same), grown)
-refusal_is_answer (Err _) line text error old new other fault same grown = tt
+refusal_is_answer shown (Err _) line text error old new other fault same grown = tt
 
--- the answer of the first line, and then those of the lines behind it
-pub answered-more : (lines : List (List ℕ)) (rest line behind old new : List ℕ)
-    → ((others : List ℕ) → AreAnswered (lines_of rest) others → AreAnswered lines (old ++ others))
-    → lines_of rest ≡ line ∷ lines_of behind → AddsAnswer line old new
-    → (others : List ℕ) → AreAnswered (lines_of behind) others → AreAnswered lines (new ++ others)
-answered-more lines rest line behind old new whole cut added others answered =
-    let first : AreAnswered (lines_of rest) (added.0 ++ (10 ∷ others)) = rw cut (added.0, others, added.1, answered, refl) in
-    let joined : new ++ others ≡ old ++ (added.0 ++ (10 ∷ others)) =
-    ap (λ (t : List ℕ). t ++ others) added.2 ∙ append_assoc old _ others ∙ ap (λ (t : List ℕ). old ++ t) (append_assoc added.0 (10 ∷ []) others) in
-    rw joined (whole (added.0 ++ (10 ∷ others)) first)
+-- what is shown of the triple that a line reads as is its answer
+pub shown_is_answer : {T E : Type 0} (shown : Values → List ℕ) (done : Result T E) (line : List ℕ) (t : Values) (old new : List ℕ)
+    → ReadsAs line t → OnOk done (new ≡ old ++ (shown t ++ 10 ∷ [])) → OnOk done (AddsAnswer shown line old new)
+shown_is_answer shown (Ok _) line t old new reads grown = (shown t, inl (t, reads, refl), grown)
+shown_is_answer shown (Err _) line t old new reads grown = tt
 
--- behind the last line nothing is left
-pub answered-whole : (lines : List (List ℕ)) (rest output : List ℕ) → length rest ≡ 0
-    → ((others : List ℕ) → AreAnswered (lines_of rest) others → AreAnswered lines (output ++ others)) → AreAnswered lines output
-answered-whole lines [] output none whole = rw append-nil at (whole [] refl)
-answered-whole lines (b ∷ bs) output none whole = absurd (omega arith)
+module _ (shown : Values → List ℕ) where
+  -- the answer of the first line, and then those of the lines behind it
+  pub answered-more : (lines : List (List ℕ)) (rest line behind old new : List ℕ)
+      → ((others : List ℕ) → AreAnswered shown (lines_of rest) others → AreAnswered shown lines (old ++ others))
+      → lines_of rest ≡ line ∷ lines_of behind → AddsAnswer shown line old new
+      → (others : List ℕ) → AreAnswered shown (lines_of behind) others → AreAnswered shown lines (new ++ others)
+  answered-more lines rest line behind old new whole cut added others answered =
+      let first : AreAnswered shown (lines_of rest) (added.0 ++ (10 ∷ others)) = rw cut (added.0, others, added.1, answered, refl) in
+      let joined : new ++ others ≡ old ++ (added.0 ++ (10 ∷ others)) =
+      ap (λ (t : List ℕ). t ++ others) added.2 ∙ append_assoc old _ others ∙ ap (λ (t : List ℕ). old ++ t) (append_assoc added.0 (10 ∷ []) others) in
+      rw joined (whole (added.0 ++ (10 ∷ others)) first)
+
+  -- behind the last line nothing is left
+  pub answered-whole : (lines : List (List ℕ)) (rest output : List ℕ) → length rest ≡ 0
+      → ((others : List ℕ) → AreAnswered shown (lines_of rest) others → AreAnswered shown lines (output ++ others)) → AreAnswered shown lines output
+  answered-whole lines [] output none whole = rw append-nil at (whole [] refl)
+  answered-whole lines (b ∷ bs) output none whole = absurd (omega arith)

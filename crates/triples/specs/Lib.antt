@@ -1,4 +1,5 @@
 pub mod Device
+pub mod Facts
 pub mod Lines
 pub mod Output
 pub mod Private

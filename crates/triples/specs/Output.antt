@@ -1,32 +1,39 @@
 -- What a mode writes for an input.
 use Rattle.std.specs.Prelude.{ℕ, ◌≡◌, ◌⊎◌, List, [], ◌∷◌, ◌++◌, codes}
+use Rattle.target_lexicon.specs.FixedPoints.{settled}
 use Rattle.target_lexicon.specs.Printing.{text_of}
 use Rattle.target_lexicon.specs.Reading.{ReadsAs, IsRefusedAs}
 use Rattle.target_lexicon.specs.Refusal.{Refusal, refusal_line}
 use Rattle.target_lexicon.specs.Values.{Values}
 use Rattle.triples.specs.declared.mode.Mode.{Mode}
-use Rattle.triples.specs.declared.mode.Mode.TheVariants.{Print}
+use Rattle.triples.specs.declared.mode.Mode.TheVariants.{Print, Show, Settle}
+use Rattle.triples.specs.Facts.{facts_of}
 use Rattle.triples.specs.Lines.{lines_of}
 
--- the text of the triple that a line reads as
-abbrev pub IsPrinted : List ℕ → List ℕ → Type 0
-IsPrinted line answer = (values : Values) × ReadsAs line values × (answer ≡ text_of values)
+-- what is shown of the triple that a line reads as
+abbrev pub IsShown : (Values → List ℕ) → List ℕ → List ℕ → Type 0
+IsShown shown line answer = (values : Values) × ReadsAs line values × (answer ≡ shown values)
 
 -- `error: ` and the line of the refusal of a line
 abbrev pub IsRefusalTold : List ℕ → List ℕ → Type 0
-IsRefusalTold line answer =
-    (refusal : Refusal) × IsRefusedAs line refusal × (answer ≡ codes "error: " ++ refusal_line refusal)
+IsRefusalTold line answer = (refusal : Refusal) × IsRefusedAs line refusal × (answer ≡ codes "error: " ++ refusal_line refusal)
 
 -- what is printed for a line
-abbrev pub IsAnswer : List ℕ → List ℕ → Type 0
-IsAnswer line answer = IsPrinted line answer ⊎ IsRefusalTold line answer
+abbrev pub IsAnswer : (Values → List ℕ) → List ℕ → List ℕ → Type 0
+IsAnswer shown line answer = IsShown shown line answer ⊎ IsRefusalTold line answer
 
 -- the answer of each line, in order, and a line feed behind each
-abbrev pub AreAnswered : List (List ℕ) → List ℕ → Type 0
-AreAnswered [] output = output ≡ []
-AreAnswered (line ∷ lines) output =
-    (answer : List ℕ) × (others : List ℕ) × IsAnswer line answer × AreAnswered lines others × (output ≡ answer ++ (10 ∷ others))
+abbrev pub AreAnswered : (Values → List ℕ) → List (List ℕ) → List ℕ → Type 0
+AreAnswered shown [] output = output ≡ []
+AreAnswered shown (line ∷ lines) output =
+    (answer : List ℕ) × (others : List ℕ) × IsAnswer shown line answer × AreAnswered shown lines others × (output ≡ answer ++ (10 ∷ others))
+
+-- the printed text of the settled triple
+abbrev pub settled_text : Values → List ℕ
+settled_text t = text_of (settled t)
 
 -- the mode's output for an input
 abbrev pub IsOutput : Mode → List ℕ → List ℕ → Type 0
-IsOutput Print input output = AreAnswered (lines_of input) output
+IsOutput Print input output = AreAnswered text_of (lines_of input) output
+IsOutput Show input output = AreAnswered facts_of (lines_of input) output
+IsOutput Settle input output = AreAnswered settled_text (lines_of input) output

@@ -3,6 +3,7 @@
 
 mod conclude;
 mod counted;
+mod facts;
 mod input;
 mod lines;
 mod mode;

@@ -6,6 +6,10 @@ ghost use Rattle.std.specs.Prelude.{◌≡◌};
 pub enum Mode {
     /// Each line's printed triple.
     Print,
+    /// Each line's printed triple, its byte order, pointer width, calling convention and data model.
+    Show,
+    /// Each line's settled triple, printed.
+    Settle,
 }
 
 impl Mode {
@@ -18,6 +22,8 @@ impl Mode {
     {
         match word {
             "print" => Some(Mode::Print),
+            "show" => Some(Mode::Show),
+            "settle" => Some(Mode::Settle),
             _ => None,
         }
     }

@@ -1,13 +1,28 @@
 //! What a mode writes for an input.
-ghost use Rattle.std.specs.Prelude.{◌≡◌, ◌<◌, ◌++◌, ◌∷◌, [], length, string_bytes, IfOk, OnOk, OnErr};
+ghost use Rattle.std.specs.Prelude.{◌≡◌, ◌<◌, ◌++◌, ◌∷◌, [], true, length, string_bytes, IfOk, OnOk, OnErr};
+ghost use Rattle.lexicon_fields.specs.Vendor.{is_plain, vendor_value};
+ghost use Rattle.target_lexicon.specs.Values.{values_of};
+ghost use Rattle.triples.specs.Facts.{facts_of};
 ghost use Rattle.triples.specs.Lines.{lines_of};
 ghost use Rattle.triples.specs.Output.{AreAnswered, IsOutput};
-ghost use Rattle.triples.specs.Private.{AddsAnswer};
+ghost use Rattle.triples.specs.Private.{AddsAnswer, shown_by};
 
+use crate::facts::push_facts;
 use crate::lines::first_line;
 use crate::mode::Mode;
 use std::alloc::{AllocError, Global};
-use target_lexicon::{ParseError, Triple};
+use target_lexicon::{ParseError, Triple, laws};
+
+/// What is shown of a triple.
+#[derive(Clone, Copy)]
+pub(crate) enum Shown {
+    /// Its printed text.
+    Text,
+    /// Its printed text and the words of its four queries.
+    Facts,
+    /// The printed text of the settled triple.
+    SettledText,
+}
 
 /// Adds a line of two pieces, and a line feed.
 fn push_line(output: &mut String, front: &str, back: &str) -> Result<(), AllocError>
@@ -18,27 +33,53 @@ fn push_line(output: &mut String, front: &str, back: &str) -> Result<(), AllocEr
     output.push('\n')
 }
 
-/// Adds what is printed for a line, and a line feed.
-fn push_answer(alloc: Global, output: &mut String, line: &str) -> Result<(), AllocError>
-    ensures { OnOk result (AddsAnswer line.now (string_bytes output.old) (string_bytes output.new)) }
+/// Adds what is shown of a triple, and a line feed.
+fn push_shown(
+    alloc: Global,
+    output: &mut String,
+    shown: Shown,
+    triple: Triple,
+) -> Result<(), AllocError>
+    requires { is_plain (vendor_value triple.vendor) ≡ true }
+    ensures { OnOk result (string_bytes output.new ≡ string_bytes output.old ++ (shown_by shown (values_of triple) ++ 10 ∷ [])) }
 {
+    match shown {
+        Shown::Text => push_line(output, triple.to_text(alloc)?.as_str(), ""),
+        Shown::Facts => {
+            push_facts(output, &triple)?;
+            output.push('\n')
+        }
+        Shown::SettledText => push_line(output, triple.settle().to_text(alloc)?.as_str(), ""),
+    }
+}
+
+/// Adds what is printed for a line, and a line feed.
+fn push_answer(
+    alloc: Global,
+    output: &mut String,
+    shown: Shown,
+    line: &str,
+) -> Result<(), AllocError>
+    ensures { OnOk result (AddsAnswer (shown_by shown) line.now (string_bytes output.old) (string_bytes output.new)) }
+{
+    laws::read_vendors_are_plain();
     match Triple::from_str(alloc, line) {
-        Ok(triple) => push_line(output, "", triple.to_text(alloc)?.as_str()),
+        Ok(triple) => push_shown(alloc, output, shown, triple),
         Err(ParseError::OutOfMemory) => Err(AllocError),
         Err(error) => push_line(output, "error: ", error.to_string(alloc)?.as_str()),
     }
 }
 
 /// The answer of each line, in order, and a line feed behind each.
-fn answers(alloc: Global, input: &str) -> Result<String, AllocError>
-    ensures output { IfOk result (λ output. AreAnswered (lines_of input.now) (string_bytes output)) }
+fn answers(alloc: Global, shown: Shown, input: &str) -> Result<String, AllocError>
+    ensures output { IfOk result (λ output. AreAnswered (shown_by shown) (lines_of input.now) (string_bytes output)) }
     ensures memory { OnErr result (0 < length input.now) }
 {
     let mut output = String::new(alloc);
     let mut rest = input;
     while !rest.is_empty() {
         let (line, behind) = first_line(rest);
-        push_answer(alloc, &mut output, line)?;
+        push_answer(alloc, &mut output, shown, line)?;
         rest = behind;
     }
     Ok(output)
@@ -50,6 +91,8 @@ pub(crate) fn output(alloc: Global, mode: Mode, input: &str) -> Result<String, A
     ensures memory { OnErr result (0 < length input.now) }
 {
     match mode {
-        Mode::Print => answers(alloc, input),
+        Mode::Print => answers(alloc, Shown::Text, input),
+        Mode::Show => answers(alloc, Shown::Facts, input),
+        Mode::Settle => answers(alloc, Shown::SettledText, input),
     }
 }

@@ -2,6 +2,8 @@
 
 ghost use Rattle.std.specs.Io.{WritesAtMost};
 
+mod line_modes;
+
 use crate::asked_mode;
 use crate::conclude::conclude;
 use crate::counted::Counted;
@@ -414,7 +416,9 @@ fn concludes(rt: HostRuntime) -> Result<(), Fail> {
 #[test]
 fn names_modes(rt: HostRuntime) {
     assert_eq!(rt; Mode::from_word("print"), Some(Mode::Print));
-    for word in ["", "Print", "print ", "show", "settle", "json", "matrix"] {
+    assert_eq!(rt; Mode::from_word("show"), Some(Mode::Show));
+    assert_eq!(rt; Mode::from_word("settle"), Some(Mode::Settle));
+    for word in ["", "Print", "print ", "shows", "--help"] {
         assert_eq!(rt; Mode::from_word(word), None);
     }
 }
@@ -425,7 +429,8 @@ fn asks_for_a_mode(rt: HostRuntime) {
         ([].as_slice(), Some(Mode::Print)),
         (&[Some("triples")], Some(Mode::Print)),
         (&[Some("triples"), Some("print")], Some(Mode::Print)),
-        (&[Some("triples"), Some("show")], None),
+        (&[Some("triples"), Some("settle")], Some(Mode::Settle)),
+        (&[Some("triples"), Some("unsettle")], None),
         (&[Some("triples"), Some("")], None),
         (&[Some("triples"), Some("print"), Some("print")], None),
         (&[Some("triples"), None], None),

@@ -1,47 +1,12 @@
+use crate::tests::fixtures::{
+    AARCH64, ARMV6K, CLEVER, Pieces, RISCV32IMC, custom, triple, version,
+};
 use crate::{
-    Aarch64Architecture, Architecture, ArmArchitecture, BinaryFormat, CleverArchitecture,
-    CustomVendor, DeploymentTarget, Environment, OperatingSystem, Riscv32Architecture,
+    Architecture, ArmArchitecture, BinaryFormat, CustomVendor, Environment, OperatingSystem,
     Riscv64Architecture, Triple, Vendor, default_binary_format,
 };
-use std::fmt;
 use std::fmt::Write as _;
 use std::test::Fail;
-
-const ARMV6K: Architecture = Architecture::Arm(ArmArchitecture::Armv6k);
-
-const AARCH64: Architecture = Architecture::Aarch64(Aarch64Architecture::Aarch64);
-
-const CLEVER: Architecture = Architecture::Clever(CleverArchitecture::Clever);
-
-const RISCV32IMC: Architecture = Architecture::Riscv32(Riscv32Architecture::Riscv32imc);
-
-fn triple(
-    architecture: Architecture,
-    vendor: Vendor,
-    operating_system: OperatingSystem,
-    environment: Environment,
-    binary_format: BinaryFormat,
-) -> Triple {
-    Triple {
-        architecture,
-        vendor,
-        operating_system,
-        environment,
-        binary_format,
-    }
-}
-
-fn custom(text: &'static str) -> Vendor {
-    Vendor::Custom(CustomVendor::Static(text))
-}
-
-fn version(major: u16, minor: u8, patch: u8) -> Option<DeploymentTarget> {
-    Some(DeploymentTarget {
-        major,
-        minor,
-        patch,
-    })
-}
 
 /// A triple of which each field is shown.
 fn five_fields() -> Triple {
@@ -425,24 +390,6 @@ fn width_and_fill_change_nothing(rt: HostRuntime) -> Result<(), Fail> {
     assert_eq!(rt; format!(in rt.alloc(); "{triple:*^40}")?.as_str(), text);
     assert_eq!(rt; format!(in rt.alloc(); "{triple:#}")?.as_str(), text);
     Ok(())
-}
-
-/// Takes `left` pieces, and then fails.
-#[derive(Drop)]
-struct Pieces {
-    left: u32,
-    failures: u32,
-}
-
-impl fmt::Write for Pieces {
-    fn write_str(&mut self, _s: &str) -> fmt::Result {
-        if self.left == 0 {
-            self.failures = self.failures.saturating_add(1);
-            return Err(fmt::Error);
-        }
-        self.left -= 1;
-        Ok(())
-    }
 }
 
 #[test]

@@ -1,47 +1,9 @@
 use super::*;
-use lexicon_fields::{
-    Aarch64Architecture, CleverArchitecture, CustomVendor, DeploymentTarget, Riscv64Architecture,
+use crate::tests::fixtures::{
+    AARCH64, ARMV6K, CLEVER, RISCV32IMC, RISCV64, THUMBV7EM, custom, plain, triple, version,
 };
+use lexicon_fields::CustomVendor;
 use std::test::Fail;
-
-const AARCH64: Architecture = Architecture::Aarch64(Aarch64Architecture::Aarch64);
-
-const ARMV6K: Architecture = Architecture::Arm(ArmArchitecture::Armv6k);
-
-const CLEVER: Architecture = Architecture::Clever(CleverArchitecture::Clever);
-
-const RISCV32IMC: Architecture = Architecture::Riscv32(Riscv32Architecture::Riscv32imc);
-
-const RISCV64: Architecture = Architecture::Riscv64(Riscv64Architecture::Riscv64);
-
-const THUMBV7EM: Architecture = Architecture::Arm(ArmArchitecture::Thumbv7em);
-
-fn triple(
-    architecture: Architecture,
-    vendor: Vendor,
-    operating_system: OperatingSystem,
-    environment: Environment,
-    binary_format: BinaryFormat,
-) -> Triple {
-    Triple {
-        architecture,
-        vendor,
-        operating_system,
-        environment,
-        binary_format,
-    }
-}
-
-/// A triple without environment and format, where the format is Elf.
-fn plain(architecture: Architecture, vendor: Vendor, operating_system: OperatingSystem) -> Triple {
-    triple(
-        architecture,
-        vendor,
-        operating_system,
-        Environment::Unknown,
-        BinaryFormat::Elf,
-    )
-}
 
 fn apple(architecture: Architecture, operating_system: OperatingSystem) -> Triple {
     triple(
@@ -51,18 +13,6 @@ fn apple(architecture: Architecture, operating_system: OperatingSystem) -> Tripl
         Environment::Unknown,
         BinaryFormat::Macho,
     )
-}
-
-fn custom(text: &'static str) -> Vendor {
-    Vendor::Custom(CustomVendor::Static(text))
-}
-
-fn version(major: u16, minor: u8, patch: u8) -> Option<DeploymentTarget> {
-    Some(DeploymentTarget {
-        major,
-        minor,
-        patch,
-    })
 }
 
 #[test]

@@ -4,7 +4,7 @@
 use crate::{Architecture, Triple};
 use std::test::Fail;
 
-const KNOWN_TRIPLES: &str = "\
+pub(crate) const KNOWN_TRIPLES: &str = "\
 aarch64-apple-darwin aarch64-apple-ios aarch64-apple-ios-macabi aarch64-apple-ios-sim
 aarch64-apple-tvos aarch64-apple-tvos-sim aarch64-apple-visionos aarch64-apple-visionos-sim
 aarch64-apple-watchos aarch64-apple-watchos-sim aarch64_be-unknown-linux-gnu

@@ -1,0 +1,94 @@
+-- The step leaves a triple as it is exactly outside the families.
+use Rattle.std.proofs.Common.{◌≡◌, ◌⊎◌, inl, inr, ◌∙◌, Bool, true, false, refl, sym, ap, subst}
+use Rattle.std.specs.Bool.{Decides}
+use Rattle.std.proofs.lemmas.Bool.Decides.{Decides-not, Decides-and, Decides-like}
+use Rattle.lexicon_fields.specs.Vendor.{is_plain}
+use Rattle.lexicon_fields.specs.Laws.{HasVersionInRange}
+use Rattle.target_lexicon.specs.Families.{IsInSomeFamily}
+use Rattle.target_lexicon.specs.FixedPoints.{FixedExactlyOutsideFamilies}
+use Rattle.target_lexicon.specs.Laws.{ComesBack}
+use Rattle.target_lexicon.specs.NormalStep.{normal_step, is_outside}
+use Rattle.target_lexicon.specs.Printing.{text_of}
+use Rattle.target_lexicon.specs.Reading.{ReadsAs}
+use Rattle.target_lexicon.specs.Values.{Values}
+use Rattle.target_lexicon.proofs.FamilyTests.{prints_as_special-tells, hides_newlib-tells, prints_the_esp_idf_text-tells, shows_none_alone-tells, hides_unknowns-tells}
+use Rattle.target_lexicon.proofs.StepCases.{IsOutside, step_cases}
+use Rattle.target_lexicon.proofs.TextRounds.{round}
+use Rattle.target_lexicon.proofs.Unique.{read-plain, values-unique}
+
+pub outside-fixed : (t : Values) → IsOutside t → normal_step t ≡ t
+outside-fixed t outside = step_cases (λ u. u ≡ t) t
+    (λ is. absurd (outside.special is)) (λ is. absurd (outside.newlib is)) (λ is. absurd (outside.esp is))
+    (λ is. absurd (outside.none is)) (λ is _. absurd (outside.unknowns is)) (λ _. refl)
+
+pub fixed-outside : (t : Values) → normal_step t ≡ t → IsOutside t
+fixed-outside t = step_cases (λ u. u ≡ t → IsOutside t) t
+    (λ is same. absurd (is.others (sym (ap (λ x. x.environment) same), sym (ap (λ x. x.binary_format) same))))
+    (λ is same. absurd (let of_t = is.0 in let of_step = ap (λ x. x.environment) same in cc))
+    (λ is same. absurd (let of_t = ap (λ x. x.vendor) is in let of_step = ap (λ x. x.vendor) same in cc))
+    (λ is same. absurd (let of_t = is.environment in let of_step = ap (λ x. x.environment) same in cc))
+    (λ is _ same. absurd (is.implied (ap (λ x. x.binary_format) same ∙ is.binary_format)))
+    (λ outside _. outside)
+
+-- some family holds, or the vendor is plain and the step changes nothing
+pub family_or_fixed : (t : Values) (b : Bool) → is_plain t.vendor ≡ b → IsInSomeFamily t ⊎ ((is_plain t.vendor ≡ true) × IsOutside t)
+family_or_fixed t false plain = inl (inr (inr (inr (inr (inr plain)))))
+family_or_fixed t true plain = step_cases (λ _. IsInSomeFamily t ⊎ ((is_plain t.vendor ≡ true) × IsOutside t)) t
+    (λ is. inl (inr (inl is))) (λ is. inl (inr (inr (inl is)))) (λ is. inl (inr (inr (inr (inl is)))))
+    (λ is. inl (inr (inr (inr (inr (inl is)))))) (λ is _. inl (inl is)) (λ outside. inr (plain, outside))
+
+pub not_both : (t : Values) → is_plain t.vendor ≡ true → IsOutside t → ¬ IsInSomeFamily t
+not_both t plain outside (inl is) = outside.unknowns is
+not_both t plain outside (inr (inl is)) = outside.special is
+not_both t plain outside (inr (inr (inl is))) = outside.newlib is
+not_both t plain outside (inr (inr (inr (inl is)))) = outside.esp is
+not_both t plain outside (inr (inr (inr (inr (inl is))))) = outside.none is
+not_both t plain outside (inr (inr (inr (inr (inr is))))) = let bad : true ≡ false = sym plain ∙ is in cc
+
+-- with the placements
+
+back-outside : (t : Values) → HasVersionInRange t.operating_system → ComesBack t → (is_plain t.vendor ≡ true) × IsOutside t
+back-outside t range back =
+    let plain = read-plain (text_of t) t back in
+    (plain, fixed-outside t (values-unique (text_of t) (normal_step t) t (round t (record { vendor = plain; version = range })) back))
+
+outside-back : (t : Values) → HasVersionInRange t.operating_system → is_plain t.vendor ≡ true → IsOutside t → ComesBack t
+outside-back t range plain outside = subst (λ (u : Values). ReadsAs (text_of t) u) (outside-fixed t outside) (round t (record { vendor = plain; version = range }))
+
+either : (t : Values) → HasVersionInRange t.operating_system → ComesBack t ⊎ IsInSomeFamily t
+either t range = elim (family_or_fixed t (is_plain t.vendor) refl) [
+  | inl is ↦ inr is
+  | inr is ↦ inl (outside-back t range is.0 is.1)
+]
+
+back_by : (t : Values) → ComesBack t ⊎ IsInSomeFamily t → ¬ IsInSomeFamily t → ComesBack t
+back_by t (inl back) none = back
+back_by t (inr is) none = absurd (none is)
+
+-- a triple comes back exactly outside the families
+pub fixed_exactly_outside : FixedExactlyOutsideFamilies
+fixed_exactly_outside t range = record {
+  exactly = (λ back. let is = back-outside t range back in not_both t is.0 is.1, back_by t (either t range));
+  either = either t range;
+}
+
+-- and so the tests tell
+
+is_outside-tells : (t : Values) → Decides (is_outside t) (IsOutside t)
+unfolding is_outside
+is_outside-tells t =
+    Decides-like _
+    (λ is. record { special = is.0.0.0.0; newlib = is.0.0.0.1; esp = is.0.0.1; none = is.0.1; unknowns = is.1 })
+    (λ is. ((((is.special, is.newlib), is.esp), is.none), is.unknowns))
+    (Decides-and _ _ (Decides-and _ _ (Decides-and _ _ (Decides-and _ _
+    (Decides-not _ (prints_as_special-tells t))
+    (Decides-not _ (hides_newlib-tells t)))
+    (Decides-not _ (prints_the_esp_idf_text-tells t)))
+    (Decides-not _ (shows_none_alone-tells t)))
+    (Decides-not _ (hides_unknowns-tells t)))
+
+pub back-if_outside : (t : Values) → HasVersionInRange t.operating_system → is_outside t ≡ true → Decides (is_plain t.vendor) (ComesBack t)
+back-if_outside t range outside = (λ plain. outside-back t range plain ((is_outside-tells t).0 outside), λ back. (back-outside t range back).0)
+
+pub back-unless_outside : (t : Values) → HasVersionInRange t.operating_system → is_outside t ≡ false → Decides (is_outside t) (ComesBack t)
+back-unless_outside t range inside = (λ outside. absurd cc, λ back. (is_outside-tells t).1 (back-outside t range back).1)

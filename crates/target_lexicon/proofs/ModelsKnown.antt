@@ -1,0 +1,65 @@
+-- Which data models triples have.
+use Rattle.std.proofs.Common.{◌≡◌, ◌⊎◌, inl, inr, Option, Some, refl}
+use Rattle.std.specs.Prelude.{option_map}
+use Rattle.lexicon_fields.specs.declared.architecture.Architecture.{Architecture}
+use Rattle.lexicon_fields.specs.declared.architecture.Architecture.TheVariants.{Wasm32, Wasm64}
+use Rattle.lexicon_fields.specs.declared.operating_system.OperatingSystem.{OperatingSystem}
+use Rattle.lexicon_fields.specs.declared.operating_system.OperatingSystem.TheVariants.{Windows}
+use Rattle.lexicon_fields.specs.declared.width.PointerWidth.{PointerWidth}
+use Rattle.lexicon_fields.specs.declared.width.PointerWidth.TheVariants.{U32, U64}
+use Rattle.lexicon_fields.specs.Width.{width_bits}
+use Rattle.target_lexicon.specs.declared.calling_convention.CallingConvention.{CallingConvention}
+use Rattle.target_lexicon.specs.declared.calling_convention.CallingConvention.TheVariants.{SystemV, AppleAarch64}
+use Rattle.target_lexicon.specs.declared.data_model.CDataModel.{CDataModel}
+use Rattle.target_lexicon.specs.declared.data_model.CDataModel.TheVariants.{ILP32, LLP64, LP64}
+use Rattle.target_lexicon.specs.DataModel.{size_bits, sizes_of}
+use Rattle.target_lexicon.specs.Queries.{other_model_64, other_model_32, model_64, model_32, model_of_width, model_of, pointer_width, calling_convention, data_model}
+use Rattle.target_lexicon.specs.Values.{Values}
+
+-- the one model of 64-bit pointers off Windows
+other_64 : (c : Option CallingConvention) (a : Architecture) (m : CDataModel) → other_model_64 c a ≡ Some m → m ≡ LP64
+other_64 (Some SystemV) a m h = cc
+other_64 (Some AppleAarch64) a m h = cc
+other_64 _ Wasm64 m h = cc
+other_64 _ _ m h = absurd cc
+
+-- the one model of 32-bit pointers off Windows
+other_32 : (c : Option CallingConvention) (a : Architecture) (m : CDataModel) → other_model_32 c a ≡ Some m → m ≡ ILP32
+other_32 (Some SystemV) a m h = cc
+other_32 _ Wasm32 m h = cc
+other_32 _ _ m h = absurd cc
+
+-- the two models of 64-bit pointers
+at_64 : (s : OperatingSystem) (c : Option CallingConvention) (a : Architecture) (m : CDataModel) → model_64 s c a ≡ Some m
+    → (m ≡ LLP64) ⊎ (m ≡ LP64)
+at_64 Windows c a m h = inl cc
+at_64 _ c a m h = inr (other_64 c a m h)
+
+-- the one model of 32-bit pointers
+at_32 : (s : OperatingSystem) (c : Option CallingConvention) (a : Architecture) (m : CDataModel) → model_32 s c a ≡ Some m → m ≡ ILP32
+at_32 Windows c a m h = cc
+at_32 _ c a m h = other_32 c a m h
+
+-- a model has the pointer width by which it is chosen
+pointers_of_width : (w : Option PointerWidth) (s : OperatingSystem) (c : Option CallingConvention) (a : Architecture) (m : CDataModel)
+    → model_of_width w s c a ≡ Some m → option_map width_bits w ≡ Some (size_bits (sizes_of m).pointer)
+pointers_of_width (Some U64) s c a m h = elim (at_64 s c a m h) [ inl e ↦ rw e refl | inr e ↦ rw e refl ]
+pointers_of_width (Some U32) s c a m h = rw (at_32 s c a m h) refl
+pointers_of_width _ s c a m h = absurd cc
+
+pub model_pointers : (t : Values) (m : CDataModel) → data_model t ≡ Some m → option_map width_bits (pointer_width t) ≡ Some (size_bits (sizes_of m).pointer)
+unfolding model_of
+model_pointers t m h =
+    pointers_of_width (pointer_width t) t.operating_system (calling_convention t) t.architecture m h
+
+-- a model is one of three
+model_of_three : (w : Option PointerWidth) (s : OperatingSystem) (c : Option CallingConvention) (a : Architecture) (m : CDataModel)
+    → model_of_width w s c a ≡ Some m → (m ≡ ILP32) ⊎ ((m ≡ LLP64) ⊎ (m ≡ LP64))
+model_of_three (Some U64) s c a m h = inr (at_64 s c a m h)
+model_of_three (Some U32) s c a m h = inl (at_32 s c a m h)
+model_of_three _ s c a m h = absurd cc
+
+pub one_of_three : (t : Values) (m : CDataModel) → data_model t ≡ Some m → (m ≡ ILP32) ⊎ ((m ≡ LLP64) ⊎ (m ≡ LP64))
+unfolding model_of
+one_of_three t m h =
+    model_of_three (pointer_width t) t.operating_system (calling_convention t) t.architecture m h

@@ -1,0 +1,67 @@
+-- What the names of one field read as in a field before it.
+use Rattle.std.proofs.Common.{◌≡◌, ℕ, List, Bool, true, false, ◌&&◌, Option, Some, None, refl}
+use Rattle.lexicon_fields.specs.declared.operating_system.OperatingSystem.{OperatingSystem}
+use Rattle.lexicon_fields.specs.declared.operating_system.OperatingSystem.TheVariants as operating_system
+use Rattle.lexicon_fields.specs.declared.environment.Environment.{Environment}
+use Rattle.lexicon_fields.specs.declared.environment.Environment.TheVariants as environment
+use Rattle.lexicon_fields.specs.declared.binary_format.BinaryFormat.{BinaryFormat}
+use Rattle.lexicon_fields.specs.declared.binary_format.BinaryFormat.TheVariants as binary_format
+use Rattle.lexicon_fields.specs.Vendor.{VendorValue, Known, Unknown, known_vendor_of, is_admitted, vendor_of}
+use Rattle.lexicon_fields.specs.OperatingSystem.{operating_system_name, operating_system_of}
+use Rattle.lexicon_fields.specs.Environment.{environment_name, environment_of}
+use Rattle.lexicon_fields.specs.BinaryFormat.{binary_format_name}
+use Rattle.lexicon_fields.specs.Laws.{HasVersionInRange}
+use Rattle.lexicon_fields.proofs.OperatingSystemsDashFree.{operating_system_names}
+
+-- of the formats' names only `unknown` is an environment's, and a system's
+abbrev pub format_as_environment : BinaryFormat → Option Environment
+format_as_environment binary_format.Unknown = Some environment.Unknown
+format_as_environment _ = None
+
+pub environment_of-format : (f : BinaryFormat) → environment_of (binary_format_name f) ≡ format_as_environment f
+unfolding environment_of
+environment_of-format binary_format.Unknown = refl
+environment_of-format _ = refl
+
+abbrev pub format_as_system : BinaryFormat → Option OperatingSystem
+format_as_system binary_format.Unknown = Some operating_system.Unknown
+format_as_system _ = None
+
+pub operating_system_of-format : (f : BinaryFormat) → operating_system_of (binary_format_name f) ≡ format_as_system f
+unfolding operating_system_of
+operating_system_of-format binary_format.Unknown = refl
+operating_system_of-format _ = refl
+
+-- of the environments' names only `unknown` and `none` are systems'
+abbrev pub environment_as_system : Environment → Option OperatingSystem
+environment_as_system environment.Unknown = Some operating_system.Unknown
+environment_as_system environment.None = Some operating_system.None_
+environment_as_system _ = None
+
+pub operating_system_of-environment : (e : Environment) → operating_system_of (environment_name e) ≡ environment_as_system e
+unfolding operating_system_of
+operating_system_of-environment environment.Unknown = refl
+operating_system_of-environment _ = refl
+
+-- of the systems' names only `unknown` is a vendor's
+abbrev pub system_as_vendor : OperatingSystem → Option VendorValue
+system_as_vendor operating_system.Unknown = Some (Known Unknown)
+system_as_vendor _ = None
+
+third_false : (x e f form : Bool) → (((x && false) && e) && f) && form ≡ false
+third_false true e f form = refl
+third_false false e f form = refl
+
+-- what reads as a system is not admitted
+not_admitted : (text : List ℕ) (s : OperatingSystem) → operating_system_of text ≡ Some s → is_admitted text ≡ false
+unfolding is_admitted
+not_admitted text s reads = rw reads (third_false _ _ _ _)
+
+by_system : (s : OperatingSystem) → HasVersionInRange s → known_vendor_of (operating_system_name s) ≡ None → vendor_of (operating_system_name s) ≡ None
+unfolding vendor_of
+by_system s range unknown = rw (unknown, not_admitted (operating_system_name s) s (operating_system_names.reads_back s range)) refl
+
+pub vendor_of-operating_system : (s : OperatingSystem) → HasVersionInRange s → vendor_of (operating_system_name s) ≡ system_as_vendor s
+unfolding known_vendor_of vendor_of
+vendor_of-operating_system operating_system.Unknown range = refl
+vendor_of-operating_system s range = by_system s range refl

@@ -1,0 +1,51 @@
+-- What holds in the case of each family, and outside them, holds of the step.
+use Rattle.std.proofs.Common.{◌≡◌, Bool, true, false, cond, refl}
+use Rattle.std.proofs.lemmas.Bool.Decides.{not_from_Decides}
+use Rattle.lexicon_fields.specs.declared.operating_system.OperatingSystem.TheVariants as operating_system
+use Rattle.lexicon_fields.specs.declared.environment.Environment.TheVariants as environment
+use Rattle.lexicon_fields.specs.declared.binary_format.BinaryFormat.TheVariants as binary_format
+use Rattle.lexicon_fields.specs.Vendor.{Known, Espressif}
+use Rattle.target_lexicon.specs.Families.{HidesUnknowns, PrintsAsSpecial, HidesNewlib, PrintsTheEspIdfText, ShowsNoneAlone}
+use Rattle.target_lexicon.specs.ImpliedFormat.{implied}
+use Rattle.target_lexicon.specs.NormalStep.{normal_step, elf_if_unknown}
+use Rattle.target_lexicon.specs.Values.{Values, values}
+use Rattle.target_lexicon.proofs.FamilyTests.{prints_as_special-tells, hides_newlib-tells, prints_the_esp_idf_text-tells, shows_none_alone-tells, hides_unknowns-tells}
+
+-- none of the five families in which a plain vendor's triple changes
+pub record IsOutside (t : Values) : Type 0 where
+  pub unknowns : ¬ HidesUnknowns t
+  pub special : ¬ PrintsAsSpecial t
+  pub newlib : ¬ HidesNewlib t
+  pub esp : ¬ PrintsTheEspIdfText t
+  pub none : ¬ ShowsNoneAlone t
+
+pick : (P : Values → Type 0) (b : Bool) (x y : Values) → (b ≡ true → P x) → (b ≡ false → P y) → P (cond b x y)
+pick P true x y then other = then refl
+pick P false x y then other = other refl
+
+pub step_cases : (P : Values → Type 0) (t : Values)
+    → (PrintsAsSpecial t → P (values t.architecture t.vendor t.operating_system environment.Newlib binary_format.Elf))
+    → (HidesNewlib t → P (values t.architecture t.vendor t.operating_system environment.Unknown (elf_if_unknown t.binary_format)))
+    → (PrintsTheEspIdfText t → P (values t.architecture (Known Espressif) t.operating_system environment.Newlib binary_format.Elf))
+    → (ShowsNoneAlone t → P (values t.architecture t.vendor operating_system.None_ environment.Unknown t.binary_format))
+    → (HidesUnknowns t → ¬ PrintsAsSpecial t → P (values t.architecture t.vendor t.operating_system t.environment (implied t)))
+    → (IsOutside t → P t)
+    → P (normal_step t)
+unfolding normal_step
+step_cases P t special newlib esp none unknowns outside =
+    pick P _ _ _ (λ h. special ((prints_as_special-tells t).0 h))
+    (λ two. pick P _ _ _ (λ h. newlib ((hides_newlib-tells t).0 h))
+    (λ three. pick P _ _ _ (λ h. esp ((prints_the_esp_idf_text-tells t).0 h))
+    (λ four. pick P _ _ _ (λ h. none ((shows_none_alone-tells t).0 h))
+    (λ five. pick P _ _ _ (λ h. unknowns ((hides_unknowns-tells t).0 h) (not_from_Decides _ (prints_as_special-tells t) two))
+    (λ one. outside (record {
+      unknowns = not_from_Decides _ (hides_unknowns-tells t) one;
+      special = not_from_Decides _ (prints_as_special-tells t) two;
+      newlib = not_from_Decides _ (hides_newlib-tells t) three;
+      esp = not_from_Decides _ (prints_the_esp_idf_text-tells t) four;
+      none = not_from_Decides _ (shows_none_alone-tells t) five;
+    }))))))
+
+-- the step keeps the architecture
+pub step-architecture : (t : Values) → (normal_step t).architecture ≡ t.architecture
+step-architecture t = step_cases (λ u. u.architecture ≡ t.architecture) t (λ _. refl) (λ _. refl) (λ _. refl) (λ _. refl) (λ _ _. refl) (λ _. refl)

@@ -1,0 +1,183 @@
+-- The text of a triple with a plain vendor reads as its normal step.
+use Rattle.std.proofs.Common.{◌≡◌, ◌≢◌, ◌∙◌, ℕ, Bool, true, false, not, ◌||◌, cond, List, [], ◌∷◌, ◌++◌, nat_eq, Option, Some, None, Ok, Err, codes, refl, sym, ap}
+use Rattle.std.specs.List.{list_all, join_with_byte}
+use Rattle.std.specs.Str.{bytes_eq}
+use Rattle.std.proofs.lemmas.Bool.{and_parts}
+use Rattle.std.proofs.lemmas.Slice.Eq.{bytes_eq-Decides}
+use Rattle.lexicon_fields.specs.declared.architecture.Architecture.{Architecture}
+use Rattle.lexicon_fields.specs.declared.architecture.Architecture.TheVariants as architecture
+use Rattle.lexicon_fields.specs.declared.architecture.arm.ArmArchitecture.TheVariants as arm
+use Rattle.lexicon_fields.specs.declared.architecture.riscv.Riscv32Architecture.TheVariants as riscv32
+use Rattle.lexicon_fields.specs.declared.operating_system.OperatingSystem.{OperatingSystem}
+use Rattle.lexicon_fields.specs.declared.operating_system.OperatingSystem.TheVariants as operating_system
+use Rattle.lexicon_fields.specs.declared.environment.Environment.{Environment}
+use Rattle.lexicon_fields.specs.declared.environment.Environment.TheVariants as environment
+use Rattle.lexicon_fields.specs.declared.binary_format.BinaryFormat.{BinaryFormat}
+use Rattle.lexicon_fields.specs.declared.binary_format.BinaryFormat.TheVariants as binary_format
+use Rattle.lexicon_fields.specs.ArchitectureQueries.{is_clever}
+use Rattle.lexicon_fields.specs.Names.{is_dash_free}
+use Rattle.lexicon_fields.specs.SubArchitecture.{arm_of, aarch64_of, x86_32_of, mips32_of, mips64_of, riscv32_of, riscv64_of, clever_of, z80_of}
+use Rattle.lexicon_fields.specs.Architecture.{architecture_name, architecture_of}
+use Rattle.lexicon_fields.specs.Vendor.{VendorValue, Known, Custom, Nintendo, Espressif, vendor_of, known_vendor_of, is_admitted, is_plain}
+use Rattle.lexicon_fields.specs.OperatingSystem.{operating_system_of}
+use Rattle.lexicon_fields.specs.Environment.{environment_of}
+use Rattle.lexicon_fields.specs.BinaryFormat.{binary_format_of}
+use Rattle.lexicon_fields.specs.Laws.{HasVersionInRange}
+use Rattle.lexicon_fields.proofs.NamesReadBack.{architecture_names, environment_names, binary_format_names}
+use Rattle.lexicon_fields.proofs.OperatingSystemsDashFree.{operating_system_names}
+use Rattle.lexicon_fields.proofs.VendorsReadBack.{vendor_names_read_back}
+use Rattle.target_lexicon.specs.FixedPoints.{RoundIsNormalStep}
+use Rattle.target_lexicon.specs.ImpliedFormat.{implied_format}
+use Rattle.target_lexicon.specs.NormalStep.{normal_step, prints_the_esp_idf_text}
+use Rattle.target_lexicon.specs.Parts.{parts_of}
+use Rattle.target_lexicon.specs.Printing.{shows_vendor, shows_operating_system, shows_environment, shows_binary_format, shown_parts, text_of, when}
+use Rattle.target_lexicon.specs.ReadingByFields.{read_parts, read_unless_special, reading}
+use Rattle.target_lexicon.specs.Refusal.{Lacks, refused}
+use Rattle.target_lexicon.specs.Field as field
+use Rattle.target_lexicon.specs.SpecialTexts.{special_text, special_values, nintendo_3ds, nintendo_3ds_text, esp_idf, esp_idf_text}
+use Rattle.target_lexicon.specs.Values.{Values, values}
+use Rattle.target_lexicon.proofs.Computed.{reading-computed}
+use Rattle.target_lexicon.proofs.FamilyTests.{prints_the_esp_idf_text-tells}
+use Rattle.target_lexicon.proofs.Rounds.{parts-round}
+use Rattle.target_lexicon.proofs.StepCases.{step_cases, step-architecture}
+
+-- parts without dashes are the parts of the text that joins them
+
+all_free : List (List ℕ) → Bool
+all_free ps = list_all is_dash_free ps
+
+by_dash : (dash rest : Bool) → not (dash || rest) ≡ true → (dash ≡ false) × (not rest ≡ true)
+by_dash false rest free = (refl, free)
+by_dash true rest free = absurd cc
+
+parts_of-last : (p : List ℕ) → is_dash_free p ≡ true → parts_of p ≡ p ∷ []
+parts_of-last [] free = refl
+parts_of-last (c ∷ cs) free = let both = by_dash (nat_eq c 45) _ free in rw (both.0, parts_of-last cs both.1) refl
+
+parts_of-first : (p rest : List ℕ) → is_dash_free p ≡ true → parts_of (p ++ (45 ∷ rest)) ≡ p ∷ parts_of rest
+parts_of-first [] rest free = refl
+parts_of-first (c ∷ cs) rest free = let both = by_dash (nat_eq c 45) _ free in rw (both.0, parts_of-first cs rest both.1) refl
+
+parts_of-join : (p : List ℕ) (ps : List (List ℕ)) → is_dash_free p ≡ true → list_all is_dash_free ps ≡ true → parts_of (join_with_byte 45 (p ∷ ps)) ≡ p ∷ ps
+parts_of-join p [] free others = parts_of-last p free
+parts_of-join p (q ∷ ps) free others =
+    let both = and_parts (is_dash_free q) (list_all is_dash_free ps) others in
+    parts_of-first p (join_with_byte 45 (q ∷ ps)) free ∙ ap (λ k. p ∷ k) (parts_of-join q ps both.0 both.1)
+
+when-free : (b : Bool) (p : List ℕ) (ps : List (List ℕ)) → is_dash_free p ≡ true → list_all is_dash_free ps ≡ true → list_all is_dash_free (when b p ps) ≡ true
+when-free true p ps free others = rw (free, others) refl
+when-free false p ps free others = others
+
+-- the special texts, and the triples that print them
+
+nintendo-step : (e : Environment) (f : BinaryFormat) → normal_step (values (architecture.Arm arm.Armv6k) (Known Nintendo) operating_system.Horizon e f) ≡ nintendo_3ds
+unfolding normal_step
+nintendo-step environment.Newlib binary_format.Elf = refl
+nintendo-step _ _ = refl
+
+esp_idf-step : (e : Environment) (f : BinaryFormat) → normal_step (values (architecture.Riscv32 riscv32.Riscv32imc) (Known Espressif) operating_system.Espidf e f) ≡ esp_idf
+unfolding normal_step
+esp_idf-step environment.Newlib binary_format.Elf = refl
+esp_idf-step _ _ = refl
+
+nintendo-text : (e : Environment) (f : BinaryFormat) → reading (text_of (values (architecture.Arm arm.Armv6k) (Known Nintendo) operating_system.Horizon e f)) ≡ Ok nintendo_3ds
+unfolding reading text_of special_text special_values
+nintendo-text e f = refl
+
+esp_idf-text : (e : Environment) (f : BinaryFormat) → reading (text_of (values (architecture.Riscv32 riscv32.Riscv32imc) (Known Espressif) operating_system.Espidf e f)) ≡ Ok esp_idf
+unfolding reading text_of special_text special_values
+esp_idf-text e f = refl
+
+pub special-round : (s : OperatingSystem) (v : VendorValue) (a : Architecture) (e : Environment) (f : BinaryFormat) (text : List ℕ) → special_text s v a ≡ Some text
+    → reading (text_of (values a v s e f)) ≡ Ok (normal_step (values a v s e f))
+unfolding special_text
+special-round operating_system.Horizon (Known Nintendo) (architecture.Arm arm.Armv6k) e f text is = nintendo-text e f ∙ ap Ok (sym (nintendo-step e f))
+special-round operating_system.Espidf (Known Espressif) (architecture.Riscv32 riscv32.Riscv32imc) e f text is = esp_idf-text e f ∙ ap Ok (sym (esp_idf-step e f))
+special-round _ _ _ e f text is = absurd cc
+
+-- the triple that prints another's special text
+
+abbrev custom_esp : Values
+custom_esp = values (architecture.Riscv32 riscv32.Riscv32imc) (Custom (codes "esp")) operating_system.Espidf environment.Unknown binary_format.Elf
+
+custom_esp-round : reading (text_of custom_esp) ≡ Ok (normal_step custom_esp)
+unfolding reading text_of special_text special_values shown_parts shows_vendor shows_operating_system shows_environment shows_binary_format implied_format normal_step
+custom_esp-round = refl
+
+-- the special texts, read by their parts
+
+nintendo-parts : read_parts (parts_of nintendo_3ds_text) ≡ Err (refused (Lacks field.OperatingSystem) (codes "3ds"))
+unfolding architecture_of arm_of vendor_of known_vendor_of operating_system_of environment_of binary_format_of
+nintendo-parts = refl
+
+esp_idf-parts : read_parts (parts_of esp_idf_text) ≡ Ok custom_esp
+unfolding architecture_of arm_of aarch64_of x86_32_of mips32_of mips64_of riscv32_of riscv64_of clever_of z80_of vendor_of known_vendor_of is_admitted operating_system_of environment_of binary_format_of implied_format
+esp_idf-parts = refl
+
+-- a text that isn't special is read by its parts
+by_tests : (text : List ℕ) (ps : List (List ℕ)) (t : Values) (x y : Bool) → bytes_eq text nintendo_3ds_text ≡ x → bytes_eq text esp_idf_text ≡ y → parts_of text ≡ ps
+    → read_parts ps ≡ Ok t → ps ≢ parts_of esp_idf_text → read_unless_special (cond x (Some nintendo_3ds) (cond y (Some esp_idf) None)) text ≡ Ok t
+by_tests text ps t true y is_x is_y are reads apart =
+    absurd (let same = sym are ∙ ap parts_of ((bytes_eq-Decides text nintendo_3ds_text).0 is_x) in let bad = rw same at reads in let refusal = nintendo-parts in cc)
+by_tests text ps t false true is_x is_y are reads apart = absurd (apart (sym are ∙ ap parts_of ((bytes_eq-Decides text esp_idf_text).0 is_y)))
+by_tests text ps t false false is_x is_y are reads apart = ap read_parts are ∙ reads
+
+abbrev has_more_than_three : List (List ℕ) → Bool
+has_more_than_three (_ ∷ _ ∷ _ ∷ _ ∷ _) = true
+has_more_than_three _ = false
+
+-- with the fields of the device, a custom `esp` shows more parts where the text isn't the device's
+esp-shows : (e : Environment) (f : BinaryFormat) → prints_the_esp_idf_text e f operating_system.Espidf (architecture.Riscv32 riscv32.Riscv32imc) (Custom (codes "esp")) ≡ false
+    → has_more_than_three (shown_parts (values (architecture.Riscv32 riscv32.Riscv32imc) (Custom (codes "esp")) operating_system.Espidf e f)) ≡ true
+unfolding shown_parts shows_vendor shows_operating_system shows_environment shows_binary_format implied_format
+esp-shows environment.Unknown binary_format.Elf apart = absurd cc
+esp-shows environment.Unknown _ apart = refl
+esp-shows _ f apart = refl
+
+-- what the step keeps
+
+step-vendor : (t : Values) → prints_the_esp_idf_text t.environment t.binary_format t.operating_system t.architecture t.vendor ≡ false → (normal_step t).vendor ≡ t.vendor
+step-vendor t apart = step_cases (λ u. u.vendor ≡ t.vendor) t (λ _. refl) (λ _. refl) (λ esp. absurd (let is = (prints_the_esp_idf_text-tells t).1 esp in cc)) (λ _. refl) (λ _ _. refl) (λ _. refl)
+
+step-operating_system : (t : Values) → is_clever t.architecture ≡ false → (normal_step t).operating_system ≡ t.operating_system
+step-operating_system t other = step_cases (λ u. u.operating_system ≡ t.operating_system) t (λ _. refl) (λ _. refl) (λ _. refl) (λ none. absurd (let is = none.architecture in cc)) (λ _ _. refl) (λ _. refl)
+
+module _ (a : Architecture) (v : VendorValue) (s : OperatingSystem) (e : Environment) (f : BinaryFormat) (plain : is_plain v ≡ true) (range : HasVersionInRange s)
+    (none : special_text s v a ≡ None) (apart : prints_the_esp_idf_text e f s a v ≡ false) where
+  parts-apart : shown_parts (values a v s e f) ≢ parts_of esp_idf_text
+  parts-apart same =
+      let reads : Ok (normal_step (values a v s e f)) ≡ Ok custom_esp = sym (parts-round a v s e f plain range none apart) ∙ ap read_parts same ∙ esp_idf-parts in
+      let step : normal_step (values a v s e f) ≡ custom_esp = cc in
+      let is_a : a ≡ architecture.Riscv32 riscv32.Riscv32imc = sym (step-architecture (values a v s e f)) ∙ ap (λ t. t.architecture) step in
+      let is_v : v ≡ Custom (codes "esp") = sym (step-vendor (values a v s e f) apart) ∙ ap (λ t. t.vendor) step in
+      let is_s : s ≡ operating_system.Espidf = sym (step-operating_system (values a v s e f) (ap is_clever is_a)) ∙ ap (λ t. t.operating_system) step in
+      let more = esp-shows e f (rw (is_a, is_v, is_s) at apart) in
+      let three = rw (is_a, is_v, is_s) at (ap has_more_than_three same) in cc
+
+  shown-round : reading (join_with_byte 45 (shown_parts (values a v s e f))) ≡ Ok (normal_step (values a v s e f))
+  unfolding reading shown_parts special_values
+  shown-round =
+      by_tests (join_with_byte 45 (shown_parts (values a v s e f))) (shown_parts (values a v s e f)) (normal_step (values a v s e f)) _ _ refl refl
+      (parts_of-join (architecture_name a) _ (architecture_names.name_dash_free a tt)
+      (when-free (shows_vendor v s e a) _ _ (vendor_names_read_back.name_dash_free v plain)
+      (when-free (shows_operating_system s a) _ _ (operating_system_names.name_dash_free s range)
+      (when-free (shows_environment e s v) _ _ (environment_names.name_dash_free e tt)
+      (when-free (shows_binary_format (values a v s e f)) _ _ (binary_format_names.name_dash_free f tt) refl)))))
+      (parts-round a v s e f plain range none apart) parts-apart
+
+  parts-text : reading (text_of (values a v s e f)) ≡ Ok (normal_step (values a v s e f))
+  unfolding text_of
+  parts-text = rw none shown-round
+
+round_by : (t : Values) (special : Option (List ℕ)) (b : Bool) → is_plain t.vendor ≡ true → HasVersionInRange t.operating_system → special_text t.operating_system t.vendor t.architecture ≡ special
+    → prints_the_esp_idf_text t.environment t.binary_format t.operating_system t.architecture t.vendor ≡ b → reading (text_of t) ≡ Ok (normal_step t)
+round_by t (Some text) b plain range is is_b = special-round t.operating_system t.vendor t.architecture t.environment t.binary_format text is
+round_by t None true plain range is is_b = rw ((prints_the_esp_idf_text-tells t).0 is_b) custom_esp-round
+round_by t None false plain range is is_b = parts-text t.architecture t.vendor t.operating_system t.environment t.binary_format plain range is is_b
+
+reading-text_of : (t : Values) → is_plain t.vendor ≡ true → HasVersionInRange t.operating_system → reading (text_of t) ≡ Ok (normal_step t)
+reading-text_of t plain range = round_by t _ _ plain range refl refl
+
+-- a round of a plain triple is its step
+pub round : RoundIsNormalStep
+round t plain = ((reading-computed (text_of t)).read (normal_step t)).1 (reading-text_of t plain.vendor plain.version)

@@ -1,0 +1,45 @@
+-- Laws of the four queries, and of sizes.
+use Rattle.std.specs.Prelude.{◌≡◌, ◌≢◌, ◌≤◌, ◌*◌, Some, option_map}
+use Rattle.lexicon_fields.specs.Width.{width_bits}
+use Rattle.target_lexicon.specs.declared.data_model.Size.{Size}
+use Rattle.target_lexicon.specs.declared.data_model.CDataModel.{CDataModel}
+use Rattle.target_lexicon.specs.declared.data_model.CDataModel.TheVariants.{LP32, ILP64}
+use Rattle.target_lexicon.specs.DataModel.{size_bits, size_bytes, sizes_of}
+use Rattle.target_lexicon.specs.NormalStep.{normal_step}
+use Rattle.target_lexicon.specs.Queries.{endianness, pointer_width, calling_convention, data_model}
+use Rattle.target_lexicon.specs.Values.{Values}
+
+-- where a triple has a model, its pointers have the width of the model's
+abbrev pub ModelWidth : Type 0
+ModelWidth = (t : Values) (model : CDataModel) → data_model t ≡ Some model
+    → option_map width_bits (pointer_width t) ≡ Some (size_bits (sizes_of model).pointer)
+
+-- no triple has the model of 16-bit Windows, nor that of the first 64-bit Unixes
+abbrev pub NoRareModel : Type 0
+NoRareModel = (t : Values) → (data_model t ≢ Some LP32) × (data_model t ≢ Some ILP64)
+
+-- in a model no integer type is narrower than the one before it
+pub record IntegersGrow (model : CDataModel) : Type 0 where
+  pub short_int : size_bits (sizes_of model).short ≤ size_bits (sizes_of model).int
+  pub int_long : size_bits (sizes_of model).int ≤ size_bits (sizes_of model).long
+  pub long_long_long : size_bits (sizes_of model).long ≤ size_bits (sizes_of model).long_long
+
+-- so it is in every model
+abbrev pub IntegersGrowInEach : Type 0
+IntegersGrowInEach = (model : CDataModel) → IntegersGrow model
+
+-- a byte has 8 bits
+abbrev pub BytesHaveEightBits : Type 0
+BytesHaveEightBits = (size : Size) → size_bits size ≡ 8 * size_bytes size
+
+-- both have the same architecture, and each query has the same answer, or none
+pub record AnswersAlike (t u : Values) : Type 0 where
+  pub architecture : t.architecture ≡ u.architecture
+  pub endianness : endianness t ≡ endianness u
+  pub pointer_width : pointer_width t ≡ pointer_width u
+  pub calling_convention : calling_convention t ≡ calling_convention u
+  pub data_model : data_model t ≡ data_model u
+
+-- the normal step keeps what is asked of a triple
+abbrev pub QueriesKept : Type 0
+QueriesKept = (t : Values) → AnswersAlike (normal_step t) t

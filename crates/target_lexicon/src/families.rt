@@ -1,0 +1,259 @@
+//! What printing and reading again keep of a triple: the six families that don't come back, and the normal step.
+ghost use Rattle.std.specs.Prelude.{◌≡◌, ◌↔◌, ◌⊎◌, ◌<◌, ◌^◌, true};
+ghost use Rattle.lexicon_fields.specs.Laws.{HasVersionInRange, IsVersionInRange};
+ghost use Rattle.lexicon_fields.specs.Vendor.{is_plain, vendor_value};
+ghost use Rattle.lexicon_fields.specs.declared.vendor.Vendor.TheVariants.{Espressif};
+ghost use Rattle.target_lexicon.specs.FixedPoints.{settled};
+ghost use Rattle.target_lexicon.specs.ImpliedFormat.{implied};
+ghost use Rattle.target_lexicon.specs.Laws.{ComesBack};
+ghost use Rattle.target_lexicon.specs.NormalStep.{normal_step, prints_as_special, hides_newlib, prints_the_esp_idf_text, shows_none_alone, hides_unknowns, elf_if_unknown, is_outside};
+ghost use Rattle.target_lexicon.specs.Printing.{text_of};
+ghost use Rattle.target_lexicon.specs.Reading.{ReadsAs};
+ghost use Rattle.target_lexicon.specs.Values.{values_of};
+
+use crate::default_format::default_binary_format;
+use crate::triple::Triple;
+use lexicon_fields::{
+    Architecture, ArmArchitecture, BinaryFormat, DeploymentTarget, Environment, OperatingSystem,
+    Riscv32Architecture, Vendor,
+};
+
+impl Triple {
+    /// Whether the triple comes back: printed and read again it is itself. No text is made.
+    ///
+    /// It is so exactly outside six families:
+    /// - Environment and format are `Unknown`, and another format is implied.
+    /// - The fields say the Nintendo 3DS or ESP-IDF, whose text says nothing of environment and format, and these aren't
+    ///   `Newlib` and `Elf`.
+    /// - `Newlib` is left out, as on these systems, but the architecture is another.
+    /// - The text of ESP-IDF is printed with the custom vendor `esp`.
+    /// - On Clever without a system, the environment is `None`, which reads as the system.
+    /// - The vendor isn't plain.
+    pub fn comes_back(&self) -> bool
+        ensures { (result ≡ true) ↔ ComesBack (values_of self.now) }
+    {
+        version_fits(self.operating_system);
+        self.is_outside() && self.vendor.is_plain()
+    }
+
+    /// The triple that this one's text reads as. It differs where this one doesn't come back:
+    /// - with the fields of the Nintendo 3DS or ESP-IDF, environment and format become `Newlib` and `Elf`;
+    /// - where `Newlib` is left out on another architecture, the environment becomes `Unknown`, and an `Unknown` format
+    ///   becomes `Elf`;
+    /// - with the text of ESP-IDF and the custom vendor `esp`, vendor, environment and format are those of ESP-IDF;
+    /// - on Clever without a system, the environment `None` becomes the system, and the environment `Unknown`;
+    /// - where environment and format are `Unknown` and another format is implied, it becomes that.
+    pub fn normal(self) -> Triple
+        requires { is_plain (vendor_value self.vendor) ≡ true }
+        ensures step { values_of result ≡ normal_step (values_of self) }
+        ensures round { ReadsAs (text_of (values_of self)) (values_of result) }
+        ensures vendor { (result.vendor ≡ self.vendor) ⊎ (result.vendor ≡ Espressif) }
+    {
+        version_fits(self.operating_system);
+        self.step()
+    }
+
+    /// The normal step, taken until the triple comes back: after two steps each does, and all but one after one.
+    /// Two such triples are equal exactly where their texts are, so that the text is a key.
+    pub fn settle(self) -> Triple
+        requires { is_plain (vendor_value self.vendor) ≡ true }
+        ensures steps { values_of result ≡ settled (values_of self) }
+        ensures back { ComesBack (values_of result) }
+        ensures vendor { (result.vendor ≡ self.vendor) ⊎ (result.vendor ≡ Espressif) }
+    {
+        version_fits(self.operating_system);
+        let first = self.step();
+        if first.prints_the_esp_idf_text() {
+            return first.step();
+        }
+        first
+    }
+
+    /// The normal step, by the first of the families that holds.
+    #[tactic(auto, unfolding(crate::specs::NormalStep::normal_step))]
+    fn step(self) -> Triple
+        ensures step { values_of result ≡ normal_step (values_of self) }
+        ensures vendor { (result.vendor ≡ self.vendor) ⊎ (result.vendor ≡ Espressif) }
+    {
+        if self.prints_as_special() {
+            return Triple {
+                environment: Environment::Newlib,
+                binary_format: BinaryFormat::Elf,
+                ..self
+            };
+        }
+        if self.hides_newlib() {
+            return Triple {
+                environment: Environment::Unknown,
+                binary_format: elf_if_unknown(self.binary_format),
+                ..self
+            };
+        }
+        if self.prints_the_esp_idf_text() {
+            return Triple {
+                vendor: Vendor::Espressif,
+                environment: Environment::Newlib,
+                binary_format: BinaryFormat::Elf,
+                ..self
+            };
+        }
+        if self.shows_none_alone() {
+            return Triple {
+                operating_system: OperatingSystem::None_,
+                environment: Environment::Unknown,
+                ..self
+            };
+        }
+        if self.hides_unknowns() {
+            let binary_format = default_binary_format(&self);
+            return Triple {
+                binary_format,
+                ..self
+            };
+        }
+        self
+    }
+
+    /// Whether the triple is in none of the families, but maybe that of the vendors that aren't plain.
+    #[tactic(auto, unfolding(crate::specs::NormalStep::is_outside))]
+    fn is_outside(&self) -> bool
+        ensures { result ≡ is_outside (values_of self.now) }
+    {
+        !self.prints_as_special()
+            && !self.hides_newlib()
+            && !self.prints_the_esp_idf_text()
+            && !self.shows_none_alone()
+            && !self.hides_unknowns()
+    }
+
+    /// Whether a special text is printed, and environment and format aren't `Newlib` and `Elf`.
+    fn prints_as_special(&self) -> bool
+        ensures { result ≡ prints_as_special self.now.operating_system (vendor_value self.now.vendor) self.now.architecture
+            self.now.environment self.now.binary_format }
+    {
+        matches!(
+            (self.operating_system, &self.vendor, self.architecture),
+            (
+                OperatingSystem::Horizon,
+                Vendor::Nintendo,
+                Architecture::Arm(ArmArchitecture::Armv6k),
+            ) | (
+                OperatingSystem::Espidf,
+                Vendor::Espressif,
+                Architecture::Riscv32(Riscv32Architecture::Riscv32imc),
+            )
+        ) && !matches!(
+            (self.environment, self.binary_format),
+            (Environment::Newlib, BinaryFormat::Elf)
+        )
+    }
+
+    /// Whether `Newlib` isn't shown, and the text isn't special.
+    fn hides_newlib(&self) -> bool
+        ensures { result ≡ hides_newlib self.now.environment self.now.operating_system (vendor_value self.now.vendor) self.now.architecture }
+    {
+        match (self.environment, self.operating_system, &self.vendor) {
+            (Environment::Newlib, OperatingSystem::Horizon, Vendor::Nintendo) => !matches!(
+                self.architecture,
+                Architecture::Arm(ArmArchitecture::Armv6k)
+            ),
+            (Environment::Newlib, OperatingSystem::Espidf, Vendor::Espressif) => !matches!(
+                self.architecture,
+                Architecture::Riscv32(Riscv32Architecture::Riscv32imc)
+            ),
+            _ => false,
+        }
+    }
+
+    /// Whether the vendor is the custom `esp`, and the text the special one.
+    fn prints_the_esp_idf_text(&self) -> bool
+        ensures { result ≡ prints_the_esp_idf_text self.now.environment self.now.binary_format self.now.operating_system
+            self.now.architecture (vendor_value self.now.vendor) }
+    {
+        match (
+            self.environment,
+            self.binary_format,
+            self.operating_system,
+            self.architecture,
+            &self.vendor,
+        ) {
+            (
+                Environment::Unknown,
+                BinaryFormat::Elf,
+                OperatingSystem::Espidf,
+                Architecture::Riscv32(Riscv32Architecture::Riscv32imc),
+                Vendor::Custom(custom),
+            ) => custom.as_str() == "esp",
+            _ => false,
+        }
+    }
+
+    /// Whether the environment `none` is shown alone, on Clever without a system.
+    fn shows_none_alone(&self) -> bool
+        ensures { result ≡ shows_none_alone self.now.environment self.now.operating_system self.now.architecture }
+    {
+        matches!(
+            (self.environment, self.operating_system, self.architecture),
+            (
+                Environment::None,
+                OperatingSystem::Unknown,
+                Architecture::Clever(_)
+            )
+        )
+    }
+
+    /// Whether environment and format are unknown, and another format is implied.
+    fn hides_unknowns(&self) -> bool
+        ensures { result ≡ hides_unknowns self.now.environment self.now.binary_format (implied (values_of self.now)) }
+    {
+        matches!(
+            (self.environment, self.binary_format),
+            (Environment::Unknown, BinaryFormat::Unknown)
+        ) && default_binary_format(self) != BinaryFormat::Unknown
+    }
+}
+
+/// The format, or `Elf` for an unknown one.
+fn elf_if_unknown(binary_format: BinaryFormat) -> BinaryFormat
+    ensures { result ≡ elf_if_unknown binary_format }
+{
+    match binary_format {
+        BinaryFormat::Unknown => BinaryFormat::Elf,
+        _ => binary_format,
+    }
+}
+
+/// A version that a system holds is in range, by its types.
+fn version_fits(operating_system: OperatingSystem)
+    ensures { HasVersionInRange operating_system }
+{
+    match operating_system {
+        OperatingSystem::Darwin(Some(version))
+        | OperatingSystem::IOS(Some(version))
+        | OperatingSystem::MacOSX(Some(version))
+        | OperatingSystem::TvOS(Some(version))
+        | OperatingSystem::VisionOS(Some(version))
+        | OperatingSystem::WatchOS(Some(version))
+        | OperatingSystem::XROS(Some(version)) => numbers_fit(version),
+        _ => {}
+    }
+}
+
+/// The numbers of a version are in range, by their types.
+fn numbers_fit(version: DeploymentTarget)
+    ensures { IsVersionInRange version }
+{
+    let DeploymentTarget {
+        major,
+        minor,
+        patch,
+    } = version;
+    parts_fit(major, minor, patch);
+}
+
+fn parts_fit(major: u16, minor: u8, patch: u8)
+    ensures { (major < 2 ^ 16) × (minor < 2 ^ 8) × (patch < 2 ^ 8) }
+{}
+
+#[cfg(test)]
+mod tests;

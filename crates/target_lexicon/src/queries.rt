@@ -1,0 +1,109 @@
+//! What a code generator asks of a triple.
+ghost use Rattle.std.specs.Prelude.{◌≡◌, ◌↔◌, IsErr, false};
+ghost use Rattle.lexicon_fields.specs.Names.{Answers};
+ghost use Rattle.target_lexicon.specs.Queries.{endianness, pointer_width, calling_convention, data_model, is_ilp32};
+ghost use Rattle.target_lexicon.specs.Values.{values_of};
+
+#[cfg(test)]
+mod tests;
+
+use crate::calling_convention::CallingConvention;
+use crate::data_model::CDataModel;
+use crate::triple::Triple;
+use lexicon_fields::{Architecture, Endianness, Environment, OperatingSystem, PointerWidth};
+
+impl Triple {
+    /// The byte order, which is the architecture's; the architecture `Unknown` is refused.
+    pub fn endianness(&self) -> Result<Endianness, ()>
+        ensures answer { Answers (endianness (values_of self.now)) result }
+        ensures refusal { IsErr result ↔ (self.now.architecture ≡ Architecture.Unknown) }
+    {
+        self.architecture.endianness()
+    }
+
+    /// The width of a pointer, which is the architecture's; but in the environments `Gnux32` and `GnuIlp32` a pointer
+    /// has 32 bits, whatever the architecture. In every other environment the architecture `Unknown` is refused.
+    #[tactic(auto, unfolding(crate::specs::Queries::width_in))]
+    pub fn pointer_width(&self) -> Result<PointerWidth, ()>
+        ensures answer { Answers (pointer_width (values_of self.now)) result }
+        ensures refusal { IsErr result ↔ ((self.now.architecture ≡ Architecture.Unknown) × (is_ilp32 self.now.environment ≡ false)) }
+    {
+        match self.environment {
+            Environment::Gnux32 | Environment::GnuIlp32 => Ok(PointerWidth::U32),
+            _ => self.architecture.pointer_width(),
+        }
+    }
+
+    /// The calling convention, which follows from the operating system; on systems like Darwin and those that run
+    /// WebAssembly the architecture decides too. Where no convention is known, as on `WasiP1`, `WasiP2`, `Illumos` and
+    /// `Cygwin`, the triple is refused.
+    #[tactic(auto, unfolding(crate::specs::Queries::convention_on))]
+    pub fn default_calling_convention(&self) -> Result<CallingConvention, ()>
+        ensures { Answers (calling_convention (values_of self.now)) result }
+    {
+        match self.operating_system {
+            OperatingSystem::Darwin(_)
+            | OperatingSystem::IOS(_)
+            | OperatingSystem::MacOSX(_)
+            | OperatingSystem::TvOS(_)
+            | OperatingSystem::VisionOS(_)
+            | OperatingSystem::WatchOS(_)
+            | OperatingSystem::XROS(_) => match self.architecture {
+                Architecture::Aarch64(_) => Ok(CallingConvention::AppleAarch64),
+                _ => Ok(CallingConvention::SystemV),
+            },
+            OperatingSystem::Aix
+            | OperatingSystem::Bitrig
+            | OperatingSystem::Cloudabi
+            | OperatingSystem::Dragonfly
+            | OperatingSystem::Freebsd
+            | OperatingSystem::Fuchsia
+            | OperatingSystem::Haiku
+            | OperatingSystem::Hermit
+            | OperatingSystem::Hurd
+            | OperatingSystem::L4re
+            | OperatingSystem::Linux
+            | OperatingSystem::Netbsd
+            | OperatingSystem::Openbsd
+            | OperatingSystem::Redox
+            | OperatingSystem::Solaris => Ok(CallingConvention::SystemV),
+            OperatingSystem::Windows => Ok(CallingConvention::WindowsFastcall),
+            OperatingSystem::Nebulet
+            | OperatingSystem::Emscripten
+            | OperatingSystem::Wasi
+            | OperatingSystem::Unknown => match self.architecture {
+                Architecture::Wasm32 => Ok(CallingConvention::WasmBasicCAbi),
+                _ => Err(()),
+            },
+            _ => Err(()),
+        }
+    }
+
+    /// The data model of C, which follows from the pointer width, the operating system, the calling convention and the
+    /// architecture. Where no model is known, as for pointers of 16 bits, the triple is refused.
+    #[tactic(auto, unfolding(crate::specs::Queries::model_of))]
+    pub fn data_model(&self) -> Result<CDataModel, ()>
+        ensures { Answers (data_model (values_of self.now)) result }
+    {
+        match self.pointer_width() {
+            Ok(PointerWidth::U64) => match (self.operating_system, self.architecture) {
+                (OperatingSystem::Windows, _) => Ok(CDataModel::LLP64),
+                (_, Architecture::Wasm64) => Ok(CDataModel::LP64),
+                _ => match self.default_calling_convention() {
+                    Ok(CallingConvention::SystemV | CallingConvention::AppleAarch64) => {
+                        Ok(CDataModel::LP64)
+                    }
+                    _ => Err(()),
+                },
+            },
+            Ok(PointerWidth::U32) => match (self.operating_system, self.architecture) {
+                (OperatingSystem::Windows, _) | (_, Architecture::Wasm32) => Ok(CDataModel::ILP32),
+                _ => match self.default_calling_convention() {
+                    Ok(CallingConvention::SystemV) => Ok(CDataModel::ILP32),
+                    _ => Err(()),
+                },
+            },
+            Ok(PointerWidth::U16) | Err(()) => Err(()),
+        }
+    }
+}
