@@ -3,9 +3,15 @@
 -- each type read back as the values that bear them, and hold no dash.
 -- EqualByValue: that `==` tells exactly which values are the same.
 pub mod EqualByValue
+pub mod FrontLemmas
+pub mod Halving
 pub mod LookUps
 pub mod NamesReadBack
 pub mod OperatingSystemsDashFree
 pub mod OperatingSystemsReadBack
+pub mod RowReads
+pub mod RowTexts
+pub mod RowsHold
+pub mod SubArchitectures
 pub mod VendorsReadBack
 pub mod VersionsReadBack

@@ -6,7 +6,7 @@ use Rattle.std.specs.List.{list_all}
 use Rattle.std.proofs.lemmas.Bool.{and_parts}
 use Rattle.std.proofs.lemmas.Slice.Eq.{bytes_eq-Decides}
 use Rattle.lexicon_fields.specs.Names.{Pair, value_of, is_dash_free}
-use Rattle.lexicon_fields.specs.Laws.{NamesOfReadBack, NamesReadBack}
+use Rattle.lexicon_fields.specs.Laws.{NamesOfReadBack}
 
 -- a test that every pair passes holds of each text with the value that it reads as
 pub value_of-all : {V : Type 0} (test : Pair V → Bool) (pairs : List (Pair V)) (text : List ℕ) (v : V) → list_all test pairs ≡ true → value_of pairs text ≡ Some v → test (text, v) ≡ true
@@ -23,25 +23,25 @@ value_of-all {V} test (pair ∷ pairs) text v all found =
       | false ↦ λ _ is. value_of-all test pairs text v parts.1 is
     ]) refl found
 
--- a text has no dash if it is read to a value
-unfoldable pub IsDashFreeIfRead : {V : Type 0} → List ℕ → Option V → Type 0
-IsDashFreeIfRead {V} text reading = (v : V) → reading ≡ Some v → is_dash_free text ≡ true
+-- a text passes a test if it is read to a value
+unfoldable pub PassesIfRead : {V : Type 0} → (List ℕ → Bool) → List ℕ → Option V → Type 0
+PassesIfRead {V} test text reading = (v : V) → reading ≡ Some v → test text ≡ true
 
--- a text that a table without dashes holds has none
-pub value_of-dash_free : {V : Type 0} (pairs : List (Pair V)) (text : List ℕ) (v : V) → list_all (λ pair. is_dash_free pair.0) pairs ≡ true → value_of pairs text ≡ Some v → is_dash_free text ≡ true
-value_of-dash_free pairs text v dashless found = value_of-all (λ pair. is_dash_free pair.0) pairs text v dashless found
+-- a text that a table holds passes what each text of the table passes
+pub value_of-passes : {V : Type 0} (test : List ℕ → Bool) (pairs : List (Pair V)) (text : List ℕ) (v : V) → list_all (λ pair. test pair.0) pairs ≡ true → value_of pairs text ≡ Some v → test text ≡ true
+value_of-passes test pairs text v all found = value_of-all (λ pair. test pair.0) pairs text v all found
 
 -- as it is for a part, so it is for the whole that holds it
-pub option_map-dash_free : {V U : Type 0} (whole : V → U) (part : Option V) (text : List ℕ) → IsDashFreeIfRead text part → IsDashFreeIfRead text (option_map whole part)
-unfolding IsDashFreeIfRead
-option_map-dash_free whole (Some v) text of_part u found = of_part v refl
-option_map-dash_free whole None text of_part u found = cc
+pub option_map-passes : {V U : Type 0} (test : List ℕ → Bool) (whole : V → U) (part : Option V) (text : List ℕ) → PassesIfRead test text part → PassesIfRead test text (option_map whole part)
+unfolding PassesIfRead
+option_map-passes test whole (Some v) text of_part u found = of_part v refl
+option_map-passes test whole None text of_part u found = cc
 
 -- as it is for two readings, so it is for the first of them that reads
-pub option_or-dash_free : {V : Type 0} (first next : Option V) (text : List ℕ) → IsDashFreeIfRead text first → IsDashFreeIfRead text next → IsDashFreeIfRead text (option_or first next)
-unfolding IsDashFreeIfRead
-option_or-dash_free (Some _) next text of_first of_next v found = of_first v found
-option_or-dash_free None next text of_first of_next v found = of_next v found
+pub option_or-passes : {V : Type 0} (test : List ℕ → Bool) (first next : Option V) (text : List ℕ) → PassesIfRead test text first → PassesIfRead test text next → PassesIfRead test text (option_or first next)
+unfolding PassesIfRead
+option_or-passes test (Some _) next text of_first of_next v found = of_first v found
+option_or-passes test None next text of_first of_next v found = of_next v found
 
 -- a test that gave a value has passed
 pub passed : {V : Type 0} (b : Bool) (value v : V) → cond b (Some value) None ≡ Some v → b ≡ true
@@ -57,7 +57,3 @@ of_kind-read_back IsOfKind name find reads free = record {
   name_dash_free = λ v kind. free (name v) v (reads v kind);
   text_dash_free = free;
 }
-
-pub each-read_back : {V : Type 0} (name : V → List ℕ) (find : List ℕ → Option V) → ((v : V) → find (name v) ≡ Some v)
-    → ((text : List ℕ) (v : V) → find text ≡ Some v → is_dash_free text ≡ true) → NamesReadBack name find
-each-read_back {V} name find reads free = of_kind-read_back (λ (v : V). Unit {0}) name find (λ v _. reads v) free

@@ -10,12 +10,14 @@ use Rattle.std.proofs.lemmas.Slice.Eq.{bytes_eq-Decides}
 use Rattle.std.specs.Option.{option_or}
 use Rattle.lexicon_fields.specs.declared.deployment_target.DeploymentTarget.{DeploymentTarget}
 use Rattle.lexicon_fields.specs.declared.operating_system.OperatingSystem.{OperatingSystem}
-use Rattle.lexicon_fields.specs.Names.{Pair, value_of, named}
+use Rattle.lexicon_fields.specs.Names.{Pair}
 use Rattle.lexicon_fields.specs.Version.{piece_within, version_of_numbers, version_of_pieces, version_of, pieces_of}
-use Rattle.lexicon_fields.specs.OperatingSystem.{operating_system_name, operating_system_of, fixed_operating_systems, darwin_prefixes, darwin_like_by, behind_prefix, with_version, optional_version_of}
+use Rattle.lexicon_fields.specs.OperatingSystem.{operating_system_name, fixed_operating_system_of, operating_system_of, darwin_prefixes, darwin_like_by, behind_prefix, with_version, optional_version_of}
 use Rattle.lexicon_fields.specs.Names.{is_dash_free}
 use Rattle.lexicon_fields.specs.Laws.{NamesOfReadBack, HasVersionInRange}
-use Rattle.lexicon_fields.proofs.LookUps.{value_of-all, of_kind-read_back}
+use Rattle.lexicon_fields.proofs.LookUps.{of_kind-read_back}
+use Rattle.lexicon_fields.proofs.RowTexts.{row_text-dash_free}
+use Rattle.lexicon_fields.proofs.RowsHold.{fixed_operating_system_of-row}
 use Rattle.lexicon_fields.proofs.OperatingSystemsReadBack.{operating_system_of-name}
 use Rattle.lexicon_fields.proofs.VersionsReadBack.{digit_apart}
 
@@ -121,13 +123,13 @@ darwin_like-dash_free (row ∷ rows) text s free found =
     by_first (Some v) is found here later = here (is ∙ found)
     by_first None is found here later = later found
 
-fixed-dash_free : (text : List ℕ) (fixed : Option OperatingSystem) (s : OperatingSystem) → value_of (named operating_system_name fixed_operating_systems) text ≡ fixed → option_or fixed (darwin_like_by darwin_prefixes text) ≡ Some s → is_dash_free text ≡ true
+fixed-dash_free : (text : List ℕ) (fixed : Option OperatingSystem) (s : OperatingSystem) → fixed_operating_system_of text ≡ fixed → option_or fixed (darwin_like_by darwin_prefixes text) ≡ Some s → is_dash_free text ≡ true
 fixed-dash_free text None s is found = darwin_like-dash_free darwin_prefixes text s refl found
-fixed-dash_free text (Some v) s is found = value_of-all (λ r. is_dash_free r.0) (named operating_system_name fixed_operating_systems) text v refl is
+fixed-dash_free text (Some v) s is found = row_text-dash_free text (fixed_operating_system_of-row text v is)
 
 operating_system_of-dash_free : (text : List ℕ) (s : OperatingSystem) → operating_system_of text ≡ Some s → is_dash_free text ≡ true
 unfolding operating_system_of
-operating_system_of-dash_free text s found = fixed-dash_free text (value_of (named operating_system_name fixed_operating_systems) text) s refl found
+operating_system_of-dash_free text s found = fixed-dash_free text (fixed_operating_system_of text) s refl found
 
 -- every system reads back from its name, with its version, and no text that reads as a system holds a dash
 pub operating_system_names : NamesOfReadBack HasVersionInRange operating_system_name operating_system_of

@@ -1,16 +1,19 @@
 -- How the names of systems are read.
-use Rattle.std.proofs.Common.{[], ◌∷◌, Option, Some, IfSome, option_map, ◌≡◌, ◌≢◌, ◌∙◌, ℕ, List, ◌++◌, codes, take, drop, length, nat_eq, None, refl, sym, ap}
+use Rattle.std.proofs.Common.{is_none, true, [], ◌∷◌, Option, Some, IfSome, option_map, ◌≡◌, ◌≢◌, ◌∙◌, ℕ, List, ◌++◌, codes, take, drop, length, nat_eq, None, refl, sym, ap}
 use Rattle.std.specs.List.{starts_with}
+use Rattle.std.specs.Option.{option_or}
 use Rattle.std.proofs.lemmas.Bool.{false_from_ne_true, cond-false}
 use Rattle.std.proofs.lemmas.List.{take-append-drop}
 use Rattle.std.proofs.lemmas.Slice.Eq.{bytes_eq-Decides}
 use Rattle.lexicon_fields.specs.declared.deployment_target.DeploymentTarget.{DeploymentTarget}
 use Rattle.lexicon_fields.specs.declared.operating_system.OperatingSystem.{OperatingSystem}
 use Rattle.lexicon_fields.specs.declared.operating_system.OperatingSystem.TheVariants as operating_system
+use Rattle.lexicon_fields.specs.Names.{named}
 use Rattle.lexicon_fields.specs.Laws.{IsVersionInRange, HasVersionInRange}
 use Rattle.lexicon_fields.specs.Version.{version_of, version_name}
+use Rattle.lexicon_fields.proofs.LookUps.{value_of-all}
 use Rattle.lexicon_fields.proofs.VersionsReadBack.{version_of-name}
-use Rattle.lexicon_fields.specs.OperatingSystem.{operating_system_name, operating_system_of, optional_version_of, version_suffix, behind_prefix, darwin_like_by, darwin_prefixes}
+use Rattle.lexicon_fields.specs.OperatingSystem.{operating_system_name, fixed_operating_systems, fixed_operating_system_of, operating_system_of, optional_version_of, version_suffix, behind_prefix, darwin_like_by, darwin_prefixes}
 
 -- a text that does not begin with a prefix has nothing behind it
 lacks_prefix : (prefix text : List ℕ) → ((rest : List ℕ) → text ≢ prefix ++ rest) → behind_prefix prefix text ≡ None
@@ -34,6 +37,26 @@ no_darwin_prefix text darwin ios macosx tvos visionos watchos xros =
       lacks_prefix (codes "xros") text xros,
     ) refl
 
+-- no fixed name begins with such a prefix, so that it is one which of the two is asked first
+
+fixed_unlike_darwin : (text : List ℕ) (s : OperatingSystem) → fixed_operating_system_of text ≡ Some s → darwin_like_by darwin_prefixes text ≡ None
+unfolding fixed_operating_system_of
+fixed_unlike_darwin text s found = missing _ (value_of-all (λ pair. is_none (darwin_like_by darwin_prefixes pair.0)) (named operating_system_name fixed_operating_systems) text s refl found)
+  where
+    missing : {V : Type 0} (o : Option V) → is_none o ≡ true → o ≡ None
+    missing None none = refl
+    missing (Some v) none = absurd cc
+
+either_way : {V : Type 0} (fixed like : Option V) → ((v : V) → fixed ≡ Some v → like ≡ None) → option_or fixed like ≡ option_or like fixed
+either_way None None apart = refl
+either_way None (Some v) apart = refl
+either_way (Some v) None apart = refl
+either_way (Some v) (Some w) apart = absurd (let bad = apart v refl in cc)
+
+pub read_either_way : (text : List ℕ) → operating_system_of text ≡ option_or (darwin_like_by darwin_prefixes text) (fixed_operating_system_of text)
+unfolding operating_system_of
+read_either_way text = either_way (fixed_operating_system_of text) (darwin_like_by darwin_prefixes text) (λ s found. fixed_unlike_darwin text s found)
+
 -- every system reads back from its name
 
 -- a version that stands behind a prefix is there
@@ -47,7 +70,7 @@ suffix_reads None range = refl
 suffix_reads (Some v) range = some_version (version_name v) v (version_of-name v range.0 range.1 range.2)
 
 pub operating_system_of-name : (s : OperatingSystem) → HasVersionInRange s → operating_system_of (operating_system_name s) ≡ Some s
-unfolding operating_system_of
+unfolding operating_system_of fixed_operating_system_of
 operating_system_of-name (operating_system.Darwin version) range = rw (suffix_reads version range) refl
 operating_system_of-name (operating_system.IOS version) range = rw (suffix_reads version range) refl
 operating_system_of-name (operating_system.MacOSX version) range = rw (suffix_reads version range) refl

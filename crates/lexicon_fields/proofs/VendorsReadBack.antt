@@ -1,36 +1,95 @@
 -- How vendors are read: every plain one reads back from its name, and no text that reads as one holds a dash.
-use Rattle.std.proofs.Common.{[], ◌∷◌, nat_eq, ◌≡◌, ◌∙◌, ℕ, List, true, false, Option, Some, None, is_some, is_none, option_map, refl, sym}
+use Rattle.std.proofs.Common.{[], ◌∷◌, nat_eq, Bool, not, ◌&&◌, ◌||◌, ap, ◌≡◌, ◌∙◌, ℕ, List, true, false, Option, Some, None, is_some, is_none, refl, sym}
 use Rattle.std.specs.List.{list_all}
+use Rattle.std.specs.Option.{option_or}
 use Rattle.std.proofs.lemmas.Bool.{and_parts, ne_eqb}
 use Rattle.lexicon_fields.specs.declared.vendor.Vendor.{Vendor}
 use Rattle.lexicon_fields.specs.declared.vendor.Vendor.TheVariants as vendor
-use Rattle.lexicon_fields.specs.Vendor.{KnownVendor, VendorValue, Known, Custom, Unknown, known_name, known_vendors, custom_of, vendor_name, is_plain, is_free, is_lowercase_letter, is_vendor_character, has_vendor_form, vendor_of, vendor_value, owns_text, known_vendor_of, is_admitted}
+use Rattle.lexicon_fields.specs.declared.known_vendor.KnownVendor.{KnownVendor}
+use Rattle.lexicon_fields.specs.declared.known_vendor.KnownVendor.TheVariants.{Unknown}
+use Rattle.lexicon_fields.specs.Vendor.{VendorValue, Known, Custom, known_name, known_vendors, custom_of, vendor_name, is_plain, is_free, is_lowercase_letter, is_vendor_character, has_vendor_form, vendor_of, vendor_value, owns_text, known_vendor_of, is_admitted}
 use Rattle.lexicon_fields.specs.Names.{named, is_dash_free}
-use Rattle.lexicon_fields.proofs.LookUps.{IsDashFreeIfRead, value_of-dash_free, option_map-dash_free, option_or-dash_free, passed, of_kind-read_back}
+use Rattle.lexicon_fields.proofs.LookUps.{PassesIfRead, value_of-passes, option_map-passes, option_or-passes, passed, of_kind-read_back}
+use Rattle.lexicon_fields.proofs.RowTexts.{row_text-dash_free}
+use Rattle.lexicon_fields.proofs.RowsHold.{known_vendor_of-row}
+use Rattle.lexicon_fields.specs.Architecture.{architecture_of}
+use Rattle.lexicon_fields.specs.declared.operating_system.OperatingSystem.{OperatingSystem}
+use Rattle.lexicon_fields.specs.OperatingSystem.{darwin_prefixes, darwin_like_by, fixed_operating_system_of, operating_system_of}
+use Rattle.lexicon_fields.specs.Environment.{environment_of}
+use Rattle.lexicon_fields.specs.BinaryFormat.{binary_format_of}
+use Rattle.lexicon_fields.specs.FixedRow.{has_row}
 use Rattle.lexicon_fields.specs.Laws.{NamesOfReadBack}
 
--- a known vendor's name is not admitted
-pub known_not_admitted : (text : List ℕ) → is_none (known_vendor_of text) ≡ false → is_admitted text ≡ false
-unfolding is_admitted
-known_not_admitted text known = rw known refl
+-- what is admitted: a text without a row that is no system like Darwin, in the form of a vendor
 
--- a known vendor owns no text
-known_owns_nothing : (v : Vendor) (known : KnownVendor) → vendor_value v ≡ Known known → owns_text v ≡ false
+free_is : {K A O E B : Type 0} (known : Option K) (architecture : Option A) (fixed like : Option O) (environment : Option E) (format : Option B)
+    → (is_none known && is_none architecture && is_none (option_or fixed like) && is_none environment && is_none format)
+    ≡ (not (is_some architecture || is_some known || is_some fixed || is_some environment || is_some format) && is_none like)
+free_is (Some _) (Some _) _ _ _ _ = refl
+free_is (Some _) None _ _ _ _ = refl
+free_is None (Some _) _ _ _ _ = refl
+free_is None None (Some _) _ _ _ = refl
+free_is None None None None (Some _) _ = refl
+free_is None None None (Some _) (Some _) _ = refl
+free_is None None None (Some _) None None = refl
+free_is None None None (Some _) None (Some _) = refl
+free_is None None None None None None = refl
+free_is None None None None None (Some _) = refl
+
+admitted_is : (text : List ℕ) → is_admitted text ≡ (not (has_row text) && is_none (darwin_like_by darwin_prefixes text) && has_vendor_form text)
+unfolding is_admitted operating_system_of
+admitted_is text =
+    ap (λ free. free && has_vendor_form text)
+    (free_is (known_vendor_of text) (architecture_of text) (fixed_operating_system_of text) (darwin_like_by darwin_prefixes text) (environment_of text) (binary_format_of text))
+
+pub admitted_without_row : (text : List ℕ) (like : Option OperatingSystem) → has_row text ≡ false → has_vendor_form text ≡ true → like ≡ darwin_like_by darwin_prefixes text → is_admitted text ≡ is_none like
+admitted_without_row text like none form is =
+    admitted_is text ∙ ap (λ row. not row && is_none (darwin_like_by darwin_prefixes text) && has_vendor_form text) none
+    ∙ ap (λ o. is_none o && has_vendor_form text) (sym is) ∙ in_form like
+  where
+    in_form : (o : Option OperatingSystem) → (is_none o && has_vendor_form text) ≡ is_none o
+    in_form None = form
+    in_form (Some s) = refl
+
+pub row_not_admitted : (text : List ℕ) → has_row text ≡ true → is_admitted text ≡ false
+row_not_admitted text stands = admitted_is text ∙ ap (λ row. not row && is_none (darwin_like_by darwin_prefixes text) && has_vendor_form text) stands
+
+-- how a text reads as a vendor
+
+-- a known vendor's name, as that vendor, which owns no text
+pub known_read : (text : List ℕ) (v : Vendor) (known : KnownVendor) → vendor_value v ≡ Known known → Some known ≡ known_vendor_of text → vendor_of text ≡ Some (vendor_value v)
+unfolding vendor_of
+known_read text v known is found = rw (is, ← found) refl
+
+pub known_owns_nothing : (v : Vendor) (known : KnownVendor) → vendor_value v ≡ Known known → owns_text v ≡ false
 known_owns_nothing (vendor.Custom custom) known is = absurd cc
 known_owns_nothing _ known is = refl
 
-known_parts : (v : Vendor) (known : Option KnownVendor) → Some (vendor_value v) ≡ option_map Known known → (owns_text v ≡ false) × (is_none known ≡ false)
-known_parts v None is = absurd cc
-known_parts v (Some known) is = (known_owns_nothing v known cc, refl)
+-- every other text, as a custom vendor where it is admitted
+pub custom_read : (text : List ℕ) → known_vendor_of text ≡ None → is_admitted text ≡ true → vendor_of text ≡ Some (Custom text)
+unfolding vendor_of
+custom_read text none admitted = rw (none, admitted) refl
 
--- a vendor that is known by a text owns none, and the text is not admitted
-pub known_owns_as_admitted : (text : List ℕ) (v : Vendor) → Some (vendor_value v) ≡ option_map Known (known_vendor_of text) → owns_text v ≡ is_admitted text
-known_owns_as_admitted text v is = let parts = known_parts v (known_vendor_of text) is in parts.0 ∙ sym (known_not_admitted text parts.1)
+pub none_read : (text : List ℕ) → known_vendor_of text ≡ None → is_admitted text ≡ false → vendor_of text ≡ None
+unfolding vendor_of
+none_read text none refused = rw (none, refused) refl
 
--- where a look-up of the known vendors found one, the text is not admitted
-pub found_not_admitted : (text : List ℕ) (found : Option Vendor) → option_map vendor_value found ≡ option_map Known (known_vendor_of text) → is_some found ≡ true → is_admitted text ≡ false
-found_not_admitted text None is some = absurd cc
-found_not_admitted text (Some v) is some = known_not_admitted text (known_parts v (known_vendor_of text) is).1
+pub formless_not_admitted : (text : List ℕ) → has_vendor_form text ≡ false → is_admitted text ≡ false
+unfolding is_admitted
+formless_not_admitted text formless = by_freedom (is_free text)
+  where
+    by_freedom : (free : Bool) → (free && has_vendor_form text) ≡ false
+    by_freedom true = formless
+    by_freedom false = refl
+
+-- a known vendor's name has the form of a vendor
+known_form : (text : List ℕ) (known : Option KnownVendor) → known_vendor_of text ≡ known → has_vendor_form text ≡ false → known_vendor_of text ≡ None
+unfolding known_vendor_of
+known_form text None is formless = is
+known_form text (Some v) is formless = absurd (let bad : true ≡ false = sym (value_of-passes has_vendor_form (named known_name known_vendors) text v refl is) ∙ formless in cc)
+
+pub formless_read : (text : List ℕ) → has_vendor_form text ≡ false → vendor_of text ≡ None
+formless_read text formless = none_read text (known_form text (known_vendor_of text) refl formless) (formless_not_admitted text formless)
 
 -- every plain vendor reads back from its name
 
@@ -69,18 +128,18 @@ form-dash_free (c ∷ cs) form =
     let apart : nat_eq c 45 ≡ false = ne_eqb c 45 (λ dash. let bad = rw dash at parts.0 in cc) in
     rw apart (characters-dash_free cs parts.1)
 
-known-dash_free : (text : List ℕ) → IsDashFreeIfRead text (known_vendor_of text)
-unfolding IsDashFreeIfRead known_vendor_of
-known-dash_free text v found = value_of-dash_free (named known_name known_vendors) text v refl found
+known-dash_free : (text : List ℕ) → PassesIfRead is_dash_free text (known_vendor_of text)
+unfolding PassesIfRead
+known-dash_free text v found = row_text-dash_free text (known_vendor_of-row text v found)
 
-custom-dash_free : (text : List ℕ) → IsDashFreeIfRead text (custom_of text)
-unfolding IsDashFreeIfRead
+custom-dash_free : (text : List ℕ) → PassesIfRead is_dash_free text (custom_of text)
+unfolding PassesIfRead
 custom-dash_free text v found = form-dash_free text (admitted_parts text (passed (is_admitted text) (Custom text) v found)).1
 
 vendor_of-dash_free : (text : List ℕ) (v : VendorValue) → vendor_of text ≡ Some v → is_dash_free text ≡ true
-unfolding vendor_of IsDashFreeIfRead
+unfolding vendor_of PassesIfRead
 vendor_of-dash_free text =
-    option_or-dash_free _ _ text (option_map-dash_free Known (known_vendor_of text) text (known-dash_free text)) (custom-dash_free text)
+    option_or-passes is_dash_free _ _ text (option_map-passes is_dash_free Known (known_vendor_of text) text (known-dash_free text)) (custom-dash_free text)
 
 -- every plain vendor reads back from its name, and no text that reads as a vendor holds a dash
 pub vendor_names_read_back : NamesOfReadBack (λ (v : VendorValue). is_plain v ≡ true) vendor_name vendor_of

@@ -2,6 +2,7 @@ pub mod Architecture
 pub mod ArchitectureQueries
 pub mod BinaryFormat
 pub mod Environment
+pub mod FixedRow
 pub mod Laws
 pub mod Names
 pub mod OperatingSystem

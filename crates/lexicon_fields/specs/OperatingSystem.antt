@@ -118,6 +118,10 @@ abbrev pub darwin_like_by : List (Pair (Option DeploymentTarget → OperatingSys
 darwin_like_by [] text = None
 darwin_like_by (row ∷ rows) text = option_or (option_and_then (with_version row.1) (behind_prefix row.0 text)) (darwin_like_by rows text)
 
+-- the system of this fixed name, if there is one
+unfoldable pub fixed_operating_system_of : List ℕ → Option OperatingSystem
+fixed_operating_system_of text = value_of (named operating_system_name fixed_operating_systems) text
+
 -- what a text reads as, if anything
 unfoldable pub operating_system_of : List ℕ → Option OperatingSystem
-operating_system_of text = option_or (value_of (named operating_system_name fixed_operating_systems) text) (darwin_like_by darwin_prefixes text)
+operating_system_of text = option_or (fixed_operating_system_of text) (darwin_like_by darwin_prefixes text)

@@ -2,6 +2,8 @@
 use Rattle.std.specs.Prelude.{◌≡◌, ℕ, ◌==◌, nat_le, Bool, true, false, ◌&&◌, ◌||◌, List, [], ◌∷◌, codes, Option, Some, None, is_none, option_map, if◌then◌else◌, string_bytes}
 use Rattle.std.specs.List.{list_all}
 use Rattle.std.specs.Option.{option_or}
+pub use Rattle.lexicon_fields.specs.declared.known_vendor.KnownVendor.{KnownVendor}
+pub use Rattle.lexicon_fields.specs.declared.known_vendor.KnownVendor.TheVariants.{Unknown, Amd, Apple, Espressif, Experimental, Fortanix, Ibm, Kmc, Nintendo, Nvidia, Pc, Rumprun, Sun, Uwp, Wrs}
 use Rattle.lexicon_fields.specs.declared.vendor.CustomVendor.{CustomVendor}
 use Rattle.lexicon_fields.specs.declared.vendor.CustomVendor.TheVariants.{Owned, Static}
 use Rattle.lexicon_fields.specs.declared.vendor.Vendor.{Vendor}
@@ -13,24 +15,6 @@ use Rattle.lexicon_fields.specs.Architecture.{architecture_of}
 use Rattle.lexicon_fields.specs.OperatingSystem.{operating_system_of}
 use Rattle.lexicon_fields.specs.Environment.{environment_of}
 use Rattle.lexicon_fields.specs.BinaryFormat.{binary_format_of}
-
--- the known vendors
-pub data KnownVendor : Type 0 where
-  Unknown : KnownVendor
-  Amd : KnownVendor
-  Apple : KnownVendor
-  Espressif : KnownVendor
-  Experimental : KnownVendor
-  Fortanix : KnownVendor
-  Ibm : KnownVendor
-  Kmc : KnownVendor
-  Nintendo : KnownVendor
-  Nvidia : KnownVendor
-  Pc : KnownVendor
-  Rumprun : KnownVendor
-  Sun : KnownVendor
-  Uwp : KnownVendor
-  Wrs : KnownVendor
 
 -- a vendor as the rules see it: a known one, or a custom one by its text
 pub data VendorValue : Type 0 where

@@ -4,6 +4,8 @@ ghost use Rattle.std.specs.Cow.{cow_str_bytes, IsBorrowedStr};
 ghost use Rattle.lexicon_fields.specs.Names.{Answers};
 ghost use Rattle.lexicon_fields.specs.BinaryFormat.{binary_format_name, binary_format_of};
 
+use crate::steps::Steps;
+use crate::table::fixed_row;
 use std::borrow::CowStr;
 use std::fmt;
 use std::str::FromStr;
@@ -24,20 +26,22 @@ pub enum BinaryFormat {
 }
 
 impl BinaryFormat {
+    /// The host: fixed to x86_64-unknown-linux-gnu on every machine.
+    pub fn host() -> Self
+        ensures { result ≡ BinaryFormat.Elf }
+    {
+        Self::Elf
+    }
+
     /// The value whose name the text is; every other text is refused.
-    #[tactic(auto, unfolding(crate::specs::BinaryFormat::binary_format_of))]
+    #[tactic(auto, using(crate::proofs::RowsHold::nowhere))]
     pub fn from_str(s: &str) -> Result<Self, ()>
         ensures { Answers (binary_format_of s.now) result }
     {
-        Ok(match s {
-            "unknown" => BinaryFormat::Unknown,
-            "elf" => BinaryFormat::Elf,
-            "coff" => BinaryFormat::Coff,
-            "macho" => BinaryFormat::Macho,
-            "wasm" => BinaryFormat::Wasm,
-            "xcoff" => BinaryFormat::Xcoff,
-            _ => return Err(()),
-        })
+        match fixed_row(s, &mut Steps::new()) {
+            Some(row) => row.binary_format.ok_or(()),
+            None => Err(()),
+        }
     }
 
     /// The name, which is always borrowed.

@@ -4,6 +4,8 @@ ghost use Rattle.std.specs.Cow.{cow_str_bytes, IsBorrowedStr};
 ghost use Rattle.lexicon_fields.specs.Names.{Answers};
 ghost use Rattle.lexicon_fields.specs.Environment.{environment_name, environment_of};
 
+use crate::steps::Steps;
+use crate::table::fixed_row;
 use std::borrow::CowStr;
 use std::fmt;
 use std::str::FromStr;
@@ -66,49 +68,22 @@ pub enum Environment {
 }
 
 impl Environment {
+    /// The host: fixed to x86_64-unknown-linux-gnu on every machine.
+    pub fn host() -> Self
+        ensures { result ≡ Environment.Gnu }
+    {
+        Self::Gnu
+    }
+
     /// The value whose name the text is; every other text is refused.
-    #[tactic(auto, unfolding(crate::specs::Environment::environment_of))]
+    #[tactic(auto, using(crate::proofs::RowsHold::nowhere))]
     pub fn from_str(s: &str) -> Result<Self, ()>
         ensures { Answers (environment_of s.now) result }
     {
-        Ok(match s {
-            "unknown" => Environment::Unknown,
-            "amdgiz" => Environment::AmdGiz,
-            "android" => Environment::Android,
-            "androideabi" => Environment::Androideabi,
-            "eabi" => Environment::Eabi,
-            "eabihf" => Environment::Eabihf,
-            "gnu" => Environment::Gnu,
-            "gnuabi64" => Environment::Gnuabi64,
-            "gnueabi" => Environment::Gnueabi,
-            "gnueabihf" => Environment::Gnueabihf,
-            "gnuspe" => Environment::Gnuspe,
-            "gnux32" => Environment::Gnux32,
-            "gnu_ilp32" => Environment::GnuIlp32,
-            "gnullvm" => Environment::GnuLlvm,
-            "hermitkernel" => Environment::HermitKernel,
-            "hurdkernel" => Environment::HurdKernel,
-            "linuxkernel" => Environment::LinuxKernel,
-            "macabi" => Environment::Macabi,
-            "musl" => Environment::Musl,
-            "musleabi" => Environment::Musleabi,
-            "musleabihf" => Environment::Musleabihf,
-            "muslabi64" => Environment::Muslabi64,
-            "msvc" => Environment::Msvc,
-            "newlib" => Environment::Newlib,
-            "none" => Environment::None,
-            "kernel" => Environment::Kernel,
-            "uclibc" => Environment::Uclibc,
-            "uclibceabi" => Environment::Uclibceabi,
-            "uclibceabihf" => Environment::Uclibceabihf,
-            "sgx" => Environment::Sgx,
-            "sim" => Environment::Sim,
-            "softfloat" => Environment::Softfloat,
-            "spe" => Environment::Spe,
-            "threads" => Environment::Threads,
-            "ohos" => Environment::Ohos,
-            _ => return Err(()),
-        })
+        match fixed_row(s, &mut Steps::new()) {
+            Some(row) => row.environment.ok_or(()),
+            None => Err(()),
+        }
     }
 
     /// The name, which is always borrowed.

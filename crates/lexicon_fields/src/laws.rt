@@ -1,5 +1,8 @@
 //! Laws of names, queries and equality: a call does nothing, and its contract is the law.
-ghost use Rattle.std.specs.Prelude.{◌≡◌, ◌↔◌, true};
+ghost use Rattle.std.specs.Prelude.{◌≡◌, ◌↔◌, true, ℕ, List, length, Contains, Decides};
+ghost use Rattle.std.specs.Cmp.Lexicographic.{slice_cmp};
+ghost use Rattle.std.specs.List.Sorted.{IsStrictlySortedBy};
+ghost use Rattle.std.specs.Ordering.{nat_cmp};
 ghost use Rattle.lexicon_fields.specs.Laws.{NamesOfReadBack, NamesReadBack, HasVersionInRange, IsRefusedForUnknownAlone, ComparesByValue, version_cmp};
 ghost use Rattle.lexicon_fields.specs.SubArchitecture.{arm_name, arm_of, aarch64_name, aarch64_of, x86_32_name, x86_32_of};
 ghost use Rattle.lexicon_fields.specs.SubArchitecture.{mips32_name, mips32_of, mips64_name, mips64_of};
@@ -10,6 +13,7 @@ ghost use Rattle.lexicon_fields.specs.Environment.{environment_name, environment
 ghost use Rattle.lexicon_fields.specs.OperatingSystem.{operating_system_name, operating_system_of};
 ghost use Rattle.lexicon_fields.specs.BinaryFormat.{binary_format_name, binary_format_of};
 ghost use Rattle.lexicon_fields.specs.ArchitectureQueries.{architecture_endianness, architecture_width};
+ghost use Rattle.lexicon_fields.specs.FixedRow.{has_row, row_texts, HoldSameValues};
 ghost use Rattle.lexicon_fields.specs.declared.vendor.CustomVendor.{CustomVendor};
 ghost use Rattle.lexicon_fields.specs.declared.vendor.Vendor.{Vendor};
 ghost use Rattle.lexicon_fields.specs.Vendor.{custom_text, vendor_value, vendor_name, vendor_of, is_plain};
@@ -22,7 +26,9 @@ use crate::architecture::{
 use crate::binary_format::BinaryFormat;
 use crate::deployment_target::DeploymentTarget;
 use crate::environment::Environment;
+use crate::known_vendor::KnownVendor;
 use crate::operating_system::OperatingSystem;
+use crate::table::FixedRow;
 use crate::vendor::{CustomVendor, Vendor, VendorError};
 use crate::width::{Endianness, PointerWidth};
 use std::hash::Hash;
@@ -62,7 +68,14 @@ pub fn vendors_are_equal_by_value()
     ensures { (x y : Vendor) → (⟦<Vendor as PartialEq>⟧.eq x y ≡ true) ↔ (vendor_value x ≡ vendor_value y) }
 {}
 
-/// Values of each other type are equal exactly where their variants and their fields are.
+/// The texts of the rows are those that are a fixed name of some field, each once, in the order of their bytes.
+pub fn rows_are_sorted_and_whole()
+    ensures sorted { IsStrictlySortedBy (slice_cmp nat_cmp) row_texts }
+    ensures count { length row_texts ≡ 192 }
+    ensures whole { (text : List ℕ) → Contains row_texts text ↔ (has_row text ≡ true) }
+{}
+
+/// Values of each other type are equal exactly where their variants and their fields are, the texts of rows by bytes.
 pub fn values_are_equal_by_variant_and_fields()
     ensures architecture { ComparesByValue ⟦<Architecture as PartialEq>⟧.eq }
     ensures arm { ComparesByValue ⟦<ArmArchitecture as PartialEq>⟧.eq }
@@ -81,6 +94,8 @@ pub fn values_are_equal_by_variant_and_fields()
     ensures endianness { ComparesByValue ⟦<Endianness as PartialEq>⟧.eq }
     ensures pointer_width { ComparesByValue ⟦<PointerWidth as PartialEq>⟧.eq }
     ensures vendor_error { ComparesByValue ⟦<VendorError as PartialEq>⟧.eq }
+    ensures known_vendor { ComparesByValue ⟦<KnownVendor as PartialEq>⟧.eq }
+    ensures fixed_row { (x y : FixedRow) → Decides (⟦<FixedRow as PartialEq>⟧.eq x y) (HoldSameValues x y) }
 {}
 
 /// Two custom vendors feed a hasher equally exactly where their texts are equal.

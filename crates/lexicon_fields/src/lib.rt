@@ -5,8 +5,11 @@ mod architecture;
 mod binary_format;
 mod deployment_target;
 mod environment;
+mod known_vendor;
 pub mod laws;
 mod operating_system;
+mod steps;
+mod table;
 #[cfg(test)]
 mod tests;
 mod vendor;
@@ -20,6 +23,9 @@ pub use architecture::{
 pub use binary_format::BinaryFormat;
 pub use deployment_target::DeploymentTarget;
 pub use environment::Environment;
+pub use known_vendor::KnownVendor;
 pub use operating_system::OperatingSystem;
+pub use steps::Steps;
+pub use table::{FixedRow, fixed_row, row_order};
 pub use vendor::{CustomVendor, Vendor, VendorError};
 pub use width::{Endianness, PointerWidth};

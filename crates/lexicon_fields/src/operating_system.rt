@@ -1,14 +1,16 @@
 //! The operating systems.
 ghost use Rattle.std.specs.Prelude.{◌≡◌, ◌++◌, Some, None, IfOk, IsNone, IsOkAnd};
 ghost use Rattle.std.specs.Cow.{cow_str_bytes, IsBorrowedStr};
-ghost use Rattle.lexicon_fields.specs.Names.{Answers, value_of, named};
+ghost use Rattle.lexicon_fields.specs.Names.{Answers};
 ghost use Rattle.lexicon_fields.specs.Version.{version_name};
-ghost use Rattle.lexicon_fields.specs.OperatingSystem.{operating_system_name, operating_system_of, fixed_operating_systems, version_held, version_suffix, optional_version_of, darwin_like_by, darwin_prefixes, is_like_darwin};
+ghost use Rattle.lexicon_fields.specs.OperatingSystem.{operating_system_name, operating_system_of, version_held, version_suffix, optional_version_of, darwin_like_by, darwin_prefixes, is_like_darwin};
 
 #[cfg(test)]
 mod tests;
 
 use crate::deployment_target::DeploymentTarget;
+use crate::steps::Steps;
+use crate::table::fixed_row;
 use std::alloc::{AllocError, Global};
 use std::borrow::CowStr;
 use std::fmt;
@@ -62,87 +64,65 @@ pub enum OperatingSystem {
 }
 
 impl OperatingSystem {
+    /// The host: fixed to x86_64-unknown-linux-gnu on every machine.
+    pub fn host() -> Self
+        ensures { result ≡ OperatingSystem.Linux }
+    {
+        Self::Linux
+    }
+
     /// The value that the text reads as; every other text is refused. Behind the prefix of a system like Darwin stands
     /// nothing, or a version: one to three pieces between dots, each an optional plus and digits, the first up to 65535,
     /// the others up to 255.
-    #[tactic(auto, unfolding(crate::specs::OperatingSystem::operating_system_of))]
+    #[tactic(auto, using(crate::proofs::RowsHold::nowhere, crate::proofs::OperatingSystemsReadBack::read_either_way))]
     pub fn from_str(s: &str) -> Result<Self, ()>
         ensures { Answers (operating_system_of s.now) result }
     {
-        match OperatingSystem::of_fixed_name(s) {
-            Some(system) => Ok(system),
-            None => OperatingSystem::like_darwin(s),
+        if let Some(system) = OperatingSystem::like_darwin(s) {
+            return Ok(system);
+        }
+        match fixed_row(s, &mut Steps::new()) {
+            Some(row) => row.operating_system.ok_or(()),
+            None => Err(()),
         }
     }
 
-    /// The system of this fixed name.
-    fn of_fixed_name(s: &str) -> Option<Self>
-        ensures { result ≡ value_of (named operating_system_name fixed_operating_systems) s.now }
+    /// The system like Darwin that the text reads as. A text with another first letter is told at once.
+    pub(crate) fn like_darwin(s: &str) -> Option<Self>
+        ensures { result ≡ darwin_like_by darwin_prefixes s.now }
     {
-        Some(match s {
-            "unknown" => OperatingSystem::Unknown,
-            "aix" => OperatingSystem::Aix,
-            "amdhsa" => OperatingSystem::AmdHsa,
-            "bitrig" => OperatingSystem::Bitrig,
-            "cloudabi" => OperatingSystem::Cloudabi,
-            "cuda" => OperatingSystem::Cuda,
-            "cygwin" => OperatingSystem::Cygwin,
-            "dragonfly" => OperatingSystem::Dragonfly,
-            "emscripten" => OperatingSystem::Emscripten,
-            "espidf" => OperatingSystem::Espidf,
-            "freebsd" => OperatingSystem::Freebsd,
-            "fuchsia" => OperatingSystem::Fuchsia,
-            "haiku" => OperatingSystem::Haiku,
-            "hermit" => OperatingSystem::Hermit,
-            "horizon" => OperatingSystem::Horizon,
-            "hurd" => OperatingSystem::Hurd,
-            "illumos" => OperatingSystem::Illumos,
-            "l4re" => OperatingSystem::L4re,
-            "linux" => OperatingSystem::Linux,
-            "nebulet" => OperatingSystem::Nebulet,
-            "netbsd" => OperatingSystem::Netbsd,
-            "none" => OperatingSystem::None_,
-            "openbsd" => OperatingSystem::Openbsd,
-            "psp" => OperatingSystem::Psp,
-            "redox" => OperatingSystem::Redox,
-            "solaris" => OperatingSystem::Solaris,
-            "solid_asp3" => OperatingSystem::SolidAsp3,
-            "uefi" => OperatingSystem::Uefi,
-            "vxworks" => OperatingSystem::VxWorks,
-            "wasi" => OperatingSystem::Wasi,
-            "wasip1" => OperatingSystem::WasiP1,
-            "wasip2" => OperatingSystem::WasiP2,
-            "windows" => OperatingSystem::Windows,
-            _ => return None,
-        })
+        match s.as_bytes().first() {
+            Some(b'd' | b'i' | b'm' | b't' | b'v' | b'w' | b'x') => OperatingSystem::by_prefix(s),
+            _ => None,
+        }
     }
 
-    /// The system like Darwin that the text reads as.
-    fn like_darwin(s: &str) -> Result<Self, ()>
-        ensures { Answers (darwin_like_by darwin_prefixes s.now) result }
+    /// The system like Darwin whose prefix the text begins with, and whose version may stand behind it.
+    fn by_prefix(s: &str) -> Option<Self>
+        ensures { result ≡ darwin_like_by darwin_prefixes s.now }
     {
         if let Some(rest) = s.strip_prefix("darwin") {
-            return Ok(OperatingSystem::Darwin(version_behind(rest)?));
+            return Some(OperatingSystem::Darwin(version_behind(rest)?));
         }
         if let Some(rest) = s.strip_prefix("ios") {
-            return Ok(OperatingSystem::IOS(version_behind(rest)?));
+            return Some(OperatingSystem::IOS(version_behind(rest)?));
         }
         if let Some(rest) = s.strip_prefix("macosx") {
-            return Ok(OperatingSystem::MacOSX(version_behind(rest)?));
+            return Some(OperatingSystem::MacOSX(version_behind(rest)?));
         }
         if let Some(rest) = s.strip_prefix("tvos") {
-            return Ok(OperatingSystem::TvOS(version_behind(rest)?));
+            return Some(OperatingSystem::TvOS(version_behind(rest)?));
         }
         if let Some(rest) = s.strip_prefix("visionos") {
-            return Ok(OperatingSystem::VisionOS(version_behind(rest)?));
+            return Some(OperatingSystem::VisionOS(version_behind(rest)?));
         }
         if let Some(rest) = s.strip_prefix("watchos") {
-            return Ok(OperatingSystem::WatchOS(version_behind(rest)?));
+            return Some(OperatingSystem::WatchOS(version_behind(rest)?));
         }
         if let Some(rest) = s.strip_prefix("xros") {
-            return Ok(OperatingSystem::XROS(version_behind(rest)?));
+            return Some(OperatingSystem::XROS(version_behind(rest)?));
         }
-        Err(())
+        None
     }
 
     /// The name. Only the text of a version wants memory, and `Err` says that it was refused.
@@ -238,15 +218,15 @@ impl OperatingSystem {
 }
 
 /// The version that stands behind a prefix, which may be left out.
-fn version_behind(rest: &str) -> Result<Option<DeploymentTarget>, ()>
-    ensures { Answers (optional_version_of rest.now) result }
+fn version_behind(rest: &str) -> Option<Option<DeploymentTarget>>
+    ensures { result ≡ optional_version_of rest.now }
 {
     if rest.is_empty() {
-        return Ok(None);
+        return Some(None);
     }
     match DeploymentTarget::from_text(rest) {
-        Some(version) => Ok(Some(version)),
-        None => Err(()),
+        Some(version) => Some(Some(version)),
+        None => None,
     }
 }
 

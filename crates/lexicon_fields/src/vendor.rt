@@ -11,10 +11,9 @@ ghost use Rattle.lexicon_fields.specs.Vendor.{custom_text, is_owned, owns_text, 
 #[cfg(test)]
 mod tests;
 
-use crate::architecture::Architecture;
-use crate::binary_format::BinaryFormat;
-use crate::environment::Environment;
 use crate::operating_system::OperatingSystem;
+use crate::steps::Steps;
+use crate::table::fixed_row;
 use std::alloc::{AllocError, Global};
 use std::fmt;
 use std::hash::{Hash, Hasher};
@@ -108,51 +107,38 @@ pub enum Vendor {
 }
 
 impl Vendor {
+    /// The host: fixed to x86_64-unknown-linux-gnu on every machine.
+    pub fn host() -> Self
+        ensures { result ≡ Vendor.Unknown }
+    {
+        Self::Unknown
+    }
+
     /// The vendor that the text reads as: a known one, or a custom one that owns an admitted text. A text is admitted
     /// if it reads as no known vendor and as no other field, begins with a letter from `a` to `z`, and has only such
     /// letters, digits, `_` and `.`. Every other text is `Unrecognized`; `OutOfMemory` says that the memory for an
     /// admitted text was refused.
-    #[tactic(auto, unfolding(crate::specs::Vendor::vendor_of))]
     pub fn from_str(alloc: Global, s: &str) -> Result<Self, VendorError>
         ensures ok { IfOk result (λ vendor. vendor_of s.now ≡ Some (vendor_value vendor)) }
         ensures owned { IfOk result (λ vendor. owns_text vendor ≡ is_admitted s.now) }
         ensures err { IfErr result (IsVendorFault s.now) }
     {
-        if let Some(vendor) = Vendor::known(s) {
-            return Ok(vendor);
+        if !has_vendor_form(s) {
+            return Err(VendorError::Unrecognized);
         }
-        if !is_admitted_unless_known(s) {
+        if let Some(row) = fixed_row(s, &mut Steps::new()) {
+            return match row.vendor {
+                Some(known) => Ok(known.to_vendor()),
+                None => Err(VendorError::Unrecognized),
+            };
+        }
+        if OperatingSystem::like_darwin(s).is_some() {
             return Err(VendorError::Unrecognized);
         }
         match CustomVendor::owned(alloc, s) {
             Ok(custom) => Ok(Vendor::Custom(custom)),
             Err(_) => Err(VendorError::OutOfMemory),
         }
-    }
-
-    /// The known vendor of this name.
-    #[tactic(auto, unfolding(crate::specs::Vendor::known_vendor_of))]
-    fn known(s: &str) -> Option<Self>
-        ensures { option_map vendor_value result ≡ option_map Known (known_vendor_of s.now) }
-    {
-        Some(match s {
-            "unknown" => Vendor::Unknown,
-            "amd" => Vendor::Amd,
-            "apple" => Vendor::Apple,
-            "espressif" => Vendor::Espressif,
-            "experimental" => Vendor::Experimental,
-            "fortanix" => Vendor::Fortanix,
-            "ibm" => Vendor::Ibm,
-            "kmc" => Vendor::Kmc,
-            "nintendo" => Vendor::Nintendo,
-            "nvidia" => Vendor::Nvidia,
-            "pc" => Vendor::Pc,
-            "rumprun" => Vendor::Rumprun,
-            "sun" => Vendor::Sun,
-            "uwp" => Vendor::Uwp,
-            "wrs" => Vendor::Wrs,
-            _ => return None,
-        })
     }
 
     /// The name; that of a custom vendor is its text.
@@ -184,10 +170,7 @@ impl Vendor {
         ensures { result ≡ is_plain (vendor_value self.now) }
     {
         match self {
-            Vendor::Custom(custom) => {
-                let text = custom.as_str();
-                Vendor::known(text).is_none() && is_admitted_unless_known(text)
-            }
+            Vendor::Custom(custom) => is_admitted(custom.as_str()),
             _ => true,
         }
     }
@@ -238,16 +221,17 @@ pub enum VendorError {
     OutOfMemory,
 }
 
-/// Whether a text that is no known vendor's name is admitted.
-#[tactic(auto, unfolding(crate::specs::Vendor::is_admitted))]
-fn is_admitted_unless_known(s: &str) -> bool
-    ensures { known_vendor_of s.now ≡ None → result ≡ is_admitted s.now }
+/// Whether the text is admitted as that of a custom vendor.
+fn is_admitted(s: &str) -> bool
+    ensures { result ≡ is_admitted s.now }
 {
-    has_vendor_form(s)
-        && Architecture::from_str(s).is_err()
-        && OperatingSystem::from_str(s).is_err()
-        && Environment::from_str(s).is_err()
-        && BinaryFormat::from_str(s).is_err()
+    if !has_vendor_form(s) {
+        return false;
+    }
+    match fixed_row(s, &mut Steps::new()) {
+        Some(_) => false,
+        None => OperatingSystem::like_darwin(s).is_none(),
+    }
 }
 
 /// Whether the text begins with a letter and has only characters of a vendor.

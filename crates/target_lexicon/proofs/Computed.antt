@@ -5,7 +5,8 @@ use Rattle.lexicon_fields.specs.declared.architecture.Architecture.{Architecture
 use Rattle.lexicon_fields.specs.declared.operating_system.OperatingSystem.TheVariants as operating_system
 use Rattle.lexicon_fields.specs.declared.environment.Environment.TheVariants as environment
 use Rattle.lexicon_fields.specs.Architecture.{architecture_of}
-use Rattle.lexicon_fields.specs.Vendor.{Known, Unknown, vendor_of}
+use Rattle.lexicon_fields.specs.declared.known_vendor.KnownVendor.TheVariants.{Unknown}
+use Rattle.lexicon_fields.specs.Vendor.{Known, vendor_of}
 use Rattle.lexicon_fields.specs.OperatingSystem.{operating_system_of}
 use Rattle.lexicon_fields.specs.Environment.{environment_of}
 use Rattle.lexicon_fields.specs.BinaryFormat.{binary_format_of}

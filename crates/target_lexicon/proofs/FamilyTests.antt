@@ -13,7 +13,8 @@ use Rattle.lexicon_fields.specs.declared.environment.Environment.TheVariants as 
 use Rattle.lexicon_fields.specs.declared.binary_format.BinaryFormat.{BinaryFormat}
 use Rattle.lexicon_fields.specs.declared.binary_format.BinaryFormat.TheVariants as binary_format
 use Rattle.lexicon_fields.specs.ArchitectureQueries.{is_clever}
-use Rattle.lexicon_fields.specs.Vendor.{VendorValue, Known, Custom, Nintendo, Espressif}
+use Rattle.lexicon_fields.specs.declared.known_vendor.KnownVendor.TheVariants.{Nintendo, Espressif}
+use Rattle.lexicon_fields.specs.Vendor.{VendorValue, Known, Custom}
 use Rattle.target_lexicon.specs.Families.{HidesUnknowns, IsNintendo3ds, IsEspIdf, PrintsAsSpecial, HidesNewlib, PrintsTheEspIdfText, ShowsNoneAlone}
 use Rattle.target_lexicon.specs.ImpliedFormat.{implied}
 use Rattle.target_lexicon.specs.NormalStep.{prints_as_special, hides_newlib, prints_the_esp_idf_text, shows_none_alone, hides_unknowns}

@@ -7,7 +7,7 @@ use Rattle.lexicon_fields.specs.Laws.{HasVersionInRange}
 use Rattle.target_lexicon.specs.Families.{IsInSomeFamily}
 use Rattle.target_lexicon.specs.FixedPoints.{FixedExactlyOutsideFamilies}
 use Rattle.target_lexicon.specs.Laws.{ComesBack}
-use Rattle.target_lexicon.specs.NormalStep.{normal_step, is_outside}
+use Rattle.target_lexicon.specs.NormalStep.{normal_step, is_in_no_family}
 use Rattle.target_lexicon.specs.Printing.{text_of}
 use Rattle.target_lexicon.specs.Reading.{ReadsAs}
 use Rattle.target_lexicon.specs.Values.{Values}
@@ -74,21 +74,22 @@ fixed_exactly_outside t range = record {
 
 -- and so the tests tell
 
-is_outside-tells : (t : Values) → Decides (is_outside t) (IsOutside t)
-unfolding is_outside
-is_outside-tells t =
+no_family-tells : (t : Values) → Decides (is_in_no_family t) (IsOutside t × (is_plain t.vendor ≡ true))
+unfolding is_in_no_family
+no_family-tells t =
     Decides-like _
-    (λ is. record { special = is.0.0.0.0; newlib = is.0.0.0.1; esp = is.0.0.1; none = is.0.1; unknowns = is.1 })
-    (λ is. ((((is.special, is.newlib), is.esp), is.none), is.unknowns))
-    (Decides-and _ _ (Decides-and _ _ (Decides-and _ _ (Decides-and _ _
+    (λ is. (record { special = is.0.0.0.0.0; newlib = is.0.0.0.0.1; esp = is.0.0.0.1; none = is.0.0.1; unknowns = is.0.1 }, is.1))
+    (λ is. (((((is.0.special, is.0.newlib), is.0.esp), is.0.none), is.0.unknowns), is.1))
+    (Decides-and _ _ (Decides-and _ _ (Decides-and _ _ (Decides-and _ _ (Decides-and _ _
     (Decides-not _ (prints_as_special-tells t))
     (Decides-not _ (hides_newlib-tells t)))
     (Decides-not _ (prints_the_esp_idf_text-tells t)))
     (Decides-not _ (shows_none_alone-tells t)))
     (Decides-not _ (hides_unknowns-tells t)))
+    (λ h. h, λ h. h))
 
-pub back-if_outside : (t : Values) → HasVersionInRange t.operating_system → is_outside t ≡ true → Decides (is_plain t.vendor) (ComesBack t)
-back-if_outside t range outside = (λ plain. outside-back t range plain ((is_outside-tells t).0 outside), λ back. (back-outside t range back).0)
+pub back_by_tests : (t : Values) → HasVersionInRange t.operating_system → is_in_no_family t ≡ true → ComesBack t
+back_by_tests t range none = let is = (no_family-tells t).0 none in outside-back t range is.1 is.0
 
-pub back-unless_outside : (t : Values) → HasVersionInRange t.operating_system → is_outside t ≡ false → Decides (is_outside t) (ComesBack t)
-back-unless_outside t range inside = (λ outside. absurd cc, λ back. (is_outside-tells t).1 (back-outside t range back).1)
+pub tests_by_back : (t : Values) → HasVersionInRange t.operating_system → ComesBack t → is_in_no_family t ≡ true
+tests_by_back t range back = let is = back-outside t range back in (no_family-tells t).1 (is.1, is.0)

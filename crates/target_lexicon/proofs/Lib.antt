@@ -1,9 +1,11 @@
 pub mod Computed
 pub mod Cuts
+pub mod Elements
 pub mod FamilyTests
 pub mod Fixed
 pub mod Greedy
 pub mod Held
+pub mod LookedUp
 pub mod ModelsKnown
 pub mod NamesAcross
 pub mod Printed

@@ -1,5 +1,5 @@
 -- Which data models triples have.
-use Rattle.std.proofs.Common.{◌≡◌, ◌⊎◌, inl, inr, Option, Some, refl}
+use Rattle.std.proofs.Common.{◌≡◌, ◌⊎◌, inl, inr, Option, Some, None, refl}
 use Rattle.std.specs.Prelude.{option_map}
 use Rattle.lexicon_fields.specs.declared.architecture.Architecture.{Architecture}
 use Rattle.lexicon_fields.specs.declared.architecture.Architecture.TheVariants.{Wasm32, Wasm64}
@@ -63,3 +63,26 @@ pub one_of_three : (t : Values) (m : CDataModel) → data_model t ≡ Some m →
 unfolding model_of
 one_of_three t m h =
     model_of_three (pointer_width t) t.operating_system (calling_convention t) t.architecture m h
+
+-- where no row of a table fits, there is no model
+no_other_64 : (c : CallingConvention) (a : Architecture)
+    → (a ≡ Wasm64 → ⊥) → (c ≡ SystemV → ⊥) → (c ≡ AppleAarch64 → ⊥) → other_model_64 (Some c) a ≡ None
+no_other_64 SystemV a p q r = absurd (q refl)
+no_other_64 AppleAarch64 a p q r = absurd (r refl)
+no_other_64 _ Wasm64 p q r = absurd (p refl)
+no_other_64 _ _ p q r = refl
+
+pub no_model_64 : (s : OperatingSystem) (c : CallingConvention) (a : Architecture)
+    → (s ≡ Windows → ⊥) → (a ≡ Wasm64 → ⊥) → (c ≡ SystemV → ⊥) → (c ≡ AppleAarch64 → ⊥) → model_64 s (Some c) a ≡ None
+no_model_64 Windows c a n p q r = absurd (n refl)
+no_model_64 _ c a n p q r = no_other_64 c a p q r
+
+no_other_32 : (c : CallingConvention) (a : Architecture) → (a ≡ Wasm32 → ⊥) → (c ≡ SystemV → ⊥) → other_model_32 (Some c) a ≡ None
+no_other_32 SystemV a p q = absurd (q refl)
+no_other_32 _ Wasm32 p q = absurd (p refl)
+no_other_32 _ _ p q = refl
+
+pub no_model_32 : (s : OperatingSystem) (c : CallingConvention) (a : Architecture)
+    → (s ≡ Windows → ⊥) → (a ≡ Wasm32 → ⊥) → (c ≡ SystemV → ⊥) → model_32 s (Some c) a ≡ None
+no_model_32 Windows c a n p q = absurd (n refl)
+no_model_32 _ c a n p q = no_other_32 c a p q

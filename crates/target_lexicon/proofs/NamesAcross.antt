@@ -6,8 +6,9 @@ use Rattle.lexicon_fields.specs.declared.environment.Environment.{Environment}
 use Rattle.lexicon_fields.specs.declared.environment.Environment.TheVariants as environment
 use Rattle.lexicon_fields.specs.declared.binary_format.BinaryFormat.{BinaryFormat}
 use Rattle.lexicon_fields.specs.declared.binary_format.BinaryFormat.TheVariants as binary_format
-use Rattle.lexicon_fields.specs.Vendor.{VendorValue, Known, Unknown, known_vendor_of, is_admitted, vendor_of}
-use Rattle.lexicon_fields.specs.OperatingSystem.{operating_system_name, operating_system_of}
+use Rattle.lexicon_fields.specs.declared.known_vendor.KnownVendor.TheVariants.{Unknown}
+use Rattle.lexicon_fields.specs.Vendor.{VendorValue, Known, known_vendor_of, is_admitted, vendor_of}
+use Rattle.lexicon_fields.specs.OperatingSystem.{operating_system_name, operating_system_of, fixed_operating_system_of}
 use Rattle.lexicon_fields.specs.Environment.{environment_name, environment_of}
 use Rattle.lexicon_fields.specs.BinaryFormat.{binary_format_name}
 use Rattle.lexicon_fields.specs.Laws.{HasVersionInRange}
@@ -28,7 +29,7 @@ format_as_system binary_format.Unknown = Some operating_system.Unknown
 format_as_system _ = None
 
 pub operating_system_of-format : (f : BinaryFormat) → operating_system_of (binary_format_name f) ≡ format_as_system f
-unfolding operating_system_of
+unfolding operating_system_of fixed_operating_system_of
 operating_system_of-format binary_format.Unknown = refl
 operating_system_of-format _ = refl
 
@@ -39,7 +40,7 @@ environment_as_system environment.None = Some operating_system.None_
 environment_as_system _ = None
 
 pub operating_system_of-environment : (e : Environment) → operating_system_of (environment_name e) ≡ environment_as_system e
-unfolding operating_system_of
+unfolding operating_system_of fixed_operating_system_of
 operating_system_of-environment environment.Unknown = refl
 operating_system_of-environment _ = refl
 

@@ -1,5 +1,5 @@
 -- The normal step keeps what the four queries answer.
-use Rattle.std.proofs.Common.{◌≡◌, ◌∙◌, sym, ap, refl, Bool, true, false, if◌then◌else◌, Option, Some}
+use Rattle.std.proofs.Common.{◌≡◌, sym, ap, refl, Bool, true, false, if◌then◌else◌, Some}
 use Rattle.lexicon_fields.specs.declared.architecture.Architecture.{Architecture}
 use Rattle.lexicon_fields.specs.declared.architecture.Architecture.TheVariants as architecture
 use Rattle.lexicon_fields.specs.declared.architecture.arm.ArmArchitecture.TheVariants as arm
@@ -10,7 +10,8 @@ use Rattle.lexicon_fields.specs.declared.environment.Environment.{Environment}
 use Rattle.lexicon_fields.specs.declared.environment.Environment.TheVariants as environment
 use Rattle.lexicon_fields.specs.declared.binary_format.BinaryFormat.{BinaryFormat}
 use Rattle.lexicon_fields.specs.declared.width.PointerWidth.TheVariants.{U32}
-use Rattle.lexicon_fields.specs.Vendor.{VendorValue, Known, Nintendo, Espressif}
+use Rattle.lexicon_fields.specs.declared.known_vendor.KnownVendor.TheVariants.{Nintendo, Espressif}
+use Rattle.lexicon_fields.specs.Vendor.{VendorValue, Known}
 use Rattle.target_lexicon.specs.ImpliedFormat.{implied}
 use Rattle.target_lexicon.specs.NormalStep.{normal_step, prints_as_special, hides_newlib, prints_the_esp_idf_text, shows_none_alone, hides_unknowns}
 use Rattle.target_lexicon.specs.Queries.{width_in, convention_on, model_of, model_of_width}

@@ -1,6 +1,6 @@
 -- What each return of `Triple::from_str` answers.
 use Rattle.std.proofs.Common.{◌≡◌, ℕ, List, [], ◌∷◌, true, false, refl, sym, ◌∙◌, ap, subst, Option, Some, None, Result, Ok, Err, inl, inr}
-use Rattle.std.specs.Prelude.{MatchOption, option_and_then, option_map, unwrap_or, is_some, IfErr, IsErrAnd, MatchResult}
+use Rattle.std.specs.Prelude.{MatchOption, option_and_then, option_map, unwrap_or, is_some, if◌then◌else◌, IfErr, IsErrAnd}
 use Rattle.lexicon_fields.specs.declared.architecture.Architecture.{Architecture as AnyArchitecture}
 use Rattle.lexicon_fields.specs.declared.vendor.Vendor.{Vendor as AnyVendor}
 use Rattle.lexicon_fields.specs.declared.vendor.Vendor.TheVariants as any_vendor
@@ -10,6 +10,7 @@ use Rattle.lexicon_fields.specs.declared.environment.Environment.{Environment as
 use Rattle.lexicon_fields.specs.declared.environment.Environment.TheVariants as environment
 use Rattle.lexicon_fields.specs.declared.binary_format.BinaryFormat.{BinaryFormat as AnyFormat}
 use Rattle.lexicon_fields.specs.Architecture.{architecture_of}
+use Rattle.lexicon_fields.specs.declared.known_vendor.KnownVendor.TheVariants as known_vendor
 use Rattle.lexicon_fields.specs.Vendor as vendor
 use Rattle.lexicon_fields.specs.Vendor.{vendor_of, vendor_value, is_admitted, IsCustom}
 use Rattle.lexicon_fields.specs.OperatingSystem.{operating_system_of}
@@ -25,7 +26,6 @@ use Rattle.target_lexicon.specs.Parts.{parts_of}
 use Rattle.target_lexicon.specs.Reading.{ReadsAs, IsRefusedAs, MayWantMemory, IsFaultOf}
 use Rattle.target_lexicon.specs.SpecialTexts.{special_values}
 use Rattle.target_lexicon.specs.Private.{part_for, parts_behind, Takes, TakesBy, lack_of}
-use Rattle.lexicon_fields.specs.Names.{Answers}
 use Rattle.target_lexicon.specs.Values.{values_of}
 use Rattle.target_lexicon.proofs.Held.{held_some}
 use Rattle.target_lexicon.proofs.SameValues.{same_values}
@@ -36,19 +36,17 @@ use Rattle.target_lexicon.proofs.Vendors.{admitted_custom}
 pub cut_parts : (text p : List ℕ) (behind ps : List (List ℕ)) → parts_of text ≡ p ∷ behind → ps ≡ behind → parts_of text ≡ p ∷ ps
 cut_parts text p behind ps are same = are ∙ ap (λ k. p ∷ k) (sym same)
 
--- a step by a way of reading that answers by a table
-pub takes_by : {A E : Type 0} (f : Field) (find : List ℕ → Option A) (gives : List ℕ → Result A E → Type 0) (parts : List (List ℕ)) (value : Option A) (left : List (List ℕ))
-    → ((p : List ℕ) → reads f p ≡ is_some (find p)) → ((p : List ℕ) (r : Result A E) → gives p r → Answers (find p) r)
-    → TakesBy gives parts value left → Takes f find parts value left
-takes_by f find gives [] value left is_read answers h = record { taken = h.0; others = h.1 }
-takes_by {A} {E} f find gives (p ∷ ps) value left is_read answers (answer, given, taken) = by_answer answer (answers p answer given) taken
+-- a step by the look-up of a field
+pub takes_by : {A : Type 0} (f : Field) (find : List ℕ → Option A) (parts : List (List ℕ)) (value : Option A) (left : List (List ℕ))
+    → ((p : List ℕ) → reads f p ≡ is_some (find p)) → TakesBy find parts value left → Takes f find parts value left
+takes_by f find [] value left is_read h = record { taken = h.0; others = h.1 }
+takes_by {A} f find (p ∷ ps) value left is_read h = by_reading (find p) refl h
   where
-    by_answer : (r : Result A E) → Answers (find p) r
-        → MatchResult r (λ v. (value ≡ Some v) × (left ≡ ps)) (λ _. (value ≡ None) × (left ≡ p ∷ ps)) → Takes f find (p ∷ ps) value left
-    by_answer (Ok v) found h =
+    by_reading : (o : Option A) → find p ≡ o → (value ≡ o) × (left ≡ (if is_some o then ps else p ∷ ps)) → Takes f find (p ∷ ps) value left
+    by_reading (Some v) found h =
         let takes : reads f p ≡ true = is_read p ∙ ap is_some found in
         record { taken = rw takes (h.0 ∙ sym found); others = rw takes h.1 }
-    by_answer (Err _) found h =
+    by_reading None found h =
         let skips : reads f p ≡ false = is_read p ∙ ap is_some found in
         record { taken = rw skips h.0; others = rw skips h.1 }
 
@@ -75,7 +73,7 @@ taken_by ps r1 r2 r3 r4 v s e f hv hs he hf =
       leaves = hf.others ∙ ap (parts_behind BinaryFormat) e3;
     }
 
-value_or : (v : Option AnyVendor) → vendor_value (unwrap_or v any_vendor.Unknown) ≡ unwrap_or (option_map vendor_value v) (vendor.Known vendor.Unknown)
+value_or : (v : Option AnyVendor) → vendor_value (unwrap_or v any_vendor.Unknown) ≡ unwrap_or (option_map vendor_value v) (vendor.Known known_vendor.Unknown)
 value_or None = refl
 value_or (Some v) = refl
 
@@ -90,7 +88,7 @@ taken-values : (ps left : List (List ℕ)) (t : Triple) (v : Option AnyVendor) (
     → t.binary_format ≡ unwrap_or f (implied_format t.architecture t.operating_system t.environment) → values_of t ≡ taken_values t.architecture ps
 taken-values ps left t v s e f taken tv ts te tf =
     let hv : vendor_value t.vendor ≡ taken_vendor ps =
-    ap vendor_value tv ∙ value_or v ∙ ap (λ o. unwrap_or o (vendor.Known vendor.Unknown)) taken.vendor in
+    ap vendor_value tv ∙ value_or v ∙ ap (λ o. unwrap_or o (vendor.Known known_vendor.Unknown)) taken.vendor in
     let hs : t.operating_system ≡ taken_operating_system ps = ts ∙ ap (λ o. unwrap_or o operating_system.Unknown) taken.operating_system in
     let he : t.environment ≡ taken_environment ps = te ∙ ap (λ o. unwrap_or o environment.Unknown) taken.environment in
     let hi : implied_format t.architecture t.operating_system t.environment ≡ implied_format t.architecture (taken_operating_system ps) (taken_environment ps) = cc in
@@ -106,7 +104,7 @@ custom-taken : (ps : List (List ℕ)) → MatchOption (part_for Vendor ps) ⊥ (
 custom-taken ps h = by_part (part_for Vendor ps) h
   where
     by_part : (o : Option (List ℕ)) → MatchOption o ⊥ (λ q. is_admitted q ≡ true)
-        → IsCustom (unwrap_or (option_and_then vendor_of o) (vendor.Known vendor.Unknown))
+        → IsCustom (unwrap_or (option_and_then vendor_of o) (vendor.Known known_vendor.Unknown))
     by_part None h = absurd h
     by_part (Some q) h = rw (admitted_custom q h) tt
 

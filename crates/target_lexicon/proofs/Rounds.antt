@@ -12,7 +12,8 @@ use Rattle.lexicon_fields.specs.declared.environment.Environment.TheVariants as 
 use Rattle.lexicon_fields.specs.declared.binary_format.BinaryFormat.{BinaryFormat}
 use Rattle.lexicon_fields.specs.declared.binary_format.BinaryFormat.TheVariants as binary_format
 use Rattle.lexicon_fields.specs.Architecture.{architecture_name}
-use Rattle.lexicon_fields.specs.Vendor.{VendorValue, Known, Unknown, Nintendo, Espressif, vendor_name, vendor_of, is_plain}
+use Rattle.lexicon_fields.specs.declared.known_vendor.KnownVendor.TheVariants.{Unknown, Nintendo, Espressif}
+use Rattle.lexicon_fields.specs.Vendor.{VendorValue, Known, vendor_name, vendor_of, is_plain}
 use Rattle.lexicon_fields.specs.OperatingSystem.{operating_system_name}
 use Rattle.lexicon_fields.specs.Environment.{environment_name}
 use Rattle.lexicon_fields.specs.BinaryFormat.{binary_format_name}

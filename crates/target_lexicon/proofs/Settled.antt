@@ -12,8 +12,9 @@ use Rattle.lexicon_fields.specs.declared.binary_format.BinaryFormat.TheVariants 
 use Rattle.lexicon_fields.specs.ArchitectureQueries.{is_clever}
 use Rattle.lexicon_fields.specs.SubArchitecture.{arm_of, aarch64_of, x86_32_of, mips32_of, mips64_of, riscv32_of, riscv64_of, clever_of, z80_of}
 use Rattle.lexicon_fields.specs.Architecture.{architecture_of}
-use Rattle.lexicon_fields.specs.Vendor.{VendorValue, Known, Nintendo, Espressif, known_vendor_of, is_admitted, is_plain}
-use Rattle.lexicon_fields.specs.OperatingSystem.{operating_system_of}
+use Rattle.lexicon_fields.specs.declared.known_vendor.KnownVendor.TheVariants.{Nintendo, Espressif}
+use Rattle.lexicon_fields.specs.Vendor.{VendorValue, Known, known_vendor_of, is_admitted, is_plain}
+use Rattle.lexicon_fields.specs.OperatingSystem.{operating_system_of, fixed_operating_system_of}
 use Rattle.lexicon_fields.specs.Environment.{environment_of}
 use Rattle.lexicon_fields.specs.BinaryFormat.{binary_format_of}
 use Rattle.lexicon_fields.specs.Laws.{HasVersionInRange}
@@ -143,7 +144,7 @@ unfolding normal_step implied_format
 two_step-ends = refl
 
 two_step-plain : is_plain two_step_triple.vendor ≡ true
-unfolding is_admitted known_vendor_of architecture_of arm_of aarch64_of x86_32_of mips32_of mips64_of riscv32_of riscv64_of clever_of z80_of operating_system_of environment_of binary_format_of
+unfolding is_admitted known_vendor_of architecture_of arm_of aarch64_of x86_32_of mips32_of mips64_of riscv32_of riscv64_of clever_of z80_of operating_system_of fixed_operating_system_of environment_of binary_format_of
 two_step-plain = refl
 
 ends_by : (t : Values) → Stays t (normal_step t) → StepsEnd t
@@ -194,6 +195,21 @@ unfolding normal_step implied_format
 settled_by t (inl stays) other = sym stays
 settled_by t (inr is) other = absurd (let bad = rw is at other in cc)
 
-pub settled-at : (t u : Values) → u ≡ normal_step t → prints_the_esp_idf_text u.environment u.binary_format u.operating_system u.architecture u.vendor ≡ false → u ≡ settled t
-settled-at t u is other =
-    is ∙ settled_by t (step-stays t) (ap (λ (x : Values). prints_the_esp_idf_text x.environment x.binary_format x.operating_system x.architecture x.vendor) (sym is) ∙ other)
+-- how the steps that are taken settle
+
+pub settled_by_one : (t u : Values) (b : Bool) → u ≡ normal_step t → b ≡ prints_the_esp_idf_text u.environment u.binary_format u.operating_system u.architecture u.vendor → b ≡ false → u ≡ settled t
+settled_by_one t u b is test other =
+    is ∙ settled_by t (step-stays t) (ap (λ (x : Values). prints_the_esp_idf_text x.environment x.binary_format x.operating_system x.architecture x.vendor) (sym is) ∙ sym test ∙ other)
+
+pub settled_by_two : (t u w : Values) → u ≡ normal_step t → w ≡ normal_step u → w ≡ settled t
+settled_by_two t u w first second = second ∙ ap normal_step first
+
+settled_back : (t u : Values) → u ≡ settled t → is_plain t.vendor ≡ true → HasVersionInRange t.operating_system → ComesBack u
+settled_back t u is plain range = subst ComesBack (sym is) (settled-comes_back t (record { vendor = plain; version = range }))
+
+pub back_by_one : (t u : Values) (b : Bool) → u ≡ normal_step t → b ≡ prints_the_esp_idf_text u.environment u.binary_format u.operating_system u.architecture u.vendor → b ≡ false
+    → is_plain t.vendor ≡ true → HasVersionInRange t.operating_system → ComesBack u
+back_by_one t u b is test other plain range = settled_back t u (settled_by_one t u b is test other) plain range
+
+pub back_by_two : (t u w : Values) → u ≡ normal_step t → w ≡ normal_step u → is_plain t.vendor ≡ true → HasVersionInRange t.operating_system → ComesBack w
+back_by_two t u w first second plain range = settled_back t w (settled_by_two t u w first second) plain range

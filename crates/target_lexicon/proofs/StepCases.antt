@@ -4,7 +4,8 @@ use Rattle.std.proofs.lemmas.Bool.Decides.{not_from_Decides}
 use Rattle.lexicon_fields.specs.declared.operating_system.OperatingSystem.TheVariants as operating_system
 use Rattle.lexicon_fields.specs.declared.environment.Environment.TheVariants as environment
 use Rattle.lexicon_fields.specs.declared.binary_format.BinaryFormat.TheVariants as binary_format
-use Rattle.lexicon_fields.specs.Vendor.{Known, Espressif}
+use Rattle.lexicon_fields.specs.declared.known_vendor.KnownVendor.TheVariants.{Espressif}
+use Rattle.lexicon_fields.specs.Vendor.{Known}
 use Rattle.target_lexicon.specs.Families.{HidesUnknowns, PrintsAsSpecial, HidesNewlib, PrintsTheEspIdfText, ShowsNoneAlone}
 use Rattle.target_lexicon.specs.ImpliedFormat.{implied}
 use Rattle.target_lexicon.specs.NormalStep.{normal_step, elf_if_unknown}

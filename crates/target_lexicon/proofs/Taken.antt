@@ -7,6 +7,7 @@ use Rattle.lexicon_fields.specs.declared.operating_system.OperatingSystem.TheVar
 use Rattle.lexicon_fields.specs.declared.environment.Environment.{Environment as AnyEnvironment}
 use Rattle.lexicon_fields.specs.declared.environment.Environment.TheVariants as environment
 use Rattle.lexicon_fields.specs.Architecture.{architecture_of}
+use Rattle.lexicon_fields.specs.declared.known_vendor.KnownVendor.TheVariants as known_vendor
 use Rattle.lexicon_fields.specs.Vendor as vendor
 use Rattle.lexicon_fields.specs.Vendor.{VendorValue, vendor_of}
 use Rattle.lexicon_fields.specs.OperatingSystem.{operating_system_of}
@@ -40,7 +41,7 @@ behind_binary_format ps = parts_behind BinaryFormat (behind_environment ps)
 
 -- the values of the fields behind the architecture
 abbrev pub taken_vendor : List (List ℕ) → VendorValue
-taken_vendor ps = value_for Vendor vendor_of (vendor.Known vendor.Unknown) ps
+taken_vendor ps = value_for Vendor vendor_of (vendor.Known known_vendor.Unknown) ps
 
 abbrev pub taken_operating_system : List (List ℕ) → AnySystem
 taken_operating_system ps = value_for OperatingSystem operating_system_of operating_system.Unknown (behind_vendor ps)

@@ -1,5 +1,5 @@
 -- The text of a triple with a plain vendor reads as its normal step.
-use Rattle.std.proofs.Common.{◌≡◌, ◌≢◌, ◌∙◌, ℕ, Bool, true, false, not, ◌||◌, cond, List, [], ◌∷◌, ◌++◌, nat_eq, Option, Some, None, Ok, Err, codes, refl, sym, ap}
+use Rattle.std.proofs.Common.{◌≡◌, ◌≢◌, ◌∙◌, ℕ, Bool, true, false, not, ◌||◌, cond, List, [], ◌∷◌, ◌++◌, nat_eq, Option, Some, None, Ok, Err, codes, refl, sym, ap, subst}
 use Rattle.std.specs.List.{list_all, join_with_byte}
 use Rattle.std.specs.Str.{bytes_eq}
 use Rattle.std.proofs.lemmas.Bool.{and_parts}
@@ -18,8 +18,9 @@ use Rattle.lexicon_fields.specs.ArchitectureQueries.{is_clever}
 use Rattle.lexicon_fields.specs.Names.{is_dash_free}
 use Rattle.lexicon_fields.specs.SubArchitecture.{arm_of, aarch64_of, x86_32_of, mips32_of, mips64_of, riscv32_of, riscv64_of, clever_of, z80_of}
 use Rattle.lexicon_fields.specs.Architecture.{architecture_name, architecture_of}
-use Rattle.lexicon_fields.specs.Vendor.{VendorValue, Known, Custom, Nintendo, Espressif, vendor_of, known_vendor_of, is_admitted, is_plain}
-use Rattle.lexicon_fields.specs.OperatingSystem.{operating_system_of}
+use Rattle.lexicon_fields.specs.declared.known_vendor.KnownVendor.TheVariants.{Nintendo, Espressif}
+use Rattle.lexicon_fields.specs.Vendor.{VendorValue, Known, Custom, vendor_of, known_vendor_of, is_admitted, is_plain}
+use Rattle.lexicon_fields.specs.OperatingSystem.{operating_system_of, fixed_operating_system_of}
 use Rattle.lexicon_fields.specs.Environment.{environment_of}
 use Rattle.lexicon_fields.specs.BinaryFormat.{binary_format_of}
 use Rattle.lexicon_fields.specs.Laws.{HasVersionInRange}
@@ -31,6 +32,7 @@ use Rattle.target_lexicon.specs.ImpliedFormat.{implied_format}
 use Rattle.target_lexicon.specs.NormalStep.{normal_step, prints_the_esp_idf_text}
 use Rattle.target_lexicon.specs.Parts.{parts_of}
 use Rattle.target_lexicon.specs.Printing.{shows_vendor, shows_operating_system, shows_environment, shows_binary_format, shown_parts, text_of, when}
+use Rattle.target_lexicon.specs.Reading.{ReadsAs}
 use Rattle.target_lexicon.specs.ReadingByFields.{read_parts, read_unless_special, reading}
 use Rattle.target_lexicon.specs.Refusal.{Lacks, refused}
 use Rattle.target_lexicon.specs.Field as field
@@ -42,9 +44,6 @@ use Rattle.target_lexicon.proofs.Rounds.{parts-round}
 use Rattle.target_lexicon.proofs.StepCases.{step_cases, step-architecture}
 
 -- parts without dashes are the parts of the text that joins them
-
-all_free : List (List ℕ) → Bool
-all_free ps = list_all is_dash_free ps
 
 by_dash : (dash rest : Bool) → not (dash || rest) ≡ true → (dash ≡ false) × (not rest ≡ true)
 by_dash false rest free = (refl, free)
@@ -107,11 +106,11 @@ custom_esp-round = refl
 -- the special texts, read by their parts
 
 nintendo-parts : read_parts (parts_of nintendo_3ds_text) ≡ Err (refused (Lacks field.OperatingSystem) (codes "3ds"))
-unfolding architecture_of arm_of vendor_of known_vendor_of operating_system_of environment_of binary_format_of
+unfolding architecture_of arm_of vendor_of known_vendor_of operating_system_of fixed_operating_system_of environment_of binary_format_of
 nintendo-parts = refl
 
 esp_idf-parts : read_parts (parts_of esp_idf_text) ≡ Ok custom_esp
-unfolding architecture_of arm_of aarch64_of x86_32_of mips32_of mips64_of riscv32_of riscv64_of clever_of z80_of vendor_of known_vendor_of is_admitted operating_system_of environment_of binary_format_of implied_format
+unfolding architecture_of arm_of aarch64_of x86_32_of mips32_of mips64_of riscv32_of riscv64_of clever_of z80_of vendor_of known_vendor_of is_admitted operating_system_of fixed_operating_system_of environment_of binary_format_of implied_format
 esp_idf-parts = refl
 
 -- a text that isn't special is read by its parts
@@ -181,3 +180,6 @@ reading-text_of t plain range = round_by t _ _ plain range refl refl
 -- a round of a plain triple is its step
 pub round : RoundIsNormalStep
 round t plain = ((reading-computed (text_of t)).read (normal_step t)).1 (reading-text_of t plain.vendor plain.version)
+
+pub round_by_step : (t u : Values) → is_plain t.vendor ≡ true → HasVersionInRange t.operating_system → u ≡ normal_step t → ReadsAs (text_of t) u
+round_by_step t u plain range is = subst (λ (x : Values). ReadsAs (text_of t) x) (sym is) (round t (record { vendor = plain; version = range }))

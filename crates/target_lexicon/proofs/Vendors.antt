@@ -2,7 +2,8 @@
 use Rattle.std.proofs.Common.{◌≡◌, ℕ, List, Bool, true, refl, sym, ◌∙◌, subst, Option, Some, None, inl, inr}
 use Rattle.std.specs.Prelude.{is_none, ◌&&◌, option_map}
 use Rattle.std.specs.Option.{option_or}
-use Rattle.lexicon_fields.specs.Vendor.{KnownVendor, VendorValue, Known, Custom, known_vendor_of, is_admitted, custom_of, vendor_of, vendor_value, owns_text, is_plain, IsCustom, OwnsCustomText}
+use Rattle.lexicon_fields.specs.declared.known_vendor.KnownVendor.{KnownVendor}
+use Rattle.lexicon_fields.specs.Vendor.{VendorValue, Known, Custom, known_vendor_of, is_admitted, custom_of, vendor_of, vendor_value, owns_text, is_plain, IsCustom, OwnsCustomText}
 use Rattle.lexicon_fields.specs.declared.vendor.Vendor.{Vendor}
 use Rattle.target_lexicon.proofs.Cuts.{bool_cases}
 

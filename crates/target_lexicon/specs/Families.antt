@@ -7,7 +7,8 @@ use Rattle.lexicon_fields.specs.declared.operating_system.OperatingSystem.TheVar
 use Rattle.lexicon_fields.specs.declared.environment.Environment.TheVariants as environment
 use Rattle.lexicon_fields.specs.declared.binary_format.BinaryFormat.TheVariants as binary_format
 use Rattle.lexicon_fields.specs.ArchitectureQueries.{is_clever}
-use Rattle.lexicon_fields.specs.Vendor.{Known, Custom, Nintendo, Espressif, is_plain}
+use Rattle.lexicon_fields.specs.declared.known_vendor.KnownVendor.TheVariants.{Nintendo, Espressif}
+use Rattle.lexicon_fields.specs.Vendor.{Known, Custom, is_plain}
 use Rattle.target_lexicon.specs.ImpliedFormat.{implied}
 use Rattle.target_lexicon.specs.Values.{Values, values}
 

@@ -15,7 +15,7 @@ use Rattle.target_lexicon.specs.QueryLaws.{QueriesKept}
 use Rattle.target_lexicon.specs.Reading.{ReadsAs}
 use Rattle.target_lexicon.specs.Values.{Values, values}
 
--- a triple with a plain vendor, whose version, if its system holds one, is in range; every triple of the code has it so
+-- a triple with a plain vendor, whose version, if its system holds one, is in range, as it is by the types of the code
 pub record IsPlainTriple (t : Values) : Type 0 where
   pub vendor : is_plain t.vendor ≡ true
   pub version : HasVersionInRange t.operating_system
@@ -37,21 +37,22 @@ FixedExactlyOutsideFamilies = (t : Values) → HasVersionInRange t.operating_sys
 abbrev pub settled : Values → Values
 settled t = normal_step (normal_step t)
 
--- the triple that takes two steps: by the first it becomes one that prints the text of a device
+-- the triple that takes two steps: by the first it becomes one that prints a special text
 abbrev pub two_step_triple : Values
 two_step_triple =
     values (architecture.Riscv32 riscv32.Riscv32imc) (Custom (codes "esp")) operating_system.Espidf environment.Unknown binary_format.Unknown
 
--- a second step changes one triple alone, whose vendor is plain, and a third none
+-- from a triple, a second step changes something for one alone, and a third for none
 pub record StepsEnd (t : Values) : Type 0 where
   pub second : (settled t ≢ normal_step t) ↔ (t ≡ two_step_triple)
   pub third : normal_step (settled t) ≡ settled t
 
+-- so it is for every triple, and the one has a plain vendor
 pub record SecondStepChangesOne : Type 0 where
   pub each : (t : Values) → StepsEnd t
   pub plain : IsPlainTriple two_step_triple
 
--- a settled triple has a text of its own, which reads back as it
+-- what two steps make of a plain triple comes back, and no other such triple has its text
 pub record SettledTextsAreKeys : Type 0 where
   pub comes_back : (t : Values) → IsPlainTriple t → ComesBack (settled t)
   pub own : (t u : Values) → IsPlainTriple t → IsPlainTriple u → text_of (settled t) ≡ text_of (settled u) → settled t ≡ settled u

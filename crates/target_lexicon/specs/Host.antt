@@ -3,7 +3,8 @@ use Rattle.lexicon_fields.specs.declared.architecture.Architecture.TheVariants a
 use Rattle.lexicon_fields.specs.declared.operating_system.OperatingSystem.TheVariants as operating_system
 use Rattle.lexicon_fields.specs.declared.environment.Environment.TheVariants as environment
 use Rattle.lexicon_fields.specs.declared.binary_format.BinaryFormat.TheVariants as binary_format
-use Rattle.lexicon_fields.specs.Vendor.{Known, Unknown}
+use Rattle.lexicon_fields.specs.declared.known_vendor.KnownVendor.TheVariants.{Unknown}
+use Rattle.lexicon_fields.specs.Vendor.{Known}
 use Rattle.target_lexicon.specs.Values.{Values, values}
 
 -- 64-bit x86 with Linux and GNU's libraries

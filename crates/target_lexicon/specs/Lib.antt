@@ -4,9 +4,11 @@ pub mod Field
 pub mod FixedPoints
 pub mod Host
 pub mod ImpliedFormat
+pub mod Json
 pub mod Laws
 pub mod NormalStep
 pub mod Parts
+pub mod PartsLeft
 pub mod Placement
 pub mod Printing
 pub mod Private

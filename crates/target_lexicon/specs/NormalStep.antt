@@ -11,7 +11,8 @@ use Rattle.lexicon_fields.specs.declared.environment.Environment.{Environment}
 use Rattle.lexicon_fields.specs.declared.environment.Environment.TheVariants as environment
 use Rattle.lexicon_fields.specs.declared.binary_format.BinaryFormat.{BinaryFormat}
 use Rattle.lexicon_fields.specs.declared.binary_format.BinaryFormat.TheVariants as binary_format
-use Rattle.lexicon_fields.specs.Vendor.{VendorValue, Known, Custom, Nintendo, Espressif}
+use Rattle.lexicon_fields.specs.declared.known_vendor.KnownVendor.TheVariants.{Nintendo, Espressif}
+use Rattle.lexicon_fields.specs.Vendor.{VendorValue, Known, Custom, is_plain}
 use Rattle.target_lexicon.specs.ImpliedFormat.{implied}
 use Rattle.target_lexicon.specs.Values.{Values}
 
@@ -49,14 +50,15 @@ abbrev pub elf_if_unknown : BinaryFormat → BinaryFormat
 elf_if_unknown binary_format.Unknown = binary_format.Elf
 elf_if_unknown f = f
 
--- whether none of them holds
-unfoldable pub is_outside : Values → Bool
-is_outside t =
+-- whether none of them holds, and the vendor is plain
+unfoldable pub is_in_no_family : Values → Bool
+is_in_no_family t =
     not (prints_as_special t.operating_system t.vendor t.architecture t.environment t.binary_format)
     && not (hides_newlib t.environment t.operating_system t.vendor t.architecture)
     && not (prints_the_esp_idf_text t.environment t.binary_format t.operating_system t.architecture t.vendor)
     && not (shows_none_alone t.environment t.operating_system t.architecture)
     && not (hides_unknowns t.environment t.binary_format (implied t))
+    && is_plain t.vendor
 
 -- the first of the families that holds tells what changes; outside them nothing does
 unfoldable pub normal_step : Values → Values

@@ -1,6 +1,13 @@
 -- Words of the contracts of private functions, which no public contract cites.
-use Rattle.std.specs.Prelude.{◌≡◌, ℕ, ◌∷◌, List, [], Bool, Option, Some, None, Result, MatchResult, option_and_then, if◌then◌else◌}
+use Rattle.std.specs.Prelude.{◌≡◌, ℕ, ◌∷◌, List, [], Bool, Option, Some, None, is_some, option_and_then, if◌then◌else◌}
 use Rattle.std.specs.Borrow.{Bor}
+use Rattle.lexicon_fields.specs.declared.table.FixedRow.{FixedRow}
+use Rattle.lexicon_fields.specs.FixedRow.{has_row}
+use Rattle.lexicon_fields.specs.Architecture.{architecture_of}
+use Rattle.lexicon_fields.specs.Vendor.{known_vendor_of}
+use Rattle.lexicon_fields.specs.OperatingSystem.{fixed_operating_system_of}
+use Rattle.lexicon_fields.specs.Environment.{environment_of}
+use Rattle.lexicon_fields.specs.BinaryFormat.{binary_format_of}
 use Rattle.target_lexicon.specs.Field as field
 use Rattle.target_lexicon.specs.Field.{Field, reads}
 use Rattle.target_lexicon.specs.Parts.{parts_of}
@@ -12,10 +19,14 @@ abbrev pub parts_behind_dash : Option (Bor (List ℕ)) → List (List ℕ)
 parts_behind_dash None = []
 parts_behind_dash (Some text) = parts_of text.now
 
--- the parts that are left, of which the first, if any, is cut off
-abbrev pub parts_left : Option (Bor (List ℕ) × Option (Bor (List ℕ))) → List (List ℕ)
-parts_left None = []
-parts_left (Some left) = left.0.now ∷ parts_behind_dash left.1
+-- what the row of a text, or that it has none, tells: the values that the text reads as by the fixed names
+pub record IsLookedUp (text : List ℕ) (row : Option FixedRow) : Type 0 where
+  pub known : is_some row ≡ has_row text
+  pub architecture : option_and_then (λ (r : FixedRow). r.architecture) row ≡ architecture_of text
+  pub vendor : option_and_then (λ (r : FixedRow). r.vendor) row ≡ known_vendor_of text
+  pub operating_system : option_and_then (λ (r : FixedRow). r.operating_system) row ≡ fixed_operating_system_of text
+  pub environment : option_and_then (λ (r : FixedRow). r.environment) row ≡ environment_of text
+  pub binary_format : option_and_then (λ (r : FixedRow). r.binary_format) row ≡ binary_format_of text
 
 -- the first part, if it reads as the field
 abbrev pub part_for : Field → List (List ℕ) → Option (List ℕ)
@@ -32,11 +43,10 @@ pub record Takes {A : Type 0} (f : Field) (find : List ℕ → Option A) (parts 
   pub taken : value ≡ option_and_then find (part_for f parts)
   pub others : left ≡ parts_behind f parts
 
--- a step by this way of reading: the value is what the first part reads as, if it does, and the other parts are left
-abbrev pub TakesBy : {A E : Type 0} → (List ℕ → Result A E → Type 0) → List (List ℕ) → Option A → List (List ℕ) → Type 0
-TakesBy gives [] value left = (value ≡ None) × (left ≡ [])
-TakesBy {A} {E} gives (p ∷ ps) value left = (answer : Result A E) × gives p answer
-    × MatchResult answer (λ v. (value ≡ Some v) × (left ≡ ps)) (λ _. (value ≡ None) × (left ≡ p ∷ ps))
+-- a step by this look-up
+abbrev pub TakesBy : {A : Type 0} → (List ℕ → Option A) → List (List ℕ) → Option A → List (List ℕ) → Type 0
+TakesBy find [] value left = (value ≡ None) × (left ≡ [])
+TakesBy find (p ∷ ps) value left = (value ≡ find p) × (left ≡ (if is_some (find p) then ps else p ∷ ps))
 
 -- the last field that is filled, by which of the fields behind the architecture are
 abbrev pub last_filled : Bool → Bool → Bool → Bool → Field

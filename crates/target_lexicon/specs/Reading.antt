@@ -4,6 +4,7 @@ use Rattle.lexicon_fields.specs.declared.architecture.Architecture.TheVariants a
 use Rattle.lexicon_fields.specs.declared.operating_system.OperatingSystem.TheVariants as operating_system
 use Rattle.lexicon_fields.specs.declared.environment.Environment.TheVariants as environment
 use Rattle.lexicon_fields.specs.Architecture.{architecture_of}
+use Rattle.lexicon_fields.specs.declared.known_vendor.KnownVendor.TheVariants as known_vendor
 use Rattle.lexicon_fields.specs.Vendor as vendor
 use Rattle.lexicon_fields.specs.Vendor.{IsCustom, vendor_of}
 use Rattle.lexicon_fields.specs.OperatingSystem.{operating_system_of}
@@ -33,7 +34,7 @@ IsValueOf find unfilled (Some part) value = find part ≡ Some value
 -- each field holds what its part reads as; an unfilled one is `Unknown`, an unfilled format the implied one
 pub record HoldsParts (parts : List (List ℕ)) (fields : List Field) (t : Values) : Type 0 where
   pub architecture : IsValueOf architecture_of architecture.Unknown (part_at field.Architecture parts fields) t.architecture
-  pub vendor : IsValueOf vendor_of (vendor.Known vendor.Unknown) (part_at field.Vendor parts fields) t.vendor
+  pub vendor : IsValueOf vendor_of (vendor.Known known_vendor.Unknown) (part_at field.Vendor parts fields) t.vendor
   pub operating_system : IsValueOf operating_system_of operating_system.Unknown (part_at field.OperatingSystem parts fields) t.operating_system
   pub environment : IsValueOf environment_of environment.Unknown (part_at field.Environment parts fields) t.environment
   pub binary_format : IsValueOf binary_format_of (implied t) (part_at field.BinaryFormat parts fields) t.binary_format

@@ -9,7 +9,8 @@ use Rattle.lexicon_fields.specs.declared.operating_system.OperatingSystem.TheVar
 use Rattle.lexicon_fields.specs.declared.environment.Environment.TheVariants as environment
 use Rattle.lexicon_fields.specs.declared.binary_format.BinaryFormat.TheVariants as binary_format
 use Rattle.lexicon_fields.specs.Names.{Pair, value_of}
-use Rattle.lexicon_fields.specs.Vendor.{VendorValue, Known, Nintendo, Espressif}
+use Rattle.lexicon_fields.specs.declared.known_vendor.KnownVendor.TheVariants.{Nintendo, Espressif}
+use Rattle.lexicon_fields.specs.Vendor.{VendorValue, Known}
 use Rattle.target_lexicon.specs.Values.{Values, values}
 
 abbrev pub nintendo_3ds_text : List ℕ

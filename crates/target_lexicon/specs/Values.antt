@@ -7,7 +7,8 @@ use Rattle.lexicon_fields.specs.declared.environment.Environment.{Environment}
 use Rattle.lexicon_fields.specs.declared.environment.Environment.TheVariants as environment
 use Rattle.lexicon_fields.specs.declared.binary_format.BinaryFormat.{BinaryFormat}
 use Rattle.lexicon_fields.specs.declared.binary_format.BinaryFormat.TheVariants as binary_format
-use Rattle.lexicon_fields.specs.Vendor.{VendorValue, Known, Unknown, vendor_value}
+use Rattle.lexicon_fields.specs.declared.known_vendor.KnownVendor.TheVariants.{Unknown}
+use Rattle.lexicon_fields.specs.Vendor.{VendorValue, Known, vendor_value}
 use Rattle.target_lexicon.specs.declared.triple.Triple.{Triple}
 
 -- a value for each field, a custom vendor being its text

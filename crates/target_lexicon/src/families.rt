@@ -6,7 +6,7 @@ ghost use Rattle.lexicon_fields.specs.declared.vendor.Vendor.TheVariants.{Espres
 ghost use Rattle.target_lexicon.specs.FixedPoints.{settled};
 ghost use Rattle.target_lexicon.specs.ImpliedFormat.{implied};
 ghost use Rattle.target_lexicon.specs.Laws.{ComesBack};
-ghost use Rattle.target_lexicon.specs.NormalStep.{normal_step, prints_as_special, hides_newlib, prints_the_esp_idf_text, shows_none_alone, hides_unknowns, elf_if_unknown, is_outside};
+ghost use Rattle.target_lexicon.specs.NormalStep.{normal_step, prints_as_special, hides_newlib, prints_the_esp_idf_text, shows_none_alone, hides_unknowns, elf_if_unknown, is_in_no_family};
 ghost use Rattle.target_lexicon.specs.Printing.{text_of};
 ghost use Rattle.target_lexicon.specs.Reading.{ReadsAs};
 ghost use Rattle.target_lexicon.specs.Values.{values_of};
@@ -19,30 +19,34 @@ use lexicon_fields::{
 };
 
 impl Triple {
-    /// Whether the triple comes back: printed and read again it is itself. No text is made.
+    /// Whether the triple comes back: printed and read again, it is itself. No text is made, and no memory asked for.
     ///
-    /// It is so exactly outside six families:
-    /// - Environment and format are `Unknown`, and another format is implied.
-    /// - The fields say the Nintendo 3DS or ESP-IDF, whose text says nothing of environment and format, and these aren't
-    ///   `Newlib` and `Elf`.
-    /// - `Newlib` is left out, as on these systems, but the architecture is another.
-    /// - The text of ESP-IDF is printed with the custom vendor `esp`.
-    /// - On Clever without a system, the environment is `None`, which reads as the system.
+    /// A triple comes back unless it is in one of six families:
+    /// - Environment and format are `Unknown`, and the other fields imply another format.
+    /// - The first three fields are those of `armv6k-nintendo-3ds` or `riscv32imc-esp-espidf`, and environment and format
+    ///   aren't `Newlib` and `Elf`.
+    /// - Vendor and system are those of one of these two, and the environment is `Newlib`, but the architecture is another.
+    /// - The text is `riscv32imc-esp-espidf`, but the vendor is the custom `esp`.
+    /// - On Clever with an unknown system, the environment is `None`, which reads as the system.
     /// - The vendor isn't plain.
+    #[tactic(auto, using(crate::proofs::Fixed::back_by_tests, crate::proofs::Fixed::tests_by_back))]
     pub fn comes_back(&self) -> bool
         ensures { (result ≡ true) ↔ ComesBack (values_of self.now) }
     {
         version_fits(self.operating_system);
-        self.is_outside() && self.vendor.is_plain()
+        self.is_in_no_family()
     }
 
-    /// The triple that this one's text reads as. It differs where this one doesn't come back:
-    /// - with the fields of the Nintendo 3DS or ESP-IDF, environment and format become `Newlib` and `Elf`;
-    /// - where `Newlib` is left out on another architecture, the environment becomes `Unknown`, and an `Unknown` format
-    ///   becomes `Elf`;
-    /// - with the text of ESP-IDF and the custom vendor `esp`, vendor, environment and format are those of ESP-IDF;
-    /// - on Clever without a system, the environment `None` becomes the system, and the environment `Unknown`;
-    /// - where environment and format are `Unknown` and another format is implied, it becomes that.
+    /// The triple that this one's text reads as; the vendor must be plain, as that of every triple is that was read.
+    /// Nothing is copied, and no memory asked for.
+    ///
+    /// A triple that comes back stays as it is. Of the families of `comes_back`, the first of these cases holds:
+    /// - Second: environment and format become `Newlib` and `Elf`.
+    /// - Third: the environment becomes `Unknown`, and an `Unknown` format becomes `Elf`.
+    /// - Fourth: the vendor becomes `Espressif`, environment and format become `Newlib` and `Elf`.
+    /// - Fifth: the system becomes `None_`, and the environment `Unknown`.
+    /// - First: the format becomes the implied one.
+    #[tactic(auto, using(crate::proofs::TextRounds::round_by_step))]
     pub fn normal(self) -> Triple
         requires { is_plain (vendor_value self.vendor) ≡ true }
         ensures step { values_of result ≡ normal_step (values_of self) }
@@ -53,8 +57,9 @@ impl Triple {
         self.step()
     }
 
-    /// The normal step, taken until the triple comes back: after two steps each does, and all but one after one.
-    /// Two such triples are equal exactly where their texts are, so that the text is a key.
+    /// The triple that comes back after normal steps, two at most; the vendor must be plain, as for `normal`.
+    /// Its text is its own among all such triples, so that it serves as a key. No memory is asked for.
+    #[tactic(auto, using(crate::proofs::Settled::settled_by_one, crate::proofs::Settled::back_by_one, crate::proofs::Settled::back_by_two))]
     pub fn settle(self) -> Triple
         requires { is_plain (vendor_value self.vendor) ≡ true }
         ensures steps { values_of result ≡ settled (values_of self) }
@@ -69,61 +74,42 @@ impl Triple {
         first
     }
 
-    /// The normal step, by the first of the families that holds.
+    /// The normal step.
     #[tactic(auto, unfolding(crate::specs::NormalStep::normal_step))]
-    fn step(self) -> Triple
+    fn step(mut self) -> Triple
         ensures step { values_of result ≡ normal_step (values_of self) }
         ensures vendor { (result.vendor ≡ self.vendor) ⊎ (result.vendor ≡ Espressif) }
     {
         if self.prints_as_special() {
-            return Triple {
-                environment: Environment::Newlib,
-                binary_format: BinaryFormat::Elf,
-                ..self
-            };
-        }
-        if self.hides_newlib() {
-            return Triple {
-                environment: Environment::Unknown,
-                binary_format: elf_if_unknown(self.binary_format),
-                ..self
-            };
-        }
-        if self.prints_the_esp_idf_text() {
-            return Triple {
-                vendor: Vendor::Espressif,
-                environment: Environment::Newlib,
-                binary_format: BinaryFormat::Elf,
-                ..self
-            };
-        }
-        if self.shows_none_alone() {
-            return Triple {
-                operating_system: OperatingSystem::None_,
-                environment: Environment::Unknown,
-                ..self
-            };
-        }
-        if self.hides_unknowns() {
-            let binary_format = default_binary_format(&self);
-            return Triple {
-                binary_format,
-                ..self
-            };
+            self.environment = Environment::Newlib;
+            self.binary_format = BinaryFormat::Elf;
+        } else if self.hides_newlib() {
+            self.environment = Environment::Unknown;
+            self.binary_format = elf_if_unknown(self.binary_format);
+        } else if self.prints_the_esp_idf_text() {
+            self.vendor = Vendor::Espressif;
+            self.environment = Environment::Newlib;
+            self.binary_format = BinaryFormat::Elf;
+        } else if self.shows_none_alone() {
+            self.operating_system = OperatingSystem::None_;
+            self.environment = Environment::Unknown;
+        } else if self.hides_unknowns() {
+            self.binary_format = default_binary_format(&self);
         }
         self
     }
 
-    /// Whether the triple is in none of the families, but maybe that of the vendors that aren't plain.
-    #[tactic(auto, unfolding(crate::specs::NormalStep::is_outside))]
-    fn is_outside(&self) -> bool
-        ensures { result ≡ is_outside (values_of self.now) }
+    /// Whether the triple is in none of the six families.
+    #[tactic(auto, unfolding(crate::specs::NormalStep::is_in_no_family))]
+    fn is_in_no_family(&self) -> bool
+        ensures { result ≡ is_in_no_family (values_of self.now) }
     {
         !self.prints_as_special()
             && !self.hides_newlib()
             && !self.prints_the_esp_idf_text()
             && !self.shows_none_alone()
             && !self.hides_unknowns()
+            && self.vendor.is_plain()
     }
 
     /// Whether a special text is printed, and environment and format aren't `Newlib` and `Elf`.

@@ -3,9 +3,12 @@ ghost use Rattle.std.specs.Prelude.{◌≡◌, ◌↔◌, true};
 ghost use Rattle.target_lexicon.specs.Laws.{OneLeastPlacement, OneOutcomeEach, ReadingIsComputed, ReadVendorsArePlain, FieldNamesReadBack, EqualTextsEqualTriples};
 ghost use Rattle.lexicon_fields.specs.Laws.{ComparesByValue};
 ghost use Rattle.target_lexicon.specs.FixedPoints.{FixedExactlyOutsideFamilies, RoundIsNormalStep, SecondStepChangesOne, SettledTextsAreKeys, RoundsAreKnown};
+ghost use Rattle.target_lexicon.specs.Json.{ListsReadBack, json_fault_of, list_fault_of};
 ghost use Rattle.target_lexicon.specs.QueryLaws.{ModelWidth, NoRareModel, IntegersGrowInEach, BytesHaveEightBits, QueriesKept};
 ghost use Rattle.target_lexicon.specs.Refusal.{refusal_of};
 ghost use Rattle.target_lexicon.specs.Values.{values_of};
+ghost use Rattle.target_lexicon.specs.declared.json_error.JsonError.{JsonError};
+ghost use Rattle.target_lexicon.specs.declared.list_error.ListError.{ListError};
 ghost use Rattle.target_lexicon.specs.declared.parse_error.ParseError.{ParseError};
 ghost use Rattle.target_lexicon.specs.declared.triple.Triple.{Triple};
 ghost use Rattle.target_lexicon.specs.declared.defaults.DefaultToHost.{DefaultToHost};
@@ -14,6 +17,8 @@ ghost use Rattle.target_lexicon.specs.declared.defaults.DefaultToUnknown.{Defaul
 use crate::calling_convention::CallingConvention;
 use crate::data_model::{CDataModel, Size};
 use crate::defaults::{DefaultToHost, DefaultToUnknown};
+use crate::json_error::JsonError;
+use crate::list_error::ListError;
 use crate::parse_error::ParseError;
 use crate::triple::Triple;
 
@@ -139,3 +144,21 @@ pub fn rounds_are_known()
     second_step_changes_one();
     settled_texts_are_keys();
 }
+
+/// A list of triples that come back when they are printed and read, written as JSON and read, is itself and no other.
+pub fn lists_read_back()
+    ensures { ListsReadBack }
+{
+    one_outcome_each();
+}
+
+/// Two errors of a JSON value are equal, as `==` tells, exactly where both say that it is no text, or the same of its text.
+pub fn json_errors_are_equal_by_value()
+    ensures { (x y : JsonError) → (⟦<JsonError as PartialEq>⟧.eq x y ≡ true) ↔ (json_fault_of x ≡ json_fault_of y) }
+{}
+
+/// Two errors of a JSON list are equal, as `==` tells, exactly where they are of one kind, and of the same element with the
+/// same fault.
+pub fn list_errors_are_equal_by_value()
+    ensures { (x y : ListError) → (⟦<ListError as PartialEq>⟧.eq x y ≡ true) ↔ (list_fault_of x ≡ list_fault_of y) }
+{}

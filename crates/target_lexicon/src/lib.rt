@@ -8,8 +8,13 @@ mod defaults;
 mod display;
 mod families;
 mod host;
+mod json;
+mod json_error;
 pub mod laws;
+mod list_error;
+mod macros;
 mod parse_error;
+mod part;
 mod queries;
 mod read;
 mod special;
@@ -21,11 +26,14 @@ pub use calling_convention::CallingConvention;
 pub use data_model::{CDataModel, Size};
 pub use default_format::default_binary_format;
 pub use defaults::{DefaultToHost, DefaultToUnknown};
+pub use json::{list_from_json, list_to_json};
+pub use json_error::JsonError;
 pub use lexicon_fields::{
     Aarch64Architecture, Architecture, ArmArchitecture, BinaryFormat, CleverArchitecture,
     CustomVendor, DeploymentTarget, Endianness, Environment, Mips32Architecture,
     Mips64Architecture, OperatingSystem, PointerWidth, Riscv32Architecture, Riscv64Architecture,
     Vendor, VendorError, X86_32Architecture, Z80Architecture,
 };
+pub use list_error::ListError;
 pub use parse_error::ParseError;
 pub use triple::Triple;

@@ -1,7 +1,7 @@
 //! What a code generator asks of a triple.
 ghost use Rattle.std.specs.Prelude.{◌≡◌, ◌↔◌, IsErr, false};
 ghost use Rattle.lexicon_fields.specs.Names.{Answers};
-ghost use Rattle.target_lexicon.specs.Queries.{endianness, pointer_width, calling_convention, data_model, is_ilp32};
+ghost use Rattle.target_lexicon.specs.Queries.{endianness, pointer_width, calling_convention, data_model, is_ilp32, model_64, model_32};
 ghost use Rattle.target_lexicon.specs.Values.{values_of};
 
 #[cfg(test)]
@@ -85,25 +85,44 @@ impl Triple {
     pub fn data_model(&self) -> Result<CDataModel, ()>
         ensures { Answers (data_model (values_of self.now)) result }
     {
-        match self.pointer_width() {
-            Ok(PointerWidth::U64) => match (self.operating_system, self.architecture) {
-                (OperatingSystem::Windows, _) => Ok(CDataModel::LLP64),
-                (_, Architecture::Wasm64) => Ok(CDataModel::LP64),
-                _ => match self.default_calling_convention() {
-                    Ok(CallingConvention::SystemV | CallingConvention::AppleAarch64) => {
+        match self.pointer_width()? {
+            PointerWidth::U64 => self.data_model_64(),
+            PointerWidth::U32 => self.data_model_32(),
+            PointerWidth::U16 => Err(()),
+        }
+    }
+
+    /// The data model of pointers of 64 bits.
+    fn data_model_64(&self) -> Result<CDataModel, ()>
+        ensures { Answers (model_64 self.now.operating_system (calling_convention (values_of self.now)) self.now.architecture) result }
+    {
+        match self.operating_system {
+            OperatingSystem::Windows => Ok(CDataModel::LLP64),
+            _ => match self.architecture {
+                Architecture::Wasm64 => Ok(CDataModel::LP64),
+                _ => match self.default_calling_convention()? {
+                    CallingConvention::SystemV | CallingConvention::AppleAarch64 => {
                         Ok(CDataModel::LP64)
                     }
                     _ => Err(()),
                 },
             },
-            Ok(PointerWidth::U32) => match (self.operating_system, self.architecture) {
-                (OperatingSystem::Windows, _) | (_, Architecture::Wasm32) => Ok(CDataModel::ILP32),
-                _ => match self.default_calling_convention() {
-                    Ok(CallingConvention::SystemV) => Ok(CDataModel::ILP32),
+        }
+    }
+
+    /// The data model of pointers of 32 bits.
+    fn data_model_32(&self) -> Result<CDataModel, ()>
+        ensures { Answers (model_32 self.now.operating_system (calling_convention (values_of self.now)) self.now.architecture) result }
+    {
+        match self.operating_system {
+            OperatingSystem::Windows => Ok(CDataModel::ILP32),
+            _ => match self.architecture {
+                Architecture::Wasm32 => Ok(CDataModel::ILP32),
+                _ => match self.default_calling_convention()? {
+                    CallingConvention::SystemV => Ok(CDataModel::ILP32),
                     _ => Err(()),
                 },
             },
-            Ok(PointerWidth::U16) | Err(()) => Err(()),
         }
     }
 }

@@ -1,78 +1,99 @@
 //! Reading a triple.
-ghost use Rattle.std.specs.Prelude.{◌≡◌, ◌∷◌, Some, true, IfOk, IfErr, OnErr, IfSome, MatchOption, option_map, string_bytes};
-ghost use Rattle.lexicon_fields.specs.Vendor.{OwnsCustomText, vendor_of, vendor_value, is_admitted};
+ghost use Rattle.std.specs.Prelude.{◌≡◌, Some, true, IfOk, IfErr, OnErr, IfSome, MatchOption, option_map, string_bytes};
+ghost use Rattle.lexicon_fields.specs.Vendor.{OwnsCustomText, vendor_of, vendor_value, is_admitted, is_plain};
 ghost use Rattle.target_lexicon.specs.Field as field;
-ghost use Rattle.target_lexicon.specs.Parts.{parts_of};
-ghost use Rattle.target_lexicon.specs.Private.{parts_behind_dash, parts_left, part_for, Takes, TakesBy, lack_of};
+ghost use Rattle.target_lexicon.specs.PartsLeft.{parts_left};
+ghost use Rattle.target_lexicon.specs.Private.{parts_behind_dash, part_for, TakesBy, lack_of};
 ghost use Rattle.target_lexicon.specs.Reading.{ReadsAs, IsFaultOf};
 ghost use Rattle.target_lexicon.specs.Refusal.{refused, refusal_of};
 ghost use Rattle.target_lexicon.specs.Values.{values_of};
 
 use crate::default_format::implied_format;
 use crate::parse_error::ParseError;
+use crate::part::Part;
 use crate::triple::Triple;
-use lexicon_fields::{
-    Architecture, BinaryFormat, Environment, OperatingSystem, Vendor, VendorError,
-};
+use lexicon_fields::{BinaryFormat, Environment, OperatingSystem, Vendor};
 use std::alloc::{AllocError, Global};
-use std::str::FromStr;
-
-/// The parts that are left: the first of them, and what is behind its dash.
-type Parts<'a> = (&'a str, Option<&'a str>);
-
-/// Cuts a text at its first dash.
-fn cut(text: &str) -> Parts<'_>
-    ensures { parts_of text.now ≡ result.0.now ∷ parts_behind_dash result.1 }
-{
-    match text.split_once('-') {
-        Some((part, behind)) => (part, Some(behind)),
-        None => (text, None),
-    }
-}
 
 /// The parts behind a dash.
-fn parts_in<'a>(behind: Option<&'a str>) -> Option<Parts<'a>>
+fn parts_in<'a>(behind: Option<&'a str>) -> Option<Part<'a>>
     ensures { parts_left result ≡ parts_behind_dash behind.entry }
 {
     match behind {
-        Some(text) => Some(cut(text)),
+        Some(text) => Some(Part::first(text)),
         None => None,
     }
 }
 
 /// The first part as a vendor, and the parts that are left then.
-#[tactic(auto, unfolding(crate::specs::Field::reads), using(crate::proofs::Vendors::admitted_custom, crate::proofs::Vendors::owns_custom_text))]
 fn take_vendor<'a>(
     alloc: Global,
-    parts: Option<Parts<'a>>,
-) -> Result<(Option<Vendor>, Option<Parts<'a>>), AllocError>
-    ensures ok { IfOk result (λ taken. Takes field.Vendor vendor_of (parts_left parts.entry)
-        (option_map vendor_value taken.0) (parts_left taken.1)) }
+    parts: Option<Part<'a>>,
+) -> Result<(Option<Vendor>, Option<Part<'a>>), AllocError>
+    ensures ok { IfOk result (λ taken. TakesBy vendor_of (parts_left parts.entry) (option_map vendor_value taken.0) (parts_left taken.1)) }
     ensures owned { IfOk result (λ taken. IfSome taken.0 OwnsCustomText) }
     ensures memory { OnErr result (MatchOption (part_for field.Vendor (parts_left parts.entry)) ⊥ (λ part. is_admitted part ≡ true)) }
 {
-    let Some((part, behind)) = parts else {
+    let Some(part) = parts else {
         return Ok((None, None));
     };
-    match Vendor::from_str(alloc, part) {
-        Ok(vendor) => Ok((Some(vendor), parts_in(behind))),
-        Err(VendorError::Unrecognized) => Ok((None, parts)),
-        Err(VendorError::OutOfMemory) => Err(AllocError),
+    match part.vendor(alloc)? {
+        Some(vendor) => Ok((Some(vendor), parts_in(part.behind))),
+        None => Ok((None, parts)),
+    }
+}
+
+/// A field that reads from a part without a wish for memory.
+trait ReadFrom: Sized {
+    ghost use Rattle.std.specs.Prelude.{ℕ, List, Option};
+
+    ghost find: { List ℕ → Option Self };
+
+    /// What the part reads as.
+    fn read_from(part: &Part<'_>) -> Option<Self>
+        ensures { result ≡ find part.now.text.now };
+}
+
+impl ReadFrom for OperatingSystem {
+    ghost use Rattle.lexicon_fields.specs.OperatingSystem.{operating_system_of};
+
+    ghost find = { operating_system_of };
+
+    fn read_from(part: &Part<'_>) -> Option<OperatingSystem> {
+        part.operating_system()
+    }
+}
+
+impl ReadFrom for Environment {
+    ghost use Rattle.lexicon_fields.specs.Environment.{environment_of};
+
+    ghost find = { environment_of };
+
+    fn read_from(part: &Part<'_>) -> Option<Environment> {
+        part.environment()
+    }
+}
+
+impl ReadFrom for BinaryFormat {
+    ghost use Rattle.lexicon_fields.specs.BinaryFormat.{binary_format_of};
+
+    ghost find = { binary_format_of };
+
+    fn read_from(part: &Part<'_>) -> Option<BinaryFormat> {
+        part.binary_format()
     }
 }
 
 /// What the first part reads as, if it does, and the parts that are left then.
-fn take<'a, T: FromStr>(parts: Option<Parts<'a>>) -> (Option<T>, Option<Parts<'a>>)
-where
-    T::Err: Drop,
-    ensures { TakesBy T.from_str_gives (parts_left parts.entry) result.0 (parts_left result.1) }
+fn take<'a, T: ReadFrom>(parts: Option<Part<'a>>) -> (Option<T>, Option<Part<'a>>)
+    ensures { TakesBy T.find (parts_left parts.entry) result.0 (parts_left result.1) }
 {
-    let Some((part, behind)) = parts else {
+    let Some(part) = parts else {
         return (None, None);
     };
-    match T::from_str(part) {
-        Ok(value) => (Some(value), parts_in(behind)),
-        Err(_) => (None, parts),
+    match T::read_from(&part) {
+        Some(value) => (Some(value), parts_in(part.behind)),
+        None => (None, parts),
     }
 }
 
@@ -114,22 +135,23 @@ impl Triple {
     pub fn from_str(alloc: Global, text: &str) -> Result<Triple, ParseError>
         ensures ok { IfOk result (λ triple. ReadsAs text.now (values_of triple)) }
         ensures owned { IfOk result (λ triple. OwnsCustomText triple.vendor) }
+        ensures plain { IfOk result (λ triple. is_plain (vendor_value triple.vendor) ≡ true) }
         ensures err { IfErr result (λ error. IsFaultOf text.now error) }
     {
         if let Some(triple) = Triple::of_special_text(text) {
             return Ok(triple);
         }
-        let (first, behind) = cut(text);
-        let Ok(architecture) = Architecture::from_str(first) else {
-            let part = String::from_str(alloc, first)?;
+        let first = Part::first(text);
+        let Some(architecture) = first.architecture() else {
+            let part = String::from_str(alloc, first.text)?;
             return Err(ParseError::UnrecognizedArchitecture(part));
         };
-        let (vendor, parts) = take_vendor(alloc, parts_in(behind))?;
+        let (vendor, parts) = take_vendor(alloc, parts_in(first.behind))?;
         let (operating_system, parts) = take::<OperatingSystem>(parts);
         let (environment, parts) = take::<Environment>(parts);
         let (binary_format, parts) = take::<BinaryFormat>(parts);
-        if let Some((part, _)) = parts {
-            let part = String::from_str(alloc, part)?;
+        if let Some(left) = parts {
+            let part = String::from_str(alloc, left.text)?;
             return Err(refusal(
                 part,
                 vendor.is_some(),

@@ -1,3 +1,4 @@
 pub mod AnswerLemmas
+pub mod JsonAnswers
 pub mod KnownBytes
 pub mod LineLemmas

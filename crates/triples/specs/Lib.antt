@@ -1,5 +1,6 @@
 pub mod Device
 pub mod Facts
+pub mod JsonOutput
 pub mod Lines
 pub mod Output
 pub mod Private

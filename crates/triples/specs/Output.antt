@@ -1,13 +1,16 @@
 -- What a mode writes for an input.
-use Rattle.std.specs.Prelude.{ℕ, ◌≡◌, ◌⊎◌, List, [], ◌∷◌, ◌++◌, codes}
+use Rattle.std.specs.Prelude.{ℕ, ◌≡◌, ◌<◌, ◌⊎◌, List, length, [], ◌∷◌, ◌++◌, codes}
 use Rattle.target_lexicon.specs.FixedPoints.{settled}
 use Rattle.target_lexicon.specs.Printing.{text_of}
 use Rattle.target_lexicon.specs.Reading.{ReadsAs, IsRefusedAs}
 use Rattle.target_lexicon.specs.Refusal.{Refusal, refusal_line}
 use Rattle.target_lexicon.specs.Values.{Values}
 use Rattle.triples.specs.declared.mode.Mode.{Mode}
-use Rattle.triples.specs.declared.mode.Mode.TheVariants.{Print, Show, Settle}
+use Rattle.triples.specs.declared.mode.Mode.TheVariants.{Print, Show, Settle, Json}
+use Rattle.triples.specs.declared.run_error.RunError.{RunError}
+use Rattle.triples.specs.declared.run_error.RunError.TheVariants.{OutOfMemory}
 use Rattle.triples.specs.Facts.{facts_of}
+use Rattle.triples.specs.JsonOutput.{IsJsonOutput, IsJsonInputFault}
 use Rattle.triples.specs.Lines.{lines_of}
 
 -- what is shown of the triple that a line reads as
@@ -37,3 +40,9 @@ abbrev pub IsOutput : Mode → List ℕ → List ℕ → Type 0
 IsOutput Print input output = AreAnswered text_of (lines_of input) output
 IsOutput Show input output = AreAnswered facts_of (lines_of input) output
 IsOutput Settle input output = AreAnswered settled_text (lines_of input) output
+IsOutput Json input output = IsJsonOutput input output
+
+-- why an input has no output in the mode; in a mode of lines only memory may be wanted, and not for an empty input
+abbrev pub IsInputFault : Mode → List ℕ → RunError → Type 0
+IsInputFault Json input e = IsJsonInputFault input e
+IsInputFault _ input e = (e ≡ OutOfMemory) × (0 < length input)

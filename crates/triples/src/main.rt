@@ -5,6 +5,7 @@ mod conclude;
 mod counted;
 mod facts;
 mod input;
+mod json;
 mod lines;
 mod mode;
 mod output;

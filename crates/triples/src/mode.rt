@@ -10,6 +10,8 @@ pub enum Mode {
     Show,
     /// Each line's settled triple, printed.
     Settle,
+    /// The triples of a JSON list of texts, printed, as a JSON list.
+    Json,
 }
 
 impl Mode {
@@ -24,6 +26,7 @@ impl Mode {
             "print" => Some(Mode::Print),
             "show" => Some(Mode::Show),
             "settle" => Some(Mode::Settle),
+            "json" => Some(Mode::Json),
             _ => None,
         }
     }

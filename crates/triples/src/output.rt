@@ -1,17 +1,19 @@
 //! What a mode writes for an input.
-ghost use Rattle.std.specs.Prelude.{◌≡◌, ◌<◌, ◌++◌, ◌∷◌, [], true, length, string_bytes, IfOk, OnOk, OnErr};
+ghost use Rattle.std.specs.Prelude.{◌≡◌, ◌<◌, ◌++◌, ◌∷◌, [], true, length, string_bytes, IfOk, IfErr, OnOk, OnErr};
 ghost use Rattle.lexicon_fields.specs.Vendor.{is_plain, vendor_value};
 ghost use Rattle.target_lexicon.specs.Values.{values_of};
 ghost use Rattle.triples.specs.Facts.{facts_of};
 ghost use Rattle.triples.specs.Lines.{lines_of};
-ghost use Rattle.triples.specs.Output.{AreAnswered, IsOutput};
+ghost use Rattle.triples.specs.Output.{AreAnswered, IsOutput, IsInputFault};
 ghost use Rattle.triples.specs.Private.{AddsAnswer, shown_by};
 
 use crate::facts::push_facts;
+use crate::json::json_output;
 use crate::lines::first_line;
 use crate::mode::Mode;
+use crate::run_error::RunError;
 use std::alloc::{AllocError, Global};
-use target_lexicon::{ParseError, Triple, laws};
+use target_lexicon::{ParseError, Triple};
 
 /// What is shown of a triple.
 #[derive(Clone, Copy)]
@@ -62,7 +64,6 @@ fn push_answer(
 ) -> Result<(), AllocError>
     ensures { OnOk result (AddsAnswer (shown_by shown) line.now (string_bytes output.old) (string_bytes output.new)) }
 {
-    laws::read_vendors_are_plain();
     match Triple::from_str(alloc, line) {
         Ok(triple) => push_shown(alloc, output, shown, triple),
         Err(ParseError::OutOfMemory) => Err(AllocError),
@@ -85,14 +86,19 @@ fn answers(alloc: Global, shown: Shown, input: &str) -> Result<String, AllocErro
     Ok(output)
 }
 
-/// The mode's output for an input. It wants memory only for an input that is not empty.
-pub(crate) fn output(alloc: Global, mode: Mode, input: &str) -> Result<String, AllocError>
+/// The mode's output for an input, or why it has none. It wants memory only for an input that is not empty.
+pub(crate) fn output(alloc: Global, mode: Mode, input: &str) -> Result<String, RunError>
     ensures output { IfOk result (λ output. IsOutput mode input.now (string_bytes output)) }
-    ensures memory { OnErr result (0 < length input.now) }
+    ensures err { IfErr result (λ e. IsInputFault mode input.now e) }
 {
-    match mode {
+    let answers = match mode {
         Mode::Print => answers(alloc, Shown::Text, input),
         Mode::Show => answers(alloc, Shown::Facts, input),
         Mode::Settle => answers(alloc, Shown::SettledText, input),
+        Mode::Json => return json_output(alloc, input),
+    };
+    match answers {
+        Ok(output) => Ok(output),
+        Err(_) => Err(RunError::OutOfMemory),
     }
 }

@@ -3,6 +3,7 @@ ghost use Rattle.std.specs.Prelude.{◌≡◌, ◌≢◌, ◌<◌, ◌↔◌, Is
 ghost use Rattle.std.specs.Str.{IsUtf8};
 ghost use Rattle.std.specs.Io.KnownBytes.{Keeps, IsAtEnd};
 ghost use Rattle.triples.specs.Device.{device, failures};
+ghost use Rattle.triples.specs.JsonOutput.{IsOfJson, IsJsonInputFault};
 ghost use Rattle.triples.specs.Run.{ConsumesSome, WritesOutput, WritesOutputFront};
 
 use crate::counted::Counted;
@@ -22,7 +23,10 @@ use std::io::{Read, Write};
 ///
 /// - [`RunError::Read`] exactly where a read failed; nothing was written.
 /// - [`RunError::NotUtf8`] where the whole input was read and is not UTF-8; nothing was written.
-/// - [`RunError::NotJson`] and [`RunError::NotList`] in no mode that there is.
+/// - [`RunError::NotJson`] where the whole input was read in mode `json`, and is UTF-8 and no JSON; nothing was
+///   written.
+/// - [`RunError::NotList`] where the whole input was read in mode `json`, and is JSON and no list; nothing was
+///   written.
 /// - [`RunError::OutOfMemory`] where memory was refused, which comes only after a byte was read; nothing was
 ///   written.
 /// - [`RunError::Write`] exactly where a write or the flush failed, or a write took none of a piece; a beginning
@@ -48,15 +52,15 @@ pub fn run<R: Read, W: Write>(
     // Faults of the input, and want of memory.
     ensures utf8_whole { IsErrOf result RunError.NotUtf8 → IsAtEnd (R.remaining (device r.new)) }
     ensures utf8 { IsErrOf result RunError.NotUtf8 → IfSome (R.remaining (device r.old)) (λ input. ¬ (IsUtf8 input)) }
-    ensures json { IfErr result (λ e. (e ≢ RunError.NotJson) × (e ≢ RunError.NotList)) }
+    ensures json_alone { IfErr result (λ e. IsOfJson e → mode ≡ Mode.Json) }
+    ensures json_whole { IfErr result (λ e. IsOfJson e → IsAtEnd (R.remaining (device r.new))) }
+    ensures json { IfErr result (λ e. IsOfJson e → IfSome (R.remaining (device r.old)) (λ input. IsUtf8 input × IsJsonInputFault input e)) }
     ensures memory { IsErrOf result RunError.OutOfMemory → ConsumesSome (R.remaining (device r.old)) (R.remaining (device r.new)) }
 {
     let bytes = read_all(alloc, r)?;
     let Ok(input) = str::from_utf8(&bytes) else {
         return Err(RunError::NotUtf8);
     };
-    let Ok(output) = output(alloc, mode, input) else {
-        return Err(RunError::OutOfMemory);
-    };
+    let output = output(alloc, mode, input)?;
     write_and_flush(w, output.as_bytes())
 }

@@ -2,7 +2,10 @@
 
 ghost use Rattle.std.specs.Io.{WritesAtMost};
 
+mod cache_key;
+mod json;
 mod line_modes;
+mod macros;
 
 use crate::asked_mode;
 use crate::conclude::conclude;
@@ -418,6 +421,7 @@ fn names_modes(rt: HostRuntime) {
     assert_eq!(rt; Mode::from_word("print"), Some(Mode::Print));
     assert_eq!(rt; Mode::from_word("show"), Some(Mode::Show));
     assert_eq!(rt; Mode::from_word("settle"), Some(Mode::Settle));
+    assert_eq!(rt; Mode::from_word("json"), Some(Mode::Json));
     for word in ["", "Print", "print ", "shows", "--help"] {
         assert_eq!(rt; Mode::from_word(word), None);
     }

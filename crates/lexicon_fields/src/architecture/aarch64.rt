@@ -5,6 +5,7 @@ ghost use Rattle.lexicon_fields.specs.Names.{Answers};
 ghost use Rattle.lexicon_fields.specs.SubArchitecture.{aarch64_name, aarch64_of};
 ghost use Rattle.lexicon_fields.specs.ArchitectureQueries.{aarch64_endianness};
 
+use crate::architecture::Architecture;
 use crate::width::{Endianness, PointerWidth};
 use std::borrow::CowStr;
 use std::fmt;
@@ -45,16 +46,14 @@ impl Aarch64Architecture {
     }
 
     /// The value whose name the text is, and `Aarch64` for `arm64`; every other text is refused.
-    #[tactic(auto, unfolding(crate::specs::SubArchitecture::aarch64_of))]
+    #[tactic(auto, using(crate::proofs::SubArchitectures::aarch64_is_part))]
     pub fn from_str(s: &str) -> Result<Self, ()>
         ensures { Answers (aarch64_of s.now) result }
     {
-        Ok(match s {
-            "aarch64" => Aarch64Architecture::Aarch64,
-            "aarch64_be" => Aarch64Architecture::Aarch64be,
-            "arm64" => Aarch64Architecture::Aarch64,
-            _ => return Err(()),
-        })
+        match Architecture::from_str(s) {
+            Ok(Architecture::Aarch64(sub)) => Ok(sub),
+            _ => Err(()),
+        }
     }
 
     /// The name, which is always borrowed.

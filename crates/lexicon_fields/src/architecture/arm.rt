@@ -5,6 +5,7 @@ ghost use Rattle.lexicon_fields.specs.Names.{Answers};
 ghost use Rattle.lexicon_fields.specs.SubArchitecture.{arm_name, arm_of};
 ghost use Rattle.lexicon_fields.specs.ArchitectureQueries.{is_thumb, arm_endianness};
 
+use crate::architecture::Architecture;
 use crate::width::{Endianness, PointerWidth};
 use std::borrow::CowStr;
 use std::fmt;
@@ -107,55 +108,14 @@ impl ArmArchitecture {
     }
 
     /// The value whose name the text is; every other text is refused.
-    #[tactic(auto, unfolding(crate::specs::SubArchitecture::arm_of))]
+    #[tactic(auto, using(crate::proofs::SubArchitectures::arm_is_part))]
     pub fn from_str(s: &str) -> Result<Self, ()>
         ensures { Answers (arm_of s.now) result }
     {
-        Ok(match s {
-            "arm" => ArmArchitecture::Arm,
-            "armeb" => ArmArchitecture::Armeb,
-            "armv4" => ArmArchitecture::Armv4,
-            "armv4t" => ArmArchitecture::Armv4t,
-            "armv5t" => ArmArchitecture::Armv5t,
-            "armv5te" => ArmArchitecture::Armv5te,
-            "armv5tej" => ArmArchitecture::Armv5tej,
-            "armv6" => ArmArchitecture::Armv6,
-            "armv6j" => ArmArchitecture::Armv6j,
-            "armv6k" => ArmArchitecture::Armv6k,
-            "armv6z" => ArmArchitecture::Armv6z,
-            "armv6kz" => ArmArchitecture::Armv6kz,
-            "armv6t2" => ArmArchitecture::Armv6t2,
-            "armv6m" => ArmArchitecture::Armv6m,
-            "armv7" => ArmArchitecture::Armv7,
-            "armv7a" => ArmArchitecture::Armv7a,
-            "armv7k" => ArmArchitecture::Armv7k,
-            "armv7ve" => ArmArchitecture::Armv7ve,
-            "armv7m" => ArmArchitecture::Armv7m,
-            "armv7r" => ArmArchitecture::Armv7r,
-            "armv7s" => ArmArchitecture::Armv7s,
-            "armv8" => ArmArchitecture::Armv8,
-            "armv8a" => ArmArchitecture::Armv8a,
-            "armv8.1a" => ArmArchitecture::Armv8_1a,
-            "armv8.2a" => ArmArchitecture::Armv8_2a,
-            "armv8.3a" => ArmArchitecture::Armv8_3a,
-            "armv8.4a" => ArmArchitecture::Armv8_4a,
-            "armv8.5a" => ArmArchitecture::Armv8_5a,
-            "armv8m.base" => ArmArchitecture::Armv8mBase,
-            "armv8m.main" => ArmArchitecture::Armv8mMain,
-            "armv8r" => ArmArchitecture::Armv8r,
-            "armebv7r" => ArmArchitecture::Armebv7r,
-            "thumbeb" => ArmArchitecture::Thumbeb,
-            "thumbv4t" => ArmArchitecture::Thumbv4t,
-            "thumbv5te" => ArmArchitecture::Thumbv5te,
-            "thumbv6m" => ArmArchitecture::Thumbv6m,
-            "thumbv7a" => ArmArchitecture::Thumbv7a,
-            "thumbv7em" => ArmArchitecture::Thumbv7em,
-            "thumbv7m" => ArmArchitecture::Thumbv7m,
-            "thumbv7neon" => ArmArchitecture::Thumbv7neon,
-            "thumbv8m.base" => ArmArchitecture::Thumbv8mBase,
-            "thumbv8m.main" => ArmArchitecture::Thumbv8mMain,
-            _ => return Err(()),
-        })
+        match Architecture::from_str(s) {
+            Ok(Architecture::Arm(sub)) => Ok(sub),
+            _ => Err(()),
+        }
     }
 
     /// The name, which is always borrowed.

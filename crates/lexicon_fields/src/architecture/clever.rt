@@ -4,6 +4,7 @@ ghost use Rattle.std.specs.Cow.{cow_str_bytes, IsBorrowedStr};
 ghost use Rattle.lexicon_fields.specs.Names.{Answers};
 ghost use Rattle.lexicon_fields.specs.SubArchitecture.{clever_name, clever_of};
 
+use crate::architecture::Architecture;
 use std::borrow::CowStr;
 use std::fmt;
 use std::str::FromStr;
@@ -18,15 +19,14 @@ pub enum CleverArchitecture {
 
 impl CleverArchitecture {
     /// The value whose name the text is; every other text is refused.
-    #[tactic(auto, unfolding(crate::specs::SubArchitecture::clever_of))]
+    #[tactic(auto, using(crate::proofs::SubArchitectures::clever_is_part))]
     pub fn from_str(s: &str) -> Result<Self, ()>
         ensures { Answers (clever_of s.now) result }
     {
-        Ok(match s {
-            "clever" => CleverArchitecture::Clever,
-            "clever1.0" => CleverArchitecture::Clever1_0,
-            _ => return Err(()),
-        })
+        match Architecture::from_str(s) {
+            Ok(Architecture::Clever(sub)) => Ok(sub),
+            _ => Err(()),
+        }
     }
 
     /// The name, which is always borrowed.

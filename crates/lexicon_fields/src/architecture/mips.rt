@@ -4,6 +4,7 @@ ghost use Rattle.std.specs.Cow.{cow_str_bytes, IsBorrowedStr};
 ghost use Rattle.lexicon_fields.specs.Names.{Answers};
 ghost use Rattle.lexicon_fields.specs.SubArchitecture.{mips32_name, mips32_of, mips64_name, mips64_of};
 
+use crate::architecture::Architecture;
 use std::borrow::CowStr;
 use std::fmt;
 use std::str::FromStr;
@@ -23,17 +24,14 @@ pub enum Mips32Architecture {
 
 impl Mips32Architecture {
     /// The value whose name the text is; every other text is refused.
-    #[tactic(auto, unfolding(crate::specs::SubArchitecture::mips32_of))]
+    #[tactic(auto, using(crate::proofs::SubArchitectures::mips32_is_part))]
     pub fn from_str(s: &str) -> Result<Self, ()>
         ensures { Answers (mips32_of s.now) result }
     {
-        Ok(match s {
-            "mips" => Mips32Architecture::Mips,
-            "mipsel" => Mips32Architecture::Mipsel,
-            "mipsisa32r6" => Mips32Architecture::Mipsisa32r6,
-            "mipsisa32r6el" => Mips32Architecture::Mipsisa32r6el,
-            _ => return Err(()),
-        })
+        match Architecture::from_str(s) {
+            Ok(Architecture::Mips32(sub)) => Ok(sub),
+            _ => Err(()),
+        }
     }
 
     /// The name, which is always borrowed.
@@ -91,17 +89,14 @@ pub enum Mips64Architecture {
 
 impl Mips64Architecture {
     /// The value whose name the text is; every other text is refused.
-    #[tactic(auto, unfolding(crate::specs::SubArchitecture::mips64_of))]
+    #[tactic(auto, using(crate::proofs::SubArchitectures::mips64_is_part))]
     pub fn from_str(s: &str) -> Result<Self, ()>
         ensures { Answers (mips64_of s.now) result }
     {
-        Ok(match s {
-            "mips64" => Mips64Architecture::Mips64,
-            "mips64el" => Mips64Architecture::Mips64el,
-            "mipsisa64r6" => Mips64Architecture::Mipsisa64r6,
-            "mipsisa64r6el" => Mips64Architecture::Mipsisa64r6el,
-            _ => return Err(()),
-        })
+        match Architecture::from_str(s) {
+            Ok(Architecture::Mips64(sub)) => Ok(sub),
+            _ => Err(()),
+        }
     }
 
     /// The name, which is always borrowed.

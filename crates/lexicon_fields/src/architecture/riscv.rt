@@ -4,6 +4,7 @@ ghost use Rattle.std.specs.Cow.{cow_str_bytes, IsBorrowedStr};
 ghost use Rattle.lexicon_fields.specs.Names.{Answers};
 ghost use Rattle.lexicon_fields.specs.SubArchitecture.{riscv32_name, riscv32_of, riscv64_name, riscv64_of};
 
+use crate::architecture::Architecture;
 use std::borrow::CowStr;
 use std::fmt;
 use std::str::FromStr;
@@ -25,21 +26,14 @@ pub enum Riscv32Architecture {
 
 impl Riscv32Architecture {
     /// The value whose name the text is; every other text is refused.
-    #[tactic(auto, unfolding(crate::specs::SubArchitecture::riscv32_of))]
+    #[tactic(auto, using(crate::proofs::SubArchitectures::riscv32_is_part))]
     pub fn from_str(s: &str) -> Result<Self, ()>
         ensures { Answers (riscv32_of s.now) result }
     {
-        Ok(match s {
-            "riscv32" => Riscv32Architecture::Riscv32,
-            "riscv32gc" => Riscv32Architecture::Riscv32gc,
-            "riscv32i" => Riscv32Architecture::Riscv32i,
-            "riscv32im" => Riscv32Architecture::Riscv32im,
-            "riscv32ima" => Riscv32Architecture::Riscv32ima,
-            "riscv32imac" => Riscv32Architecture::Riscv32imac,
-            "riscv32imafc" => Riscv32Architecture::Riscv32imafc,
-            "riscv32imc" => Riscv32Architecture::Riscv32imc,
-            _ => return Err(()),
-        })
+        match Architecture::from_str(s) {
+            Ok(Architecture::Riscv32(sub)) => Ok(sub),
+            _ => Err(()),
+        }
     }
 
     /// The name, which is always borrowed.
@@ -100,17 +94,14 @@ pub enum Riscv64Architecture {
 
 impl Riscv64Architecture {
     /// The value whose name the text is; every other text is refused.
-    #[tactic(auto, unfolding(crate::specs::SubArchitecture::riscv64_of))]
+    #[tactic(auto, using(crate::proofs::SubArchitectures::riscv64_is_part))]
     pub fn from_str(s: &str) -> Result<Self, ()>
         ensures { Answers (riscv64_of s.now) result }
     {
-        Ok(match s {
-            "riscv64" => Riscv64Architecture::Riscv64,
-            "riscv64gc" => Riscv64Architecture::Riscv64gc,
-            "riscv64imac" => Riscv64Architecture::Riscv64imac,
-            "riscv64a23" => Riscv64Architecture::Riscv64a23,
-            _ => return Err(()),
-        })
+        match Architecture::from_str(s) {
+            Ok(Architecture::Riscv64(sub)) => Ok(sub),
+            _ => Err(()),
+        }
     }
 
     /// The name, which is always borrowed.

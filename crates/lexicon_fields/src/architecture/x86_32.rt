@@ -4,6 +4,7 @@ ghost use Rattle.std.specs.Cow.{cow_str_bytes, IsBorrowedStr};
 ghost use Rattle.lexicon_fields.specs.Names.{Answers};
 ghost use Rattle.lexicon_fields.specs.SubArchitecture.{x86_32_name, x86_32_of};
 
+use crate::architecture::Architecture;
 use std::borrow::CowStr;
 use std::fmt;
 use std::str::FromStr;
@@ -18,16 +19,14 @@ pub enum X86_32Architecture {
 
 impl X86_32Architecture {
     /// The value whose name the text is; every other text is refused.
-    #[tactic(auto, unfolding(crate::specs::SubArchitecture::x86_32_of))]
+    #[tactic(auto, using(crate::proofs::SubArchitectures::x86_32_is_part))]
     pub fn from_str(s: &str) -> Result<Self, ()>
         ensures { Answers (x86_32_of s.now) result }
     {
-        Ok(match s {
-            "i386" => X86_32Architecture::I386,
-            "i586" => X86_32Architecture::I586,
-            "i686" => X86_32Architecture::I686,
-            _ => return Err(()),
-        })
+        match Architecture::from_str(s) {
+            Ok(Architecture::X86_32(sub)) => Ok(sub),
+            _ => Err(()),
+        }
     }
 
     /// The name, which is always borrowed.

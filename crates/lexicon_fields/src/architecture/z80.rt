@@ -4,6 +4,7 @@ ghost use Rattle.std.specs.Cow.{cow_str_bytes, IsBorrowedStr};
 ghost use Rattle.lexicon_fields.specs.Names.{Answers};
 ghost use Rattle.lexicon_fields.specs.SubArchitecture.{z80_name, z80_of};
 
+use crate::architecture::Architecture;
 use std::borrow::CowStr;
 use std::fmt;
 use std::str::FromStr;
@@ -28,23 +29,14 @@ pub enum Z80Architecture {
 
 impl Z80Architecture {
     /// The value whose name the text is; every other text is refused.
-    #[tactic(auto, unfolding(crate::specs::SubArchitecture::z80_of))]
+    #[tactic(auto, using(crate::proofs::SubArchitectures::z80_is_part))]
     pub fn from_str(s: &str) -> Result<Self, ()>
         ensures { Answers (z80_of s.now) result }
     {
-        Ok(match s {
-            "z80" => Z80Architecture::Z80,
-            "z180" => Z80Architecture::Z180,
-            "ez80" => Z80Architecture::Ez80,
-            "sm83" => Z80Architecture::Sm83,
-            "rabbit2000" => Z80Architecture::Rabbit2000,
-            "rabbit2000a" => Z80Architecture::Rabbit2000A,
-            "rabbit3000" => Z80Architecture::Rabbit3000,
-            "rabbit3000a" => Z80Architecture::Rabbit3000A,
-            "tlcs90" => Z80Architecture::Tlcs90,
-            "r800" => Z80Architecture::R800,
-            _ => return Err(()),
-        })
+        match Architecture::from_str(s) {
+            Ok(Architecture::Z80(sub)) => Ok(sub),
+            _ => Err(()),
+        }
     }
 
     /// The name, which is always borrowed.

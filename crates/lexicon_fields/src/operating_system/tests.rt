@@ -14,6 +14,11 @@ fn version(major: u16, minor: u8, patch: u8) -> Option<DeploymentTarget> {
 }
 
 #[test]
+fn host_is_linux(rt: HostRuntime) {
+    assert_eq!(rt; OperatingSystem::host(), OperatingSystem::Linux);
+}
+
+#[test]
 fn reads_systems(rt: HostRuntime) {
     let rows = [
         ("ios", Ok(OperatingSystem::IOS(None))),

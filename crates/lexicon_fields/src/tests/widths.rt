@@ -1,4 +1,4 @@
-use crate::PointerWidth;
+use crate::{Architecture, PointerWidth};
 
 #[test]
 fn widths_in_bits_and_bytes(rt: HostRuntime) {
@@ -14,4 +14,9 @@ fn widths_in_bits_and_bytes(rt: HostRuntime) {
         (PointerWidth::U64.bits(), PointerWidth::U64.bytes()),
         (64, 8)
     );
+}
+
+#[test]
+fn host_has_64_bits(rt: HostRuntime) {
+    assert_eq!(rt; Architecture::host().pointer_width(), Ok(PointerWidth::U64));
 }

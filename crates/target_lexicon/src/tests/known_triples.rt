@@ -1,5 +1,5 @@
 //! The known triples, from upstream's own test of round trips: each is read, its architecture is known, and it prints
-//! as itself.
+//! as itself and comes back.
 
 use crate::{Architecture, Triple};
 use std::test::Fail;
@@ -87,6 +87,7 @@ fn known_triples_print_as_themselves(rt: HostRuntime) -> Result<(), Fail> {
         let triple = Triple::from_str(rt.alloc(), text)?;
         assert_ne!(rt; triple.architecture, Architecture::Unknown, "{text}");
         assert_eq!(rt; triple.to_text(rt.alloc())?.as_str(), text);
+        assert!(rt; triple.comes_back(), "{text}");
         count = count.saturating_add(1);
     }
     assert_eq!(rt; count, 260);

@@ -1,6 +1,7 @@
 use Rattle.std.proofs.Common.{◌≡◌, refl, ap}
 use Rattle.std.proofs.lemmas.Bool.{false≢true}
-use Rattle.std.proofs.lemmas.Bool.Decides.{Decides-like}
+use Rattle.std.proofs.lemmas.Bool.Decides.{Decides-like, Decides-and}
+use Rattle.std.proofs.lemmas.Slice.Eq.{bytes_eq-Decides}
 use Rattle.lexicon_fields.specs.declared.architecture.Architecture.TheVariants as architecture
 use Rattle.lexicon_fields.specs.declared.operating_system.OperatingSystem.TheVariants as operating_system
 use Rattle.lexicon_fields.specs.contracts.architecture.arm.ArmArchitecture as arm
@@ -12,6 +13,9 @@ use Rattle.lexicon_fields.specs.contracts.architecture.riscv.Riscv32Architecture
 use Rattle.lexicon_fields.specs.contracts.architecture.riscv.Riscv64Architecture as riscv64
 use Rattle.lexicon_fields.specs.contracts.architecture.clever.CleverArchitecture as clever
 use Rattle.lexicon_fields.specs.contracts.architecture.z80.Z80Architecture as z80
+use Rattle.lexicon_fields.specs.contracts.known_vendor.KnownVendor as known_vendor
+use Rattle.lexicon_fields.specs.contracts.environment.Environment as environment
+use Rattle.lexicon_fields.specs.contracts.binary_format.BinaryFormat as binary_format
 use Rattle.lexicon_fields.proofs.EqualByValue.{bare-Decides, option_eq-Decides, version-Decides}
 use Rattle.lexicon_fields.proofs.laws.values_are_equal_by_variant_and_fields.Goals as goal
 
@@ -113,3 +117,15 @@ returns-clause-operating_system c operating_system.WasiP1 operating_system.WasiP
 returns-clause-operating_system c operating_system.WasiP2 operating_system.WasiP2 = (λ _. refl, λ _. refl)
 returns-clause-operating_system c operating_system.Windows operating_system.Windows = (λ _. refl, λ _. refl)
 returns-clause-operating_system c _ _ = (λ same. absurd (false≢true same), λ same. absurd cc)
+
+pub returns-clause-fixed_row : goal.returns-clause-fixed_row
+returns-clause-fixed_row c x y =
+    Decides-like _
+    (λ same. record { text = same.0; architecture = same.1.0; vendor = same.1.1.0; operating_system = same.1.1.1.0; environment = same.1.1.1.1.0; binary_format = same.1.1.1.1.1 })
+    (λ same. (same.text, (same.architecture, (same.vendor, (same.operating_system, (same.environment, same.binary_format))))))
+    (Decides-and _ _ (bytes_eq-Decides x.text.now y.text.now)
+    (Decides-and _ _ (option_eq-Decides _ (returns-clause-architecture c) x.architecture y.architecture)
+    (Decides-and _ _ (option_eq-Decides _ (bare-Decides known_vendor.the_type _) x.vendor y.vendor)
+    (Decides-and _ _ (option_eq-Decides _ (returns-clause-operating_system c) x.operating_system y.operating_system)
+    (Decides-and _ _ (option_eq-Decides _ (bare-Decides environment.the_type _) x.environment y.environment)
+    (option_eq-Decides _ (bare-Decides binary_format.the_type _) x.binary_format y.binary_format))))))

@@ -16,9 +16,6 @@ returns-in_ok-to_string-in-Err c =
     refusal_is_answer (shown_by c.args.shown) pushed.result c.args.line.now told.result.now c.in-Err.error (string_bytes c.args.output.now) (string_bytes pushed.new.output)
     other c.in-Err.ensures.err same pushed.ensures
 
-pub push_shown-requires : goal.push_shown-requires
-push_shown-requires c = c.read_vendors_are_plain.ensures c.args.line.now (values_of c.in-Ok.triple) c.in-Ok.ensures.ok
-
 pub returns-in-Ok : goal.returns-in-Ok
 returns-in-Ok c =
     shown_is_answer (shown_by c.args.shown) c.push_shown.result c.args.line.now (values_of c.in-Ok.triple) (string_bytes c.args.output.now) (string_bytes c.push_shown.new.output)

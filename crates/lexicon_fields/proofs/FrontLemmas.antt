@@ -1,0 +1,74 @@
+-- Fronts order as texts do.
+use Rattle.std.proofs.Common.{◌≡◌, ℕ, zero, suc, ◌+◌, ◌*◌, ◌^◌, ◌<◌, ◌≤◌, List, [], ◌∷◌, arith, refl, sym, ap, ◌∙◌, Less, Equal, Greater, nat_cmp, inl, inr, get_or, length, drop, ◌-◌, ◌/◌}
+use Rattle.std.specs.Cmp.Lexicographic.{slice_cmp}
+use Rattle.std.specs.Cmp.{nat_cmp_is}
+use Rattle.std.specs.Ordering.{ordering_reverse}
+use Rattle.std.proofs.lemmas.Bool.{cases_order}
+use Rattle.std.proofs.lemmas.Cmp.{nat_list_cmp_total}
+use Rattle.std.proofs.Math.Nat.{mul-le-mul_right, pow-suc}
+use Rattle.std.proofs.Math.Seq.{drop-cons}
+use Rattle.lexicon_fields.specs.Private.{front_of}
+
+abbrev pub AreBytes : List ℕ → Type 0
+AreBytes s = (i : ℕ) → get_or s i 0 < 256
+
+-- the front is below a power
+pub front_below : (k : ℕ) (s : List ℕ) → AreBytes s → front_of k s < 256 ^ k
+front_below zero s h = omega arith
+front_below (suc k) [] h = omega (arith, pow-suc 256 k, front_below k [] (λ i. omega arith))
+front_below (suc k) (x ∷ xs) h = omega (arith, pow-suc 256 k, mul-le-mul_right {m = x} {n = 255} (256 ^ k) (omega (arith, h 0)), front_below k xs (λ i. h (suc i)))
+
+is_less : (x y : ℕ) → x < y → nat_cmp x y ≡ Less
+is_less x y h = sym (nat_cmp_is x y Less h)
+
+is_equal : (x y : ℕ) → x ≡ y → nat_cmp x y ≡ Equal
+is_equal x y h = sym (nat_cmp_is x y Equal h)
+
+-- the text with the lesser front comes first
+pub less_by_front : (k : ℕ) (a b : List ℕ) → AreBytes a → AreBytes b → front_of k a < front_of k b → slice_cmp nat_cmp a b ≡ Less
+less_by_front zero a b _ _ h = absurd (omega (arith, h))
+less_by_front (suc k) [] [] _ _ h = absurd (omega (arith, h))
+less_by_front (suc k) [] (y ∷ ys) _ _ h = refl
+less_by_front (suc k) (x ∷ xs) [] _ _ h = absurd (omega (arith, h))
+less_by_front (suc k) (x ∷ xs) (y ∷ ys) p q h = elim (cases_order x y) [
+  | inl same ↦ rw (is_equal x y same) (less_by_front k xs ys (λ i. p (suc i)) (λ i. q (suc i)) (omega (arith, h, ap (λ n. n * 256 ^ k) same)))
+  | inr other ↦ elim other [
+    | inl less ↦ rw (is_less x y less) refl
+    | inr more ↦ absurd (omega (arith, h, front_below k ys (λ i. q (suc i)), mul-le-mul_right {m = y + 1} {n = x} (256 ^ k) (omega (arith, more))))
+  ]
+]
+
+pub greater_by_front : (k : ℕ) (a b : List ℕ) → AreBytes a → AreBytes b → front_of k b < front_of k a → slice_cmp nat_cmp a b ≡ Greater
+greater_by_front k a b p q h = nat_list_cmp_total.antisymm a b ∙ ap ordering_reverse (less_by_front k b a q p h)
+
+suc_cmp : (m n : ℕ) → nat_cmp m n ≡ nat_cmp (suc m) (suc n)
+suc_cmp m n = elim (cases_order m n) [
+  | inl same ↦ is_equal m n same ∙ sym (is_equal (suc m) (suc n) (omega (arith, same)))
+  | inr other ↦ elim other [
+    | inl less ↦ is_less m n less ∙ sym (is_less (suc m) (suc n) (omega (arith, less)))
+    | inr more ↦ sym (nat_cmp_is m n Greater more) ∙ nat_cmp_is (suc m) (suc n) Greater (omega (arith, more))
+  ]
+]
+
+-- of two texts with one front that holds both, the shorter comes first
+pub order_of_same_front : (k : ℕ) (a b : List ℕ) → AreBytes a → AreBytes b → length a ≤ k → length b ≤ k → front_of k a ≡ front_of k b → slice_cmp nat_cmp a b ≡ nat_cmp (length a) (length b)
+order_of_same_front k [] [] _ _ _ _ h = sym (is_equal 0 0 refl)
+order_of_same_front k [] (y ∷ ys) _ _ _ _ h = sym (is_less 0 (length (y ∷ ys)) (omega arith))
+order_of_same_front k (x ∷ xs) [] _ _ _ _ h = nat_cmp_is (length (x ∷ xs)) 0 Greater (omega arith)
+order_of_same_front zero (x ∷ xs) (y ∷ ys) _ _ m n h = absurd (omega (arith, m))
+order_of_same_front (suc k) (x ∷ xs) (y ∷ ys) p q m n h = elim (cases_order x y) [
+  | inl same ↦ rw (is_equal x y same) (order_of_same_front k xs ys (λ i. p (suc i)) (λ i. q (suc i)) (omega (arith, m)) (omega (arith, n)) (omega (arith, h, ap (λ n. n * 256 ^ k) same)) ∙ suc_cmp (length xs) (length ys))
+  | inr other ↦ elim other [
+    | inl less ↦ absurd (omega (arith, h, front_below k xs (λ i. p (suc i)), mul-le-mul_right {m = x + 1} {n = y} (256 ^ k) (omega (arith, less))))
+    | inr more ↦ absurd (omega (arith, h, front_below k ys (λ i. q (suc i)), mul-le-mul_right {m = y + 1} {n = x} (256 ^ k) (omega (arith, more))))
+  ]
+]
+
+-- a byte of the front, and what is behind it
+pub front_step : (s : List ℕ) (at : ℕ) → at < length s → at < 8 → front_of (8 - at) (drop at s) ≡ get_or s at 0 * 256 ^ (7 - at) + front_of (7 - at) (drop (at + 1) s)
+front_step s at h lt = let e : 8 - at ≡ suc (7 - at) = omega arith in let n : at + 1 ≡ suc at = omega arith in rw (e, n, drop-cons s at 0 h) refl
+
+pub weight_step : (at weight : ℕ) → at + 1 < 8 → weight ≡ 256 ^ (7 - at) → weight / 256 ≡ 256 ^ (7 - (at + 1))
+weight_step at weight lt h = let e : 7 - at ≡ suc (7 - (at + 1)) = omega arith in
+    let p : weight ≡ 256 ^ (7 - (at + 1)) * 256 = h ∙ ap (λ n. 256 ^ n) e ∙ pow-suc 256 (7 - (at + 1)) in
+    omega (arith, p)

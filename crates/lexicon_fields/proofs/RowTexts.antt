@@ -1,0 +1,110 @@
+-- The texts of the rows: that they rise, and which texts are among them.
+use Rattle.std.proofs.Common.{◌≡◌, ◌∙◌, ℕ, ◌+◌, ◌-◌, ◌<◌, ◌≤◌, List, [], ◌∷◌, Bool, true, refl, ap, sym, subst, length, arith, Ordering, Less, Equal, Greater, inl, inr, nat_cmp}
+use Rattle.std.specs.Cmp.Lexicographic.{slice_cmp}
+use Rattle.std.specs.Str.{bytes_eq}
+use Rattle.std.specs.List.{list_all, list_any}
+use Rattle.std.specs.List.Sorted.{IsStrictlySortedBy}
+use Rattle.std.specs.Ordering.{is_lt, is_eq, ordering_reverse}
+use Rattle.std.proofs.lemmas.Bool.{agree_below, agree_below_at, and_parts, cases_order, cases_lt, cases_Bool}
+use Rattle.std.proofs.lemmas.Cmp.{nat_list_cmp_total}
+use Rattle.std.proofs.lemmas.Map.Keys.{sorted_from_all_adjacent, Less-from_sorted}
+use Rattle.std.proofs.lemmas.Map.Text.{is_eq-slice_cmp}
+use Rattle.std.proofs.lemmas.Slice.Eq.{bytes_eq-Decides}
+use Rattle.lexicon_fields.specs.Names.{is_dash_free}
+use Rattle.lexicon_fields.specs.FixedRow.{row_texts, row_text}
+
+pub length-row_texts : length row_texts ≡ 192
+unfolding row_texts
+length-row_texts = refl
+
+-- each text comes before the next one, by some dozen neighbours at a time
+
+abbrev rises_at : ℕ → Bool
+rises_at k = is_lt (slice_cmp nat_cmp (row_text k) (row_text (k + 1)))
+
+rises_within : (low n : ℕ) → agree_below (λ j. rises_at (low + j)) (λ _. true) n ≡ true → (k : ℕ) → low ≤ k → k < low + n → rises_at k ≡ true
+rises_within low n agree k from to =
+    let whole : low + (k - low) ≡ k = omega arith in
+    subst (λ (j : ℕ). rises_at j ≡ true) whole (agree_below_at (λ j. rises_at (low + j)) (λ _. true) n (k - low) agree (omega arith))
+
+rises_from_0 : (k : ℕ) → 0 ≤ k → k < 48 → rises_at k ≡ true
+unfolding row_texts
+rises_from_0 = rises_within 0 48 refl
+
+rises_from_48 : (k : ℕ) → 48 ≤ k → k < 96 → rises_at k ≡ true
+unfolding row_texts
+rises_from_48 = rises_within 48 48 refl
+
+rises_from_96 : (k : ℕ) → 96 ≤ k → k < 144 → rises_at k ≡ true
+unfolding row_texts
+rises_from_96 = rises_within 96 48 refl
+
+rises_from_144 : (k : ℕ) → 144 ≤ k → k < 191 → rises_at k ≡ true
+unfolding row_texts
+rises_from_144 = rises_within 144 47 refl
+
+rises : (k : ℕ) → k < 191 → rises_at k ≡ true
+rises k below = elim (cases_lt k 96) [
+  | inl front ↦ elim (cases_lt k 48) [ inl lt ↦ rises_from_0 k (omega arith) lt | inr ge ↦ rises_from_48 k (omega arith) front ]
+  | inr back ↦ elim (cases_lt k 144) [ inl lt ↦ rises_from_96 k (omega arith) lt | inr ge ↦ rises_from_144 k (omega arith) below ]
+]
+
+less_from_is_lt : (o : Ordering) → is_lt o ≡ true → o ≡ Less
+less_from_is_lt Less h = refl
+less_from_is_lt Equal h = cc
+less_from_is_lt Greater h = cc
+
+pub row_texts_sorted : IsStrictlySortedBy (slice_cmp nat_cmp) row_texts
+row_texts_sorted = sorted_from_all_adjacent nat_list_cmp_total row_texts [] (λ k h. less_from_is_lt _ (rises k (omega (arith, h, length-row_texts))))
+
+row_less : (i j : ℕ) → i < j → j < 192 → slice_cmp nat_cmp (row_text i) (row_text j) ≡ Less
+row_less i j lt below = Less-from_sorted (slice_cmp nat_cmp) row_texts i j [] row_texts_sorted lt (omega (arith, length-row_texts))
+
+-- the rows up to one that is before a text are before it
+pub rows_below : (middle : ℕ) (s : List ℕ) → middle < 192 → slice_cmp nat_cmp (row_text middle) s ≡ Less → (k : ℕ) → k < middle + 1 → slice_cmp nat_cmp (row_text k) s ≡ Less
+rows_below middle s below is k lt = elim (cases_order k middle) [
+  | inl same ↦ rw same is
+  | inr other ↦ elim other [
+    | inl less ↦ nat_list_cmp_total.trans (row_text k) (row_text middle) s (row_less k middle less below) is
+    | inr more ↦ absurd (omega arith)
+  ]
+]
+
+turned : (x y : List ℕ) (o : Ordering) → slice_cmp nat_cmp x y ≡ o → slice_cmp nat_cmp y x ≡ ordering_reverse o
+turned x y o h = nat_list_cmp_total.antisymm y x ∙ ap ordering_reverse h
+
+-- the rows from one that is behind a text on are behind it
+pub rows_above : (middle : ℕ) (s : List ℕ) → slice_cmp nat_cmp (row_text middle) s ≡ Greater → (k : ℕ) → middle ≤ k → k < 192 → slice_cmp nat_cmp (row_text k) s ≡ Greater
+rows_above middle s is k le below = elim (cases_order k middle) [
+  | inl same ↦ rw same is
+  | inr other ↦ elim other [
+    | inl less ↦ absurd (omega arith)
+    | inr more ↦ turned s (row_text k) Less (nat_list_cmp_total.trans s (row_text middle) (row_text k) (turned (row_text middle) s Greater is) (row_less middle k more below))
+  ]
+]
+
+-- whether a text is that of a row
+unfoldable pub is_row_text : List ℕ → Bool
+is_row_text s = list_any (bytes_eq s) row_texts
+
+-- what a test tells of each row's text, it tells of a text that is one of them
+pub row_text-passes : (test : List ℕ → Bool) (s : List ℕ) → list_all test row_texts ≡ true → is_row_text s ≡ true → test s ≡ true
+unfolding is_row_text
+row_text-passes test s all found = passes row_texts all found
+  where
+    passes : (texts : List (List ℕ)) → list_all test texts ≡ true → list_any (bytes_eq s) texts ≡ true → test s ≡ true
+    passes [] all found = absurd cc
+    passes (text ∷ texts) all found =
+        let parts = and_parts (test text) (list_all test texts) all in
+        (elim (cases_Bool (bytes_eq s text)) [
+          | inl same ↦ subst (λ (t : List ℕ). test t ≡ true) (sym ((bytes_eq-Decides s text).0 same)) parts.0
+          | inr other ↦ passes texts parts.1 (let later = rw other at found in later)
+        ])
+
+pub row_text-dash_free : (s : List ℕ) → is_row_text s ≡ true → is_dash_free s ≡ true
+unfolding row_texts
+row_text-dash_free s found = row_text-passes is_dash_free s refl found
+
+-- the row that is told equal to a text has it
+pub row_text-is : (i : ℕ) (s : List ℕ) → slice_cmp nat_cmp (row_text i) s ≡ Equal → row_text i ≡ s
+row_text-is i s same = (bytes_eq-Decides (row_text i) s).0 (sym (is_eq-slice_cmp (row_text i) s) ∙ ap is_eq same)

@@ -1,0 +1,133 @@
+-- The rows are those of exactly the texts that are a fixed name of some field.
+use Rattle.std.proofs.Common.{◌≡◌, ◌≢◌, ◌↔◌, ◌∙◌, ℕ, ◌<◌, ◌≤◌, List, [], true, false, Option, Some, None, is_some, refl, ap, sym, get_or, arith, Ordering, Less, Greater, nat_cmp, inl, inr, Contains}
+use Rattle.std.specs.Cmp.Lexicographic.{slice_cmp}
+use Rattle.std.specs.Str.{bytes_eq}
+use Rattle.std.specs.Option.{option_or}
+use Rattle.std.specs.Prelude.{is_none}
+use Rattle.std.proofs.lemmas.Bool.{or_parts, cases_lt, cases_Bool, false_from_ne_true}
+use Rattle.std.specs.Cmp.Lexicographic.{nat_list_eq_equiv}
+use Rattle.std.specs.Ordering.{is_eq}
+use Rattle.std.proofs.lemmas.List.Folds.{list_any_at}
+use Rattle.std.proofs.lemmas.Map.Text.{is_eq-slice_cmp}
+use Rattle.std.proofs.lemmas.Map.Views.{Contains-from_any, list_any-from_Contains}
+use Rattle.std.proofs.lemmas.Option.{get_or_from_slice_get, slice_get-get_or}
+use Rattle.std.proofs.lemmas.Slice.Eq.{bytes_eq-Decides}
+use Rattle.lexicon_fields.specs.Names.{named}
+use Rattle.lexicon_fields.specs.SubArchitecture.{arm_of, aarch64_of, x86_32_of, mips32_of, mips64_of, riscv32_of, riscv64_of, clever_of, z80_of}
+use Rattle.lexicon_fields.specs.Architecture.{architecture_of}
+use Rattle.lexicon_fields.specs.declared.known_vendor.KnownVendor.{KnownVendor}
+use Rattle.lexicon_fields.specs.Vendor.{known_name, known_vendors, known_vendor_of}
+use Rattle.lexicon_fields.specs.declared.operating_system.OperatingSystem.{OperatingSystem}
+use Rattle.lexicon_fields.specs.OperatingSystem.{operating_system_name, operating_system_of, darwin_prefixes, darwin_like_by, fixed_operating_systems, fixed_operating_system_of}
+use Rattle.lexicon_fields.specs.Environment.{environment_of}
+use Rattle.lexicon_fields.specs.BinaryFormat.{binary_format_of}
+use Rattle.lexicon_fields.specs.FixedRow.{has_row, row_texts, row_text}
+use Rattle.lexicon_fields.proofs.LookUps.{value_of-passes}
+use Rattle.lexicon_fields.proofs.RowTexts.{is_row_text, row_text-passes, length-row_texts}
+use Rattle.lexicon_fields.proofs.NamesReadBack.{architecture_of-row, environment_of-row, binary_format_of-row}
+
+pub known_vendor_of-row : (text : List ℕ) (v : KnownVendor) → known_vendor_of text ≡ Some v → is_row_text text ≡ true
+unfolding known_vendor_of is_row_text row_texts
+known_vendor_of-row text v found = value_of-passes is_row_text (named known_name known_vendors) text v refl found
+
+pub fixed_operating_system_of-row : (text : List ℕ) (v : OperatingSystem) → fixed_operating_system_of text ≡ Some v → is_row_text text ≡ true
+unfolding fixed_operating_system_of is_row_text row_texts
+fixed_operating_system_of-row text v found = value_of-passes is_row_text (named operating_system_name fixed_operating_systems) text v refl found
+
+-- a text that is no row's reads as nothing
+pub none_without_row : {V : Type 0} (find : List ℕ → Option V) → ((text : List ℕ) (v : V) → find text ≡ Some v → is_row_text text ≡ true)
+    → (s : List ℕ) → is_row_text s ≡ false → find s ≡ None
+none_without_row {V} find row s none = by_reading (find s) refl
+  where
+    by_reading : (reading : Option V) → find s ≡ reading → find s ≡ None
+    by_reading None is = is
+    by_reading (Some v) is = absurd (let bad : true ≡ false = sym (row s v is) ∙ none in cc)
+
+no_row : (s : List ℕ) → is_row_text s ≡ false → has_row s ≡ false
+no_row s none =
+    rw (
+      none_without_row architecture_of architecture_of-row s none,
+      none_without_row known_vendor_of known_vendor_of-row s none,
+      none_without_row fixed_operating_system_of fixed_operating_system_of-row s none,
+      none_without_row environment_of environment_of-row s none,
+      none_without_row binary_format_of binary_format_of-row s none,
+    ) refl
+
+-- each row's text is a name of some field
+row_text-stands : (s : List ℕ) → is_row_text s ≡ true → has_row s ≡ true
+unfolding row_texts architecture_of arm_of aarch64_of x86_32_of mips32_of mips64_of riscv32_of riscv64_of clever_of z80_of known_vendor_of fixed_operating_system_of environment_of binary_format_of
+row_text-stands s found = row_text-passes has_row s refl found
+
+row_text-found : (i : ℕ) → i < 192 → is_row_text (row_text i) ≡ true
+unfolding is_row_text
+row_text-found i below = list_any_at (bytes_eq (row_text i)) row_texts i [] (omega (arith, length-row_texts)) ((bytes_eq-Decides (row_text i) (row_text i)).1 refl)
+
+pub row-stands : (i : ℕ) → i < 192 → has_row (row_text i) ≡ true
+row-stands i below = row_text-stands (row_text i) (row_text-found i below)
+
+row_text-default : (i : ℕ) (d : List ℕ) → i < 192 → get_or row_texts i d ≡ row_text i
+row_text-default i d below = get_or_from_slice_get row_texts i (row_text i) d (slice_get-get_or row_texts i [] (omega (arith, length-row_texts)))
+
+-- the row that a text is that of
+pub row_text-at : (s : List ℕ) → is_row_text s ≡ true → (i : ℕ) × (i < 192) × (row_text i ≡ s)
+unfolding is_row_text
+row_text-at s found =
+    let at = Contains-from_any (λ x y. (bytes_eq-Decides x y).0) s row_texts found in
+    let below : at.0 < 192 = omega (arith, at.1, length-row_texts) in
+    (at.0, below, sym (row_text-default at.0 s below) ∙ at.2)
+
+apart : (x y : List ℕ) (o : Ordering) → is_eq o ≡ false → slice_cmp nat_cmp x y ≡ o → x ≢ y
+apart x y o other is same = let bad : true ≡ false = sym (is_eq-slice_cmp x y ∙ (bytes_eq-Decides x y).1 same) ∙ ap is_eq is ∙ other in cc
+
+-- a text that all rows before a place are before, and all others behind, has no row
+pub no_row-between : (s : List ℕ) (place : ℕ) → ((k : ℕ) → k < place → slice_cmp nat_cmp (row_text k) s ≡ Less)
+    → ((k : ℕ) → place ≤ k → k < 192 → slice_cmp nat_cmp (row_text k) s ≡ Greater) → has_row s ≡ false
+no_row-between s place below above = no_row s (false_from_ne_true (is_row_text s) (λ found.
+    let at = row_text-at s found in
+    elim (cases_lt at.0 place) [
+      | inl lt ↦ apart (row_text at.0) s Less refl (below at.0 lt) at.2
+      | inr ge ↦ apart (row_text at.0) s Greater refl (above at.0 ge at.1) at.2
+    ]))
+
+-- the rows' texts are all that have a row
+pub rows-hold : (s : List ℕ) → Contains row_texts s ↔ (has_row s ≡ true)
+unfolding is_row_text
+rows-hold s = (
+  λ at. row_text-stands s (list_any-from_Contains nat_list_eq_equiv s row_texts at),
+  λ stands. elim (cases_Bool (is_row_text s)) [
+    | inl found ↦ Contains-from_any (λ x y. (bytes_eq-Decides x y).0) s row_texts found
+    | inr none ↦ absurd (let bad : true ≡ false = sym stands ∙ no_row s none in cc)
+  ],
+)
+
+missing : {V : Type 0} (o : Option V) → is_some o ≡ false → o ≡ None
+missing None h = refl
+missing (Some v) h = cc
+
+-- a text that has no row is a name of no field
+pub nowhere : (s : List ℕ) → has_row s ≡ false → (architecture_of s ≡ None) × (known_vendor_of s ≡ None) × (fixed_operating_system_of s ≡ None) × (environment_of s ≡ None) × (binary_format_of s ≡ None)
+nowhere s none =
+    let format = or_parts _ (is_some (binary_format_of s)) none in
+    let environment = or_parts _ (is_some (environment_of s)) format.0 in
+    let system = or_parts _ (is_some (fixed_operating_system_of s)) environment.0 in
+    let vendor = or_parts (is_some (architecture_of s)) (is_some (known_vendor_of s)) system.0 in
+    (missing _ vendor.0, missing _ vendor.1, missing _ system.1, missing _ environment.1, missing _ format.1)
+
+-- no row's text reads as a system like Darwin
+row_text-unlike_darwin : (s : List ℕ) → is_row_text s ≡ true → is_none (darwin_like_by darwin_prefixes s) ≡ true
+unfolding row_texts
+row_text-unlike_darwin s found = row_text-passes (λ text. is_none (darwin_like_by darwin_prefixes text)) s refl found
+
+-- so a text that has a row reads as a system by its fixed name alone
+pub row_reads_by_name : (s : List ℕ) → has_row s ≡ true → operating_system_of s ≡ fixed_operating_system_of s
+unfolding operating_system_of
+row_reads_by_name s stands =
+    elim (cases_Bool (is_row_text s)) [
+      | inl found ↦ without (darwin_like_by darwin_prefixes s) (fixed_operating_system_of s) (row_text-unlike_darwin s found)
+      | inr none ↦ absurd (let bad : true ≡ false = sym stands ∙ no_row s none in cc)
+    ]
+  where
+    without : {V : Type 0} (like fixed : Option V) → is_none like ≡ true → option_or fixed like ≡ fixed
+    without None None h = refl
+    without None (Some v) h = refl
+    without (Some v) fixed h = cc

@@ -1,0 +1,6 @@
+use Rattle.lexicon_fields.proofs.RowTexts.{length-row_texts, row_texts_sorted}
+use Rattle.lexicon_fields.proofs.RowsHold.{rows-hold}
+use Rattle.lexicon_fields.proofs.laws.rows_are_sorted_and_whole.Goals as goal
+
+pub returns : goal.returns
+returns c = record { sorted = row_texts_sorted; count = length-row_texts; whole = rows-hold }

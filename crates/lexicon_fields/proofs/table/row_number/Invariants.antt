@@ -1,0 +1,16 @@
+use Rattle.std.proofs.Common.{◌≡◌, ◌+◌, ◌<◌, ◌≤◌, ℕ, Less, Greater, nat_cmp}
+use Rattle.std.specs.Cmp.Lexicographic.{slice_cmp}
+use Rattle.lexicon_fields.specs.FixedRow.{row_text}
+use Rattle.lexicon_fields.proofs.Halving.{IsHalved}
+use Rattle.lexicon_fields.proofs.table.row_number.Given as goal
+
+abbrev pub invariant-loop-left : goal.invariant-loop-left
+invariant-loop-left l = record {
+  within : l.low + l.left ≤ 192;
+  below : (k : ℕ) → k < l.low → slice_cmp nat_cmp (row_text k) l.text ≡ Less;
+  above : (k : ℕ) → l.low + l.left ≤ k → k < 192 → slice_cmp nat_cmp (row_text k) l.text ≡ Greater;
+  halved : IsHalved l.fn.steps.count l.steps.count l.left;
+}
+
+abbrev pub decreases-loop-left : goal.decreases-loop-left
+decreases-loop-left l = l.left

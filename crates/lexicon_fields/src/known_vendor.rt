@@ -1,0 +1,50 @@
+//! The known vendors.
+ghost use Rattle.std.specs.Prelude.{◌≡◌};
+ghost use Rattle.lexicon_fields.specs.Vendor.{vendor_value, Known};
+
+use crate::vendor::Vendor;
+
+/// A vendor that has a fixed name.
+#[derive(Clone, Copy, Debug, PartialEq, Eq)]
+pub enum KnownVendor {
+    Unknown,
+    Amd,
+    Apple,
+    Espressif,
+    Experimental,
+    Fortanix,
+    Ibm,
+    Kmc,
+    Nintendo,
+    Nvidia,
+    Pc,
+    Rumprun,
+    Sun,
+    Uwp,
+    Wrs,
+}
+
+impl KnownVendor {
+    /// The vendor of the same variant.
+    pub fn to_vendor(self) -> Vendor
+        ensures { vendor_value result ≡ Known self }
+    {
+        match self {
+            KnownVendor::Unknown => Vendor::Unknown,
+            KnownVendor::Amd => Vendor::Amd,
+            KnownVendor::Apple => Vendor::Apple,
+            KnownVendor::Espressif => Vendor::Espressif,
+            KnownVendor::Experimental => Vendor::Experimental,
+            KnownVendor::Fortanix => Vendor::Fortanix,
+            KnownVendor::Ibm => Vendor::Ibm,
+            KnownVendor::Kmc => Vendor::Kmc,
+            KnownVendor::Nintendo => Vendor::Nintendo,
+            KnownVendor::Nvidia => Vendor::Nvidia,
+            KnownVendor::Pc => Vendor::Pc,
+            KnownVendor::Rumprun => Vendor::Rumprun,
+            KnownVendor::Sun => Vendor::Sun,
+            KnownVendor::Uwp => Vendor::Uwp,
+            KnownVendor::Wrs => Vendor::Wrs,
+        }
+    }
+}

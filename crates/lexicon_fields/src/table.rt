@@ -1,0 +1,98 @@
+//! The table of the fixed names.
+ghost use Rattle.std.specs.Prelude.{◌≡◌, ◌+◌, ◌<◌, ◌≤◌, false, Some, MatchOption};
+ghost use Rattle.std.specs.Cmp.Lexicographic.{slice_cmp};
+ghost use Rattle.std.specs.Ordering.{nat_cmp};
+ghost use Rattle.lexicon_fields.specs.FixedRow.{has_row, IsRowOf, row_text};
+
+mod front;
+mod rows;
+#[cfg(test)]
+mod tests;
+
+use crate::architecture::Architecture;
+use crate::binary_format::BinaryFormat;
+use crate::environment::Environment;
+use crate::known_vendor::KnownVendor;
+use crate::operating_system::OperatingSystem;
+use crate::steps::Steps;
+use rows::row;
+use std::cmp::Ordering;
+
+/// What a text reads as in each field, by the fixed names: no version, and no custom vendor.
+#[derive(Clone, Copy, Debug, PartialEq, Eq)]
+pub struct FixedRow {
+    pub text: &'static str,
+    pub architecture: Option<Architecture>,
+    pub vendor: Option<KnownVendor>,
+    pub operating_system: Option<OperatingSystem>,
+    pub environment: Option<Environment>,
+    pub binary_format: Option<BinaryFormat>,
+}
+
+/// The row of the text, or `None` where it is no fixed name of any field. At most eight rows are compared with it.
+#[inline(always)]
+pub fn fixed_row(text: &str, steps: &mut Steps) -> Option<FixedRow>
+    ensures row { MatchOption result (has_row text.now ≡ false) (IsRowOf text.now) }
+    ensures counted { steps.old.count ≤ steps.new.count }
+    ensures few { steps.new.count ≤ steps.old.count + 8 }
+{
+    match row_number(text, steps) {
+        Some(i) => Some(row_at(i)),
+        None => None,
+    }
+}
+
+/// The order by bytes of the text of row `i`, counted from 0, against `text`.
+#[inline(always)]
+pub fn row_order(i: usize, text: &str, steps: &mut Steps) -> Ordering
+    requires { i < 192 }
+    ensures order { result ≡ slice_cmp nat_cmp (row_text i) text.now }
+    ensures count { steps.new.count ≡ steps.old.count + 1 }
+{
+    steps.tick();
+    let row = row(i);
+    front::order(row.0, row.1, text)
+}
+
+/// The number of the row that has the text.
+#[inline(never)]
+fn row_number(text: &str, steps: &mut Steps) -> Option<usize>
+    ensures row { MatchOption result (has_row text.now ≡ false) (λ i. (i < 192) × (row_text i ≡ text.now)) }
+    ensures counted { steps.old.count ≤ steps.new.count }
+    ensures few { steps.new.count ≤ steps.old.count + 8 }
+{
+    let mut low = 65;
+    match row_order(127, text, steps) {
+        Ordering::Less => {}
+        Ordering::Greater => low = 0,
+        Ordering::Equal => return Some(127),
+    }
+    let mut left = 127;
+    while left > 0 {
+        let middle = low + left / 2;
+        left /= 2;
+        match row_order(middle, text, steps) {
+            Ordering::Less => low = middle + 1,
+            Ordering::Greater => {}
+            Ordering::Equal => return Some(middle),
+        }
+    }
+    None
+}
+
+/// Row `i`, counted from 0.
+#[inline(always)]
+fn row_at(i: usize) -> FixedRow
+    requires { i < 192 }
+    ensures { IsRowOf (row_text i) result }
+{
+    let row = row(i);
+    FixedRow {
+        text: row.1,
+        architecture: row.2,
+        vendor: row.3,
+        operating_system: row.4,
+        environment: row.5,
+        binary_format: row.6,
+    }
+}

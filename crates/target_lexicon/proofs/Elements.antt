@@ -1,0 +1,67 @@
+-- The elements of a JSON array that were read so far.
+use Rattle.std.proofs.Common.{◌≡◌, ℕ, zero, suc, ◌+◌, ◌<◌, ◌≤◌, List, [], ◌∷◌, ◌++◌, Option, Some, MatchOption, All, length, get_or, take, map, add-one, arith, subst}
+use Rattle.std.proofs.lemmas.List.{map-append}
+use Rattle.std.proofs.lemmas.List.Elements.{All-append}
+use Rattle.serde_json.specs.Data.{Data, Items}
+use Rattle.serde_json.specs.View.{view, items_view}
+use Rattle.serde_json.specs.declared.value.Value.{Value}
+use Rattle.serde_json.proofs.Views.{get_item_within}
+use Rattle.target_lexicon.specs.Json.{JsonReadsAs, ElementsReadAs, ElementReads, JsonFault, IsJsonFault, IsFirstFault}
+use Rattle.target_lexicon.specs.Values.{Values, values_of}
+use Rattle.target_lexicon.specs.declared.triple.Triple.{Triple}
+
+-- what holds of the elements of an array holds of the value
+pub at_array : (P : Items → Type 0) (elements : Option Items) (xs ys : List Value) → Some (items_view xs) ≡ elements → ys ≡ xs → P (items_view ys)
+    → MatchOption elements ⊥ P
+at_array P elements xs ys found same holds =
+    subst (λ (o : Option Items). MatchOption o ⊥ P) found (subst (λ (zs : List Value). P (items_view zs)) same holds)
+
+-- one element more reads
+read-more : (xs : List Value) (i : ℕ) (x : Value) (ts : List Values) (t : Values) → i < length xs
+    → ElementsReadAs (items_view (take i xs)) ts → JsonReadsAs (view (get_or xs i x)) t → ElementsReadAs (items_view (take (suc i) xs)) (ts ++ t ∷ [])
+read-more [] i x ts t within read reads = absurd (omega arith)
+read-more (y ∷ ys) zero x [] t within read reads = (reads, tt)
+read-more (y ∷ ys) zero x (u ∷ us) t within read reads = absurd read
+read-more (y ∷ ys) (suc i) x [] t within read reads = absurd read
+read-more (y ∷ ys) (suc i) x (u ∷ us) t within read reads = (read.0, read-more ys i x us t (omega arith) read.1 reads)
+
+pub elements_read-more : (xs : List Value) (i : ℕ) (x : Value) (old new : List Triple) (t : Triple) → i < length xs → x ≡ get_or xs i x → new ≡ old ++ t ∷ []
+    → ElementsReadAs (items_view (take i xs)) (map values_of old) → JsonReadsAs (view x) (values_of t)
+    → ElementsReadAs (items_view (take (i + 1) xs)) (map values_of new)
+elements_read-more xs i x old new t within is grown read reads =
+    let here : JsonReadsAs (view (get_or xs i x)) (values_of t) = subst (λ (v : Value). JsonReadsAs (view v) (values_of t)) is reads in
+    rw (add-one, grown, map-append) (read-more xs i x (map values_of old) (values_of t) within read here)
+
+-- each element before reads
+read-before : (xs : List Value) (i : ℕ) (ts : List Values) (k : ℕ) → k < i → i ≤ length xs → ElementsReadAs (items_view (take i xs)) ts
+    → ElementReads (items_view xs) k
+read-before [] i ts k before within read = absurd (omega arith)
+read-before (y ∷ ys) zero ts k before within read = absurd (omega arith)
+read-before (y ∷ ys) (suc i) [] k before within read = absurd read
+read-before (y ∷ ys) (suc i) (u ∷ us) zero before within read = (u, read.0)
+read-before (y ∷ ys) (suc i) (u ∷ us) (suc k) before within read = read-before ys i us k (omega arith) (omega arith) read.1
+
+-- the element at i is the first that doesn't read
+pub elements_refused : (xs : List Value) (i : ℕ) (x : Value) (ts : List Values) (fault : JsonFault) → i < length xs → x ≡ get_or xs i x
+    → ElementsReadAs (items_view (take i xs)) ts → IsJsonFault (view x) fault → IsFirstFault (items_view xs) i fault
+elements_refused xs i x ts fault within is read refused =
+    let here : IsJsonFault (view (get_or xs i x)) fault = subst (λ (v : Value). IsJsonFault (view v) fault) is refused in
+    record {
+      here = subst (λ (o : Option Data). MatchOption o ⊥ (λ value. IsJsonFault value fault)) (get_item_within xs i x within) here;
+      before = λ k before. read-before xs i ts k before (omega arith) read;
+    }
+
+-- where some element reads behind those that were read, the first element reads
+pub elements_begun : (xs : List Value) (i : ℕ) (x : Value) (ts : List Values) (t : Values) → i < length xs → x ≡ get_or xs i x
+    → ElementsReadAs (items_view (take i xs)) ts → JsonReadsAs (view x) t → ElementReads (items_view xs) 0
+elements_begun xs i x ts t within is read reads =
+    let here : JsonReadsAs (view (get_or xs i x)) t = subst (λ (v : Value). JsonReadsAs (view v) t) is reads in
+    read-before xs (suc i) (ts ++ t ∷ []) 0 (omega arith) (omega arith) (read-more xs i x ts t within read here)
+
+-- what holds of each triple so far, and of one more, holds of each
+all-one : (P : Triple → Type 0) (t : Triple) → P t → All P (t ∷ [])
+all-one P t here zero d within = here
+all-one P t here (suc k) d within = absurd (omega arith)
+
+pub all_triples-more : (P : Triple → Type 0) (old new : List Triple) (t : Triple) → new ≡ old ++ t ∷ [] → All P old → P t → All P new
+all_triples-more P old new t grown all here = rw grown (All-append P old (t ∷ []) all (all-one P t here))

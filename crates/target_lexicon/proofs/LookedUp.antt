@@ -1,0 +1,39 @@
+-- What the row of a part tells of the fields that read more than fixed names.
+use Rattle.std.proofs.Common.{◌≡◌, ◌∙◌, ℕ, List, ◌∷◌, true, false, Option, Some, None, Result, Ok, Err, refl, sym, ap}
+use Rattle.std.specs.Prelude.{is_some, option_map, option_and_then, MatchOption, OnErr}
+use Rattle.std.specs.Option.{option_or}
+use Rattle.lexicon_fields.specs.declared.operating_system.OperatingSystem.{OperatingSystem}
+use Rattle.lexicon_fields.specs.declared.table.FixedRow.{FixedRow}
+use Rattle.lexicon_fields.specs.OperatingSystem.{operating_system_of}
+use Rattle.lexicon_fields.specs.Vendor.{VendorValue, Known, custom_of, is_admitted, vendor_of}
+use Rattle.lexicon_fields.proofs.RowsHold.{row_reads_by_name}
+use Rattle.lexicon_fields.proofs.VendorsReadBack.{row_not_admitted}
+use Rattle.target_lexicon.specs.Field.{Vendor}
+use Rattle.target_lexicon.specs.Private.{IsLookedUp, part_for}
+use Rattle.target_lexicon.proofs.Taken.{reads-vendor}
+use Rattle.target_lexicon.proofs.Vendors.{admitted_custom}
+
+abbrev vendor_column : Option FixedRow → Option VendorValue
+vendor_column row = option_map Known (option_and_then (λ (r : FixedRow). r.vendor) row)
+
+option_or-none : {V : Type 0} (o : Option V) → option_or o None ≡ o
+option_or-none None = refl
+option_or-none (Some v) = refl
+
+-- a text with a row reads as a vendor by that column alone
+pub row-vendor : (text : List ℕ) (row : Option FixedRow) (r : FixedRow) → IsLookedUp text row → row ≡ Some r → vendor_of text ≡ option_map Known r.vendor
+unfolding vendor_of
+row-vendor text row r looked is =
+    rw (row_not_admitted text (sym looked.known ∙ ap is_some is)) (option_or-none _ ∙ ap (option_map Known) (sym looked.vendor) ∙ ap vendor_column is)
+
+-- and as a system by its column
+pub row-operating_system : (text : List ℕ) (row : Option FixedRow) (r : FixedRow) → IsLookedUp text row → row ≡ Some r → operating_system_of text ≡ r.operating_system
+row-operating_system text row r looked is =
+    row_reads_by_name text (sym looked.known ∙ ap is_some is) ∙ sym looked.operating_system
+    ∙ ap (λ (o : Option FixedRow). option_and_then (λ (r : FixedRow). r.operating_system) o) is
+
+-- memory is wanted for an admitted part
+pub part-wants_memory : {T E : Type 0} (r : Result T E) (parts : List (List ℕ)) (p : List ℕ) (ps : List (List ℕ)) → parts ≡ p ∷ ps → is_admitted p ≡ true
+    → OnErr r (MatchOption (part_for Vendor parts) ⊥ (λ part. is_admitted part ≡ true))
+part-wants_memory (Ok _) parts p ps are admitted = tt
+part-wants_memory (Err _) parts p ps are admitted = rw (are, reads-vendor p ∙ ap is_some (admitted_custom p admitted)) admitted

@@ -1,0 +1,13 @@
+-- The elements so far read as the triples so far.
+use Rattle.std.proofs.Common.{map, take, All}
+use Rattle.serde_json.specs.View.{items_view}
+use Rattle.lexicon_fields.specs.Vendor.{OwnsCustomText}
+use Rattle.target_lexicon.specs.Json.{ElementsReadAs}
+use Rattle.target_lexicon.specs.Values.{values_of}
+use Rattle.target_lexicon.proofs.json.list_from_json.Given as goal
+
+abbrev pub invariant-loop-i : goal.invariant-loop-i
+invariant-loop-i l = record {
+  read : ElementsReadAs (items_view (take l.i l.element-items)) (map values_of l.triples.items);
+  owned : All (λ triple. OwnsCustomText triple.vendor) l.triples.items;
+}

@@ -1,0 +1,26 @@
+use Rattle.std.proofs.Common.{◌≡◌, ◌∙◌, zero, suc, List, [], ◌∷◌, map, All, refl, ap, subst, sym, arith}
+use Rattle.serde_json.specs.View.{items_of}
+use Rattle.target_lexicon.specs.Json.{ElementsReadAs, json_of}
+use Rattle.target_lexicon.specs.Laws.{ComesBack, OneOutcomeEach}
+use Rattle.target_lexicon.specs.Printing.{text_of}
+use Rattle.target_lexicon.specs.Values.{Values}
+use Rattle.target_lexicon.proofs.laws.lists_read_back.Goals as goal
+
+list-reads : (ts : List Values) → All ComesBack ts → ElementsReadAs (items_of (map json_of ts)) ts
+list-reads [] back = tt
+list-reads (t ∷ ts) back = (back zero t (omega arith), list-reads ts (λ k d within. back (suc k) d (omega arith)))
+
+list-only : OneOutcomeEach → (ts us : List Values) → All ComesBack ts → ElementsReadAs (items_of (map json_of ts)) us → us ≡ ts
+list-only one [] [] back read = refl
+list-only one [] (u ∷ us) back read = absurd read
+list-only one (t ∷ ts) [] back read = absurd read
+list-only one (t ∷ ts) (u ∷ us) back read =
+    let first : u ≡ t = (one (text_of t)).values u t read.0 (back zero t (omega arith)) in
+    let others : us ≡ ts = list-only one ts us (λ k d within. back (suc k) d (omega arith)) read.1 in
+    ap (λ (v : Values). v ∷ us) first ∙ ap (λ (vs : List Values). t ∷ vs) others
+
+pub returns : goal.returns
+returns c = λ ts us back. (
+  list-only c.one_outcome_each.ensures ts us back,
+  λ same. subst (λ (vs : List Values). ElementsReadAs (items_of (map json_of ts)) vs) (sym same) (list-reads ts back),
+)

@@ -1,0 +1,6 @@
+use Rattle.std.proofs.Common.{sym}
+use Rattle.target_lexicon.proofs.LookedUp.{row-operating_system}
+use Rattle.target_lexicon.proofs.part.Part.operating_system.Goals as goal
+
+pub returns-in-Some : goal.returns-in-Some
+returns-in-Some c = sym (row-operating_system c.args.self.now.text.now _ c.in-Some.row c.args.self.now.looked_up c.in-Some.is)

@@ -1,0 +1,93 @@
+-- The JSON values of triples and of lists of triples, and what a JSON value reads as.
+use Rattle.std.specs.Prelude.{◌≡◌, ◌↔◌, ℕ, ◌<◌, List, [], ◌∷◌, ◌++◌, map, All, Option, None, MatchOption, codes, decimal}
+use Rattle.std.specs.Option.{option_map_or}
+use Rattle.serde_json.specs.Data.{Data, string, array, Items, no_items, item}
+use Rattle.serde_json.specs.Find.{as_str, as_array, get_item}
+use Rattle.serde_json.specs.View.{items_of}
+use Rattle.target_lexicon.specs.declared.json_error.JsonError.{JsonError}
+use Rattle.target_lexicon.specs.declared.json_error.JsonError.TheVariants as json_error
+use Rattle.target_lexicon.specs.declared.list_error.ListError.{ListError}
+use Rattle.target_lexicon.specs.declared.list_error.ListError.TheVariants as list_error
+use Rattle.target_lexicon.specs.Laws.{ComesBack}
+use Rattle.target_lexicon.specs.Printing.{text_of}
+use Rattle.target_lexicon.specs.Reading.{ReadsAs, IsRefusedAs, MayWantMemory}
+use Rattle.target_lexicon.specs.Refusal.{Refusal, refusal_of, refusal_line}
+use Rattle.target_lexicon.specs.Values.{Values}
+
+-- the value of a triple: the string of its printed text
+abbrev pub json_of : Values → Data
+json_of t = string (text_of t)
+
+-- the value of a list: the array of its triples' values, in order
+abbrev pub list_json_of : List Values → Data
+list_json_of ts = array (items_of (map json_of ts))
+
+-- a string reads as its text does, and no other value reads
+abbrev pub JsonReadsAs : Data → Values → Type 0
+JsonReadsAs value t = MatchOption (as_str value) ⊥ (λ text. ReadsAs text t)
+
+-- what an error says of a value: that it is no text, or how its text is refused; want of memory names no refusal
+pub data JsonFault : Type 0 where
+  NotText : JsonFault
+  Parse : Option Refusal → JsonFault
+
+abbrev pub json_fault_of : JsonError → JsonFault
+json_fault_of json_error.NotText = NotText
+json_fault_of (json_error.Parse error) = Parse (refusal_of error)
+
+-- why a value doesn't read: it is no string, or its text is refused, or memory is wanted where its text may want it
+abbrev pub IsJsonFault : Data → JsonFault → Type 0
+IsJsonFault value NotText = as_str value ≡ None
+IsJsonFault value (Parse refusal) = MatchOption (as_str value) ⊥ (λ text. MatchOption refusal (MayWantMemory text) (IsRefusedAs text))
+
+-- the elements read as these triples, one each, in order
+abbrev pub ElementsReadAs : Items → List Values → Type 0
+ElementsReadAs no_items [] = Unit {0}
+ElementsReadAs no_items (t ∷ ts) = ⊥
+ElementsReadAs (item value values) [] = ⊥
+ElementsReadAs (item value values) (t ∷ ts) = JsonReadsAs value t × ElementsReadAs values ts
+
+-- an array reads as the list of its elements' triples, and no other value reads as a list
+abbrev pub ListReadsAs : Data → List Values → Type 0
+ListReadsAs value ts = MatchOption (as_array value) ⊥ (λ elements. ElementsReadAs elements ts)
+
+-- the element at i, counted from 0, reads
+abbrev pub ElementReads : Items → ℕ → Type 0
+ElementReads elements i = MatchOption (get_item i elements) ⊥ (λ value. (t : Values) × JsonReadsAs value t)
+
+-- the element at i has this fault, and each one before it reads
+pub record IsFirstFault (elements : Items) (i : ℕ) (fault : JsonFault) : Type 0 where
+  pub here : MatchOption (get_item i elements) ⊥ (λ value. IsJsonFault value fault)
+  pub before : (k : ℕ) → k < i → ElementReads elements k
+
+-- what an error says of a list: that it is none, or the first element that doesn't read, or that the list itself wants memory
+pub data ListFault : Type 0 where
+  NotList : ListFault
+  Element : ℕ → JsonFault → ListFault
+  OutOfMemory : ListFault
+
+abbrev pub list_fault_of : ListError → ListFault
+list_fault_of list_error.NotList = NotList
+list_fault_of (list_error.Element i error) = Element i (json_fault_of error)
+list_fault_of list_error.OutOfMemory = OutOfMemory
+
+-- why a value doesn't read as a list; the list itself wants memory only behind an element that reads
+abbrev pub IsListFault : Data → ListFault → Type 0
+IsListFault value NotList = as_array value ≡ None
+IsListFault value (Element i fault) = MatchOption (as_array value) ⊥ (λ elements. IsFirstFault elements i fault)
+IsListFault value OutOfMemory = MatchOption (as_array value) ⊥ (λ elements. ElementReads elements 0)
+
+-- the line that an error of a value prints
+abbrev pub json_fault_line : JsonFault → List ℕ
+json_fault_line NotText = codes "Not a text"
+json_fault_line (Parse refusal) = option_map_or refusal_line refusal (codes "Out of memory")
+
+-- the line that an error of a list prints
+abbrev pub list_fault_line : ListFault → List ℕ
+list_fault_line NotList = codes "Not a list"
+list_fault_line (Element i fault) = codes "Element " ++ (decimal i ++ (codes ": " ++ json_fault_line fault))
+list_fault_line OutOfMemory = codes "Out of memory"
+
+-- a list of triples that come back, written and read, is itself and no other
+abbrev pub ListsReadBack : Type 0
+ListsReadBack = (ts us : List Values) → All ComesBack ts → ListReadsAs (list_json_of ts) us ↔ (us ≡ ts)

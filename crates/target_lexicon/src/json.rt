@@ -1,0 +1,85 @@
+//! Triples and lists of triples as JSON values.
+ghost use Rattle.std.specs.Prelude.{◌≡◌, map, All, IfOk, IfErr};
+ghost use Rattle.serde_json.specs.View.{view};
+ghost use Rattle.lexicon_fields.specs.Vendor.{OwnsCustomText};
+ghost use Rattle.target_lexicon.specs.Json.{json_of, list_json_of, JsonReadsAs, IsJsonFault, json_fault_of, ListReadsAs, IsListFault, list_fault_of};
+ghost use Rattle.target_lexicon.specs.Values.{values_of};
+
+use crate::json_error::JsonError;
+use crate::list_error::ListError;
+use crate::triple::Triple;
+use serde_json::Value;
+use std::alloc::{AllocError, Global};
+
+impl Triple {
+    /// The JSON string of the printed text. The memory for it may be refused.
+    pub fn to_json(&self, alloc: Global) -> Result<Value, AllocError>
+        ensures { IfOk result (λ value. view value ≡ json_of (values_of self.now)) }
+    {
+        Ok(Value::from(self.to_text(alloc)?))
+    }
+
+    /// The triple that the text of a JSON string reads as, as [`Triple::from_str`] does, or why the value is refused.
+    ///
+    /// # Errors
+    ///
+    /// - [`JsonError::NotText`] where the value is no string.
+    /// - [`JsonError::Parse`] where the string's text is refused, or the memory for reading it was; no other value wants any.
+    pub fn from_json(alloc: Global, value: &Value) -> Result<Triple, JsonError>
+        ensures ok { IfOk result (λ triple. JsonReadsAs (view value.now) (values_of triple)) }
+        ensures owned { IfOk result (λ triple. OwnsCustomText triple.vendor) }
+        ensures err { IfErr result (λ error. IsJsonFault (view value.now) (json_fault_of error)) }
+    {
+        let Some(text) = value.as_str() else {
+            return Err(JsonError::NotText);
+        };
+        match Triple::from_str(alloc, text) {
+            Ok(triple) => Ok(triple),
+            Err(error) => Err(JsonError::Parse(error)),
+        }
+    }
+}
+
+/// The JSON array of the triples' JSON strings, in order. The memory for it may be refused.
+pub fn list_to_json(alloc: Global, triples: &[Triple]) -> Result<Value, AllocError>
+    ensures { IfOk result (λ value. view value ≡ list_json_of (map values_of triples.now)) }
+{
+    let mut values = Vec::new(alloc);
+    for triple in triples {
+        values.push(triple.to_json(alloc)?)?;
+    }
+    Ok(Value::from(values))
+}
+
+/// The triples that the elements of a JSON array read as, in order, or why the value is refused.
+///
+/// # Errors
+///
+/// - [`ListError::NotList`] where the value is no array.
+/// - [`ListError::Element`] with the first element that [`Triple::from_json`] refuses, be it for memory, and its error.
+/// - [`ListError::OutOfMemory`] where the memory for the list itself was refused, which is asked for only behind an element that
+///   reads.
+pub fn list_from_json(alloc: Global, value: &Value) -> Result<Vec<Triple>, ListError>
+    ensures ok { IfOk result (λ triples. ListReadsAs (view value.now) (map values_of triples.items)) }
+    ensures owned { IfOk result (λ triples. All (λ triple. OwnsCustomText triple.vendor) triples.items) }
+    ensures err { IfErr result (λ error. IsListFault (view value.now) (list_fault_of error)) }
+{
+    let Some(elements) = value.as_array() else {
+        return Err(ListError::NotList);
+    };
+    let mut triples = Vec::new(alloc);
+    for (i, element) in elements.iter().enumerate() {
+        match Triple::from_json(alloc, element) {
+            Ok(triple) => {
+                if triples.push(triple).is_err() {
+                    return Err(ListError::OutOfMemory);
+                }
+            }
+            Err(error) => return Err(ListError::Element(i, error)),
+        }
+    }
+    Ok(triples)
+}
+
+#[cfg(test)]
+mod tests;

@@ -1,0 +1,29 @@
+//! Why a JSON value is refused as a triple.
+ghost use Rattle.std.specs.Prelude.{Some};
+
+use crate::parse_error::ParseError;
+use std::fmt;
+
+/// What is wrong with a JSON value that reads as no triple.
+#[derive(Debug, PartialEq, Eq, Drop)]
+pub enum JsonError {
+    /// The value is no string.
+    NotText,
+    /// The string's text is refused.
+    Parse(ParseError),
+}
+
+impl fmt::Display for JsonError {
+    ghost use Rattle.target_lexicon.specs.Json.{json_fault_of, json_fault_line};
+
+    ghost output = { λ error. Some (json_fault_line (json_fault_of error)) };
+
+    ghost styled_output = { λ error _. Some (json_fault_line (json_fault_of error)) };
+
+    fn fmt<W: fmt::Write>(&self, f: &mut fmt::Formatter<W>) -> fmt::Result {
+        match self {
+            JsonError::NotText => f.write_str("Not a text"),
+            JsonError::Parse(error) => error.fmt(f),
+        }
+    }
+}

@@ -1,0 +1,67 @@
+//! Why a JSON value is refused as a list of triples.
+ghost use Rattle.std.specs.Prelude.{◌+◌, ◌<◌, ◌++◌, [], ◌∷◌, Some, codes};
+ghost use Rattle.std.specs.Fmt.{WritesStyledOnOk, decimal};
+ghost use Rattle.target_lexicon.specs.Json.{json_fault_of, json_fault_line};
+
+use crate::json_error::JsonError;
+use std::fmt;
+
+/// What is wrong with a JSON value that reads as no list of triples.
+#[derive(Debug, PartialEq, Eq, Drop)]
+pub enum ListError {
+    /// The value is no array.
+    NotList,
+    /// The first element that is refused, counted from 0, and why; the memory for it may be what was refused.
+    Element(usize, JsonError),
+    /// The memory for the list itself was refused.
+    OutOfMemory,
+}
+
+impl fmt::Display for ListError {
+    ghost use Rattle.target_lexicon.specs.Json.{list_fault_of, list_fault_line};
+
+    ghost output = { λ error. Some (list_fault_line (list_fault_of error)) };
+
+    ghost styled_output = { λ error _. Some (list_fault_line (list_fault_of error)) };
+
+    fn fmt<W: fmt::Write>(&self, f: &mut fmt::Formatter<W>) -> fmt::Result {
+        match self {
+            ListError::NotList => f.write_str("Not a list"),
+            ListError::Element(i, error) => write_element(f, *i, error),
+            ListError::OutOfMemory => f.write_str("Out of memory"),
+        }
+    }
+}
+
+/// Writes which element is refused, and why.
+fn write_element<W: fmt::Write>(
+    f: &mut fmt::Formatter<W>,
+    i: usize,
+    error: &JsonError,
+) -> fmt::Result
+    ensures { WritesStyledOnOk W.write_str_gives f.old result
+        (codes "Element " ++ (decimal i ++ (codes ": " ++ json_fault_line (json_fault_of error.now)))) f.new }
+{
+    f.write_str("Element ")?;
+    write_number(f, i)?;
+    f.write_str(": ")?;
+    fmt::Display::fmt(error, f)
+}
+
+/// Writes a number in decimal, whatever the options of the formatter.
+fn write_number<W: fmt::Write>(f: &mut fmt::Formatter<W>, n: usize) -> fmt::Result
+    ensures { WritesStyledOnOk W.write_str_gives f.old result (decimal n) f.new }
+{
+    if n < 10 {
+        return write_digit(f, n);
+    }
+    write_number(f, n / 10)?;
+    write_digit(f, n % 10)
+}
+
+fn write_digit<W: fmt::Write>(f: &mut fmt::Formatter<W>, digit: usize) -> fmt::Result
+    requires { digit < 10 }
+    ensures { WritesStyledOnOk W.write_str_gives f.old result ((48 + digit) ∷ []) f.new }
+{
+    f.write_char(char::from(b'0' + digit as u8))
+}

@@ -1,0 +1,37 @@
+-- The answers of mode `json`.
+use Rattle.std.proofs.Common.{◌≡◌, ◌∙◌, ℕ, ◌<◌, false, List, [], ◌∷◌, Some, None, MatchOption, Option, map, length, refl, sym, subst, arith}
+use Rattle.serde_json.specs.Data.{Data}
+use Rattle.serde_json.specs.Find.{as_array}
+use Rattle.serde_json.specs.Read.{read}
+use Rattle.serde_json.specs.View.{items_of}
+use Rattle.serde_json.specs.Written.{items_have_float}
+use Rattle.serde_json.proofs.OnLiterals.{serde_json_on_literals}
+use Rattle.target_lexicon.specs.Json.{json_of}
+use Rattle.target_lexicon.specs.Values.{Values}
+use Rattle.triples.specs.JsonOutput.{IsJsonAnswerFault, IsJsonInputFault}
+use Rattle.triples.specs.declared.run_error.RunError.{RunError}
+use Rattle.triples.specs.declared.run_error.RunError.TheVariants as run_error
+
+-- a list of texts holds no float
+pub no_float : (ts : List Values) → items_have_float (items_of (map json_of ts)) ≡ false
+no_float [] = refl
+no_float (t ∷ ts) = no_float ts
+
+-- an empty input is no JSON
+read-empty : read [] ≡ None
+unfolding serde_json_on_literals
+read-empty = refl
+
+pub read-some : (input : List ℕ) (value : Data) → read input ≡ Some value → 0 < length input
+read-some [] value found = absurd (let same = sym read-empty ∙ found in cc)
+read-some (b ∷ bs) value found = omega arith
+
+-- why a value has no answer is why its text has no output
+pub input_fault : (input : List ℕ) (value : Data) (e : RunError) → read input ≡ Some value → IsJsonAnswerFault value e → IsJsonInputFault input e
+input_fault input value run_error.NotList found fault =
+    subst (λ (o : Option Data). MatchOption o ⊥ (λ d. as_array d ≡ None)) (sym found) fault
+input_fault input value run_error.OutOfMemory found fault = read-some input value found
+input_fault input value run_error.NotJson found fault = absurd fault
+input_fault input value run_error.Read found fault = absurd fault
+input_fault input value run_error.Write found fault = absurd fault
+input_fault input value run_error.NotUtf8 found fault = absurd fault

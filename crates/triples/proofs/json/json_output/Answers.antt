@@ -1,0 +1,12 @@
+use Rattle.std.proofs.Common.{rules}
+use Rattle.serde_json.specs.View.{view}
+use Rattle.triples.proofs.JsonAnswers.{input_fault, read-some}
+use Rattle.triples.proofs.json.json_output.Goals as goal
+
+pub returns-in_err-output-clause-err : goal.returns-in_err-output-clause-err
+returns-in_err-output-clause-err c =
+    let fault = input_fault c.args.input.now (view c.in-Ok.value) c.in_err-output.field-0.0 c.in-Ok.ensures.ok c.in_err-output.ensures.err in
+    search (rules, fault)
+
+pub returns-clause-err : goal.returns-clause-err
+returns-clause-err c = read-some c.args.input.now (view c.in-Ok.value) c.in-Ok.ensures.ok

@@ -1,0 +1,7 @@
+use Rattle.std.proofs.Common.{map, rules}
+use Rattle.target_lexicon.specs.Values.{values_of}
+use Rattle.triples.proofs.JsonAnswers.{no_float}
+use Rattle.triples.proofs.json.list_text.Goals as goal
+
+pub returns : goal.returns
+returns c = let none = no_float (map values_of c.args.triples.now) in search (rules, none)

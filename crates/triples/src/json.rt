@@ -1,0 +1,77 @@
+//! What mode `json` writes for an input.
+ghost use Rattle.std.specs.Prelude.{◌≡◌, ◌++◌, None, Decides, codes, map, string_bytes, IfOk, IfErr};
+ghost use Rattle.serde_json.specs.View.{view};
+ghost use Rattle.serde_json.specs.Written.{compact_text};
+ghost use Rattle.target_lexicon.specs.Json.{Parse, Element, json_fault_of, list_json_of, list_fault_line};
+ghost use Rattle.target_lexicon.specs.Values.{values_of};
+ghost use Rattle.triples.specs.JsonOutput.{IsJsonAnswer, IsJsonAnswerFault, IsJsonOutput, IsJsonInputFault};
+
+use crate::run_error::RunError;
+use serde_json::Value;
+use std::alloc::{AllocError, Global};
+use target_lexicon::{JsonError, ListError, ParseError, Triple, list_from_json, list_to_json};
+
+/// The compact JSON text of the triples.
+fn list_text(alloc: Global, triples: &[Triple]) -> Result<String, AllocError>
+    ensures { IfOk result (λ text. string_bytes text ≡ compact_text (list_json_of (map values_of triples.now))) }
+{
+    list_to_json(alloc, triples)?.to_string(alloc)
+}
+
+/// The line that names the refused element.
+fn element_line(alloc: Global, i: usize, error: JsonError) -> Result<String, AllocError>
+    ensures { IfOk result (λ line. string_bytes line ≡ codes "error: " ++ list_fault_line (Element i (json_fault_of error))) }
+{
+    let error = ListError::Element(i, error);
+    format!(in alloc; "error: {error}")
+}
+
+/// Whether the error tells want of memory.
+fn is_want_of_memory(error: &JsonError) -> bool
+    ensures { Decides result (json_fault_of error.now ≡ Parse None) }
+{
+    matches!(error, JsonError::Parse(ParseError::OutOfMemory))
+}
+
+/// The text of the list that the value reads as, or the line that names its first refused element.
+fn answer(alloc: Global, value: &Value) -> Result<String, RunError>
+    ensures ok { IfOk result (λ answer. IsJsonAnswer (view value.now) (string_bytes answer)) }
+    ensures err { IfErr result (λ e. IsJsonAnswerFault (view value.now) e) }
+{
+    let written = match list_from_json(alloc, value) {
+        Ok(triples) => list_text(alloc, &triples),
+        Err(ListError::NotList) => return Err(RunError::NotList),
+        Err(ListError::OutOfMemory) => return Err(RunError::OutOfMemory),
+        Err(ListError::Element(i, error)) => {
+            if is_want_of_memory(&error) {
+                return Err(RunError::OutOfMemory);
+            }
+            element_line(alloc, i, error)
+        }
+    };
+    match written {
+        Ok(answer) => Ok(answer),
+        Err(_) => Err(RunError::OutOfMemory),
+    }
+}
+
+/// The output for an input that is one JSON text, or why it has none.
+pub(crate) fn json_output(alloc: Global, input: &str) -> Result<String, RunError>
+    ensures output { IfOk result (λ output. IsJsonOutput input.now (string_bytes output)) }
+    ensures err { IfErr result (λ e. IsJsonInputFault input.now e) }
+{
+    let value = match Value::from_str(alloc, input) {
+        Ok(value) => value,
+        Err(error) => {
+            if error.is_memory() {
+                return Err(RunError::OutOfMemory);
+            }
+            return Err(RunError::NotJson);
+        }
+    };
+    let mut output = answer(alloc, &value)?;
+    match output.push('\n') {
+        Ok(()) => Ok(output),
+        Err(_) => Err(RunError::OutOfMemory),
+    }
+}
