@@ -1,6 +1,6 @@
 -- The function that reads field by field gives what a text reads as by placements, and how it is refused.
 use Rattle.std.proofs.Common.{◌≡◌, ℕ, List, [], ◌∷◌, true, false, refl, sym, ◌∙◌, ap, subst, Option, Some, None, Result, Ok, Err, inl, inr, ◌↔◌, ◌⊎◌}
-use Rattle.std.specs.Prelude.{MatchResult, option_and_then, unwrap_or, is_some}
+use Rattle.std.specs.Prelude.{MatchResult, unwrap_or, is_some}
 use Rattle.lexicon_fields.specs.declared.architecture.Architecture.{Architecture as AnyArchitecture}
 use Rattle.lexicon_fields.specs.declared.operating_system.OperatingSystem.TheVariants as operating_system
 use Rattle.lexicon_fields.specs.declared.environment.Environment.TheVariants as environment
@@ -11,19 +11,18 @@ use Rattle.lexicon_fields.specs.OperatingSystem.{operating_system_of}
 use Rattle.lexicon_fields.specs.Environment.{environment_of}
 use Rattle.lexicon_fields.specs.BinaryFormat.{binary_format_of}
 use Rattle.target_lexicon.specs.Field.{Field, Architecture, Vendor, OperatingSystem, Environment, BinaryFormat, reads}
-use Rattle.target_lexicon.specs.ImpliedFormat.{implied_format}
-use Rattle.target_lexicon.specs.Laws.{OneOutcomeEach, IsComputed, ReadingIsComputed}
+use Rattle.target_lexicon.specs.Laws.{OneOutcomeEach, ReadingIsComputed}
 use Rattle.target_lexicon.specs.Parts.{parts_of}
 use Rattle.target_lexicon.specs.Private.{part_for, parts_behind, last_filled}
 use Rattle.target_lexicon.specs.Reading.{ReadsAs, IsRefusedAs, IsRefused, lack_behind}
 use Rattle.target_lexicon.specs.ReadingByFields.{Taken, taken, take_part, finish, read_vendor, read_behind, read_parts, read_unless_special, reading}
-use Rattle.target_lexicon.specs.Refusal.{Lacks, Refusal, refused}
+use Rattle.target_lexicon.specs.Refusal.{Refusal}
 use Rattle.target_lexicon.specs.SpecialTexts.{special_values}
 use Rattle.target_lexicon.specs.Values.{Values}
 use Rattle.target_lexicon.proofs.Cuts.{parts_of-some, bool_cases}
 use Rattle.target_lexicon.proofs.Held.{value_for}
 use Rattle.target_lexicon.proofs.Unique.{values-unique, refusal-unique, read-not_refused}
-use Rattle.target_lexicon.proofs.Taken.{behind_vendor, behind_operating_system, behind_environment, behind_binary_format, taken_vendor, taken_operating_system, taken_environment, taken_values, lacked_behind, reads-vendor, reads-operating_system, reads-environment, reads-binary_format, first-text-refused, left-text-refused, text-reads}
+use Rattle.target_lexicon.proofs.Taken.{behind_vendor, behind_operating_system, behind_environment, behind_binary_format, taken_values, lacked_behind, reads-vendor, reads-operating_system, reads-environment, reads-binary_format, first-text-refused, left-text-refused, text-reads}
 
 -- the last field that took a part, where a field may have taken this one
 abbrev last_with : Field → Field → Option (List ℕ) → Field

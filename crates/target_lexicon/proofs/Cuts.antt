@@ -1,9 +1,11 @@
 -- The parts of a text are one list.
-use Rattle.std.proofs.Common.{◌≡◌, ◌≢◌, ℕ, List, [], ◌∷◌, ◌++◌, Bool, true, false, nat_eq, refl, sym, length, ◌<◌, ◌∙◌, ap, arith, ◌⊎◌, inl, inr}
-use Rattle.std.specs.List.{list_all, list_any, join_with_byte, onto_first, before_first, after_first, position_or_len}
+use Rattle.std.proofs.Common.{◌≡◌, ◌≢◌, ℕ, List, [], ◌∷◌, ◌++◌, ◌+◌, ◌-◌, take, drop, get_or, Bool, true, false, nat_eq, Some, None, refl, sym, length, ◌<◌, ◌∙◌, ap, arith, ◌≤◌, ◌⊎◌, inl, inr}
+use Rattle.std.specs.List.{list_all, list_any, join_with_byte, onto_first, slice_range, position, position_or_len}
 use Rattle.std.specs.Prelude.{◌==◌, ◌||◌, not}
-use Rattle.std.proofs.lemmas.Bool.{and_parts}
-use Rattle.std.proofs.lemmas.List.Sums.{fails_before_first}
+use Rattle.std.proofs.lemmas.Bool.{and_parts, eqb-true}
+use Rattle.std.proofs.lemmas.Grind.{common_steps}
+use Rattle.std.proofs.lemmas.List.Quantifiers.{position-Some}
+use Rattle.std.proofs.lemmas.List.Sums.{fails_before_first, position_or_len_is}
 use Rattle.std.proofs.lemmas.List.Splits.{join_with_byte-slice_split, slice_split_first, slice_split_none}
 use Rattle.lexicon_fields.specs.Names.{is_dash_free}
 use Rattle.target_lexicon.specs.Parts.{ArePartsOf, parts_of}
@@ -70,9 +72,22 @@ pub parts-only : (text : List ℕ) (others : List (List ℕ)) → ArePartsOf tex
 parts-only text [] are = absurd (are.some refl)
 parts-only text (p ∷ ps) are = sym (parts_of-joined p ps are.dash_free) ∙ ap parts_of are.joined
 
-pub cut-found : (text part after : List ℕ) → part ≡ before_first (λ b. b == 45) text → after ≡ after_first (λ b. b == 45) text
-    → position_or_len (λ b. b == 45) text < length text → parts_of text ≡ part ∷ parts_of after
-cut-found text part after front back found = slice_split_first (λ b. b == 45) text 0 found ∙ cc
+-- where a text is cut at its first dash
+module _ (text : List ℕ) (i : ℕ) (found : position (λ b. b == 45) text ≡ Some i) where
+  pub dash_at : (i < length text) × (get_or text i 0 ≡ 45)
+  dash_at = let at = position-Some (λ b. b == 45) text i 0 found in (at.0, eqb-true (get_or text i 0) 45 at.1)
 
-pub cut-whole : (text : List ℕ) → position_or_len (λ b. b == 45) text ≡ length text → parts_of text ≡ text ∷ []
-cut-whole text none = slice_split_none (λ b. b == 45) text (λ k d h. fails_before_first (λ b. b == 45) text k d (omega (arith, none, h)))
+  pub cut-found : (part behind : List ℕ) → part ≡ slice_range text 0 i → behind ≡ drop (i + 1) text → parts_of text ≡ part ∷ parts_of behind
+  cut-found part behind front back =
+      let at = position-Some (λ b. b == 45) text i 0 found in
+      let same : position_or_len (λ b. b == 45) text ≡ i = position_or_len_is (λ b. b == 45) text i 0 (omega (arith, at.0)) at.2 (λ _. at.1) in
+      let whole : i ≡ i - 0 = omega arith in
+      slice_split_first (λ b. b == 45) text 0 (omega (arith, same, at.0))
+      ∙ ap (λ (n : ℕ). take n text ∷ parts_of (drop (n + 1) text)) same
+      ∙ ap (λ (xs : List ℕ). xs ∷ parts_of (drop (i + 1) text)) (ap (λ (n : ℕ). take n text) whole ∙ sym front)
+      ∙ ap (λ (xs : List ℕ). part ∷ parts_of xs) (sym back)
+
+pub cut-whole : (text : List ℕ) → position (λ b. b == 45) text ≡ None → parts_of text ≡ text ∷ []
+cut-whole text none =
+    let past : length text ≤ position_or_len (λ b. b == 45) text = grind (arith, common_steps) in
+    slice_split_none (λ b. b == 45) text (λ k d h. fails_before_first (λ b. b == 45) text k d (omega (arith, past, h)))

@@ -1,11 +1,10 @@
 -- What the row of a part tells of the fields that read more than fixed names.
-use Rattle.std.proofs.Common.{◌≡◌, ◌∙◌, ℕ, List, ◌∷◌, true, false, Option, Some, None, Result, Ok, Err, refl, sym, ap}
+use Rattle.std.proofs.Common.{◌≡◌, ◌∙◌, ℕ, List, ◌∷◌, true, Option, Some, None, Result, Ok, Err, refl, sym, ap}
 use Rattle.std.specs.Prelude.{is_some, option_map, option_and_then, MatchOption, OnErr}
 use Rattle.std.specs.Option.{option_or}
-use Rattle.lexicon_fields.specs.declared.operating_system.OperatingSystem.{OperatingSystem}
 use Rattle.lexicon_fields.specs.declared.table.FixedRow.{FixedRow}
 use Rattle.lexicon_fields.specs.OperatingSystem.{operating_system_of}
-use Rattle.lexicon_fields.specs.Vendor.{VendorValue, Known, custom_of, is_admitted, vendor_of}
+use Rattle.lexicon_fields.specs.Vendor.{VendorValue, Known, is_admitted, vendor_of}
 use Rattle.lexicon_fields.proofs.RowsHold.{row_reads_by_name}
 use Rattle.lexicon_fields.proofs.VendorsReadBack.{row_not_admitted}
 use Rattle.target_lexicon.specs.Field.{Vendor}

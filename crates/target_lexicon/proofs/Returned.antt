@@ -21,7 +21,7 @@ use Rattle.target_lexicon.specs.declared.parse_error.ParseError.TheVariants as e
 use Rattle.target_lexicon.specs.declared.triple.Triple.{Triple}
 use Rattle.target_lexicon.specs.Field.{Field, Architecture, Vendor, OperatingSystem, Environment, BinaryFormat, reads}
 use Rattle.target_lexicon.specs.ImpliedFormat.{implied_format}
-use Rattle.target_lexicon.specs.Refusal.{Lacks, Refusal, refused, refusal_of}
+use Rattle.target_lexicon.specs.Refusal.{Lacks, refused, refusal_of}
 use Rattle.target_lexicon.specs.Parts.{parts_of}
 use Rattle.target_lexicon.specs.Reading.{ReadsAs, IsRefusedAs, MayWantMemory, IsFaultOf}
 use Rattle.target_lexicon.specs.SpecialTexts.{special_values}

@@ -13,7 +13,7 @@ use Rattle.lexicon_fields.specs.Vendor.{VendorValue, vendor_of}
 use Rattle.lexicon_fields.specs.OperatingSystem.{operating_system_of}
 use Rattle.lexicon_fields.specs.Environment.{environment_of}
 use Rattle.lexicon_fields.specs.BinaryFormat.{binary_format_of}
-use Rattle.target_lexicon.specs.Field.{Field, Architecture, Vendor, OperatingSystem, Environment, BinaryFormat, reads}
+use Rattle.target_lexicon.specs.Field.{Architecture, Vendor, OperatingSystem, Environment, BinaryFormat, reads}
 use Rattle.target_lexicon.specs.ImpliedFormat.{implied_format}
 use Rattle.target_lexicon.specs.Parts.{parts_of}
 use Rattle.target_lexicon.specs.Reading.{HoldsParts, ReadsAsLeast, ReadsAs, IsRefusal, IsRefusedAs}

@@ -1,5 +1,6 @@
 //! The parts of a text, each looked up once in the table of names.
-ghost use Rattle.std.specs.Prelude.{◌≡◌, ◌∷◌};
+ghost use Rattle.std.specs.Prelude.{◌≡◌, ◌==◌, ◌∷◌};
+ghost use Rattle.std.specs.List.{position};
 ghost use Rattle.target_lexicon.specs.Parts.{parts_of};
 ghost use Rattle.target_lexicon.specs.Private.{IsLookedUp, parts_behind_dash};
 
@@ -25,12 +26,19 @@ fn row_of(text: &str) -> Option<FixedRow>
     fixed_row(text, &mut Steps::new())
 }
 
+/// Where the first dash of a text is.
+fn dash_in(text: &str) -> Option<usize>
+    ensures { result ≡ position (λ b. b == 45) text.now }
+{
+    text.as_bytes().iter().position(|byte| *byte == b'-')
+}
+
 /// Cuts a text at its first dash.
 fn cut(text: &str) -> (&str, Option<&str>)
     ensures { parts_of text.now ≡ result.0.now ∷ parts_behind_dash result.1 }
 {
-    match text.split_once('-') {
-        Some((part, behind)) => (part, Some(behind)),
+    match dash_in(text) {
+        Some(at) => (&text[..at], Some(&text[at + 1..])),
         None => (text, None),
     }
 }

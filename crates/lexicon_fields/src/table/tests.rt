@@ -1,3 +1,5 @@
+ghost use Rattle.std.specs.Prelude.{◌<◌};
+
 use super::*;
 use crate::architecture::{Aarch64Architecture, CleverArchitecture};
 use std::alloc::Global;
@@ -81,6 +83,25 @@ fn check(rt: &impl Abort, alloc: Global, text: &str) -> Result<(), Fail> {
     Ok(())
 }
 
+/// The same of the texts round a row's.
+fn check_neighbours(rt: &impl Abort, alloc: Global, text: &str) -> Result<(), Fail> {
+    let mut front = String::from_str(alloc, text)?;
+    let last = front.pop().ok_or("empty")?;
+    check(rt, alloc, front.as_str())?;
+    check_last(rt, alloc, front.as_str(), (last as u32).saturating_sub(1))?;
+    check_last(rt, alloc, front.as_str(), (last as u32).saturating_add(1))?;
+    check_last(rt, alloc, text, 0)
+}
+
+/// The same of a text with one more character, and with one behind that.
+fn check_last(rt: &impl Abort, alloc: Global, front: &str, last: u32) -> Result<(), Fail> {
+    let mut text = String::from_str(alloc, front)?;
+    text.push(char::from_u32(last).ok_or("no character")?)?;
+    check(rt, alloc, text.as_str())?;
+    text.push('~')?;
+    check(rt, alloc, text.as_str())
+}
+
 #[test]
 fn holds_what_a_scan_finds(rt: HostRuntime) -> Result<(), Fail> {
     let mut count = 0u32;
@@ -93,6 +114,7 @@ fn holds_what_a_scan_finds(rt: HostRuntime) -> Result<(), Fail> {
     ] {
         for name in names.split_whitespace() {
             check(&rt, rt.alloc(), name)?;
+            check_neighbours(&rt, rt.alloc(), name)?;
             count = count.saturating_add(1);
         }
     }
@@ -100,105 +122,92 @@ fn holds_what_a_scan_finds(rt: HostRuntime) -> Result<(), Fail> {
     Ok(())
 }
 
-#[test]
-fn holds_no_neighbour(rt: HostRuntime) -> Result<(), Fail> {
-    for names in [
-        ARCHITECTURES,
-        VENDORS,
-        OPERATING_SYSTEMS,
-        ENVIRONMENTS,
-        BINARY_FORMATS,
-    ] {
-        for name in names.split_whitespace() {
-            let mut front = String::from_str(rt.alloc(), name)?;
-            let last = front.pop().ok_or("empty")?;
-            let before = char::from_u32((last as u32).saturating_sub(1)).ok_or("no char")?;
-            let after = char::from_u32((last as u32).saturating_add(1)).ok_or("no char")?;
-            for text in [
-                format!(in rt.alloc(); "{name}\0")?,
-                format!(in rt.alloc(); "{name}z")?,
-                format!(in rt.alloc(); "{front}")?,
-                format!(in rt.alloc(); "{front}{before}")?,
-                format!(in rt.alloc(); "{front}{before}\u{7f}")?,
-                format!(in rt.alloc(); "{front}{after}")?,
-            ] {
-                check(&rt, rt.alloc(), text.as_str())?;
-            }
-        }
-    }
-    for text in [
-        "", "\0", "a", "A", "zz", "é", "ios17", "darwin", "AARCH64", "aarch64 ",
-    ] {
-        check(&rt, rt.alloc(), text)?;
-    }
-    Ok(())
+/// The row of a text that is a name of no field.
+const EMPTY: FixedRow = FixedRow {
+    text: "",
+    architecture: None,
+    vendor: None,
+    operating_system: None,
+    environment: None,
+    binary_format: None,
+};
+
+fn check_row(rt: &impl Abort, row: FixedRow) {
+    let found = fixed_row(row.text, &mut Steps::new());
+    assert!(rt; found == Some(row), "{}", row.text);
 }
 
 #[test]
-fn rows_of_some_texts(rt: HostRuntime) {
-    let empty = FixedRow {
-        text: "",
-        architecture: None,
-        vendor: None,
-        operating_system: None,
-        environment: None,
-        binary_format: None,
+fn none_is_a_system_and_an_environment(rt: HostRuntime) {
+    let row = FixedRow {
+        text: "none",
+        operating_system: Some(OperatingSystem::None_),
+        environment: Some(Environment::None),
+        ..EMPTY
     };
-    let rows = [
-        FixedRow {
-            text: "none",
-            operating_system: Some(OperatingSystem::None_),
-            environment: Some(Environment::None),
-            ..empty
-        },
-        FixedRow {
-            text: "unknown",
-            architecture: Some(Architecture::Unknown),
-            vendor: Some(KnownVendor::Unknown),
-            operating_system: Some(OperatingSystem::Unknown),
-            environment: Some(Environment::Unknown),
-            binary_format: Some(BinaryFormat::Unknown),
-        },
-        FixedRow {
-            text: "pc",
-            vendor: Some(KnownVendor::Pc),
-            ..empty
-        },
-        FixedRow {
-            text: "arm64",
-            architecture: Some(Architecture::Aarch64(Aarch64Architecture::Aarch64)),
-            ..empty
-        },
-        FixedRow {
-            text: "clever1.0",
-            architecture: Some(Architecture::Clever(CleverArchitecture::Clever1_0)),
-            ..empty
-        },
-    ];
-    let mut steps = Steps::new();
-    for row in rows {
-        assert_eq!(rt; fixed_row(row.text, &mut steps), Some(row), "{}", row.text);
+    check_row(&rt, row);
+}
+
+#[test]
+fn unknown_is_in_each_field(rt: HostRuntime) {
+    let row = FixedRow {
+        text: "unknown",
+        architecture: Some(Architecture::Unknown),
+        vendor: Some(KnownVendor::Unknown),
+        operating_system: Some(OperatingSystem::Unknown),
+        environment: Some(Environment::Unknown),
+        binary_format: Some(BinaryFormat::Unknown),
+    };
+    check_row(&rt, row);
+}
+
+#[test]
+fn other_texts_are_in_one_field(rt: HostRuntime) {
+    let vendor = FixedRow {
+        text: "pc",
+        vendor: Some(KnownVendor::Pc),
+        ..EMPTY
+    };
+    check_row(&rt, vendor);
+    let alias = FixedRow {
+        text: "arm64",
+        architecture: Some(Architecture::Aarch64(Aarch64Architecture::Aarch64)),
+        ..EMPTY
+    };
+    check_row(&rt, alias);
+    let clever = FixedRow {
+        text: "clever1.0",
+        architecture: Some(Architecture::Clever(CleverArchitecture::Clever1_0)),
+        ..EMPTY
+    };
+    check_row(&rt, clever);
+}
+
+#[test]
+fn no_other_text_has_a_row(rt: HostRuntime) {
+    for text in [
+        "", "\0", "a", "A", "zz", "é", "ios17", "darwin", "AARCH64", "aarch64 ",
+    ] {
+        assert!(rt; fixed_row(text, &mut Steps::new()).is_none(), "{text}");
     }
-    for text in ["darwin", "", "ios17", "zz"] {
-        assert_eq!(rt; fixed_row(text, &mut steps), None, "{text}");
-    }
+}
+
+fn check_order(rt: &impl Abort, i: usize, text: &str, order: Ordering)
+    requires { i < 192 }
+{
+    assert!(rt; row_order(i, text, &mut Steps::new()) == order, "{text}");
 }
 
 #[test]
 fn rows_are_ordered_by_bytes(rt: HostRuntime) {
-    let mut steps = Steps::new();
-    for (i, text, order) in [
-        (0, "aarch64", Ordering::Equal),
-        (0, "aarch6", Ordering::Greater),
-        (0, "aarch64\0", Ordering::Less),
-        (0, "", Ordering::Greater),
-        (1, "aarch64_be", Ordering::Equal),
-        (1, "aarch64_bd", Ordering::Greater),
-        (1, "aarch64_bf", Ordering::Less),
-        (191, "zkasm", Ordering::Equal),
-        (191, "zkasl", Ordering::Greater),
-        (191, "é", Ordering::Less),
-    ] {
-        assert_eq!(rt; row_order(i, text, &mut steps), order, "{text}");
-    }
+    check_order(&rt, 0, "aarch64", Ordering::Equal);
+    check_order(&rt, 0, "aarch6", Ordering::Greater);
+    check_order(&rt, 0, "aarch64\0", Ordering::Less);
+    check_order(&rt, 0, "", Ordering::Greater);
+    check_order(&rt, 1, "aarch64_be", Ordering::Equal);
+    check_order(&rt, 1, "aarch64_bd", Ordering::Greater);
+    check_order(&rt, 1, "aarch64_bf", Ordering::Less);
+    check_order(&rt, 191, "zkasm", Ordering::Equal);
+    check_order(&rt, 191, "zkasl", Ordering::Greater);
+    check_order(&rt, 191, "é", Ordering::Less);
 }

@@ -2,7 +2,7 @@ use super::*;
 use crate::tests::fixtures::{
     AARCH64, ARMV6K, CLEVER, RISCV32IMC, RISCV64, THUMBV7EM, custom, plain, triple, version,
 };
-use lexicon_fields::CustomVendor;
+use lexicon_fields::{Architecture, CustomVendor};
 use std::test::Fail;
 
 fn apple(architecture: Architecture, operating_system: OperatingSystem) -> Triple {

@@ -1,4 +1,4 @@
-use Rattle.std.proofs.Common.{ℕ, ◌+◌, List, [], Option, Some, None, refl, ap}
+use Rattle.std.proofs.Common.{ℕ, ◌+◌, List, [], Option, Some, refl, ap}
 use Rattle.std.specs.Prelude.{string_bytes}
 use Rattle.std.specs.Option.{option_map_or}
 use Rattle.std.proofs.lemmas.Bool.{false≢true}
