@@ -1,6 +1,7 @@
--- LookUps: what a look-up in a table tells, and how names are shown to read back.
+-- RowTexts, FrontLemmas, Halving, RowsHold, RowReads: the table of names is in order, its search finds each row, and a row
+-- holds what the lists of names say. LookUps: what a look-up in a list tells, and how names are shown to read back.
 -- NamesReadBack, VersionsReadBack, OperatingSystemsReadBack, OperatingSystemsDashFree, VendorsReadBack: that the names of
--- each type read back as the values that bear them, and hold no dash.
+-- each type read back as the values that bear them, and hold no dash. SubArchitectures: the names of architectures in parts.
 -- EqualByValue: that `==` tells exactly which values are the same.
 pub mod EqualByValue
 pub mod FrontLemmas

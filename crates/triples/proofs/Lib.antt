@@ -1,3 +1,4 @@
+-- LineLemmas: the lines of an input. AnswerLemmas, JsonAnswers: their answers. KnownBytes: what is read and written.
 pub mod AnswerLemmas
 pub mod JsonAnswers
 pub mod KnownBytes
