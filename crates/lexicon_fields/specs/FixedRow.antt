@@ -1,4 +1,4 @@
--- The rows of the fixed names: what a text reads as in each of the five fields.
+-- The rows of the fixed names and of the alias `arm64`: what a text reads as in each of the five fields.
 use Rattle.std.specs.Prelude.{◌≡◌, ℕ, Bool, true, ◌||◌, List, [], ◌∷◌, codes, is_some, slice_index_or}
 use Rattle.lexicon_fields.specs.declared.table.FixedRow.{FixedRow}
 use Rattle.lexicon_fields.specs.Architecture.{architecture_of}
@@ -7,7 +7,7 @@ use Rattle.lexicon_fields.specs.OperatingSystem.{fixed_operating_system_of}
 use Rattle.lexicon_fields.specs.Environment.{environment_of}
 use Rattle.lexicon_fields.specs.BinaryFormat.{binary_format_of}
 
--- a text has a row where some field has it for a fixed name
+-- a text has a row where some field reads it, but for versions and custom vendors
 abbrev pub has_row : List ℕ → Bool
 has_row text =
     is_some (architecture_of text) || is_some (known_vendor_of text) || is_some (fixed_operating_system_of text)

@@ -1,4 +1,4 @@
-//! The table of the fixed names.
+//! The table of the fixed names, and of the alias `arm64`.
 ghost use Rattle.std.specs.Prelude.{◌≡◌, ◌+◌, ◌<◌, ◌≤◌, false, Some, MatchOption};
 ghost use Rattle.std.specs.Cmp.Lexicographic.{slice_cmp};
 ghost use Rattle.std.specs.Ordering.{nat_cmp};
@@ -18,7 +18,7 @@ use crate::steps::Steps;
 use rows::row;
 use std::cmp::Ordering;
 
-/// What a text reads as in each field, by the fixed names: no version, and no custom vendor.
+/// What a text reads as in each field, by the fixed names and the alias: no version, and no custom vendor.
 #[derive(Clone, Copy, Debug, PartialEq, Eq)]
 pub struct FixedRow {
     pub text: &'static str,
@@ -29,7 +29,8 @@ pub struct FixedRow {
     pub binary_format: Option<BinaryFormat>,
 }
 
-/// The row of the text, or `None` where it is no fixed name of any field. At most eight rows are compared with it.
+/// The row of the text, or `None` where no field reads it as a fixed name or an alias. `steps` ticks once for each row
+/// that is compared with the text, at most eight times.
 #[inline(always)]
 pub fn fixed_row(text: &str, steps: &mut Steps) -> Option<FixedRow>
     ensures row { MatchOption result (has_row text.now ≡ false) (IsRowOf text.now) }

@@ -30,9 +30,10 @@ pub use json::{list_from_json, list_to_json};
 pub use json_error::JsonError;
 pub use lexicon_fields::{
     Aarch64Architecture, Architecture, ArmArchitecture, BinaryFormat, CleverArchitecture,
-    CustomVendor, DeploymentTarget, Endianness, Environment, Mips32Architecture,
-    Mips64Architecture, OperatingSystem, PointerWidth, Riscv32Architecture, Riscv64Architecture,
-    Vendor, VendorError, X86_32Architecture, Z80Architecture,
+    CustomVendor, DeploymentTarget, Endianness, Environment, FixedRow, KnownVendor,
+    Mips32Architecture, Mips64Architecture, OperatingSystem, PointerWidth, Riscv32Architecture,
+    Riscv64Architecture, Steps, Vendor, VendorError, X86_32Architecture, Z80Architecture,
+    fixed_row, row_order,
 };
 pub use list_error::ListError;
 pub use parse_error::ParseError;

@@ -1,7 +1,7 @@
 -- The answers of an input's lines, one after another.
-use Rattle.std.proofs.Common.{◌≢◌, Some, inl, inr, string_bytes, ◌≡◌, ℕ, List, [], ◌∷◌, ◌++◌, Result, Ok, Err, OnOk, None, codes, refl, ap, ◌∙◌, append_assoc, length, arith}
+use Rattle.std.proofs.Common.{◌≢◌, inl, inr, ◌≡◌, ℕ, List, [], ◌∷◌, ◌++◌, Result, Ok, Err, OnOk, codes, refl, ap, ◌∙◌, append_assoc, length, arith}
 use Rattle.std.proofs.lemmas.List.{append-nil}
-use Rattle.target_lexicon.specs.Refusal.{Refusal, error_line, refusal_of, refusal_line}
+use Rattle.target_lexicon.specs.Refusal.{error_line}
 use Rattle.target_lexicon.specs.Reading.{ReadsAs, IsFaultOf}
 use Rattle.target_lexicon.specs.Values.{Values}
 use Rattle.target_lexicon.specs.declared.parse_error.ParseError.{ParseError}
@@ -11,22 +11,20 @@ use Rattle.triples.specs.Output.{IsRefusalTold, AreAnswered}
 use Rattle.triples.specs.Private.{AddsAnswer}
 
 -- what an error that isn't want of memory says is the line of the refusal
-refusal_is_told : (line text : List ℕ) (error : ParseError) → error ≢ OutOfMemory → IsFaultOf line error → text ≡ error_line error
-    → IsRefusalTold line (codes "error: " ++ text)
-refusal_is_told line text (UnrecognizedArchitecture part) other fault same = (_, fault, ap (λ (t : List ℕ). codes "error: " ++ t) same)
-refusal_is_told line text (UnrecognizedVendor part) other fault same = (_, fault, ap (λ (t : List ℕ). codes "error: " ++ t) same)
-refusal_is_told line text (UnrecognizedOperatingSystem part) other fault same = (_, fault, ap (λ (t : List ℕ). codes "error: " ++ t) same)
-refusal_is_told line text (UnrecognizedEnvironment part) other fault same = (_, fault, ap (λ (t : List ℕ). codes "error: " ++ t) same)
-refusal_is_told line text (UnrecognizedBinaryFormat part) other fault same = (_, fault, ap (λ (t : List ℕ). codes "error: " ++ t) same)
-refusal_is_told line text (UnrecognizedField part) other fault same = (_, fault, ap (λ (t : List ℕ). codes "error: " ++ t) same)
-refusal_is_told line text OutOfMemory other fault same = absurd (other refl)
+refusal_is_told : (line : List ℕ) (error : ParseError) → error ≢ OutOfMemory → IsFaultOf line error → IsRefusalTold line (codes "error: " ++ error_line error)
+refusal_is_told line (UnrecognizedArchitecture part) other fault = (_, fault, refl)
+refusal_is_told line (UnrecognizedVendor part) other fault = (_, fault, refl)
+refusal_is_told line (UnrecognizedOperatingSystem part) other fault = (_, fault, refl)
+refusal_is_told line (UnrecognizedEnvironment part) other fault = (_, fault, refl)
+refusal_is_told line (UnrecognizedBinaryFormat part) other fault = (_, fault, refl)
+refusal_is_told line (UnrecognizedField part) other fault = (_, fault, refl)
+refusal_is_told line OutOfMemory other fault = absurd (other refl)
 
 -- a refused line is answered by its refusal
-pub refusal_is_answer : {T E : Type 0} (shown : Values → List ℕ) (done : Result T E) (line text : List ℕ) (error : ParseError) (old new : List ℕ) → error ≢ OutOfMemory
-    → IsFaultOf line error → text ≡ error_line error → OnOk done (new ≡ old ++ ((codes "error: " ++ text) ++ 10 ∷ [])) → OnOk done (AddsAnswer shown line old new)
-refusal_is_answer shown (Ok _) line text error old new other fault same grown =
-    (codes "error: " ++ text, inr (refusal_is_told line text error other fault same), grown)
-refusal_is_answer shown (Err _) line text error old new other fault same grown = tt
+pub refusal_is_answer : {T E : Type 0} (shown : Values → List ℕ) (done : Result T E) (line : List ℕ) (error : ParseError) (old new : List ℕ) → error ≢ OutOfMemory
+    → IsFaultOf line error → OnOk done (new ≡ old ++ ((codes "error: " ++ error_line error) ++ 10 ∷ [])) → OnOk done (AddsAnswer shown line old new)
+refusal_is_answer shown (Ok _) line error old new other fault grown = (codes "error: " ++ error_line error, inr (refusal_is_told line error other fault), grown)
+refusal_is_answer shown (Err _) line error old new other fault grown = tt
 
 -- what is shown of the triple that a line reads as is its answer
 pub shown_is_answer : {T E : Type 0} (shown : Values → List ℕ) (done : Result T E) (line : List ℕ) (t : Values) (old new : List ℕ)

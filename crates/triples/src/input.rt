@@ -1,5 +1,5 @@
 //! The whole of an input, and the whole of an output.
-ghost use Rattle.std.specs.Prelude.{◌≡◌, ◌<◌, ◌↔◌, ◌⊎◌, IsErrOf, IfOk, OnOk, IfErr, OnErr, IfSome};
+ghost use Rattle.std.specs.Prelude.{◌≡◌, ◌<◌, ◌≤◌, ◌↔◌, ◌⊎◌, IsErrOf, IfOk, OnOk, IfErr, OnErr, IfSome};
 ghost use Rattle.std.specs.Io.KnownBytes.{Appends, Consumes, IsAtEnd};
 ghost use Rattle.triples.specs.Device.{device, failures};
 ghost use Rattle.triples.specs.Run.{AppendsFront, ConsumesSome};
@@ -15,6 +15,7 @@ pub(crate) fn read_all<R: Read>(alloc: Global, reader: &mut Counted<R>) -> Resul
     ensures end { OnOk result (IsAtEnd (R.remaining (device reader.new))) }
     ensures bytes { IfOk result (λ bytes. IfSome (R.remaining (device reader.old)) (λ input. bytes.items ≡ input)) }
     ensures unfailed { OnOk result (failures reader.new ≡ failures reader.old) }
+    ensures counted { failures reader.old ≤ failures reader.new }
     ensures read { IsErrOf result RunError.Read ↔ (failures reader.old < failures reader.new) }
     ensures memory { IsErrOf result RunError.OutOfMemory → ConsumesSome (R.remaining (device reader.old)) (R.remaining (device reader.new)) }
     ensures only { IfErr result (λ e. (e ≡ RunError.Read) ⊎ (e ≡ RunError.OutOfMemory)) }
@@ -38,6 +39,7 @@ pub(crate) fn read_all<R: Read>(alloc: Global, reader: &mut Counted<R>) -> Resul
 pub(crate) fn write_all<W: Write>(writer: &mut Counted<W>, bytes: &[u8]) -> Result<(), RunError>
     ensures ok { OnOk result (Appends (W.contents (device writer.old)) (W.contents (device writer.new)) bytes.now) }
     ensures unfailed { OnOk result (failures writer.new ≡ failures writer.old) }
+    ensures counted { failures writer.old ≤ failures writer.new }
     ensures write { IsErrOf result RunError.Write ↔ (failures writer.old < failures writer.new) }
     ensures begun { AppendsFront (W.contents (device writer.old)) (W.contents (device writer.new)) bytes.now }
     ensures only { IfErr result (λ e. e ≡ RunError.Write) }
@@ -64,6 +66,7 @@ pub(crate) fn write_and_flush<W: Write>(
 ) -> Result<(), RunError>
     ensures ok { OnOk result (Appends (W.contents (device writer.old)) (W.contents (device writer.new)) bytes.now) }
     ensures unfailed { OnOk result (failures writer.new ≡ failures writer.old) }
+    ensures counted { failures writer.old ≤ failures writer.new }
     ensures write { IsErrOf result RunError.Write ↔ (failures writer.old < failures writer.new) }
     ensures begun { AppendsFront (W.contents (device writer.old)) (W.contents (device writer.new)) bytes.now }
     ensures only { IfErr result (λ e. e ≡ RunError.Write) }

@@ -1,6 +1,7 @@
 //! What a mode writes for an input.
-ghost use Rattle.std.specs.Prelude.{◌≡◌, ◌<◌, ◌++◌, ◌∷◌, [], true, length, string_bytes, IfOk, IfErr, OnOk, OnErr};
+ghost use Rattle.std.specs.Prelude.{◌≡◌, ◌<◌, ◌++◌, ◌∷◌, [], true, codes, length, string_bytes, IfOk, IfErr, OnOk, OnErr};
 ghost use Rattle.lexicon_fields.specs.Vendor.{is_plain, vendor_value};
+ghost use Rattle.target_lexicon.specs.Refusal.{error_line};
 ghost use Rattle.target_lexicon.specs.Values.{values_of};
 ghost use Rattle.triples.specs.Facts.{facts_of};
 ghost use Rattle.triples.specs.Lines.{lines_of};
@@ -26,33 +27,26 @@ pub(crate) enum Shown {
     SettledText,
 }
 
-/// Adds a line of two pieces, and a line feed.
-fn push_line(output: &mut String, front: &str, back: &str) -> Result<(), AllocError>
-    ensures { OnOk result (string_bytes output.new ≡ string_bytes output.old ++ ((front.now ++ back.now) ++ 10 ∷ [])) }
-{
-    output.push_str(front)?;
-    output.push_str(back)?;
-    output.push('\n')
-}
-
 /// Adds what is shown of a triple, and a line feed.
-fn push_shown(
-    alloc: Global,
-    output: &mut String,
-    shown: Shown,
-    triple: Triple,
-) -> Result<(), AllocError>
+fn push_shown(output: &mut String, shown: Shown, triple: Triple) -> Result<(), AllocError>
     requires { is_plain (vendor_value triple.vendor) ≡ true }
     ensures { OnOk result (string_bytes output.new ≡ string_bytes output.old ++ (shown_by shown (values_of triple) ++ 10 ∷ [])) }
 {
     match shown {
-        Shown::Text => push_line(output, triple.to_text(alloc)?.as_str(), ""),
-        Shown::Facts => {
-            push_facts(output, &triple)?;
-            output.push('\n')
-        }
-        Shown::SettledText => push_line(output, triple.settle().to_text(alloc)?.as_str(), ""),
+        Shown::Text => output.write(&triple)?,
+        Shown::Facts => push_facts(output, &triple)?,
+        Shown::SettledText => output.write(&triple.settle())?,
     }
+    output.push('\n')
+}
+
+/// Adds `error: ` and the line of a refusal, and a line feed.
+fn push_refusal(output: &mut String, error: &ParseError) -> Result<(), AllocError>
+    ensures { OnOk result (string_bytes output.new ≡ string_bytes output.old ++ ((codes "error: " ++ error_line error.now) ++ 10 ∷ [])) }
+{
+    output.push_str("error: ")?;
+    output.write(error)?;
+    output.push('\n')
 }
 
 /// Adds what is printed for a line, and a line feed.
@@ -65,9 +59,9 @@ fn push_answer(
     ensures { OnOk result (AddsAnswer (shown_by shown) line.now (string_bytes output.old) (string_bytes output.new)) }
 {
     match Triple::from_str(alloc, line) {
-        Ok(triple) => push_shown(alloc, output, shown, triple),
+        Ok(triple) => push_shown(output, shown, triple),
         Err(ParseError::OutOfMemory) => Err(AllocError),
-        Err(error) => push_line(output, "error: ", error.to_string(alloc)?.as_str()),
+        Err(error) => push_refusal(output, &error),
     }
 }
 

@@ -1,5 +1,5 @@
 //! A run, from a reader to a writer.
-ghost use Rattle.std.specs.Prelude.{◌≡◌, ◌≢◌, ◌<◌, ◌↔◌, IsErrOf, OnOk, IfErr, IfSome};
+ghost use Rattle.std.specs.Prelude.{◌≡◌, ◌≢◌, ◌<◌, ◌≤◌, ◌↔◌, IsErrOf, OnOk, IfErr, IfSome};
 ghost use Rattle.std.specs.Str.{IsUtf8};
 ghost use Rattle.std.specs.Io.KnownBytes.{Keeps, IsAtEnd};
 ghost use Rattle.triples.specs.Device.{device, failures};
@@ -44,6 +44,10 @@ pub fn run<R: Read, W: Write>(
     // A fault of the reader or the writer is told exactly where there was one.
     ensures read { IsErrOf result RunError.Read ↔ (failures r.old < failures r.new) }
     ensures write { IsErrOf result RunError.Write ↔ (failures w.old < failures w.new) }
+
+    // No failure is forgotten.
+    ensures reader { failures r.old ≤ failures r.new }
+    ensures writer { failures w.old ≤ failures w.new }
 
     // What was written by then.
     ensures begun { IsErrOf result RunError.Write → WritesOutputFront mode (R.remaining (device r.old)) (W.contents (device w.old)) (W.contents (device w.new)) }
