@@ -6,6 +6,7 @@ mod counted;
 mod facts;
 mod input;
 mod json;
+mod laws;
 mod lines;
 mod mode;
 mod output;
