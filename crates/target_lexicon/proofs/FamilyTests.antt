@@ -15,9 +15,8 @@ use Rattle.lexicon_fields.specs.declared.binary_format.BinaryFormat.TheVariants 
 use Rattle.lexicon_fields.specs.ArchitectureQueries.{is_clever}
 use Rattle.lexicon_fields.specs.declared.known_vendor.KnownVendor.TheVariants.{Nintendo, Espressif}
 use Rattle.lexicon_fields.specs.Vendor.{VendorValue, Known, Custom}
-use Rattle.target_lexicon.specs.Families.{HidesUnknowns, IsNintendo3ds, IsEspIdf, PrintsAsSpecial, HidesNewlib, PrintsTheEspIdfText, ShowsNoneAlone}
-use Rattle.target_lexicon.specs.ImpliedFormat.{implied}
-use Rattle.target_lexicon.specs.NormalStep.{prints_as_special, hides_newlib, prints_the_esp_idf_text, shows_none_alone, hides_unknowns}
+use Rattle.target_lexicon.specs.Families.{IsNintendo3ds, IsEspIdf, PrintsAsSpecial, HidesNewlib, PrintsTheEspIdfText, ShowsNoneAlone}
+use Rattle.target_lexicon.specs.NormalStep.{prints_as_special, hides_newlib, prints_the_esp_idf_text, shows_none_alone}
 use Rattle.target_lexicon.specs.Values.{Values, values}
 
 -- a special text is printed
@@ -110,28 +109,3 @@ shows_none_alone-tells t = (
   none_fields t.environment t.operating_system t.architecture t.vendor t.binary_format,
   λ is. rw (is.environment, is.operating_system) (clever_shows t.architecture is.architecture),
 )
-
--- environment and format are hidden where they are unknown
-
-record Hidden (e : Environment) (f i : BinaryFormat) : Type 0 where
-  other : i ≢ binary_format.Unknown
-  env : e ≡ environment.Unknown
-  form : f ≡ binary_format.Unknown
-
-unknown_fields : (e : Environment) (f i : BinaryFormat) → hides_unknowns e f i ≡ true → Hidden e f i
-unknown_fields environment.Unknown binary_format.Unknown binary_format.Unknown h = absurd cc
-unknown_fields environment.Unknown binary_format.Unknown i h = record { other = λ is. cc; env = refl; form = refl }
-unknown_fields _ _ i h = absurd cc
-
-unknowns_hide : (i : BinaryFormat) → i ≢ binary_format.Unknown → hides_unknowns environment.Unknown binary_format.Unknown i ≡ true
-unknowns_hide binary_format.Unknown other = absurd (other refl)
-unknowns_hide _ other = refl
-
-pub hides_unknowns-tells : (t : Values) → Decides (hides_unknowns t.environment t.binary_format (implied t)) (HidesUnknowns t)
-hides_unknowns-tells t = (
-  λ h. let is = unknown_fields t.environment t.binary_format (implied t) h in record { implied = is.other; environment = is.env; binary_format = is.form },
-  λ is. hidden_by t.environment t.binary_format (implied t) is.environment is.binary_format is.implied,
-)
-  where
-    hidden_by : (e : Environment) (f i : BinaryFormat) → e ≡ environment.Unknown → f ≡ binary_format.Unknown → i ≢ binary_format.Unknown → hides_unknowns e f i ≡ true
-    hidden_by e f i is_e is_f other = rw (is_e, is_f) (unknowns_hide i other)

@@ -11,7 +11,7 @@ use Rattle.target_lexicon.specs.NormalStep.{normal_step, is_in_no_family}
 use Rattle.target_lexicon.specs.Printing.{text_of}
 use Rattle.target_lexicon.specs.Reading.{ReadsAs}
 use Rattle.target_lexicon.specs.Values.{Values}
-use Rattle.target_lexicon.proofs.FamilyTests.{prints_as_special-tells, hides_newlib-tells, prints_the_esp_idf_text-tells, shows_none_alone-tells, hides_unknowns-tells}
+use Rattle.target_lexicon.proofs.FamilyTests.{prints_as_special-tells, hides_newlib-tells, prints_the_esp_idf_text-tells, shows_none_alone-tells}
 use Rattle.target_lexicon.proofs.StepCases.{IsOutside, step_cases}
 use Rattle.target_lexicon.proofs.TextRounds.{round}
 use Rattle.target_lexicon.proofs.Unique.{read-plain, values-unique}
@@ -19,7 +19,7 @@ use Rattle.target_lexicon.proofs.Unique.{read-plain, values-unique}
 pub outside-fixed : (t : Values) → IsOutside t → normal_step t ≡ t
 outside-fixed t outside = step_cases (λ u. u ≡ t) t
     (λ is. absurd (outside.special is)) (λ is. absurd (outside.newlib is)) (λ is. absurd (outside.esp is))
-    (λ is. absurd (outside.none is)) (λ is _. absurd (outside.unknowns is)) (λ _. refl)
+    (λ is. absurd (outside.none is)) (λ _. refl)
 
 pub fixed-outside : (t : Values) → normal_step t ≡ t → IsOutside t
 fixed-outside t = step_cases (λ u. u ≡ t → IsOutside t) t
@@ -27,23 +27,21 @@ fixed-outside t = step_cases (λ u. u ≡ t → IsOutside t) t
     (λ is same. absurd (let of_t = is.0 in let of_step = ap (λ x. x.environment) same in cc))
     (λ is same. absurd (let of_t = ap (λ x. x.vendor) is in let of_step = ap (λ x. x.vendor) same in cc))
     (λ is same. absurd (let of_t = is.environment in let of_step = ap (λ x. x.environment) same in cc))
-    (λ is _ same. absurd (is.implied (ap (λ x. x.binary_format) same ∙ is.binary_format)))
     (λ outside _. outside)
 
 -- some family holds, or the vendor is plain and the step changes nothing
 pub family_or_fixed : (t : Values) (b : Bool) → is_plain t.vendor ≡ b → IsInSomeFamily t ⊎ ((is_plain t.vendor ≡ true) × IsOutside t)
-family_or_fixed t false plain = inl (inr (inr (inr (inr (inr plain)))))
+family_or_fixed t false plain = inl (inr (inr (inr (inr plain))))
 family_or_fixed t true plain = step_cases (λ _. IsInSomeFamily t ⊎ ((is_plain t.vendor ≡ true) × IsOutside t)) t
-    (λ is. inl (inr (inl is))) (λ is. inl (inr (inr (inl is)))) (λ is. inl (inr (inr (inr (inl is)))))
-    (λ is. inl (inr (inr (inr (inr (inl is)))))) (λ is _. inl (inl is)) (λ outside. inr (plain, outside))
+    (λ is. inl (inl is)) (λ is. inl (inr (inl is))) (λ is. inl (inr (inr (inl is)))) (λ is. inl (inr (inr (inr (inl is)))))
+    (λ outside. inr (plain, outside))
 
 pub not_both : (t : Values) → is_plain t.vendor ≡ true → IsOutside t → ¬ IsInSomeFamily t
-not_both t plain outside (inl is) = outside.unknowns is
-not_both t plain outside (inr (inl is)) = outside.special is
-not_both t plain outside (inr (inr (inl is))) = outside.newlib is
-not_both t plain outside (inr (inr (inr (inl is)))) = outside.esp is
-not_both t plain outside (inr (inr (inr (inr (inl is))))) = outside.none is
-not_both t plain outside (inr (inr (inr (inr (inr is))))) = let bad : true ≡ false = sym plain ∙ is in cc
+not_both t plain outside (inl is) = outside.special is
+not_both t plain outside (inr (inl is)) = outside.newlib is
+not_both t plain outside (inr (inr (inl is))) = outside.esp is
+not_both t plain outside (inr (inr (inr (inl is)))) = outside.none is
+not_both t plain outside (inr (inr (inr (inr is)))) = let bad : true ≡ false = sym plain ∙ is in cc
 
 -- with the placements
 
@@ -78,14 +76,13 @@ no_family-tells : (t : Values) → Decides (is_in_no_family t) (IsOutside t × (
 unfolding is_in_no_family
 no_family-tells t =
     Decides-like _
-    (λ is. (record { special = is.0.0.0.0.0; newlib = is.0.0.0.0.1; esp = is.0.0.0.1; none = is.0.0.1; unknowns = is.0.1 }, is.1))
-    (λ is. (((((is.0.special, is.0.newlib), is.0.esp), is.0.none), is.0.unknowns), is.1))
-    (Decides-and _ _ (Decides-and _ _ (Decides-and _ _ (Decides-and _ _ (Decides-and _ _
+    (λ is. (record { special = is.0.0.0.0; newlib = is.0.0.0.1; esp = is.0.0.1; none = is.0.1 }, is.1))
+    (λ is. ((((is.0.special, is.0.newlib), is.0.esp), is.0.none), is.1))
+    (Decides-and _ _ (Decides-and _ _ (Decides-and _ _ (Decides-and _ _
     (Decides-not _ (prints_as_special-tells t))
     (Decides-not _ (hides_newlib-tells t)))
     (Decides-not _ (prints_the_esp_idf_text-tells t)))
     (Decides-not _ (shows_none_alone-tells t)))
-    (Decides-not _ (hides_unknowns-tells t)))
     (λ h. h, λ h. h))
 
 pub back_by_tests : (t : Values) → HasVersionInRange t.operating_system → is_in_no_family t ≡ true → ComesBack t

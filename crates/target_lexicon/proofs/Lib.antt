@@ -24,5 +24,6 @@ pub mod StepCases
 pub mod Taken
 pub mod TextRounds
 pub mod Unique
+pub mod Upstream
 pub mod Vendors
 pub mod Writes

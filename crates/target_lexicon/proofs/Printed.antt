@@ -1,13 +1,14 @@
 -- The pieces that are written are the text of the triple.
-use Rattle.std.proofs.Common.{◌≡◌, ℕ, Bool, true, false, List, [], ◌∷◌, ◌++◌, refl, ap, ◌∙◌, append_assoc, Option, Some, None, unwrap_or}
+use Rattle.std.proofs.Common.{◌≡◌, ◌||◌, ℕ, Bool, true, false, List, [], ◌∷◌, ◌++◌, refl, ap, ◌∙◌, append_assoc, Option, Some, None, unwrap_or}
 use Rattle.std.specs.List.{join_with_byte}
 use Rattle.lexicon_fields.specs.Architecture.{architecture_name}
 use Rattle.lexicon_fields.specs.Vendor.{vendor_name}
 use Rattle.lexicon_fields.specs.OperatingSystem.{operating_system_name}
 use Rattle.lexicon_fields.specs.Environment.{environment_name}
 use Rattle.lexicon_fields.specs.BinaryFormat.{binary_format_name}
+use Rattle.target_lexicon.specs.ImpliedFormat.{implied}
 use Rattle.target_lexicon.specs.Values.{Values}
-use Rattle.target_lexicon.specs.Printing.{shows_vendor, shows_operating_system, shows_environment, shows_binary_format, when, shown_parts, text_of}
+use Rattle.target_lexicon.specs.Printing.{shows_vendor, shows_operating_system, shows_environment, shows_binary_format, shows_unknowns, when, shown_parts, text_by, text_of}
 use Rattle.target_lexicon.specs.Private.{part_text}
 use Rattle.target_lexicon.specs.SpecialTexts.{special_text}
 
@@ -16,11 +17,11 @@ append_nil [] = refl
 append_nil (x ∷ s) = ap (λ l. x ∷ l) (append_nil s)
 
 -- each part behind a dash
-dashed : List (List ℕ) → List ℕ
+unfoldable pub dashed : List (List ℕ) → List ℕ
 dashed [] = []
 dashed (part ∷ parts) = 45 ∷ part ++ dashed parts
 
-dashed_joined : (part : List ℕ) (parts : List (List ℕ)) → part ++ dashed parts ≡ join_with_byte 45 (part ∷ parts)
+pub dashed_joined : (part : List ℕ) (parts : List (List ℕ)) → part ++ dashed parts ≡ join_with_byte 45 (part ∷ parts)
 unfolding dashed
 dashed_joined part [] = append_nil part
 dashed_joined part (next ∷ parts) = ap (λ (s : List ℕ). part ++ (45 ∷ s)) (dashed_joined next parts)
@@ -46,15 +47,16 @@ abbrev special : Values → Option (List ℕ)
 special t = special_text t.operating_system t.vendor t.architecture
 
 -- where there is no special text: the names of the fields that are shown
-pub prints_parts : (t : Values) → None ≡ special t
+pub prints_parts : (t : Values) (both : Bool) → both ≡ shows_unknowns t.environment t.binary_format (implied t) → None ≡ special t
     → (((architecture_name t.architecture ++ part_text (shows_vendor t.vendor t.operating_system t.environment t.architecture) (vendor_name t.vendor))
-    ++ part_text (shows_operating_system t.operating_system t.architecture) (operating_system_name t.operating_system))
-    ++ part_text (shows_environment t.environment t.operating_system t.vendor) (environment_name t.environment))
+    ++ part_text (both || shows_operating_system t.operating_system t.architecture) (operating_system_name t.operating_system))
+    ++ part_text (both || shows_environment t.environment t.operating_system t.vendor) (environment_name t.environment))
     ++ part_text (shows_binary_format t) (binary_format_name t.binary_format) ≡ text_of t
 unfolding text_of shown_parts
-prints_parts t none =
-    five_parts _ _ _ _ _ _ _ _ _ ∙ ap (λ special. unwrap_or special (join_with_byte 45 (shown_parts t))) none
+prints_parts t both is none =
+    five_parts _ _ _ _ _ _ _ _ _
+    ∙ ap (λ special. unwrap_or special (join_with_byte 45 (shown_parts both t))) none ∙ ap (λ b. text_by b t) is
 
 pub prints_special : (t : Values) (text : List ℕ) → Some text ≡ special t → text ≡ text_of t
 unfolding text_of
-prints_special t text special = ap (λ o. unwrap_or o (join_with_byte 45 (shown_parts t))) special
+prints_special t text special = ap (λ o. unwrap_or o (join_with_byte 45 (shown_parts (shows_unknowns t.environment t.binary_format (implied t)) t))) special

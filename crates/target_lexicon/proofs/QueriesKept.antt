@@ -12,8 +12,7 @@ use Rattle.lexicon_fields.specs.declared.binary_format.BinaryFormat.{BinaryForma
 use Rattle.lexicon_fields.specs.declared.width.PointerWidth.TheVariants.{U32}
 use Rattle.lexicon_fields.specs.declared.known_vendor.KnownVendor.TheVariants.{Nintendo, Espressif}
 use Rattle.lexicon_fields.specs.Vendor.{VendorValue, Known}
-use Rattle.target_lexicon.specs.ImpliedFormat.{implied}
-use Rattle.target_lexicon.specs.NormalStep.{normal_step, prints_as_special, hides_newlib, prints_the_esp_idf_text, shows_none_alone, hides_unknowns}
+use Rattle.target_lexicon.specs.NormalStep.{normal_step, prints_as_special, hides_newlib, prints_the_esp_idf_text, shows_none_alone}
 use Rattle.target_lexicon.specs.Queries.{width_in, convention_on, model_of, model_of_width}
 use Rattle.target_lexicon.specs.QueryLaws.{AnswersAlike}
 use Rattle.target_lexicon.specs.Values.{Values, values}
@@ -84,5 +83,4 @@ kept t =
     (pick P (hides_newlib e s v a) _ _ (λ h. alike_by_width a v v s _ e _ f (newlib_width e s v a h))
     (pick P (prints_the_esp_idf_text e f s a v) _ _ (λ h. alike_by_width a _ v s _ e _ f (esp_idf_width e f s a v h))
     (pick P (shows_none_alone e s a) _ _ (λ h. none_alone e s a v f h)
-    (pick P (hides_unknowns e f (implied t)) _ _ (λ h. alike_by_width a v v s e e (implied t) f refl)
-    (alike_by_width a v v s e e f f refl)))))
+    (alike_by_width a v v s e e f f refl))))

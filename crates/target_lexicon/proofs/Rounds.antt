@@ -24,8 +24,8 @@ use Rattle.lexicon_fields.proofs.VendorsReadBack.{vendor_names_read_back}
 use Rattle.target_lexicon.specs.Field as field
 use Rattle.target_lexicon.specs.Field.{Field}
 use Rattle.target_lexicon.specs.ImpliedFormat.{implied, implied_format}
-use Rattle.target_lexicon.specs.NormalStep.{normal_step, prints_as_special, hides_newlib, prints_the_esp_idf_text, shows_none_alone, hides_unknowns}
-use Rattle.target_lexicon.specs.Printing.{shows_vendor, goes_without_vendor, shows_operating_system, shows_environment, shows_binary_format, same_format, shown_parts, when}
+use Rattle.target_lexicon.specs.NormalStep.{normal_step, prints_as_special, hides_newlib, prints_the_esp_idf_text, shows_none_alone}
+use Rattle.target_lexicon.specs.Printing.{shows_vendor, goes_without_vendor, shows_operating_system, shows_environment, shows_binary_format, shows_unknowns, same_format, shown_parts, when}
 use Rattle.target_lexicon.specs.ReadingByFields.{read_parts, read_vendor, read_operating_system, read_environment}
 use Rattle.target_lexicon.specs.Refusal.{Refusal}
 use Rattle.target_lexicon.specs.SpecialTexts.{special_text}
@@ -120,19 +120,22 @@ newlib_shown operating_system.Horizon (Known Nintendo) a h = absurd cc
 newlib_shown operating_system.Espidf (Known Espressif) a h = absurd cc
 newlib_shown _ _ a h = refl
 
-unknown_or_implied : (a : Architecture) (v : VendorValue) (s : OperatingSystem) (i : BinaryFormat)
-    → values a v s environment.Unknown i ≡ cond (hides_unknowns environment.Unknown binary_format.Unknown i) (values a v s environment.Unknown i) (values a v s environment.Unknown binary_format.Unknown)
-unknown_or_implied a v s binary_format.Unknown = refl
-unknown_or_implied a v s _ = refl
+-- where two unknowns aren't shown, the format is the implied one
+unknown_is_implied : (i : BinaryFormat) → shows_unknowns environment.Unknown binary_format.Unknown i ≡ false → i ≡ binary_format.Unknown
+unknown_is_implied binary_format.Unknown hidden = refl
+unknown_is_implied _ hidden = absurd cc
 
 -- environment and format, read back, are those of the step
 module _ (a : Architecture) (v : VendorValue) (s : OperatingSystem) (none : special_text s v a ≡ None) where
-  unknown-step : (f : BinaryFormat) → prints_the_esp_idf_text environment.Unknown f s a v ≡ false
-      → values a v s environment.Unknown (cond (known_format f && shows_binary_format (values a v s environment.Unknown f)) f (implied_format a s environment.Unknown)) ≡ normal_step (values a v s environment.Unknown f)
+  unknown-kept : (f : BinaryFormat) → prints_the_esp_idf_text environment.Unknown f s a v ≡ false → normal_step (values a v s environment.Unknown f) ≡ values a v s environment.Unknown f
   unfolding normal_step
-  unknown-step binary_format.Unknown apart = rw (not_special s v a environment.Unknown binary_format.Unknown none) (unknown_or_implied a v s (implied_format a s environment.Unknown))
-  unknown-step binary_format.Elf apart = rw (not_special s v a environment.Unknown binary_format.Elf none, apart, shown_or_implied (values a v s environment.Unknown binary_format.Elf)) refl
-  unknown-step f apart = rw (not_special s v a environment.Unknown f none, shown_or_implied (values a v s environment.Unknown f)) refl
+  unknown-kept binary_format.Elf apart = rw (not_special s v a environment.Unknown binary_format.Elf none, apart) refl
+  unknown-kept f apart = rw (not_special s v a environment.Unknown f none) refl
+
+  unknown-step : (f : BinaryFormat) → prints_the_esp_idf_text environment.Unknown f s a v ≡ false → shows_unknowns environment.Unknown f (implied_format a s environment.Unknown) ≡ false
+      → values a v s environment.Unknown (cond (known_format f && shows_binary_format (values a v s environment.Unknown f)) f (implied_format a s environment.Unknown)) ≡ normal_step (values a v s environment.Unknown f)
+  unknown-step binary_format.Unknown apart hidden = ap (values a v s environment.Unknown) (unknown_is_implied _ hidden) ∙ sym (unknown-kept binary_format.Unknown apart)
+  unknown-step f apart hidden = ap (values a v s environment.Unknown) (shown_or_implied (values a v s environment.Unknown f)) ∙ sym (unknown-kept f apart)
 
   -- an environment that is shown, and stays
   kept : (e : Environment) (f : BinaryFormat) (last : Field) → normal_step (values a v s e f) ≡ values a v s e f
@@ -160,17 +163,19 @@ module _ (a : Architecture) (v : VendorValue) (s : OperatingSystem) (none : spec
   none-step f apart = rw (not_special s v a environment.None f none, apart) refl
 
   other-step : (e : Environment) (f : BinaryFormat) → prints_as_special s v a e f ≡ false → hides_newlib e s v a ≡ false → prints_the_esp_idf_text e f s a v ≡ false
-      → shows_none_alone e s a ≡ false → hides_unknowns e f (implied_format a s e) ≡ false → normal_step (values a v s e f) ≡ values a v s e f
+      → shows_none_alone e s a ≡ false → normal_step (values a v s e f) ≡ values a v s e f
   unfolding normal_step
-  other-step e f two three four five one = rw (two, three, four, five, one) refl
+  other-step e f special newlib esp alone = rw (special, newlib, esp, alone) refl
 
-  tail-round : (e : Environment) (f : BinaryFormat) (last : Field) → prints_the_esp_idf_text e f s a v ≡ false → shows_none_alone environment.None s a ≡ false
-      → read_environment a v s last (when (shows_environment e s v) (environment_name e) (when (shows_binary_format (values a v s e f)) (binary_format_name f) [])) ≡ Ok (normal_step (values a v s e f))
+  tail-round : (e : Environment) (f : BinaryFormat) (last : Field) → prints_the_esp_idf_text e f s a v ≡ false → shows_none_alone e s a ≡ false → (both : Bool) → shows_unknowns e f (implied_format a s e) ≡ both
+      → read_environment a v s last (when (both || shows_environment e s v) (environment_name e) (when (shows_binary_format (values a v s e f)) (binary_format_name f) [])) ≡ Ok (normal_step (values a v s e f))
   unfolding shows_environment
-  tail-round environment.Unknown f last apart clever = hidden-read a v s f (shows_binary_format (values a v s environment.Unknown f)) last ∙ ap Ok (unknown-step f apart)
-  tail-round environment.None f last apart clever = kept environment.None f last (none-step f clever)
-  tail-round environment.Newlib f last apart clever = newlib_by f (shows_environment environment.Newlib s v) last refl
-  tail-round e f last apart clever = kept e f last (other-step e f (not_special s v a e f none) refl refl refl refl)
+  tail-round environment.Unknown f last apart clever true shown = kept environment.Unknown f last (unknown-kept f apart)
+  tail-round environment.Unknown f last apart clever false hidden = hidden-read a v s f (shows_binary_format (values a v s environment.Unknown f)) last ∙ ap Ok (unknown-step f apart hidden)
+  tail-round environment.None f last apart clever false hidden = kept environment.None f last (none-step f clever)
+  tail-round environment.Newlib f last apart clever false hidden = newlib_by f (shows_environment environment.Newlib s v) last refl
+  tail-round e f last apart clever false hidden = kept e f last (other-step e f (not_special s v a e f none) refl refl refl)
+  tail-round e f last apart clever true shown = absurd cc
 
 -- architecture, vendor and system, read back
 
@@ -205,41 +210,47 @@ whole : (a : Architecture) (rest : List (List ℕ)) → read_parts (architecture
 whole a rest = rw (architecture_names.reads_back a tt) refl
 
 -- where the system is shown
-shown_system : (s : OperatingSystem) (a : Architecture) → shows_operating_system s a ≡ true → shows_none_alone environment.None s a ≡ false
+shown_system : (e : Environment) (f i : BinaryFormat) (s : OperatingSystem) (a : Architecture) → (shows_unknowns e f i || shows_operating_system s a) ≡ true → shows_none_alone e s a ≡ false
 unfolding shows_operating_system
-shown_system operating_system.Unknown (architecture.Clever sub) h = absurd cc
-shown_system _ _ h = refl
+shown_system environment.None f i operating_system.Unknown (architecture.Clever sub) h = absurd cc
+shown_system environment.None f i _ _ h = refl
+shown_system _ f i s a h = refl
+
+abbrev both_unknown : Values → Bool
+both_unknown t = shows_unknowns t.environment t.binary_format (implied t)
 
 plain-round : (a : Architecture) (v : VendorValue) (s : OperatingSystem) (e : Environment) (f : BinaryFormat) → is_plain v ≡ true → HasVersionInRange s → special_text s v a ≡ None
-    → prints_the_esp_idf_text e f s a v ≡ false → shows_operating_system s a ≡ true → read_parts (shown_parts (values a v s e f)) ≡ Ok (normal_step (values a v s e f))
+    → prints_the_esp_idf_text e f s a v ≡ false → (both_unknown (values a v s e f) || shows_operating_system s a) ≡ true
+    → read_parts (shown_parts (both_unknown (values a v s e f)) (values a v s e f)) ≡ Ok (normal_step (values a v s e f))
 unfolding shown_parts
 plain-round a v s e f plain range none apart shown =
-    rw shown (whole a _ ∙ front a v s e _ _ plain range (λ last. middle-read a v s _ last range ∙ tail-round a v s none e f field.OperatingSystem apart (shown_system s a shown)))
+    rw shown (whole a _ ∙ front a v s e _ _ plain range (λ last. middle-read a v s _ last range
+    ∙ tail-round a v s none e f field.OperatingSystem apart (shown_system e f _ s a shown) _ refl))
 
 -- where it isn't: Clever without a system
-clever-read : (c : CleverArchitecture) (v : VendorValue) (e : Environment) (f : BinaryFormat) (last : Field)
+clever-read : (c : CleverArchitecture) (v : VendorValue) (e : Environment) (f : BinaryFormat) (last : Field) → both_unknown (values (architecture.Clever c) v operating_system.Unknown e f) ≡ false
     → read_operating_system (architecture.Clever c) v last (when (shows_environment e operating_system.Unknown v) (environment_name e)
     (when (shows_binary_format (values (architecture.Clever c) v operating_system.Unknown e f)) (binary_format_name f) []))
     ≡ Ok (normal_step (values (architecture.Clever c) v operating_system.Unknown e f))
 unfolding shows_environment shows_binary_format implied_format normal_step
-clever-read c v environment.Unknown binary_format.Unknown last = rw (operating_system_of-format binary_format.Unknown) refl
-clever-read c v environment.Unknown f last = rw (operating_system_of-format f, environment_of-format f, binary_format_names.reads_back f tt) refl
-clever-read c v environment.None binary_format.Unknown last = rw (operating_system_of-environment environment.None, environment_of-format binary_format.Unknown) refl
-clever-read c v environment.None f last = rw (operating_system_of-environment environment.None, environment_of-format f, binary_format_names.reads_back f tt) refl
-clever-read c v e f last = rw (operating_system_of-environment e)
+clever-read c v environment.Unknown binary_format.Unknown last hidden = absurd cc
+clever-read c v environment.Unknown f last hidden = rw (operating_system_of-format f, environment_of-format f, binary_format_names.reads_back f tt) refl
+clever-read c v environment.None binary_format.Unknown last hidden = rw (operating_system_of-environment environment.None, environment_of-format binary_format.Unknown) refl
+clever-read c v environment.None f last hidden = rw (operating_system_of-environment environment.None, environment_of-format f, binary_format_names.reads_back f tt) refl
+clever-read c v e f last hidden = rw (operating_system_of-environment e)
     (shown-read (architecture.Clever c) v operating_system.Unknown e f (shows_binary_format (values (architecture.Clever c) v operating_system.Unknown e f)) last
     ∙ ap (λ x. Ok (values (architecture.Clever c) v operating_system.Unknown e x)) (shown_or_implied (values (architecture.Clever c) v operating_system.Unknown e f)))
 
-clever-round : (c : CleverArchitecture) (v : VendorValue) (e : Environment) (f : BinaryFormat) → is_plain v ≡ true
-    → read_parts (shown_parts (values (architecture.Clever c) v operating_system.Unknown e f)) ≡ Ok (normal_step (values (architecture.Clever c) v operating_system.Unknown e f))
+clever-round : (c : CleverArchitecture) (v : VendorValue) (e : Environment) (f : BinaryFormat) → is_plain v ≡ true → both_unknown (values (architecture.Clever c) v operating_system.Unknown e f) ≡ false
+    → read_parts (shown_parts false (values (architecture.Clever c) v operating_system.Unknown e f)) ≡ Ok (normal_step (values (architecture.Clever c) v operating_system.Unknown e f))
 unfolding shown_parts shows_operating_system
-clever-round c v e f plain = rw (architecture_names.reads_back (architecture.Clever c) tt) (clever-front (shows_vendor v operating_system.Unknown e (architecture.Clever c)) refl)
+clever-round c v e f plain hidden = rw (architecture_names.reads_back (architecture.Clever c) tt) (clever-front (shows_vendor v operating_system.Unknown e (architecture.Clever c)) refl)
   where
     clever-front : (b : Bool) → shows_vendor v operating_system.Unknown e (architecture.Clever c) ≡ b
         → read_vendor (architecture.Clever c) (when b (vendor_name v) (when (shows_environment e operating_system.Unknown v) (environment_name e)
         (when (shows_binary_format (values (architecture.Clever c) v operating_system.Unknown e f)) (binary_format_name f) [])))
         ≡ Ok (normal_step (values (architecture.Clever c) v operating_system.Unknown e f))
-    clever-front true is = rw (vendor_names_read_back.reads_back v plain) (clever-read c v e f field.Vendor)
+    clever-front true is = rw (vendor_names_read_back.reads_back v plain) (clever-read c v e f field.Vendor hidden)
     clever-front false is = absurd (let hidden = (hidden_vendor v operating_system.Unknown e (architecture.Clever c) is).1 in cc)
 
 hidden_system : (s : OperatingSystem) (a : Architecture) → shows_operating_system s a ≡ false → (s ≡ operating_system.Unknown) × ((c : CleverArchitecture) × (a ≡ architecture.Clever c))
@@ -247,12 +258,22 @@ unfolding shows_operating_system
 hidden_system operating_system.Unknown (architecture.Clever sub) h = (refl, (sub, refl))
 hidden_system _ _ h = absurd cc
 
+neither : (b c : Bool) → (b || c) ≡ false → (b ≡ false) × (c ≡ false)
+neither true c h = absurd cc
+neither false c h = (refl, h)
+
 module _ (a : Architecture) (v : VendorValue) (s : OperatingSystem) (e : Environment) (f : BinaryFormat) (plain : is_plain v ≡ true) (range : HasVersionInRange s)
     (none : special_text s v a ≡ None) (apart : prints_the_esp_idf_text e f s a v ≡ false) where
-  parts_by : (b : Bool) → shows_operating_system s a ≡ b → read_parts (shown_parts (values a v s e f)) ≡ Ok (normal_step (values a v s e f))
+  clever_by : (c : CleverArchitecture) → a ≡ architecture.Clever c → s ≡ operating_system.Unknown → both_unknown (values a v s e f) ≡ false
+      → read_parts (shown_parts (both_unknown (values a v s e f)) (values a v s e f)) ≡ Ok (normal_step (values a v s e f))
+  clever_by c is_a is_s hidden = rw (hidden, is_a, is_s) (clever-round c v e f plain (rw (is_a, is_s) at hidden))
+
+  parts_by : (b : Bool) → (both_unknown (values a v s e f) || shows_operating_system s a) ≡ b → read_parts (shown_parts (both_unknown (values a v s e f)) (values a v s e f)) ≡ Ok (normal_step (values a v s e f))
   parts_by true shown = plain-round a v s e f plain range none apart shown
-  parts_by false hidden = let is = hidden_system s a hidden in rw (is.0, is.1.1) (clever-round is.1.0 v e f plain)
+  parts_by false hidden =
+      let neither_one = neither (both_unknown (values a v s e f)) (shows_operating_system s a) hidden in
+      let is = hidden_system s a neither_one.1 in clever_by is.1.0 is.1.1 is.0 neither_one.0
 
   -- where no special text is printed, the shown parts read as the step
-  pub parts-round : read_parts (shown_parts (values a v s e f)) ≡ Ok (normal_step (values a v s e f))
-  parts-round = parts_by (shows_operating_system s a) refl
+  pub parts-round : read_parts (shown_parts (both_unknown (values a v s e f)) (values a v s e f)) ≡ Ok (normal_step (values a v s e f))
+  parts-round = parts_by (both_unknown (values a v s e f) || shows_operating_system s a) refl

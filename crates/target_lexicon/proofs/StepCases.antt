@@ -6,15 +6,13 @@ use Rattle.lexicon_fields.specs.declared.environment.Environment.TheVariants as 
 use Rattle.lexicon_fields.specs.declared.binary_format.BinaryFormat.TheVariants as binary_format
 use Rattle.lexicon_fields.specs.declared.known_vendor.KnownVendor.TheVariants.{Espressif}
 use Rattle.lexicon_fields.specs.Vendor.{Known}
-use Rattle.target_lexicon.specs.Families.{HidesUnknowns, PrintsAsSpecial, HidesNewlib, PrintsTheEspIdfText, ShowsNoneAlone}
-use Rattle.target_lexicon.specs.ImpliedFormat.{implied}
+use Rattle.target_lexicon.specs.Families.{PrintsAsSpecial, HidesNewlib, PrintsTheEspIdfText, ShowsNoneAlone}
 use Rattle.target_lexicon.specs.NormalStep.{normal_step, elf_if_unknown}
 use Rattle.target_lexicon.specs.Values.{Values, values}
-use Rattle.target_lexicon.proofs.FamilyTests.{prints_as_special-tells, hides_newlib-tells, prints_the_esp_idf_text-tells, shows_none_alone-tells, hides_unknowns-tells}
+use Rattle.target_lexicon.proofs.FamilyTests.{prints_as_special-tells, hides_newlib-tells, prints_the_esp_idf_text-tells, shows_none_alone-tells}
 
--- none of the five families in which a plain vendor's triple changes
+-- none of the four families in which a plain vendor's triple changes
 pub record IsOutside (t : Values) : Type 0 where
-  pub unknowns : ¬ HidesUnknowns t
   pub special : ¬ PrintsAsSpecial t
   pub newlib : ¬ HidesNewlib t
   pub esp : ¬ PrintsTheEspIdfText t
@@ -29,24 +27,21 @@ pub step_cases : (P : Values → Type 0) (t : Values)
     → (HidesNewlib t → P (values t.architecture t.vendor t.operating_system environment.Unknown (elf_if_unknown t.binary_format)))
     → (PrintsTheEspIdfText t → P (values t.architecture (Known Espressif) t.operating_system environment.Newlib binary_format.Elf))
     → (ShowsNoneAlone t → P (values t.architecture t.vendor operating_system.None_ environment.Unknown t.binary_format))
-    → (HidesUnknowns t → ¬ PrintsAsSpecial t → P (values t.architecture t.vendor t.operating_system t.environment (implied t)))
     → (IsOutside t → P t)
     → P (normal_step t)
 unfolding normal_step
-step_cases P t special newlib esp none unknowns outside =
+step_cases P t special newlib esp none outside =
     pick P _ _ _ (λ h. special ((prints_as_special-tells t).0 h))
     (λ two. pick P _ _ _ (λ h. newlib ((hides_newlib-tells t).0 h))
     (λ three. pick P _ _ _ (λ h. esp ((prints_the_esp_idf_text-tells t).0 h))
     (λ four. pick P _ _ _ (λ h. none ((shows_none_alone-tells t).0 h))
-    (λ five. pick P _ _ _ (λ h. unknowns ((hides_unknowns-tells t).0 h) (not_from_Decides _ (prints_as_special-tells t) two))
-    (λ one. outside (record {
-      unknowns = not_from_Decides _ (hides_unknowns-tells t) one;
+    (λ five. outside (record {
       special = not_from_Decides _ (prints_as_special-tells t) two;
       newlib = not_from_Decides _ (hides_newlib-tells t) three;
       esp = not_from_Decides _ (prints_the_esp_idf_text-tells t) four;
       none = not_from_Decides _ (shows_none_alone-tells t) five;
-    }))))))
+    })))))
 
 -- the step keeps the architecture
 pub step-architecture : (t : Values) → (normal_step t).architecture ≡ t.architecture
-step-architecture t = step_cases (λ u. u.architecture ≡ t.architecture) t (λ _. refl) (λ _. refl) (λ _. refl) (λ _. refl) (λ _ _. refl) (λ _. refl)
+step-architecture t = step_cases (λ u. u.architecture ≡ t.architecture) t (λ _. refl) (λ _. refl) (λ _. refl) (λ _. refl) (λ _. refl)

@@ -20,18 +20,18 @@ use Rattle.lexicon_fields.specs.SubArchitecture.{arm_of, aarch64_of, x86_32_of, 
 use Rattle.lexicon_fields.specs.Architecture.{architecture_name, architecture_of}
 use Rattle.lexicon_fields.specs.declared.known_vendor.KnownVendor.TheVariants.{Nintendo, Espressif}
 use Rattle.lexicon_fields.specs.Vendor.{VendorValue, Known, Custom, vendor_of, known_vendor_of, is_admitted, is_plain}
-use Rattle.lexicon_fields.specs.OperatingSystem.{operating_system_of, fixed_operating_system_of}
-use Rattle.lexicon_fields.specs.Environment.{environment_of}
-use Rattle.lexicon_fields.specs.BinaryFormat.{binary_format_of}
+use Rattle.lexicon_fields.specs.OperatingSystem.{operating_system_name, operating_system_of, fixed_operating_system_of}
+use Rattle.lexicon_fields.specs.Environment.{environment_name, environment_of}
+use Rattle.lexicon_fields.specs.BinaryFormat.{binary_format_name, binary_format_of}
 use Rattle.lexicon_fields.specs.Laws.{HasVersionInRange}
 use Rattle.lexicon_fields.proofs.NamesReadBack.{architecture_names, environment_names, binary_format_names}
 use Rattle.lexicon_fields.proofs.OperatingSystemsDashFree.{operating_system_names}
 use Rattle.lexicon_fields.proofs.VendorsReadBack.{vendor_names_read_back}
 use Rattle.target_lexicon.specs.FixedPoints.{RoundIsNormalStep}
-use Rattle.target_lexicon.specs.ImpliedFormat.{implied_format}
+use Rattle.target_lexicon.specs.ImpliedFormat.{implied, implied_format}
 use Rattle.target_lexicon.specs.NormalStep.{normal_step, prints_the_esp_idf_text}
 use Rattle.target_lexicon.specs.Parts.{parts_of}
-use Rattle.target_lexicon.specs.Printing.{shows_vendor, shows_operating_system, shows_environment, shows_binary_format, shown_parts, text_of, when}
+use Rattle.target_lexicon.specs.Printing.{shows_vendor, shows_operating_system, shows_environment, shows_binary_format, shows_unknowns, shown_parts, text_of, when}
 use Rattle.target_lexicon.specs.Reading.{ReadsAs}
 use Rattle.target_lexicon.specs.ReadingByFields.{read_parts, read_unless_special, reading}
 use Rattle.target_lexicon.specs.Refusal.{Lacks, refused}
@@ -121,13 +121,16 @@ by_tests text ps t true y is_x is_y are reads apart =
 by_tests text ps t false true is_x is_y are reads apart = absurd (apart (sym are ∙ ap parts_of ((bytes_eq-Decides text esp_idf_text).0 is_y)))
 by_tests text ps t false false is_x is_y are reads apart = ap read_parts are ∙ reads
 
+abbrev parts : Values → List (List ℕ)
+parts t = shown_parts (shows_unknowns t.environment t.binary_format (implied t)) t
+
 abbrev has_more_than_three : List (List ℕ) → Bool
 has_more_than_three (_ ∷ _ ∷ _ ∷ _ ∷ _) = true
 has_more_than_three _ = false
 
 -- with the fields of the device, a custom `esp` shows more parts where the text isn't the device's
 esp-shows : (e : Environment) (f : BinaryFormat) → prints_the_esp_idf_text e f operating_system.Espidf (architecture.Riscv32 riscv32.Riscv32imc) (Custom (codes "esp")) ≡ false
-    → has_more_than_three (shown_parts (values (architecture.Riscv32 riscv32.Riscv32imc) (Custom (codes "esp")) operating_system.Espidf e f)) ≡ true
+    → has_more_than_three (parts (values (architecture.Riscv32 riscv32.Riscv32imc) (Custom (codes "esp")) operating_system.Espidf e f)) ≡ true
 unfolding shown_parts shows_vendor shows_operating_system shows_environment shows_binary_format implied_format
 esp-shows environment.Unknown binary_format.Elf apart = absurd cc
 esp-shows environment.Unknown _ apart = refl
@@ -136,14 +139,14 @@ esp-shows _ f apart = refl
 -- what the step keeps
 
 step-vendor : (t : Values) → prints_the_esp_idf_text t.environment t.binary_format t.operating_system t.architecture t.vendor ≡ false → (normal_step t).vendor ≡ t.vendor
-step-vendor t apart = step_cases (λ u. u.vendor ≡ t.vendor) t (λ _. refl) (λ _. refl) (λ esp. absurd (let is = (prints_the_esp_idf_text-tells t).1 esp in cc)) (λ _. refl) (λ _ _. refl) (λ _. refl)
+step-vendor t apart = step_cases (λ u. u.vendor ≡ t.vendor) t (λ _. refl) (λ _. refl) (λ esp. absurd (let is = (prints_the_esp_idf_text-tells t).1 esp in cc)) (λ _. refl) (λ _. refl)
 
 step-operating_system : (t : Values) → is_clever t.architecture ≡ false → (normal_step t).operating_system ≡ t.operating_system
-step-operating_system t other = step_cases (λ u. u.operating_system ≡ t.operating_system) t (λ _. refl) (λ _. refl) (λ _. refl) (λ none. absurd (let is = none.architecture in cc)) (λ _ _. refl) (λ _. refl)
+step-operating_system t other = step_cases (λ u. u.operating_system ≡ t.operating_system) t (λ _. refl) (λ _. refl) (λ _. refl) (λ none. absurd (let is = none.architecture in cc)) (λ _. refl)
 
 module _ (a : Architecture) (v : VendorValue) (s : OperatingSystem) (e : Environment) (f : BinaryFormat) (plain : is_plain v ≡ true) (range : HasVersionInRange s)
     (none : special_text s v a ≡ None) (apart : prints_the_esp_idf_text e f s a v ≡ false) where
-  parts-apart : shown_parts (values a v s e f) ≢ parts_of esp_idf_text
+  parts-apart : parts (values a v s e f) ≢ parts_of esp_idf_text
   parts-apart same =
       let reads : Ok (normal_step (values a v s e f)) ≡ Ok custom_esp = sym (parts-round a v s e f plain range none apart) ∙ ap read_parts same ∙ esp_idf-parts in
       let step : normal_step (values a v s e f) ≡ custom_esp = cc in
@@ -153,15 +156,16 @@ module _ (a : Architecture) (v : VendorValue) (s : OperatingSystem) (e : Environ
       let more = esp-shows e f (rw (is_a, is_v, is_s) at apart) in
       let three = rw (is_a, is_v, is_s) at (ap has_more_than_three same) in cc
 
-  shown-round : reading (join_with_byte 45 (shown_parts (values a v s e f))) ≡ Ok (normal_step (values a v s e f))
+  shown-round : reading (join_with_byte 45 (parts (values a v s e f))) ≡ Ok (normal_step (values a v s e f))
   unfolding reading shown_parts special_values
   shown-round =
-      by_tests (join_with_byte 45 (shown_parts (values a v s e f))) (shown_parts (values a v s e f)) (normal_step (values a v s e f)) _ _ refl refl
+      let both = shows_unknowns e f (implied_format a s e) in
+      by_tests (join_with_byte 45 (parts (values a v s e f))) (parts (values a v s e f)) (normal_step (values a v s e f)) _ _ refl refl
       (parts_of-join (architecture_name a) _ (architecture_names.name_dash_free a tt)
       (when-free (shows_vendor v s e a) _ _ (vendor_names_read_back.name_dash_free v plain)
-      (when-free (shows_operating_system s a) _ _ (operating_system_names.name_dash_free s range)
-      (when-free (shows_environment e s v) _ _ (environment_names.name_dash_free e tt)
-      (when-free (shows_binary_format (values a v s e f)) _ _ (binary_format_names.name_dash_free f tt) refl)))))
+      (when-free (both || shows_operating_system s a) (operating_system_name s) _ (operating_system_names.name_dash_free s range)
+      (when-free (both || shows_environment e s v) (environment_name e) _ (environment_names.name_dash_free e tt)
+      (when-free (shows_binary_format (values a v s e f)) (binary_format_name f) [] (binary_format_names.name_dash_free f tt) refl)))))
       (parts-round a v s e f plain range none apart) parts-apart
 
   parts-text : reading (text_of (values a v s e f)) ≡ Ok (normal_step (values a v s e f))

@@ -1,4 +1,4 @@
--- The six families of triples that are another triple, or none, when they are printed and read again.
+-- The five families of triples that are another triple, or none, when they are printed and read again.
 use Rattle.std.specs.Prelude.{◌≡◌, ◌≢◌, ◌⊎◌, true, false, codes}
 use Rattle.lexicon_fields.specs.declared.architecture.Architecture.TheVariants as architecture
 use Rattle.lexicon_fields.specs.declared.architecture.arm.ArmArchitecture.TheVariants as arm
@@ -9,14 +9,7 @@ use Rattle.lexicon_fields.specs.declared.binary_format.BinaryFormat.TheVariants 
 use Rattle.lexicon_fields.specs.ArchitectureQueries.{is_clever}
 use Rattle.lexicon_fields.specs.declared.known_vendor.KnownVendor.TheVariants.{Nintendo, Espressif}
 use Rattle.lexicon_fields.specs.Vendor.{Known, Custom, is_plain}
-use Rattle.target_lexicon.specs.ImpliedFormat.{implied}
 use Rattle.target_lexicon.specs.Values.{Values, values}
-
--- environment and format are unknown, and another format is implied
-pub record HidesUnknowns (t : Values) : Type 0 where
-  pub implied : implied t ≢ binary_format.Unknown
-  pub environment : t.environment ≡ environment.Unknown
-  pub binary_format : t.binary_format ≡ binary_format.Unknown
 
 -- the fields by which a triple prints `armv6k-nintendo-3ds`
 pub record IsNintendo3ds (t : Values) : Type 0 where
@@ -59,4 +52,4 @@ IsNotPlain t = is_plain t.vendor ≡ false
 -- the triple is in one of the families
 abbrev pub IsInSomeFamily : Values → Type 0
 IsInSomeFamily t =
-    HidesUnknowns t ⊎ (PrintsAsSpecial t ⊎ (HidesNewlib t ⊎ (PrintsTheEspIdfText t ⊎ (ShowsNoneAlone t ⊎ IsNotPlain t))))
+    PrintsAsSpecial t ⊎ (HidesNewlib t ⊎ (PrintsTheEspIdfText t ⊎ (ShowsNoneAlone t ⊎ IsNotPlain t)))

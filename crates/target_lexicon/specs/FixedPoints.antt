@@ -1,19 +1,14 @@
 -- Laws of rounds, in which a triple is printed and its text read again: which triples come back, and what the others become.
-use Rattle.std.specs.Prelude.{◌≡◌, ◌≢◌, ◌↔◌, ◌⊎◌, true, codes}
-use Rattle.lexicon_fields.specs.declared.architecture.Architecture.TheVariants as architecture
-use Rattle.lexicon_fields.specs.declared.architecture.riscv.Riscv32Architecture.TheVariants as riscv32
-use Rattle.lexicon_fields.specs.declared.operating_system.OperatingSystem.TheVariants as operating_system
-use Rattle.lexicon_fields.specs.declared.environment.Environment.TheVariants as environment
-use Rattle.lexicon_fields.specs.declared.binary_format.BinaryFormat.TheVariants as binary_format
+use Rattle.std.specs.Prelude.{◌≡◌, ◌↔◌, ◌⊎◌, true}
 use Rattle.lexicon_fields.specs.Laws.{HasVersionInRange}
-use Rattle.lexicon_fields.specs.Vendor.{Custom, is_plain}
+use Rattle.lexicon_fields.specs.Vendor.{is_plain}
 use Rattle.target_lexicon.specs.Families.{IsInSomeFamily}
 use Rattle.target_lexicon.specs.Laws.{OneOutcomeEach, ComesBack}
 use Rattle.target_lexicon.specs.NormalStep.{normal_step}
 use Rattle.target_lexicon.specs.Printing.{text_of}
 use Rattle.target_lexicon.specs.QueryLaws.{QueriesKept}
 use Rattle.target_lexicon.specs.Reading.{ReadsAs}
-use Rattle.target_lexicon.specs.Values.{Values, values}
+use Rattle.target_lexicon.specs.Values.{Values}
 
 -- a triple with a plain vendor, whose version, if its system holds one, is in range, as it is by the types of the code
 pub record IsPlainTriple (t : Values) : Type 0 where
@@ -37,33 +32,22 @@ FixedExactlyOutsideFamilies = (t : Values) → HasVersionInRange t.operating_sys
 abbrev pub settled : Values → Values
 settled t = normal_step (normal_step t)
 
--- the triple that takes two steps: by the first it becomes one that prints a special text
-abbrev pub two_step_triple : Values
-two_step_triple =
-    values (architecture.Riscv32 riscv32.Riscv32imc) (Custom (codes "esp")) operating_system.Espidf environment.Unknown binary_format.Unknown
+-- a second step changes no triple
+abbrev pub SecondStepChangesNone : Type 0
+SecondStepChangesNone = (t : Values) → settled t ≡ normal_step t
 
--- from a triple, a second step changes something for one alone, and a third for none
-pub record StepsEnd (t : Values) : Type 0 where
-  pub second : (settled t ≢ normal_step t) ↔ (t ≡ two_step_triple)
-  pub third : normal_step (settled t) ≡ settled t
-
--- so it is for every triple, and the one has a plain vendor
-pub record SecondStepChangesOne : Type 0 where
-  pub each : (t : Values) → StepsEnd t
-  pub plain : IsPlainTriple two_step_triple
-
--- what two steps make of a plain triple comes back, and no other such triple has its text
+-- a settled plain triple comes back, and no other such triple has its text
 pub record SettledTextsAreKeys : Type 0 where
   pub comes_back : (t : Values) → IsPlainTriple t → ComesBack (settled t)
   pub own : (t u : Values) → IsPlainTriple t → IsPlainTriple u → text_of (settled t) ≡ text_of (settled u) → settled t ≡ settled u
 
 -- the laws of rounds as one: every text is read or refused in one way, a triple comes back exactly outside the families,
--- a round of a plain triple succeeds and is the normal step, which keeps the four queries, one triple alone takes two steps,
--- and settled texts are keys
+-- a round of a plain triple succeeds and is the normal step, which keeps the four queries, no triple takes two
+-- steps, and settled texts are keys
 pub record RoundsAreKnown : Type 0 where
   pub texts : OneOutcomeEach
   pub fixed : FixedExactlyOutsideFamilies
   pub round : RoundIsNormalStep
   pub queries : QueriesKept
-  pub steps : SecondStepChangesOne
+  pub steps : SecondStepChangesNone
   pub keys : SettledTextsAreKeys

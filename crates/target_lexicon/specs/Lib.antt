@@ -18,4 +18,5 @@ pub mod Reading
 pub mod ReadingByFields
 pub mod Refusal
 pub mod SpecialTexts
+pub mod Upstream
 pub mod Values

@@ -13,7 +13,6 @@ use Rattle.lexicon_fields.specs.declared.binary_format.BinaryFormat.{BinaryForma
 use Rattle.lexicon_fields.specs.declared.binary_format.BinaryFormat.TheVariants as binary_format
 use Rattle.lexicon_fields.specs.declared.known_vendor.KnownVendor.TheVariants.{Nintendo, Espressif}
 use Rattle.lexicon_fields.specs.Vendor.{VendorValue, Known, Custom, is_plain}
-use Rattle.target_lexicon.specs.ImpliedFormat.{implied}
 use Rattle.target_lexicon.specs.Values.{Values}
 
 -- the tests of the families but the last, one for each, with its name
@@ -40,12 +39,6 @@ abbrev pub shows_none_alone : Environment → OperatingSystem → Architecture �
 shows_none_alone environment.None operating_system.Unknown (architecture.Clever sub) = true
 shows_none_alone _ _ _ = false
 
--- the last column is the implied format
-abbrev pub hides_unknowns : Environment → BinaryFormat → BinaryFormat → Bool
-hides_unknowns environment.Unknown binary_format.Unknown binary_format.Unknown = false
-hides_unknowns environment.Unknown binary_format.Unknown i = true
-hides_unknowns _ _ i = false
-
 abbrev pub elf_if_unknown : BinaryFormat → BinaryFormat
 elf_if_unknown binary_format.Unknown = binary_format.Elf
 elf_if_unknown f = f
@@ -57,7 +50,6 @@ is_in_no_family t =
     && not (hides_newlib t.environment t.operating_system t.vendor t.architecture)
     && not (prints_the_esp_idf_text t.environment t.binary_format t.operating_system t.architecture t.vendor)
     && not (shows_none_alone t.environment t.operating_system t.architecture)
-    && not (hides_unknowns t.environment t.binary_format (implied t))
     && is_plain t.vendor
 
 -- the first of the families that holds tells what changes; outside them nothing does
@@ -71,6 +63,4 @@ normal_step t =
     then record t { vendor = Known Espressif; environment = environment.Newlib; binary_format = binary_format.Elf }
     else if shows_none_alone t.environment t.operating_system t.architecture
     then record t { operating_system = operating_system.None_; environment = environment.Unknown }
-    else if hides_unknowns t.environment t.binary_format (implied t)
-    then record t { binary_format = implied t }
     else t

@@ -109,20 +109,34 @@ unfoldable pub shows_binary_format : Values → Bool
 shows_binary_format t =
     not (same_format t.binary_format (implied t)) || shows_implied_format t.binary_format t.operating_system t.environment t.architecture
 
+-- an unknown environment and an unknown format are both shown where another format is implied, which is the last column
+abbrev pub shows_unknowns : Environment → BinaryFormat → BinaryFormat → Bool
+shows_unknowns environment.Unknown binary_format.Unknown binary_format.Unknown = false
+shows_unknowns environment.Unknown binary_format.Unknown i = true
+shows_unknowns _ _ i = false
+
 -- a part, where it is shown, and the parts behind it
 abbrev pub when : Bool → List ℕ → List (List ℕ) → List (List ℕ)
 when true part parts = part ∷ parts
 when false part parts = parts
 
--- the names of the fields that are shown
-unfoldable pub shown_parts : Values → List (List ℕ)
-shown_parts t =
+-- the names of the fields that are shown; the first column tells whether system and environment are shown whatever they are
+unfoldable pub shown_parts : Bool → Values → List (List ℕ)
+shown_parts both t =
     architecture_name t.architecture
     ∷ when (shows_vendor t.vendor t.operating_system t.environment t.architecture) (vendor_name t.vendor)
-    (when (shows_operating_system t.operating_system t.architecture) (operating_system_name t.operating_system)
-    (when (shows_environment t.environment t.operating_system t.vendor) (environment_name t.environment)
+    (when (both || shows_operating_system t.operating_system t.architecture) (operating_system_name t.operating_system)
+    (when (both || shows_environment t.environment t.operating_system t.vendor) (environment_name t.environment)
     (when (shows_binary_format t) (binary_format_name t.binary_format) [])))
 
--- the text that a triple prints: its special text, or else the shown names with single dashes between them
+-- the special text of a triple, or else these names with single dashes between them
+abbrev pub text_by : Bool → Values → List ℕ
+text_by both t = unwrap_or (special_text t.operating_system t.vendor t.architecture) (join_with_byte 45 (shown_parts both t))
+
+-- the text that a triple prints
 unfoldable pub text_of : Values → List ℕ
-text_of t = unwrap_or (special_text t.operating_system t.vendor t.architecture) (join_with_byte 45 (shown_parts t))
+text_of t = text_by (shows_unknowns t.environment t.binary_format (implied t)) t
+
+-- the text that upstream prints, which shows neither for the sake of an unknown format
+unfoldable pub upstream_text_of : Values → List ℕ
+upstream_text_of t = text_by false t

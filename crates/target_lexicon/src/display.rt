@@ -1,8 +1,9 @@
 //! The text of a triple.
-ghost use Rattle.std.specs.Prelude.{◌≡◌, Some, IfOk, option_map, string_bytes};
+ghost use Rattle.std.specs.Prelude.{◌≡◌, ◌||◌, Some, IfOk, option_map, string_bytes};
 ghost use Rattle.lexicon_fields.specs.Vendor.{vendor_value};
 ghost use Rattle.std.specs.Fmt.{DisplaysStyledOnOk, formatter_spec};
-ghost use Rattle.target_lexicon.specs.Printing.{text_of, is_bare_arm, goes_without_vendor, shows_vendor, shows_operating_system, shows_environment, shows_binary_format, shows_implied_format, architecture_implies_format};
+ghost use Rattle.target_lexicon.specs.Printing.{text_of, is_bare_arm, goes_without_vendor, shows_vendor, shows_operating_system, shows_environment, shows_binary_format, shows_implied_format, shows_unknowns, architecture_implies_format};
+ghost use Rattle.target_lexicon.specs.ImpliedFormat.{implied};
 ghost use Rattle.target_lexicon.specs.Private.{part_text};
 ghost use Rattle.target_lexicon.specs.Values.{values_of};
 
@@ -26,10 +27,11 @@ impl fmt::Display for Triple {
         if let Some(text) = self.special_text() {
             return f.write_str(text);
         }
+        let both = self.shows_unknowns();
         self.architecture.fmt(f)?;
         write_part(f, self.shows_vendor(), &self.vendor)?;
-        write_part(f, self.shows_operating_system(), &self.operating_system)?;
-        write_part(f, self.shows_environment(), &self.environment)?;
+        write_part(f, self.shows_operating_system(both), &self.operating_system)?;
+        write_part(f, self.shows_environment(both), &self.environment)?;
         write_part(f, self.shows_binary_format(), &self.binary_format)
     }
 }
@@ -90,26 +92,36 @@ impl Triple {
         }
     }
 
-    /// Whether the operating system is shown.
-    #[tactic(auto, unfolding(crate::specs::Printing::shows_operating_system))]
-    fn shows_operating_system(&self) -> bool
-        ensures { result ≡ shows_operating_system self.now.operating_system self.now.architecture }
+    /// Whether environment and format are both shown as unknown.
+    fn shows_unknowns(&self) -> bool
+        ensures { result ≡ shows_unknowns self.now.environment self.now.binary_format (implied (values_of self.now)) }
     {
-        !matches!(
+        matches!(
+            (self.environment, self.binary_format),
+            (Environment::Unknown, BinaryFormat::Unknown)
+        ) && default_binary_format(self) != BinaryFormat::Unknown
+    }
+
+    /// Whether the operating system is shown; always beside an environment and a format that are both shown as unknown.
+    #[tactic(auto, unfolding(crate::specs::Printing::shows_operating_system))]
+    fn shows_operating_system(&self, both: bool) -> bool
+        ensures { result ≡ (both || shows_operating_system self.now.operating_system self.now.architecture) }
+    {
+        both || !matches!(
             (self.operating_system, self.architecture),
             (OperatingSystem::Unknown, Architecture::Clever(_))
         )
     }
 
-    /// Whether the environment is shown.
+    /// Whether the environment is shown; always where it and the format are both shown as unknown.
     #[tactic(auto, unfolding(crate::specs::Printing::shows_environment))]
-    fn shows_environment(&self) -> bool
-        ensures { result ≡ shows_environment self.now.environment self.now.operating_system (vendor_value self.now.vendor) }
+    fn shows_environment(&self, both: bool) -> bool
+        ensures { result ≡ (both || shows_environment self.now.environment self.now.operating_system (vendor_value self.now.vendor)) }
     {
         match (self.environment, self.operating_system, &self.vendor) {
             (Environment::Unknown, _, _)
             | (Environment::Newlib, OperatingSystem::Horizon, Vendor::Nintendo)
-            | (Environment::Newlib, OperatingSystem::Espidf, Vendor::Espressif) => false,
+            | (Environment::Newlib, OperatingSystem::Espidf, Vendor::Espressif) => both,
             _ => true,
         }
     }

@@ -1,17 +1,15 @@
-//! What printing and reading again keep of a triple: the six families that don't come back, and the normal step.
+//! What printing and reading again keep of a triple: the five families that don't come back, and the normal step.
 ghost use Rattle.std.specs.Prelude.{◌≡◌, ◌↔◌, ◌⊎◌, ◌<◌, ◌^◌, true};
 ghost use Rattle.lexicon_fields.specs.Laws.{HasVersionInRange, IsVersionInRange};
 ghost use Rattle.lexicon_fields.specs.Vendor.{is_plain, vendor_value};
 ghost use Rattle.lexicon_fields.specs.declared.vendor.Vendor.TheVariants.{Espressif};
 ghost use Rattle.target_lexicon.specs.FixedPoints.{settled};
-ghost use Rattle.target_lexicon.specs.ImpliedFormat.{implied};
 ghost use Rattle.target_lexicon.specs.Laws.{ComesBack};
-ghost use Rattle.target_lexicon.specs.NormalStep.{normal_step, prints_as_special, hides_newlib, prints_the_esp_idf_text, shows_none_alone, hides_unknowns, elf_if_unknown, is_in_no_family};
+ghost use Rattle.target_lexicon.specs.NormalStep.{normal_step, prints_as_special, hides_newlib, prints_the_esp_idf_text, shows_none_alone, elf_if_unknown, is_in_no_family};
 ghost use Rattle.target_lexicon.specs.Printing.{text_of};
 ghost use Rattle.target_lexicon.specs.Reading.{ReadsAs};
 ghost use Rattle.target_lexicon.specs.Values.{values_of};
 
-use crate::default_format::default_binary_format;
 use crate::triple::Triple;
 use lexicon_fields::{
     Architecture, ArmArchitecture, BinaryFormat, DeploymentTarget, Environment, OperatingSystem,
@@ -21,8 +19,7 @@ use lexicon_fields::{
 impl Triple {
     /// Whether the triple comes back: printed and read again, it is itself. No text is made, and no memory asked for.
     ///
-    /// A triple comes back unless it is in one of six families:
-    /// - Environment and format are `Unknown`, and the other fields imply another format.
+    /// A triple comes back unless it is in one of five families:
     /// - The first three fields are those of `armv6k-nintendo-3ds` or `riscv32imc-esp-espidf`, and environment and format
     ///   aren't `Newlib` and `Elf`.
     /// - Vendor and system are those of one of these two, and the environment is `Newlib`, but the architecture is another.
@@ -41,11 +38,10 @@ impl Triple {
     /// Nothing is copied, and no memory asked for.
     ///
     /// A triple that comes back stays as it is. Of the families of `comes_back`, the first of these cases holds:
-    /// - Second: environment and format become `Newlib` and `Elf`.
-    /// - Third: the environment becomes `Unknown`, and an `Unknown` format becomes `Elf`.
-    /// - Fourth: the vendor becomes `Espressif`, environment and format become `Newlib` and `Elf`.
-    /// - Fifth: the system becomes `None_`, and the environment `Unknown`.
-    /// - First: the format becomes the implied one.
+    /// - First: environment and format become `Newlib` and `Elf`.
+    /// - Second: the environment becomes `Unknown`, and an `Unknown` format becomes `Elf`.
+    /// - Third: the vendor becomes `Espressif`, environment and format become `Newlib` and `Elf`.
+    /// - Fourth: the system becomes `None_`, and the environment `Unknown`.
     #[tactic(auto, using(crate::proofs::TextRounds::round_by_step))]
     pub fn normal(self) -> Triple
         requires { is_plain (vendor_value self.vendor) ≡ true }
@@ -57,9 +53,9 @@ impl Triple {
         self.step()
     }
 
-    /// The triple that comes back after normal steps, two at most; the vendor must be plain, as for `normal`.
+    /// The triple that comes back after normal steps; one is enough. The vendor must be plain, as for `normal`.
     /// Its text is its own among all such triples, so that it serves as a key. No memory is asked for.
-    #[tactic(auto, using(crate::proofs::Settled::settled_by_one, crate::proofs::Settled::back_by_one, crate::proofs::Settled::back_by_two))]
+    #[tactic(auto, using(crate::proofs::Settled::settled_by_one, crate::proofs::Settled::back_by_one))]
     pub fn settle(self) -> Triple
         requires { is_plain (vendor_value self.vendor) ≡ true }
         ensures steps { values_of result ≡ settled (values_of self) }
@@ -67,11 +63,7 @@ impl Triple {
         ensures vendor { (result.vendor ≡ self.vendor) ⊎ (result.vendor ≡ Espressif) }
     {
         version_fits(self.operating_system);
-        let first = self.step();
-        if first.prints_the_esp_idf_text() {
-            return first.step();
-        }
-        first
+        self.step()
     }
 
     /// The normal step.
@@ -93,13 +85,11 @@ impl Triple {
         } else if self.shows_none_alone() {
             self.operating_system = OperatingSystem::None_;
             self.environment = Environment::Unknown;
-        } else if self.hides_unknowns() {
-            self.binary_format = default_binary_format(&self);
         }
         self
     }
 
-    /// Whether the triple is in none of the six families.
+    /// Whether the triple is in none of the five families.
     #[tactic(auto, unfolding(crate::specs::NormalStep::is_in_no_family))]
     fn is_in_no_family(&self) -> bool
         ensures { result ≡ is_in_no_family (values_of self.now) }
@@ -108,7 +98,6 @@ impl Triple {
             && !self.hides_newlib()
             && !self.prints_the_esp_idf_text()
             && !self.shows_none_alone()
-            && !self.hides_unknowns()
             && self.vendor.is_plain()
     }
 
@@ -186,16 +175,6 @@ impl Triple {
                 Architecture::Clever(_)
             )
         )
-    }
-
-    /// Whether environment and format are unknown, and another format is implied.
-    fn hides_unknowns(&self) -> bool
-        ensures { result ≡ hides_unknowns self.now.environment self.now.binary_format (implied (values_of self.now)) }
-    {
-        matches!(
-            (self.environment, self.binary_format),
-            (Environment::Unknown, BinaryFormat::Unknown)
-        ) && default_binary_format(self) != BinaryFormat::Unknown
     }
 }
 

@@ -2,10 +2,11 @@
 ghost use Rattle.std.specs.Prelude.{◌≡◌, ◌↔◌, true};
 ghost use Rattle.target_lexicon.specs.Laws.{OneLeastPlacement, OneOutcomeEach, ReadingIsComputed, ReadVendorsArePlain, FieldNamesReadBack, EqualTextsEqualTriples};
 ghost use Rattle.lexicon_fields.specs.Laws.{ComparesByValue};
-ghost use Rattle.target_lexicon.specs.FixedPoints.{FixedExactlyOutsideFamilies, RoundIsNormalStep, SecondStepChangesOne, SettledTextsAreKeys, RoundsAreKnown};
+ghost use Rattle.target_lexicon.specs.FixedPoints.{FixedExactlyOutsideFamilies, RoundIsNormalStep, SecondStepChangesNone, SettledTextsAreKeys, RoundsAreKnown};
 ghost use Rattle.target_lexicon.specs.Json.{ListsReadBack, json_fault_of, list_fault_of};
 ghost use Rattle.target_lexicon.specs.QueryLaws.{ModelWidth, NoRareModel, IntegersGrowInEach, BytesHaveEightBits, QueriesKept};
 ghost use Rattle.target_lexicon.specs.Refusal.{refusal_of};
+ghost use Rattle.target_lexicon.specs.Upstream.{OtherTextsThanUpstream};
 ghost use Rattle.target_lexicon.specs.Values.{values_of};
 ghost use Rattle.target_lexicon.specs.declared.json_error.JsonError.{JsonError};
 ghost use Rattle.target_lexicon.specs.declared.list_error.ListError.{ListError};
@@ -109,7 +110,7 @@ pub fn defaults_are_equal_by_value()
     triples_are_equal_by_value();
 }
 
-/// A triple that is printed and read again is itself exactly outside six families, whatever its vendor's text; and each
+/// A triple that is printed and read again is itself exactly outside five families, whatever its vendor's text; and each
 /// triple comes back or is in a family.
 pub fn fixed_exactly_outside_families()
     ensures { FixedExactlyOutsideFamilies }
@@ -120,20 +121,20 @@ pub fn round_is_normal_step()
     ensures { RoundIsNormalStep }
 {}
 
-/// A second normal step changes one triple alone, and a third none.
+/// A second normal step changes no triple, so that one round settles. (It changed one, as upstream's still does, before the
+/// print told an unknown format by an unknown environment; the name is from then.)
 pub fn second_step_changes_one()
-    ensures { SecondStepChangesOne }
+    ensures { SecondStepChangesNone }
 {}
 
-/// What two normal steps make of a triple with a plain vendor comes back, and no other such triple has its text.
+/// The settled triple of one with a plain vendor comes back, and no other such triple has its text.
 pub fn settled_texts_are_keys()
     ensures { SettledTextsAreKeys }
 {}
 
 /// The headline, all of these laws in one: every text is read or refused, in one way. A triple that is printed and read
-/// again is itself exactly outside six families. From each triple with a plain vendor that succeeds, is the normal step,
-/// keeps the four queries, and is settled at once, save one triple that takes two steps; and what is settled has a text of
-/// its own.
+/// again is itself exactly outside five families. From each triple with a plain vendor that succeeds, is the normal step,
+/// keeps the four queries, and is settled after one round; and what is settled has a text of its own.
 pub fn rounds_are_known()
     ensures { RoundsAreKnown }
 {
@@ -144,6 +145,12 @@ pub fn rounds_are_known()
     second_step_changes_one();
     settled_texts_are_keys();
 }
+
+/// The text of a triple is another than by upstream's rules exactly where environment and format are unknown, another format
+/// is implied, and no special text is printed.
+pub fn other_texts_than_upstream()
+    ensures { OtherTextsThanUpstream }
+{}
 
 /// A list of triples that come back when they are printed and read, written as JSON and read, is itself and no other.
 pub fn lists_read_back()

@@ -20,7 +20,7 @@ returns-clause-styled g c = λ flush ok.
     let environment = c.write_part-3.ensures operating_system.flush (search rules) in
     let binary_format = c.write_part-4.ensures environment.flush ok in
     has_written_styled_of_eq _ _ _ _ _
-    (rw (c.shows_vendor.ensures, c.shows_operating_system.ensures, c.shows_environment.ensures, c.shows_binary_format.ensures) (prints_parts (values_of c.args.self.now) c.in_default.ensures))
+    (rw (c.shows_vendor.ensures, c.shows_operating_system.ensures, c.shows_environment.ensures, c.shows_binary_format.ensures) (prints_parts (values_of c.args.self.now) _ c.shows_unknowns-both.ensures c.in_default.ensures))
     (has_written_styled_append _ _ _ _ _ _ (has_written_styled_append _ _ _ _ _ _ (has_written_styled_append _ _ _ _ _ _ (has_written_styled_append _ _ _ _ _ _ architecture vendor) operating_system) environment) binary_format)
 
 pub returns-clause-writes : goal.returns-clause-writes

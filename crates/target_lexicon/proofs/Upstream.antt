@@ -1,0 +1,100 @@
+-- Where system and environment are shown for the sake of an unknown format, the text is longer than upstream's.
+use Rattle.std.proofs.Common.{◌≡◌, ◌≢◌, ℕ, Bool, true, false, List, [], ◌∷◌, ◌++◌, Option, Some, None, codes, refl, sym, ap, ◌∙◌}
+use Rattle.std.specs.List.{join_with_byte}
+use Rattle.lexicon_fields.specs.declared.architecture.Architecture.{Architecture}
+use Rattle.lexicon_fields.specs.declared.architecture.Architecture.TheVariants as architecture
+use Rattle.lexicon_fields.specs.declared.operating_system.OperatingSystem.{OperatingSystem}
+use Rattle.lexicon_fields.specs.declared.operating_system.OperatingSystem.TheVariants as operating_system
+use Rattle.lexicon_fields.specs.declared.environment.Environment.{Environment}
+use Rattle.lexicon_fields.specs.declared.environment.Environment.TheVariants as environment
+use Rattle.lexicon_fields.specs.declared.binary_format.BinaryFormat.{BinaryFormat}
+use Rattle.lexicon_fields.specs.declared.binary_format.BinaryFormat.TheVariants as binary_format
+use Rattle.lexicon_fields.specs.Architecture.{architecture_name}
+use Rattle.lexicon_fields.specs.Vendor.{VendorValue, vendor_name}
+use Rattle.lexicon_fields.specs.OperatingSystem.{operating_system_name}
+use Rattle.target_lexicon.specs.ImpliedFormat.{implied}
+use Rattle.target_lexicon.specs.Printing.{shows_vendor, shows_operating_system, shows_environment, shows_binary_format, shows_unknowns, shown_parts, when, text_by, text_of, upstream_text_of}
+use Rattle.target_lexicon.specs.SpecialTexts.{special_text}
+use Rattle.target_lexicon.specs.Upstream.{ShowsUnknowns, OtherTextsThanUpstream}
+use Rattle.target_lexicon.specs.Values.{Values, values}
+use Rattle.target_lexicon.proofs.Printed.{dashed, dashed_joined}
+
+behind : ℕ → List ℕ → List ℕ
+behind n [] = []
+behind n (x ∷ s) = s
+
+same_behind : (p s t : List ℕ) → p ++ s ≡ p ++ t → s ≡ t
+unfolding behind
+same_behind [] s t same = same
+same_behind (x ∷ p) s t same = same_behind p s t (ap (behind 0) same)
+
+-- the same part before two lists changes nothing
+same_parts : (b : Bool) (part : List ℕ) (ps qs : List (List ℕ)) → dashed (when b part ps) ≡ dashed (when b part qs) → dashed ps ≡ dashed qs
+unfolding dashed
+same_parts true part ps qs same = same_behind (45 ∷ part) (dashed ps) (dashed qs) same
+same_parts false part ps qs same = same
+
+same_first : (part : List ℕ) (ps qs : List (List ℕ)) → join_with_byte 45 (part ∷ ps) ≡ join_with_byte 45 (part ∷ qs) → dashed ps ≡ dashed qs
+same_first part ps qs same = same_behind part (dashed ps) (dashed qs) (dashed_joined part ps ∙ same ∙ sym (dashed_joined part qs))
+
+abbrev unknown : List ℕ
+unknown = codes "unknown"
+
+-- two unknown parts more, or one
+two_more : (b : Bool) → dashed (unknown ∷ unknown ∷ when b unknown []) ≢ dashed (when b unknown [])
+unfolding dashed
+two_more true same = cc
+two_more false same = cc
+
+one_more : (b : Bool) → dashed (unknown ∷ when b unknown []) ≢ dashed (when b unknown [])
+unfolding dashed
+one_more true same = cc
+one_more false same = cc
+
+longer_tail : (s : OperatingSystem) (a : Architecture) (b : Bool)
+    → dashed (operating_system_name s ∷ unknown ∷ when b unknown []) ≢ dashed (when (shows_operating_system s a) (operating_system_name s) (when b unknown []))
+unfolding shows_operating_system
+longer_tail operating_system.Unknown (architecture.Clever sub) b same = two_more b same
+longer_tail s a b same = one_more b (same_parts true (operating_system_name s) (unknown ∷ when b unknown []) (when b unknown []) same)
+
+longer : (a : Architecture) (v : VendorValue) (s : OperatingSystem)
+    → join_with_byte 45 (shown_parts true (values a v s environment.Unknown binary_format.Unknown)) ≢ join_with_byte 45 (shown_parts false (values a v s environment.Unknown binary_format.Unknown))
+unfolding shown_parts shows_environment
+longer a v s same =
+    longer_tail s a (shows_binary_format (values a v s environment.Unknown binary_format.Unknown))
+    (same_parts (shows_vendor v s environment.Unknown a) (vendor_name v) _ _ (same_first (architecture_name a) _ _ same))
+
+unknowns_shown : (i : BinaryFormat) → i ≢ binary_format.Unknown → shows_unknowns environment.Unknown binary_format.Unknown i ≡ true
+unknowns_shown binary_format.Unknown other = absurd (other refl)
+unknowns_shown _ other = refl
+
+other_text : (a : Architecture) (v : VendorValue) (s : OperatingSystem) (e : Environment) (f : BinaryFormat) → ShowsUnknowns (values a v s e f) → text_of (values a v s e f) ≢ upstream_text_of (values a v s e f)
+unfolding text_of upstream_text_of
+other_text a v s e f is same =
+    longer a v s (rw (is.special, is.environment, is.binary_format, unknowns_shown _ (rw (is.environment) at is.implied)) at same)
+
+-- which fields they are
+record AreUnknown (e : Environment) (f i : BinaryFormat) : Type 0 where
+  implied : i ≢ binary_format.Unknown
+  environment : e ≡ environment.Unknown
+  binary_format : f ≡ binary_format.Unknown
+
+are_unknown : (e : Environment) (f i : BinaryFormat) → shows_unknowns e f i ≡ true → AreUnknown e f i
+are_unknown environment.Unknown binary_format.Unknown binary_format.Unknown shown = absurd cc
+are_unknown environment.Unknown binary_format.Unknown i shown = record { environment = refl; binary_format = refl; implied = λ is. cc }
+are_unknown _ _ i shown = absurd cc
+
+shows_unknowns_by : (t : Values) (special : Option (List ℕ)) (b : Bool) → special_text t.operating_system t.vendor t.architecture ≡ special
+    → shows_unknowns t.environment t.binary_format (implied t) ≡ b → text_of t ≢ upstream_text_of t → ShowsUnknowns t
+unfolding text_of upstream_text_of
+shows_unknowns_by t (Some text) b special shown other = absurd (other (rw special refl))
+shows_unknowns_by t None false special shown other = absurd (other (ap (λ both. text_by both t) shown))
+shows_unknowns_by t None true special shown other =
+    let is = are_unknown t.environment t.binary_format (implied t) shown in
+    record { environment = is.environment; binary_format = is.binary_format; implied = is.implied; special = special }
+
+pub other_texts : OtherTextsThanUpstream
+other_texts t = (
+  shows_unknowns_by t _ _ refl refl,
+  other_text t.architecture t.vendor t.operating_system t.environment t.binary_format,
+)
