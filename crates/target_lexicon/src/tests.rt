@@ -22,22 +22,24 @@ armv6k-nintendo-3ds=armv6k-nintendo-3ds
 armv6k-nintendo-horizon-gnu-coff=armv6k-nintendo-3ds
 aarch64-nintendo-horizon-newlib-unknown=aarch64-nintendo-horizon-unknown
 riscv32imc-esp-espidf=riscv32imc-esp-espidf
-x86_64-unknown-linux-unknown-unknown=x86_64-unknown-linux-unknown
+x86_64-unknown-linux-unknown-unknown=x86_64-unknown-linux-unknown-unknown
 arm64-apple-ios=aarch64-apple-ios
 x86_64-customvendor-linux=x86_64-customvendor-linux
 x86_64-fortanix-unknown-sgx=x86_64-fortanix-unknown-sgx
 hexagon-unknown-none-elf=hexagon-unknown-none-elf
 x86_64-unknown-linux-kernel=x86_64-linux-kernel
 x86_64-none-linuxkernel=x86_64-unknown-none-linuxkernel
-wasm32-wasi-unknown-unknown=wasm32-wasi-unknown
-wasm32-unknown-wasi-unknown-unknown=wasm32-wasi-unknown
+wasm32-wasi-unknown-unknown=wasm32-wasi-unknown-unknown
+wasm32-unknown-wasi-unknown-unknown=wasm32-wasi-unknown-unknown
+wasm32-wasi-unknown=wasm32-wasi
 x86_64-unknown-none-unknown-unknown=x86_64-unknown-none
 wasm32-wasip1=wasm32-wasip1
 x86_64-ffi-linux=x86_64-ffi-linux
-riscv32imc-esp-espidf-unknown-unknown=riscv32imc-esp-espidf-unknown
+riscv32imc-esp-espidf-unknown-unknown=riscv32imc-esp-espidf-unknown-unknown
+armv6k-nintendo-horizon-unknown-unknown=armv6k-nintendo-3ds
 riscv32imc-esp-espidf-unknown=riscv32imc-esp-espidf
 clever-unknown-unknown-none=clever-unknown-none-elf
-clever-unknown-unknown-unknown-unknown=clever-unknown-unknown
+clever-unknown-unknown-unknown-unknown=clever-unknown-unknown-unknown-unknown
 clever-unknown-unknown=clever-unknown-elf
 x86_64-unknown-linux-unknown=x86_64-unknown-linux";
 
@@ -50,6 +52,21 @@ fn read_triples_print(rt: HostRuntime) -> Result<(), Fail> {
         assert_eq!(rt; format!(in rt.alloc(); "{triple}")?.as_str(), print);
         assert_eq!(rt; format!(in rt.alloc(); "{triple:*>60}")?.as_str(), print);
     }
+    Ok(())
+}
+
+/// A triple of an unknown format, whose text tells it by an unknown environment; and the text by which upstream tells it,
+/// which reads as the implied format, as it did.
+#[test]
+fn an_unknown_format_is_told(rt: HostRuntime) -> Result<(), Fail> {
+    let told = Triple::from_str(rt.alloc(), "x86_64-unknown-linux-unknown-unknown")?;
+    assert_eq!(rt; told.binary_format, BinaryFormat::Unknown);
+    let upstream = Triple::from_str(rt.alloc(), "x86_64-unknown-linux-unknown")?;
+    assert_eq!(rt; upstream.binary_format, BinaryFormat::Elf);
+    assert_eq!(rt;
+        upstream.to_text(rt.alloc())?.as_str(),
+        "x86_64-unknown-linux"
+    );
     Ok(())
 }
 
@@ -67,9 +84,10 @@ fn a_print_may_read_as_another_triple(rt: HostRuntime) -> Result<(), Fail> {
     let again = round(rt.alloc(), "riscv32imc-esp-espidf-unknown")?;
     assert_eq!(rt; again.vendor, Vendor::Espressif);
     assert_eq!(rt; again.environment, Environment::Newlib);
-    let read = Triple::from_str(rt.alloc(), "x86_64-unknown-linux-unknown-unknown")?;
+    let text = "aarch64-nintendo-horizon-newlib-unknown";
+    let read = Triple::from_str(rt.alloc(), text)?;
     assert_eq!(rt; read.binary_format, BinaryFormat::Unknown);
-    let again = round(rt.alloc(), "x86_64-unknown-linux-unknown-unknown")?;
+    let again = round(rt.alloc(), text)?;
     assert_eq!(rt; again.binary_format, BinaryFormat::Elf);
     Ok(())
 }

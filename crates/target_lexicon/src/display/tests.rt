@@ -90,7 +90,7 @@ fn each_field_is_shown_or_left_out(rt: HostRuntime) -> Result<(), Fail> {
                 Environment::Unknown,
                 BinaryFormat::Unknown,
             ),
-            "wasm32-wasi-unknown",
+            "wasm32-wasi-unknown-unknown",
         ),
         (
             triple(
@@ -177,7 +177,7 @@ fn special_texts_and_implied_newlib(rt: HostRuntime) -> Result<(), Fail> {
             custom("esp"),
             Environment::Unknown,
             BinaryFormat::Unknown,
-            "riscv32imc-esp-espidf-unknown",
+            "riscv32imc-esp-espidf-unknown-unknown",
         ),
         (
             custom("esp"),
@@ -224,7 +224,7 @@ fn unknown_fields_that_a_reader_fills(rt: HostRuntime) -> Result<(), Fail> {
             OperatingSystem::Unknown,
             Environment::Unknown,
             BinaryFormat::Unknown,
-            "clever-unknown-unknown",
+            "clever-unknown-unknown-unknown-unknown",
         ),
         (
             OperatingSystem::Unknown,
@@ -236,7 +236,7 @@ fn unknown_fields_that_a_reader_fills(rt: HostRuntime) -> Result<(), Fail> {
             OperatingSystem::Linux,
             Environment::Unknown,
             BinaryFormat::Unknown,
-            "clever-unknown-linux-unknown",
+            "clever-unknown-linux-unknown-unknown",
         ),
     ];
     for (system, environment, format, text) in rows {
@@ -244,7 +244,10 @@ fn unknown_fields_that_a_reader_fills(rt: HostRuntime) -> Result<(), Fail> {
         assert_eq!(rt; triple.to_text(rt.alloc())?.as_str(), text);
     }
     for (format, text) in [
-        (BinaryFormat::Unknown, "x86_64-unknown-linux-unknown"),
+        (
+            BinaryFormat::Unknown,
+            "x86_64-unknown-linux-unknown-unknown",
+        ),
         (BinaryFormat::Elf, "x86_64-unknown-linux"),
     ] {
         let triple = triple(

@@ -7,21 +7,24 @@ use std::test::Fail;
 /// A text, and behind it the prints of the triple that it reads as, of its normal step, and so on.
 const ROUNDS: &str = "\
 armv6k-nintendo-horizon-gnu-coff armv6k-nintendo-3ds armv6k-nintendo-3ds
+armv6k-nintendo-horizon-unknown-unknown armv6k-nintendo-3ds armv6k-nintendo-3ds
 aarch64-nintendo-horizon-newlib-unknown aarch64-nintendo-horizon-unknown aarch64-nintendo-horizon
-riscv32imc-esp-espidf-unknown-unknown riscv32imc-esp-espidf-unknown riscv32imc-esp-espidf riscv32imc-esp-espidf
+riscv32imc-esp-espidf-unknown-unknown riscv32imc-esp-espidf-unknown-unknown
 clever-unknown-unknown-none clever-unknown-none-elf clever-unknown-none-elf
-clever-unknown-unknown-unknown-unknown clever-unknown-unknown clever-unknown-elf
-x86_64-unknown-linux-unknown-unknown x86_64-unknown-linux-unknown x86_64-unknown-linux
-wasm32-unknown-wasi-unknown-unknown wasm32-wasi-unknown wasm32-wasi
-x86_64-apple-ios1.2-unknown-unknown x86_64-apple-ios1.2.0-unknown x86_64-apple-ios1.2.0";
+clever-unknown-unknown-unknown-unknown clever-unknown-unknown-unknown-unknown
+x86_64-unknown-linux-unknown-unknown x86_64-unknown-linux-unknown-unknown
+x86_64-unknown-linux-unknown x86_64-unknown-linux
+wasm32-unknown-wasi-unknown-unknown wasm32-wasi-unknown-unknown
+x86_64-unknown-none-unknown-unknown x86_64-unknown-none
+x86_64-apple-ios1.2-unknown-unknown x86_64-apple-ios1.2.0-unknown-unknown";
 
 /// A text, and what the settled triple prints that it reads as.
 const SETTLED: &str = "\
-wasm32-unknown-wasi-unknown-unknown wasm32-wasi
+wasm32-unknown-wasi-unknown-unknown wasm32-wasi-unknown-unknown
 aarch64-nintendo-horizon-newlib-coff aarch64-nintendo-horizon-coff
 clever1.0-pc-unknown-none-coff clever1.0-pc-none-coff
 armv6k-nintendo-horizon-gnu-coff armv6k-nintendo-3ds
-riscv32imc-esp-espidf-unknown-unknown riscv32imc-esp-espidf
+riscv32imc-esp-espidf-unknown-unknown riscv32imc-esp-espidf-unknown-unknown
 riscv32imc-esp-espidf-unknown riscv32imc-esp-espidf
 x86_64-linux x86_64-unknown-linux
 x86_64-customvendor-linux x86_64-customvendor-linux";
@@ -29,12 +32,6 @@ x86_64-customvendor-linux x86_64-customvendor-linux";
 /// The five values of a triple with a plain vendor, and those of its normal step, which differ. A custom vendor stands
 /// behind a quote.
 const CHANGES: &str = "\
-x86_64 unknown linux unknown unknown = x86_64 unknown linux unknown elf
-x86_64 apple darwin unknown unknown = x86_64 apple darwin unknown macho
-wasm32 unknown wasi unknown unknown = wasm32 unknown wasi unknown wasm
-clever unknown unknown unknown unknown = clever unknown unknown unknown elf
-x86_64 'customvendor windows unknown unknown = x86_64 'customvendor windows unknown coff
-riscv32imc 'esp espidf unknown unknown = riscv32imc 'esp espidf unknown elf
 armv6k nintendo horizon gnu coff = armv6k nintendo horizon newlib elf
 armv6k nintendo horizon newlib unknown = armv6k nintendo horizon newlib elf
 armv6k nintendo horizon unknown elf = armv6k nintendo horizon newlib elf
@@ -55,6 +52,15 @@ clever 'customvendor unknown none unknown = clever 'customvendor none unknown un
 /// The five values of triples that come back, each one value away from a triple of a family.
 const COMES_BACK: &str = "\
 x86_64 unknown linux unknown elf
+x86_64 unknown linux unknown unknown
+x86_64 apple darwin unknown unknown
+wasm32 unknown wasi unknown unknown
+clever unknown unknown unknown unknown
+clever 'customvendor unknown unknown unknown
+x86_64 'customvendor windows unknown unknown
+riscv32imc 'esp espidf unknown unknown
+riscv64 espressif espidf unknown unknown
+aarch64 nintendo horizon unknown unknown
 x86_64 unknown linux gnu unknown
 x86_64 unknown none unknown unknown
 unknown unknown unknown unknown unknown

@@ -15,10 +15,7 @@ fn keys_are_settled_texts(rt: HostRuntime) -> Result<(), Fail> {
     for (text, key) in [
         ("x86_64-apple-darwin23.6", "x86_64-apple-darwin23.6.0"),
         ("arm64-apple-ios", "aarch64-apple-ios"),
-        (
-            "x86_64-unknown-linux-unknown-unknown",
-            "x86_64-unknown-linux",
-        ),
+        ("x86_64-unknown-linux-unknown", "x86_64-unknown-linux"),
     ] {
         assert_eq!(rt; cache_key(rt.alloc(), text)?.as_str(), key);
     }
