@@ -63,7 +63,7 @@ impl Triple {
         ensures vendor { (result.vendor ≡ self.vendor) ⊎ (result.vendor ≡ Espressif) }
     {
         version_fits(self.operating_system);
-        self.step()
+        self.normal()
     }
 
     /// The normal step.
