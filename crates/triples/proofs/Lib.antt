@@ -1,5 +1,7 @@
--- LineLemmas: the lines of an input. AnswerLemmas, JsonAnswers: their answers. KnownBytes: what is read and written.
+-- LineLemmas: the lines of an input. AnswerLemmas, JsonAnswers: their answers. MatrixLemmas: the matrix of the lines.
+-- KnownBytes: what is read and written.
 pub mod AnswerLemmas
 pub mod JsonAnswers
 pub mod KnownBytes
 pub mod LineLemmas
+pub mod MatrixLemmas
