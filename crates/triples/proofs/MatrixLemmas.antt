@@ -24,7 +24,7 @@ use Rattle.triples.specs.Output.{SettleLine, Entry, RefusalTold, AreSettleLines,
 use Rattle.triples.specs.Private.{mark_of, text_cmp, has_text, is_repeated, AddsFirst}
 use Rattle.triples.proofs.AnswerLemmas.{refusal_is_told}
 
-or-false : (b : Bool) → (b || false) ≡ b
+pub or-false : (b : Bool) → (b || false) ≡ b
 or-false true = refl
 or-false false = refl
 
@@ -62,7 +62,7 @@ pub record IsSoFar (lines rest : List (List ℕ)) (output : List ℕ) (seen : BT
   pub agree : (text : List ℕ) → has_text seen text ≡ list_any (is_entry_of text) before
 
 -- a line that is written if it stays behind others
-abbrev if_stays : Bool → SettleLine → List SettleLine
+abbrev pub if_stays : Bool → SettleLine → List SettleLine
 if_stays stays line = if stays then line ∷ [] else []
 
 staying-push : (before lines : List SettleLine) (line : SettleLine)
