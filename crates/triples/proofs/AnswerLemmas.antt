@@ -11,7 +11,7 @@ use Rattle.triples.specs.Output.{IsRefusalTold, AreAnswered}
 use Rattle.triples.specs.Private.{AddsAnswer}
 
 -- what an error that isn't want of memory says is the line of the refusal
-refusal_is_told : (line : List ℕ) (error : ParseError) → error ≢ OutOfMemory → IsFaultOf line error → IsRefusalTold line (codes "error: " ++ error_line error)
+pub refusal_is_told : (line : List ℕ) (error : ParseError) → error ≢ OutOfMemory → IsFaultOf line error → IsRefusalTold line (codes "error: " ++ error_line error)
 refusal_is_told line (UnrecognizedArchitecture part) other fault = (_, fault, refl)
 refusal_is_told line (UnrecognizedVendor part) other fault = (_, fault, refl)
 refusal_is_told line (UnrecognizedOperatingSystem part) other fault = (_, fault, refl)

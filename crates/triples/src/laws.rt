@@ -1,5 +1,6 @@
-//! A law over the definitions alone: the function's contract is the law, and it does nothing.
+//! Laws over the definitions alone: each function's contract is one, and it does nothing.
 ghost use Rattle.lexicon_fields.specs.Laws.{ComparesByValue};
+ghost use Rattle.triples.specs.MatrixLaws.{EntriesAreSettledTriples, EntriesAreKeptOnce, EachSettledTripleIsThere, MatricesAreTheirOwn};
 ghost use Rattle.triples.specs.declared.mode.Mode.{Mode};
 ghost use Rattle.triples.specs.declared.run_error.RunError.{RunError};
 
@@ -11,3 +12,34 @@ pub fn words_are_equal_by_variant()
     ensures mode { ComparesByValue ⟦<Mode as PartialEq>⟧.eq }
     ensures fault { ComparesByValue ⟦<RunError as PartialEq>⟧.eq }
 {}
+
+/// Two lines that are read share an entry of the matrix exactly where their settled triples are equal.
+pub fn entries_are_settled_triples()
+    ensures { EntriesAreSettledTriples }
+{
+    target_lexicon::laws::one_outcome_each();
+    target_lexicon::laws::read_vendors_are_plain();
+    target_lexicon::laws::settled_texts_are_keys();
+}
+
+/// The matrix keeps the first entry of each text and no other of it, and every refusal.
+pub fn entries_are_kept_once()
+    ensures { EntriesAreKeptOnce }
+{}
+
+/// The settled triple of each line that is read has exactly one entry in the matrix.
+pub fn each_settled_triple_is_there()
+    ensures { EachSettledTripleIsThere }
+{
+    target_lexicon::laws::one_outcome_each();
+}
+
+/// The entries of a matrix, as the lines of an input, give that matrix again.
+pub fn matrices_are_their_own()
+    ensures { MatricesAreTheirOwn }
+{
+    target_lexicon::laws::one_outcome_each();
+    target_lexicon::laws::read_vendors_are_plain();
+    target_lexicon::laws::round_is_normal_step();
+    target_lexicon::laws::settled_texts_are_keys();
+}

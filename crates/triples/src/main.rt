@@ -8,6 +8,7 @@ mod input;
 mod json;
 mod laws;
 mod lines;
+mod matrix;
 mod mode;
 mod output;
 mod run;

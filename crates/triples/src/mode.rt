@@ -12,6 +12,8 @@ pub enum Mode {
     Settle,
     /// The triples of a JSON list of texts, printed, as a JSON list.
     Json,
+    /// Each settled triple once, printed, at its first line.
+    Matrix,
 }
 
 impl Mode {
@@ -27,6 +29,7 @@ impl Mode {
             "show" => Some(Mode::Show),
             "settle" => Some(Mode::Settle),
             "json" => Some(Mode::Json),
+            "matrix" => Some(Mode::Matrix),
             _ => None,
         }
     }

@@ -11,6 +11,7 @@ ghost use Rattle.triples.specs.Private.{AddsAnswer, shown_by};
 use crate::facts::push_facts;
 use crate::json::json_output;
 use crate::lines::first_line;
+use crate::matrix::matrix;
 use crate::mode::Mode;
 use crate::run_error::RunError;
 use std::alloc::{AllocError, Global};
@@ -41,7 +42,7 @@ fn push_shown(output: &mut String, shown: Shown, triple: Triple) -> Result<(), A
 }
 
 /// Adds `error: ` and the line of a refusal, and a line feed.
-fn push_refusal(output: &mut String, error: &ParseError) -> Result<(), AllocError>
+pub(crate) fn push_refusal(output: &mut String, error: &ParseError) -> Result<(), AllocError>
     ensures { OnOk result (string_bytes output.new ≡ string_bytes output.old ++ ((codes "error: " ++ error_line error.now) ++ 10 ∷ [])) }
 {
     output.push_str("error: ")?;
@@ -89,6 +90,7 @@ pub(crate) fn output(alloc: Global, mode: Mode, input: &str) -> Result<String, R
         Mode::Print => answers(alloc, Shown::Text, input),
         Mode::Show => answers(alloc, Shown::Facts, input),
         Mode::Settle => answers(alloc, Shown::SettledText, input),
+        Mode::Matrix => matrix(alloc, input),
         Mode::Json => return json_output(alloc, input),
     };
     match answers {

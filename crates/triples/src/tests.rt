@@ -6,6 +6,7 @@ mod cache_key;
 mod json;
 mod line_modes;
 mod macros;
+mod matrix;
 
 use crate::asked_mode;
 use crate::conclude::conclude;
@@ -422,6 +423,7 @@ fn names_modes(rt: HostRuntime) {
     assert_eq!(rt; Mode::from_word("show"), Some(Mode::Show));
     assert_eq!(rt; Mode::from_word("settle"), Some(Mode::Settle));
     assert_eq!(rt; Mode::from_word("json"), Some(Mode::Json));
+    assert_eq!(rt; Mode::from_word("matrix"), Some(Mode::Matrix));
     for word in ["", "Print", "print ", "shows", "--help"] {
         assert_eq!(rt; Mode::from_word(word), None);
     }
@@ -434,6 +436,7 @@ fn asks_for_a_mode(rt: HostRuntime) {
         (&[Some("triples")], Some(Mode::Print)),
         (&[Some("triples"), Some("print")], Some(Mode::Print)),
         (&[Some("triples"), Some("settle")], Some(Mode::Settle)),
+        (&[Some("triples"), Some("matrix")], Some(Mode::Matrix)),
         (&[Some("triples"), Some("unsettle")], None),
         (&[Some("triples"), Some("")], None),
         (&[Some("triples"), Some("print"), Some("print")], None),

@@ -69,7 +69,7 @@ fn shows_facts_and_settled_triples(rt: HostRuntime) -> Result<(), Fail> {
 
 #[test]
 fn every_line_mode_takes_an_empty_input(rt: HostRuntime) {
-    for mode in [Mode::Print, Mode::Show, Mode::Settle] {
+    for mode in [Mode::Print, Mode::Show, Mode::Settle, Mode::Matrix] {
         let (end, written) = outcome(rt.alloc(), mode, b"");
         assert_eq!(rt; end, Ok(()));
         assert!(rt; written.is_empty());

@@ -1,0 +1,10 @@
+-- A set that gets a text has it beside its others.
+use Rattle.std.proofs.Common.{string_bytes, arith}
+use Rattle.std.proofs.lemmas.Grind.{common_steps}
+use Rattle.triples.proofs.MatrixLemmas.{inserted}
+use Rattle.triples.proofs.matrix.push_unseen.Goals as goal
+
+pub returns-clause-seen : goal.returns-clause-seen
+returns-clause-seen c =
+    inserted c.push.result (record { mark = c.args.found.now.mark; text = c.in_ok-text.text }) (string_bytes c.args.found.now.text) c.args.seen.now c.insert.new.self
+    c.requires (grind (arith, common_steps)) (grind (arith, common_steps)) c.in_ok-insert.ensures.keys

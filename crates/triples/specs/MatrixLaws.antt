@@ -1,0 +1,52 @@
+-- Laws of mode `matrix`.
+use Rattle.std.specs.Prelude.{ℕ, ◌≡◌, ◌↔◌, Bool, true, false, not, List, [], ◌∷◌, ◌++◌, take, map}
+use Rattle.std.specs.List.{filter}
+use Rattle.target_lexicon.specs.FixedPoints.{settled}
+use Rattle.target_lexicon.specs.Reading.{ReadsAs}
+use Rattle.target_lexicon.specs.Values.{Values}
+use Rattle.triples.specs.Output.{SettleLine, Entry, RefusalTold, IsSettleLine, AreSettleLines, is_entry_of, matrix_of, settled_text, line_bytes}
+
+-- mode `settle` writes the same entry for two lines
+abbrev pub ShareAnEntry : List ℕ → List ℕ → Type 0
+ShareAnEntry a b = (text : List ℕ) × IsSettleLine a (Entry text) × IsSettleLine b (Entry text)
+
+-- two lines that are read share an entry exactly where their settled triples are equal
+abbrev pub EntriesAreSettledTriples : Type 0
+EntriesAreSettledTriples = (a b : List ℕ) (t u : Values) → ReadsAs a t → ReadsAs b u → ShareAnEntry a b ↔ (settled t ≡ settled u)
+
+-- the entries of a text among lines that mode `settle` writes
+abbrev pub entries_of : List ℕ → List SettleLine → List SettleLine
+entries_of text lines = filter (is_entry_of text) lines
+
+-- whether a line tells a refusal
+abbrev pub is_refusal : SettleLine → Bool
+is_refusal (Entry text) = false
+is_refusal (RefusalTold told) = true
+
+-- the matrix keeps the first entry of each text and no other of it, and every refusal
+pub record KeepsEntriesOnce (lines : List SettleLine) : Type 0 where
+  pub entries : (text : List ℕ) → entries_of text (matrix_of lines) ≡ take 1 (entries_of text lines)
+  pub refusals : filter is_refusal (matrix_of lines) ≡ filter is_refusal lines
+
+-- so it does whatever the lines are
+abbrev pub EntriesAreKeptOnce : Type 0
+EntriesAreKeptOnce = (lines : List SettleLine) → KeepsEntriesOnce lines
+
+-- of the lines of an input, the settled triple of each that is read has one entry in the matrix
+abbrev pub EachSettledTripleIsThere : Type 0
+EachSettledTripleIsThere = (front back : List (List ℕ)) (line : List ℕ) (settle_lines : List SettleLine) → AreSettleLines (front ++ line ∷ back) settle_lines
+    → (t : Values) → ReadsAs line t → entries_of (settled_text t) (matrix_of settle_lines) ≡ Entry (settled_text t) ∷ []
+
+-- the entries among lines
+abbrev pub entries_alone : List SettleLine → List SettleLine
+entries_alone lines = filter (λ line. not (is_refusal line)) lines
+
+-- the entries of a matrix, read as lines of an input, give that matrix again: mode `settle` writes them as they are, and
+-- all of them stay
+pub record IsItsOwnMatrix (entries : List SettleLine) : Type 0 where
+  pub settled : AreSettleLines (map line_bytes entries) entries
+  pub stays : matrix_of entries ≡ entries
+
+-- so it is for every matrix
+abbrev pub MatricesAreTheirOwn : Type 0
+MatricesAreTheirOwn = (lines : List (List ℕ)) (settle_lines : List SettleLine) → AreSettleLines lines settle_lines → IsItsOwnMatrix (entries_alone (matrix_of settle_lines))
