@@ -59,11 +59,12 @@ impl Triple {
 
     /// The triple that comes back after normal steps, two at most; the vendor must be plain, as for `normal`.
     /// Its text is its own among all such triples, so that it serves as a key. No memory is asked for.
-    #[tactic(auto, using(crate::proofs::Settled::settled_by_one, crate::proofs::Settled::back_by_one, crate::proofs::Settled::back_by_two))]
+    #[tactic(auto, using(crate::proofs::Settled::settled_by_one, crate::proofs::Settled::back_by_one, crate::proofs::Settled::back_by_two, crate::proofs::Stays::step_stays))]
     pub fn settle(self) -> Triple
         requires { is_plain (vendor_value self.vendor) ≡ true }
         ensures steps { values_of result ≡ settled (values_of self) }
         ensures back { ComesBack (values_of result) }
+        ensures stays { ComesBack (values_of self) → values_of result ≡ values_of self }
         ensures vendor { (result.vendor ≡ self.vendor) ⊎ (result.vendor ≡ Espressif) }
     {
         version_fits(self.operating_system);
