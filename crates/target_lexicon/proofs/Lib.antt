@@ -2,6 +2,7 @@
 -- before it); Greedy, Held, Taken, Refused, Unique, Returned, Computed (from the steps of the code to the least placement).
 -- What printing is: Printed, Writes.
 -- What comes back: Rounds, TextRounds (a text read again); FamilyTests, StepCases, Fixed, Settled, Stays (families and the step).
+-- For callers: OnLiterals (what computes on a literal).
 -- Queries and JSON: ModelsKnown, QueriesKept; Elements. SameValues: equality of triples.
 pub mod Computed
 pub mod Cuts
@@ -13,6 +14,7 @@ pub mod Held
 pub mod LookedUp
 pub mod ModelsKnown
 pub mod NamesAcross
+pub mod OnLiterals
 pub mod Printed
 pub mod QueriesKept
 pub mod Refused
