@@ -1,0 +1,3 @@
+pub mod Driver
+pub mod Layout
+pub mod TargetFile
