@@ -25,16 +25,16 @@ pub enum Linker {
 }
 
 /// The object format and the linker of the target that the text names. A format that stays unknown has no linker.
-pub fn link_plan(
-    alloc: Global,
-    text: &str,
-) -> Result<(BinaryFormat, Option<Linker>), ParseError>
+pub fn link_plan(alloc: Global, text: &str) -> Result<(BinaryFormat, Option<Linker>), ParseError>
     ensures ok { IfOk result (λ plan. (t : Values) × ReadsAs text.now t × (plan.0 ≡ object_format t) × (plan.1 ≡ linker t)) }
     ensures err { IfErr result (λ error. IsFaultOf text.now error) }
 {
     let triple = Triple::from_str(alloc, text)?;
     let format = object_format(&triple);
-    Ok((format, linker_for(format, triple.operating_system, triple.environment)))
+    Ok((
+        format,
+        linker_for(format, triple.operating_system, triple.environment),
+    ))
 }
 
 /// The format in which LLVM writes objects, which is the triple's own in all but three cases.

@@ -5,10 +5,14 @@ mod driver;
 mod key;
 mod layout;
 mod literals;
+mod matrix;
 mod target_file;
+#[cfg(test)]
+mod tests;
 
 pub use driver::{Linker, link_plan};
 pub use key::{CacheKey, share_key};
 pub use layout::{CLayout, TypeLayout, c_layout};
 pub use literals::{host_by_text, refused_text, wasi_text};
+pub use matrix::{MatrixError, release_matrix};
 pub use target_file::{TargetFileError, llvm_target};
