@@ -1,7 +1,8 @@
 -- What reading is: Cuts, LookedUp, Vendors (a text's parts, and what each reads as); NamesAcross (a name of one field in a field
 -- before it); Greedy, Held, Taken, Refused, Unique, Returned, Computed (from the steps of the code to the least placement).
 -- What printing is: Printed, Writes.
--- What comes back: Rounds, TextRounds (a text read again); FamilyTests, StepCases, Fixed, Settled (families and the step).
+-- What comes back: Rounds, TextRounds (a text read again); FamilyTests, StepCases, Fixed, Settled, Stays (families and the step).
+-- For callers: OnLiterals (what computes on a literal).
 -- Queries and JSON: ModelsKnown, QueriesKept; Elements. SameValues: equality of triples.
 pub mod Computed
 pub mod Cuts
@@ -13,6 +14,7 @@ pub mod Held
 pub mod LookedUp
 pub mod ModelsKnown
 pub mod NamesAcross
+pub mod OnLiterals
 pub mod Printed
 pub mod QueriesKept
 pub mod Refused
@@ -20,6 +22,7 @@ pub mod Returned
 pub mod Rounds
 pub mod SameValues
 pub mod Settled
+pub mod Stays
 pub mod StepCases
 pub mod Taken
 pub mod TextRounds

@@ -1,3 +1,4 @@
+pub mod ComputedAnswers
 pub mod DataModel
 pub mod Families
 pub mod Field

@@ -54,12 +54,14 @@ impl Triple {
     }
 
     /// The triple that comes back after normal steps; one is enough. The vendor must be plain, as for `normal`.
-    /// Its text is its own among all such triples, so that it serves as a key. No memory is asked for.
-    #[tactic(auto, using(crate::proofs::Settled::settled_by_one, crate::proofs::Settled::back_by_one))]
+    /// Its text is its own among all such triples, so that it serves as a key. A triple that comes back stays as it is.
+    /// No memory is asked for.
+    #[tactic(auto, using(crate::proofs::Settled::settled_by_one, crate::proofs::Settled::back_by_one, crate::proofs::Stays::step_stays))]
     pub fn settle(self) -> Triple
         requires { is_plain (vendor_value self.vendor) ≡ true }
         ensures steps { values_of result ≡ settled (values_of self) }
         ensures back { ComesBack (values_of result) }
+        ensures stays { ComesBack (values_of self) → values_of result ≡ values_of self }
         ensures vendor { (result.vendor ≡ self.vendor) ⊎ (result.vendor ≡ Espressif) }
     {
         version_fits(self.operating_system);

@@ -1,5 +1,6 @@
 //! Laws over the definitions alone: each function's contract is one, and it does nothing.
 ghost use Rattle.std.specs.Prelude.{◌≡◌, ◌↔◌, true};
+ghost use Rattle.target_lexicon.specs.ComputedAnswers.{AnswersAreComputed};
 ghost use Rattle.target_lexicon.specs.Laws.{OneLeastPlacement, OneOutcomeEach, ReadingIsComputed, ReadVendorsArePlain, FieldNamesReadBack, EqualTextsEqualTriples};
 ghost use Rattle.lexicon_fields.specs.Laws.{ComparesByValue};
 ghost use Rattle.target_lexicon.specs.FixedPoints.{FixedExactlyOutsideFamilies, RoundIsNormalStep, SecondStepChangesNone, SettledTextsAreKeys, RoundsAreKnown};
@@ -37,6 +38,12 @@ pub fn one_outcome_each()
 /// compute what a text reads as.
 pub fn reading_is_computed()
     ensures { ReadingIsComputed }
+{}
+
+/// What [`Triple::from_str`] answers is what the function `reading` gives; want of memory takes its place for a custom vendor
+/// or a refusal alone. So a caller's proof can compute the answer for a literal.
+pub fn answers_are_computed()
+    ensures { AnswersAreComputed }
 {}
 
 /// Every text that is read has a plain vendor.

@@ -1,0 +1,42 @@
+-- How a code generator lays out C's types.
+use Rattle.std.specs.Prelude.{ℕ, Option, option_map, if◌then◌else◌}
+use Rattle.lexicon_fields.specs.declared.architecture.Architecture.{Architecture}
+use Rattle.lexicon_fields.specs.declared.architecture.Architecture.TheVariants as architecture
+use Rattle.lexicon_fields.specs.declared.operating_system.OperatingSystem.{OperatingSystem}
+use Rattle.lexicon_fields.specs.declared.operating_system.OperatingSystem.TheVariants as operating_system
+use Rattle.lexicon_fields.specs.OperatingSystem.{is_like_darwin}
+use Rattle.target_lexicon.specs.declared.data_model.CDataModel.{CDataModel}
+use Rattle.target_lexicon.specs.declared.data_model.Size.{Size}
+use Rattle.target_lexicon.specs.DataModel.{size_bytes, sizes_of}
+use Rattle.target_lexicon.specs.Queries.{data_model}
+use Rattle.target_lexicon.specs.Values.{Values}
+use Rattle.uses.specs.declared.layout.TypeLayout.{TypeLayout}
+use Rattle.uses.specs.declared.layout.CLayout.{CLayout}
+
+-- the bytes to which a `long long` is aligned: 4 on 32-bit x86 but Windows, and on 32-bit Arm of Apple but watchOS
+abbrev pub long_long_alignment : Architecture → OperatingSystem → ℕ
+long_long_alignment (architecture.X86_32 sub) operating_system.Windows = 8
+long_long_alignment (architecture.X86_32 sub) s = 4
+long_long_alignment (architecture.Arm sub) (operating_system.WatchOS version) = 8
+long_long_alignment (architecture.Arm sub) s = if is_like_darwin s then 4 else 8
+long_long_alignment a s = 8
+
+abbrev pub aligned_to : ℕ → Size → TypeLayout
+aligned_to alignment size = record { size = size_bytes size; alignment = alignment }
+
+-- a type that is aligned to its size
+abbrev pub natural : Size → TypeLayout
+natural size = aligned_to (size_bytes size) size
+
+-- the layout in a data model
+abbrev pub layout_in : CDataModel → Architecture → OperatingSystem → CLayout
+layout_in model a s = record {
+  pointer = natural (sizes_of model).pointer;
+  int = natural (sizes_of model).int;
+  long = natural (sizes_of model).long;
+  long_long = aligned_to (long_long_alignment a s) (sizes_of model).long_long;
+}
+
+-- the layout of a triple, where its data model is known
+abbrev pub c_layout : Values → Option CLayout
+c_layout t = option_map (λ model. layout_in model t.architecture t.operating_system) (data_model t)

@@ -1,0 +1,4 @@
+pub mod Driver
+pub mod Layout
+pub mod Matrix
+pub mod TargetFile

@@ -1,0 +1,51 @@
+-- What a release makes of a list of targets.
+use Rattle.std.specs.Prelude.{◌≡◌, ◌≢◌, ◌<◌, ◌⊎◌, ℕ, List, [], ◌∷◌, ◌++◌, length, take, All, String, string_bytes}
+use Rattle.std.specs.List.{HoldsAt}
+use Rattle.std.specs.declared.alloc.Global.{Global}
+use Rattle.target_lexicon.specs.declared.triple.Triple.{Triple}
+use Rattle.target_lexicon.specs.FixedPoints.{settled}
+use Rattle.target_lexicon.specs.Printing.{text_of}
+use Rattle.target_lexicon.specs.Reading.{ReadsAs, IsFaultOf}
+use Rattle.target_lexicon.specs.Values.{Values, values_of}
+use Rattle.uses.specs.declared.matrix.MatrixError.{MatrixError}
+use Rattle.uses.specs.declared.matrix.MatrixError.TheVariants.{Refused, OutOfMemory}
+
+-- a text is that of a `String`
+abbrev pub Text : Type 0
+Text = String Global
+
+-- one of the triples has these values
+abbrev pub Has : List Triple → Values → Type 0
+Has triples t = (k : ℕ) × (k < length triples) × HoldsAt (λ triple. values_of triple ≡ t) triples k
+
+-- the triple is added behind the others, unless one of them equals it
+abbrev pub IsAdded : Triple → List Triple → List Triple → Type 0
+IsAdded triple before after =
+    (Has before (values_of triple) × (after ≡ before)) ⊎ ((¬ Has before (values_of triple)) × (after ≡ before ++ triple ∷ []))
+
+-- the text reads, and its triple settles as this one
+abbrev pub SettlesAs : Text → Values → Type 0
+SettlesAs text u = (t : Values) × ReadsAs (string_bytes text) t × (u ≡ settled t)
+
+-- behind the triples so far come those that the texts settle as, in order, each unless it is there
+abbrev pub ComeBehind : List Triple → List Text → List Triple → Type 0
+ComeBehind before [] after = after ≡ before
+ComeBehind before (text ∷ texts) after =
+    (triple : Triple) × (between : List Triple) × SettlesAs text (values_of triple) × IsAdded triple before between × ComeBehind between texts after
+
+-- the text settles as one of the triples
+abbrev pub IsCovered : List Triple → Text → Type 0
+IsCovered triples text = (t : Values) × SettlesAs text t × Has triples t
+
+-- two triples print different texts
+abbrev pub HaveOtherTexts : Triple → Triple → Type 0
+HaveOtherTexts x y = text_of (values_of x) ≢ text_of (values_of y)
+
+-- the text reads
+abbrev pub Reads : Text → Type 0
+Reads text = (t : Values) × ReadsAs (string_bytes text) t
+
+-- why a list has no matrix: the text at i has this fault, and each before it reads; or the list itself wants memory
+abbrev pub IsMatrixFault : List Text → MatrixError → Type 0
+IsMatrixFault texts (Refused i error) = (i < length texts) × HoldsAt (λ text. IsFaultOf (string_bytes text) error) texts i × All Reads (take i texts)
+IsMatrixFault texts OutOfMemory = 0 < length texts

@@ -1,0 +1,84 @@
+//! A compiler's driver: the format of object files, and how a linker is called.
+ghost use Rattle.std.specs.Prelude.{◌≡◌, IfOk, IfErr};
+ghost use Rattle.target_lexicon.specs.Reading.{ReadsAs, IsFaultOf};
+ghost use Rattle.target_lexicon.specs.Values.{Values, values_of};
+ghost use Rattle.uses.specs.Driver.{object_format, coff_linker, linker_for, linker};
+
+use std::alloc::Global;
+use target_lexicon::{
+    Architecture, BinaryFormat, Environment, OperatingSystem, ParseError, Triple,
+};
+
+/// How a linker is called.
+#[derive(Clone, Copy, Debug, PartialEq, Eq)]
+pub enum Linker {
+    /// As GNU's `ld`.
+    Gnu,
+    /// As Apple's `ld64`.
+    Ld64,
+    /// As Microsoft's `link`.
+    Link,
+    /// As LLVM's `wasm-ld`.
+    WasmLd,
+    /// As the `ld` of AIX.
+    Aix,
+}
+
+/// The object format and the linker of the target that the text names. A format that stays unknown has no linker.
+pub fn link_plan(alloc: Global, text: &str) -> Result<(BinaryFormat, Option<Linker>), ParseError>
+    ensures ok { IfOk result (λ plan. (t : Values) × ReadsAs text.now t × (plan.0 ≡ object_format t) × (plan.1 ≡ linker t)) }
+    ensures err { IfErr result (λ error. IsFaultOf text.now error) }
+{
+    let triple = Triple::from_str(alloc, text)?;
+    let format = object_format(&triple);
+    Ok((
+        format,
+        linker_for(format, triple.operating_system, triple.environment),
+    ))
+}
+
+/// The format in which LLVM writes objects, which is the triple's own in all but three cases.
+fn object_format(triple: &Triple) -> BinaryFormat
+    ensures { result ≡ object_format (values_of triple.now) }
+{
+    match triple.binary_format {
+        BinaryFormat::Elf => match (triple.architecture, triple.operating_system) {
+            (Architecture::Wasm32 | Architecture::Wasm64, _) => BinaryFormat::Wasm,
+            (_, OperatingSystem::Cygwin) => BinaryFormat::Coff,
+            _ => BinaryFormat::Elf,
+        },
+        BinaryFormat::Unknown => match triple.operating_system {
+            OperatingSystem::None_ => BinaryFormat::Elf,
+            _ => BinaryFormat::Unknown,
+        },
+        own => own,
+    }
+}
+
+/// The linker for objects of this format.
+fn linker_for(
+    format: BinaryFormat,
+    operating_system: OperatingSystem,
+    environment: Environment,
+) -> Option<Linker>
+    ensures { result ≡ linker_for format operating_system environment }
+{
+    match format {
+        BinaryFormat::Elf => Some(Linker::Gnu),
+        BinaryFormat::Coff => Some(coff_linker(operating_system, environment)),
+        BinaryFormat::Macho => Some(Linker::Ld64),
+        BinaryFormat::Wasm => Some(Linker::WasmLd),
+        BinaryFormat::Xcoff => Some(Linker::Aix),
+        BinaryFormat::Unknown => None,
+    }
+}
+
+/// The linker for objects of Windows.
+fn coff_linker(operating_system: OperatingSystem, environment: Environment) -> Linker
+    ensures { result ≡ coff_linker operating_system environment }
+{
+    match (operating_system, environment) {
+        (OperatingSystem::Cygwin, _) | (_, Environment::Gnu | Environment::GnuLlvm) => Linker::Gnu,
+        _ => Linker::Link,
+    }
+}

@@ -1,0 +1,18 @@
+//! Uses of `target_lexicon`, as a caller writes them: each function is proved from the library's public contracts alone.
+#![tactic(auto)]
+
+mod driver;
+mod key;
+mod layout;
+mod literals;
+mod matrix;
+mod target_file;
+#[cfg(test)]
+mod tests;
+
+pub use driver::{Linker, link_plan};
+pub use key::{CacheKey, share_key};
+pub use layout::{CLayout, TypeLayout, c_layout};
+pub use literals::{host_by_text, refused_text, wasi_text};
+pub use matrix::{MatrixError, release_matrix};
+pub use target_file::{TargetFileError, llvm_target};

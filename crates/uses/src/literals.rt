@@ -1,0 +1,34 @@
+//! Texts that are known when the program is written: the checker computes what the library makes of them.
+ghost use Rattle.std.specs.Prelude.{◌≡◌, codes, IfOk, IfErr, IsOkAnd, IsErrAnd, Some, IfSome, string_bytes};
+ghost use Rattle.target_lexicon.specs.Field.{OperatingSystem};
+ghost use Rattle.target_lexicon.specs.Host.{host_values};
+ghost use Rattle.target_lexicon.specs.Refusal.{Lacks, refused, refusal_of};
+ghost use Rattle.target_lexicon.specs.Values.{values_of};
+
+use std::alloc::Global;
+use target_lexicon::{ParseError, Triple, laws};
+
+/// The host's triple, by its text. No memory is wanted for it.
+pub fn host_by_text(alloc: Global) -> Result<Triple, ParseError>
+    ensures { IsOkAnd result (λ triple. values_of triple ≡ host_values) }
+{
+    laws::answers_are_computed();
+    Triple::from_str(alloc, "x86_64-unknown-linux-gnu")
+}
+
+/// The text of WASI's target, whose vendor is not shown.
+pub fn wasi_text(alloc: Global) -> Result<String, ParseError>
+    ensures { IfOk result (λ text. string_bytes text ≡ codes "wasm32-wasi") }
+{
+    laws::answers_are_computed();
+    let triple = Triple::from_str(alloc, "wasm32-unknown-wasi")?;
+    Ok(triple.to_text(alloc)?)
+}
+
+/// Why a text is refused: `bar` is no operating system. The memory to tell it may be wanted.
+pub fn refused_text(alloc: Global) -> Result<Triple, ParseError>
+    ensures { IsErrAnd result (λ error. IfSome (refusal_of error) (λ refusal. refusal ≡ refused (Lacks OperatingSystem) (codes "bar"))) }
+{
+    laws::answers_are_computed();
+    Triple::from_str(alloc, "x86_64-foo-bar")
+}

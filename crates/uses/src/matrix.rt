@@ -1,0 +1,50 @@
+//! A release matrix: the targets of a list, each once.
+ghost use Rattle.std.specs.Prelude.{[], All, IfOk, IfErr, OnOk};
+ghost use Rattle.std.specs.List.{AllPairs};
+ghost use Rattle.uses.specs.Matrix.{IsAdded, ComeBehind, IsCovered, HaveOtherTexts, IsMatrixFault};
+
+use std::alloc::{AllocError, Global};
+use target_lexicon::{ParseError, Triple, laws};
+
+/// Why a list of targets has no matrix.
+#[derive(Debug, PartialEq, Eq, Drop)]
+pub enum MatrixError {
+    /// The first text that is refused, counted from 0, and why; the memory for it may be what was refused.
+    Refused(usize, ParseError),
+    /// The memory for the list itself was refused.
+    OutOfMemory,
+}
+
+/// The settled triples of a list of texts, in order, each where it first comes.
+pub fn release_matrix(alloc: Global, texts: &[String]) -> Result<Vec<Triple>, MatrixError>
+    ensures built { IfOk result (λ matrix. ComeBehind [] texts.now matrix.items) }
+    ensures each { IfOk result (λ matrix. All (IsCovered matrix.items) texts.now) }
+    ensures apart { IfOk result (λ matrix. AllPairs HaveOtherTexts matrix.items) }
+    ensures err { IfErr result (λ error. IsMatrixFault texts.now error) }
+{
+    laws::equal_texts_equal_triples();
+    let mut matrix = Vec::new(alloc);
+    for (i, text) in texts.iter().enumerate() {
+        match Triple::from_str(alloc, text.as_str()) {
+            Ok(triple) => {
+                let Ok(()) = push_new(&mut matrix, triple.settle()) else {
+                    return Err(MatrixError::OutOfMemory);
+                };
+            }
+            Err(error) => return Err(MatrixError::Refused(i, error)),
+        }
+    }
+    Ok(matrix)
+}
+
+/// Adds a triple, unless an equal one is there.
+fn push_new(triples: &mut Vec<Triple>, triple: Triple) -> Result<(), AllocError>
+    ensures { OnOk result (IsAdded triple triples.old.items triples.new.items) }
+{
+    laws::triples_are_equal_by_value();
+    if triples.contains(&triple) {
+        return Ok(());
+    }
+    triples.push(triple)?;
+    Ok(())
+}
