@@ -2,7 +2,6 @@
 
 ghost use Rattle.std.specs.Io.{WritesAtMost};
 
-mod cache_key;
 mod json;
 mod line_modes;
 mod macros;
