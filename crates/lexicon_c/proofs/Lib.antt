@@ -1,0 +1,2 @@
+-- Memory: where a status may tell of memory.
+pub mod Memory

@@ -1,0 +1,109 @@
+//! The calls of `target_lexicon` for C: a text of a triple goes in, texts and numbers come out.
+#![tactic(auto)]
+
+mod facts;
+mod read;
+mod status;
+mod told;
+
+ghost use Rattle.std.specs.Prelude.{◌≡◌, ◌≤◌, ◌<◌, ◌↔◌};
+ghost use Rattle.std.specs.Str.{IsUtf8};
+ghost use Rattle.lexicon_c.specs.Facts.{AreFactsRead};
+ghost use Rattle.lexicon_c.specs.Names.{IsPrintedTold, IsNameTold};
+ghost use Rattle.lexicon_c.specs.Refused.{IsRefusedBy, IsRefusedTold};
+ghost use Rattle.lexicon_c.specs.Told.{IsNothingTold};
+ghost use Rattle.target_lexicon.specs.Reading.{MayWantMemory};
+
+pub use facts::LexiconFacts;
+use facts::facts_of;
+use read::read;
+use status::{DONE, NO_SUCH_FIELD, NOT_UTF8, OUT_OF_MEMORY, tell_error};
+use std::alloc::Global;
+use target_lexicon::Triple;
+use told::{tell, tell_operating_system};
+
+/// Reads a text as a triple, and tells its printed text, or the refused part.
+#[unsafe(no_mangle)]
+pub extern "C" fn lexicon_normalize(
+    alloc: Global,
+    text: &[u8],
+    out: &mut [u8],
+    length: &mut usize,
+) -> u32
+    ensures done { result ≡ 0 → IsPrintedTold text.now out.old out.new length.new }
+    ensures refused { 1 ≤ result → result ≤ 6 → IsRefusedTold result text.now out.old out.new length.new }
+    ensures utf8 { (result ≡ 7) ↔ ¬ (IsUtf8 text.now) }
+    ensures nothing { 7 ≤ result → IsNothingTold out.old out.new length.new }
+    ensures all { result ≤ 8 }
+{
+    *length = 0;
+    let Ok(text) = str::from_utf8(text) else {
+        return NOT_UTF8;
+    };
+    match Triple::from_str(alloc, text) {
+        Ok(triple) => match triple.to_text(alloc) {
+            Ok(printed) => tell(DONE, printed.as_str(), out, length),
+            Err(_) => OUT_OF_MEMORY,
+        },
+        Err(error) => tell_error(&error, out, length),
+    }
+}
+
+/// Reads a text as a triple, and tells the name of one of its fields, or the refused part. The fields are numbered from 0 in
+/// their order: architecture, vendor, operating system, environment, binary format.
+#[unsafe(no_mangle)]
+pub extern "C" fn lexicon_field(
+    alloc: Global,
+    text: &[u8],
+    field: u32,
+    out: &mut [u8],
+    length: &mut usize,
+) -> u32
+    ensures done { result ≡ 0 → IsNameTold field text.now out.old out.new length.new }
+    ensures refused { 1 ≤ result → result ≤ 6 → IsRefusedTold result text.now out.old out.new length.new }
+    ensures utf8 { (result ≡ 7) ↔ ((field ≤ 4) × ¬ (IsUtf8 text.now)) }
+    ensures no_such_field { (result ≡ 9) ↔ (4 < field) }
+    ensures nothing { 7 ≤ result → IsNothingTold out.old out.new length.new }
+    ensures all { result ≤ 9 }
+{
+    *length = 0;
+    if field > 4 {
+        return NO_SUCH_FIELD;
+    }
+    let Ok(text) = str::from_utf8(text) else {
+        return NOT_UTF8;
+    };
+    let triple = match Triple::from_str(alloc, text) {
+        Ok(triple) => triple,
+        Err(error) => return tell_error(&error, out, length),
+    };
+    match field {
+        0 => tell(DONE, triple.architecture.into_str().as_str(), out, length),
+        1 => tell(DONE, triple.vendor.as_str(), out, length),
+        2 => tell_operating_system(alloc, triple.operating_system, out, length),
+        3 => tell(DONE, triple.environment.into_str().as_str(), out, length),
+        _ => tell(DONE, triple.binary_format.into_str().as_str(), out, length),
+    }
+}
+
+/// Reads a text as a triple, and tells its facts.
+#[unsafe(no_mangle)]
+pub extern "C" fn lexicon_facts(alloc: Global, text: &[u8], facts: &mut LexiconFacts) -> u32
+    ensures done { result ≡ 0 → AreFactsRead text.now facts.new }
+    ensures refused { 1 ≤ result → result ≤ 6 → IsRefusedBy result text.now }
+    ensures utf8 { (result ≡ 7) ↔ ¬ (IsUtf8 text.now) }
+    ensures memory { result ≡ 8 → MayWantMemory text.now }
+    ensures nothing { 0 < result → facts.new ≡ facts.old }
+    ensures all { result ≤ 8 }
+{
+    let Ok(text) = str::from_utf8(text) else {
+        return NOT_UTF8;
+    };
+    match read(alloc, text) {
+        Ok(triple) => {
+            *facts = facts_of(&triple);
+            DONE
+        }
+        Err(status) => status,
+    }
+}
