@@ -1,2 +1,2 @@
--- Memory: where a status may tell of memory.
+-- Memory: what an error says of memory.
 pub mod Memory

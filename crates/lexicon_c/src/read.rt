@@ -1,6 +1,5 @@
 //! Reading a triple from a text that came in.
-ghost use Rattle.std.specs.Prelude.{◌≡◌, ◌≢◌, ◌≤◌, true, IfOk, IfErr};
-ghost use Rattle.lexicon_fields.specs.Vendor.{is_plain, vendor_value};
+ghost use Rattle.std.specs.Prelude.{◌≡◌, ◌≢◌, ◌≤◌, ◌↔◌, true, IfOk, IfErr};
 ghost use Rattle.target_lexicon.specs.Reading.{ReadsAs, MayWantMemory};
 ghost use Rattle.target_lexicon.specs.Values.{values_of};
 ghost use Rattle.lexicon_c.specs.Refused.{IsRefusedBy};
@@ -8,9 +7,10 @@ ghost use Rattle.lexicon_c.specs.Refused.{IsRefusedBy};
 use crate::status::status_of;
 use std::alloc::Global;
 use target_lexicon::Triple;
+use target_lexicon::laws::triples_are_equal_by_value;
 
 /// The triple that a text reads as, or the status of its error.
-#[tactic(auto, using(crate::proofs::Memory::memory_by_status))]
+#[tactic(auto, using(crate::proofs::Memory::fault_wants))]
 pub(crate) fn read(alloc: Global, text: &str) -> Result<Triple, u32>
     ensures ok { IfOk result (λ triple. ReadsAs text.now (values_of triple)) }
     ensures refused { IfErr result (λ status. status ≤ 6 → IsRefusedBy status text.now) }
@@ -21,4 +21,12 @@ pub(crate) fn read(alloc: Global, text: &str) -> Result<Triple, u32>
         Ok(triple) => Ok(triple),
         Err(error) => Err(status_of(&error)),
     }
+}
+
+/// Whether two triples are equal.
+pub(crate) fn are_equal(first: &Triple, second: &Triple) -> bool
+    ensures { (result ≡ true) ↔ (values_of first.now ≡ values_of second.now) }
+{
+    triples_are_equal_by_value();
+    first == second
 }
