@@ -5,6 +5,8 @@ mod facts;
 mod names;
 mod read;
 mod status;
+#[cfg(test)]
+mod tests;
 mod told;
 
 ghost use Rattle.std.specs.Prelude.{◌≡◌, ◌≤◌, ◌<◌, ◌↔◌, ◌⊎◌};
