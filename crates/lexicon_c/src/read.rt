@@ -11,6 +11,7 @@ use target_lexicon::laws::triples_are_equal_by_value;
 
 /// The triple that a text reads as, or the status of its error.
 #[tactic(auto, using(crate::proofs::Memory::fault_wants))]
+#[inline(always)]
 pub(crate) fn read(alloc: Global, text: &str) -> Result<Triple, u32>
     ensures ok { IfOk result (λ triple. ReadsAs text.now (values_of triple)) }
     ensures refused { IfErr result (λ status. status ≤ 6 → IsRefusedBy status text.now) }
