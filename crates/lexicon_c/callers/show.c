@@ -1,0 +1,67 @@
+/* What `triples show` does, as a C program over the library: for each line of the input the printed triple, its byte order, pointer
+   width, calling convention and data model, or `error: ` and why the line is refused. */
+#define _POSIX_C_SOURCE 200809L
+#include <stdio.h>
+#include <stdlib.h>
+#include <sys/types.h>
+
+#include "lexicon.h"
+
+typedef uint32_t telling(const char *text, size_t text_size, char *out, size_t out_size, size_t *length);
+
+struct buffer { char *bytes; size_t size, length; };
+
+/* Calls, and once more where the buffer was too small for what the call tells. */
+static uint32_t told(telling *call, const char *text, size_t size, struct buffer *buffer) {
+  uint32_t status = call(text, size, buffer->bytes, buffer->size, &buffer->length);
+  if (buffer->length <= buffer->size) return status;
+  char *larger = realloc(buffer->bytes, buffer->length);
+  if (larger == NULL) return LEXICON_OUT_OF_MEMORY;
+  buffer->bytes = larger;
+  buffer->size = buffer->length;
+  return call(text, size, buffer->bytes, buffer->size, &buffer->length);
+}
+
+static const char *const byte_orders[] = {"-", "little", "big"};
+static const char *const conventions[] = {"-", "SystemV", "WasmBasicCAbi", "WindowsFastcall", "AppleAarch64"};
+static const char *const models[] = {"-", "LP32", "ILP32", "LLP64", "LP64", "ILP64"};
+
+static void show_facts(const struct lexicon_facts *facts) {
+  printf(" %s", byte_orders[facts->endianness]);
+  if (facts->pointer_bits == 0) printf(" -");
+  else printf(" %u", (unsigned)facts->pointer_bits);
+  printf(" %s %s\n", conventions[facts->calling_convention], models[facts->data_model]);
+}
+
+/* Shows a line; the status is one at which the run has to end, or LEXICON_OK. */
+static uint32_t show(const char *line, size_t size, struct buffer *buffer) {
+  uint32_t status = told(lexicon_normalize, line, size, buffer);
+  if (status >= LEXICON_NO_ARCHITECTURE && status <= LEXICON_NO_FIELD) {
+    status = told(lexicon_error_line, line, size, buffer);
+    if (status > LEXICON_NO_FIELD) return status;
+    printf("error: %.*s\n", (int)buffer->length, buffer->bytes);
+    return LEXICON_OK;
+  }
+  struct lexicon_facts facts;
+  if (status == LEXICON_OK) status = lexicon_facts(line, size, &facts);
+  if (status != LEXICON_OK) return status;
+  printf("%.*s", (int)buffer->length, buffer->bytes);
+  show_facts(&facts);
+  return LEXICON_OK;
+}
+
+int main(void) {
+  struct buffer buffer = {malloc(8), 8, 0};
+  uint32_t status = buffer.bytes == NULL ? LEXICON_OUT_OF_MEMORY : LEXICON_OK;
+  char *line = NULL;
+  size_t room = 0;
+  ssize_t size;
+  while (status == LEXICON_OK && (size = getline(&line, &room, stdin)) > 0) {
+    if (line[size - 1] == '\n') size--;
+    status = show(line, (size_t)size, &buffer);
+  }
+  free(line);
+  free(buffer.bytes);
+  if (status != LEXICON_OK) fprintf(stderr, "status %u\n", (unsigned)status);
+  return status == LEXICON_OK ? 0 : 1;
+}

@@ -1,0 +1,108 @@
+/* Target triples for C, by the proved library target_lexicon: reading, printing and asking.
+
+   A text goes in as a pointer and a size. It need not end with a zero byte, and it need not be UTF-8. A text comes out into the
+   caller's buffer as a pointer and a size; *length is its whole length, and it is written, with no zero byte behind it, exactly
+   where *length <= out_size. So a call with a buffer that is too small tells how large a buffer has to be.
+
+   No pointer may be null, not even with size 0. No buffer, number or struct that a call writes may overlap anything else that
+   the call is given. Nothing is kept between calls, and no call stops the program. A call is for one thread's memory alone, so
+   that any number of threads may call at once where their malloc allows it. Not for signal handlers.
+
+   Each call answers a status. Where it is 0 the answer was written. Where it is 1 to 6 the text is refused, and a call with an `out`
+   tells the refused part there. At any other status nothing is written but a *length of 0. */
+#ifndef LEXICON_H
+#define LEXICON_H
+
+#include <stdbool.h>
+#include <stddef.h>
+#include <stdint.h>
+
+#ifdef __cplusplus
+extern "C" {
+#endif
+
+enum lexicon_status {
+  LEXICON_OK = 0,
+  LEXICON_NO_ARCHITECTURE = 1,     /* the first part is no architecture */
+  LEXICON_NO_VENDOR = 2,           /* behind the architecture, the part is nothing that may stand there */
+  LEXICON_NO_OPERATING_SYSTEM = 3, /* so behind the vendor */
+  LEXICON_NO_ENVIRONMENT = 4,      /* so behind the operating system */
+  LEXICON_NO_BINARY_FORMAT = 5,    /* so behind the environment */
+  LEXICON_NO_FIELD = 6,            /* a part behind the binary format */
+  LEXICON_NOT_UTF8 = 7,
+  LEXICON_OUT_OF_MEMORY = 8,       /* the library frees what it asks malloc for before it returns */
+  LEXICON_NO_SUCH_FIELD = 9        /* the number of the field is above 4 */
+};
+
+enum lexicon_field_number {
+  LEXICON_ARCHITECTURE = 0,
+  LEXICON_VENDOR = 1,
+  LEXICON_OPERATING_SYSTEM = 2,
+  LEXICON_ENVIRONMENT = 3,
+  LEXICON_BINARY_FORMAT = 4
+};
+
+/* The numbers in struct lexicon_facts; 0 where there is no answer. */
+enum lexicon_endianness { LEXICON_LITTLE = 1, LEXICON_BIG = 2 };
+enum lexicon_calling_convention {
+  LEXICON_SYSTEM_V = 1,
+  LEXICON_WASM_BASIC_C_ABI = 2,
+  LEXICON_WINDOWS_FASTCALL = 3,
+  LEXICON_APPLE_AARCH64 = 4
+};
+enum lexicon_data_model {
+  LEXICON_LP32 = 1,
+  LEXICON_ILP32 = 2,
+  LEXICON_LLP64 = 3,
+  LEXICON_LP64 = 4,
+  LEXICON_ILP64 = 5
+};
+enum lexicon_binary_format {
+  LEXICON_ELF = 1,
+  LEXICON_COFF = 2,
+  LEXICON_MACHO = 3,
+  LEXICON_WASM = 4,
+  LEXICON_XCOFF = 5
+};
+
+struct lexicon_facts {
+  uint32_t endianness;
+  uint32_t pointer_bits; /* 16, 32 or 64 */
+  uint32_t calling_convention;
+  uint32_t data_model;
+  uint32_t binary_format;
+  uint32_t implied_format; /* what the other fields imply, numbered as binary_format */
+  uint32_t has_version;    /* whether the operating system has a version: 1 or 0 */
+  uint32_t major, minor, patch;
+};
+
+/* The printed triple: wasm32-unknown-wasi gives wasm32-wasi. */
+uint32_t lexicon_normalize(const char *text, size_t text_size, char *out, size_t out_size, size_t *length);
+
+/* The printed triple, settled: a key, which no other target has. */
+uint32_t lexicon_settle(const char *text, size_t text_size, char *out, size_t out_size, size_t *length);
+
+/* The name of one field of the triple. */
+uint32_t lexicon_field(const char *text, size_t text_size, uint32_t field, char *out, size_t out_size, size_t *length);
+
+/* What a compiler asks of the triple. */
+uint32_t lexicon_facts(const char *text, size_t text_size, struct lexicon_facts *facts);
+
+/* Whether the triple, printed and read again, is itself. */
+uint32_t lexicon_comes_back(const char *text, size_t text_size, bool *answer);
+
+/* Whether two texts read as equal triples. A refusal is the first text's, or the second's where the first is read. */
+uint32_t lexicon_equal(const char *first, size_t first_size, const char *second, size_t second_size, bool *answer);
+
+/* The line of a refusal, as "Unrecognized operating system: bar", at status 1 to 6; no text at status 0. */
+uint32_t lexicon_error_line(const char *text, size_t text_size, char *out, size_t out_size, size_t *length);
+
+/* The name of the value that a text is in one field, outside any triple: arm64 gives aarch64. A text that is none is told itself,
+   at the status of the field, 1 to 5. */
+uint32_t lexicon_read_name(const char *text, size_t text_size, uint32_t field, char *out, size_t out_size, size_t *length);
+
+#ifdef __cplusplus
+}
+#endif
+
+#endif

@@ -1,0 +1,2 @@
+-- Memory: what an error says of memory.
+pub mod Memory

@@ -1,0 +1,11 @@
+-- What an error says of memory.
+use Rattle.std.proofs.Common.{List, ℕ, Option, Some, None, inl}
+use Rattle.std.specs.Prelude.{MatchOption}
+use Rattle.target_lexicon.specs.Reading.{MayWantMemory, IsRefusedAs}
+use Rattle.target_lexicon.specs.Refusal.{Refusal}
+
+-- a text that gives an error is refused or has a custom vendor, so that it may want memory
+pub fault_wants : (text : List ℕ) (refusal : Option Refusal)
+    → MatchOption refusal (MayWantMemory text) (λ r. IsRefusedAs text r) → MayWantMemory text
+fault_wants text None wants = wants
+fault_wants text (Some r) is = inl (r, is)

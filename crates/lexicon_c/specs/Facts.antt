@@ -1,0 +1,70 @@
+-- What C asks of a triple, as numbers.
+use Rattle.std.specs.Prelude.{◌≡◌, ℕ, List, Option, Some, None}
+use Rattle.std.specs.Option.{option_map_or}
+use Rattle.lexicon_fields.specs.OperatingSystem.{version_held}
+use Rattle.lexicon_fields.specs.Width.{width_bits}
+use Rattle.lexicon_fields.specs.declared.binary_format.BinaryFormat.{BinaryFormat}
+use Rattle.lexicon_fields.specs.declared.binary_format.BinaryFormat.TheVariants as binary_format
+use Rattle.lexicon_fields.specs.declared.deployment_target.DeploymentTarget.{DeploymentTarget}
+use Rattle.lexicon_fields.specs.declared.width.Endianness.{Endianness}
+use Rattle.lexicon_fields.specs.declared.width.Endianness.TheVariants.{Little, Big}
+use Rattle.lexicon_c.specs.declared.facts.LexiconFacts.{LexiconFacts}
+use Rattle.target_lexicon.specs.ImpliedFormat.{implied}
+use Rattle.target_lexicon.specs.Queries.{endianness, pointer_width, calling_convention, data_model}
+use Rattle.target_lexicon.specs.Reading.{ReadsAs}
+use Rattle.target_lexicon.specs.Values.{Values}
+use Rattle.target_lexicon.specs.declared.calling_convention.CallingConvention.{CallingConvention}
+use Rattle.target_lexicon.specs.declared.calling_convention.CallingConvention.TheVariants.{SystemV, WasmBasicCAbi, WindowsFastcall, AppleAarch64}
+use Rattle.target_lexicon.specs.declared.data_model.CDataModel.{CDataModel}
+use Rattle.target_lexicon.specs.declared.data_model.CDataModel.TheVariants.{LP32, ILP32, LLP64, LP64, ILP64}
+
+-- the number of each answer; 0 where there is none
+
+abbrev pub endianness_number : Option Endianness → ℕ
+endianness_number None = 0
+endianness_number (Some Little) = 1
+endianness_number (Some Big) = 2
+
+abbrev pub convention_number : Option CallingConvention → ℕ
+convention_number None = 0
+convention_number (Some SystemV) = 1
+convention_number (Some WasmBasicCAbi) = 2
+convention_number (Some WindowsFastcall) = 3
+convention_number (Some AppleAarch64) = 4
+
+abbrev pub model_number : Option CDataModel → ℕ
+model_number None = 0
+model_number (Some LP32) = 1
+model_number (Some ILP32) = 2
+model_number (Some LLP64) = 3
+model_number (Some LP64) = 4
+model_number (Some ILP64) = 5
+
+abbrev pub format_number : BinaryFormat → ℕ
+format_number binary_format.Unknown = 0
+format_number binary_format.Elf = 1
+format_number binary_format.Coff = 2
+format_number binary_format.Macho = 3
+format_number binary_format.Wasm = 4
+format_number binary_format.Xcoff = 5
+
+-- a version by its three numbers, or no version, which is four times 0
+pub record AreVersionOf (facts : LexiconFacts) (version : Option DeploymentTarget) : Type 0 where
+  pub held : facts.has_version ≡ option_map_or (λ _. 1) version 0
+  pub major : facts.major ≡ option_map_or (λ v. v.major) version 0
+  pub minor : facts.minor ≡ option_map_or (λ v. v.minor) version 0
+  pub patch : facts.patch ≡ option_map_or (λ v. v.patch) version 0
+
+-- the facts of a triple
+pub record AreFactsOf (facts : LexiconFacts) (t : Values) : Type 0 where
+  pub endianness : facts.endianness ≡ endianness_number (endianness t)
+  pub bits : facts.pointer_bits ≡ option_map_or width_bits (pointer_width t) 0
+  pub convention : facts.calling_convention ≡ convention_number (calling_convention t)
+  pub model : facts.data_model ≡ model_number (data_model t)
+  pub format : facts.binary_format ≡ format_number t.binary_format
+  pub implied : facts.implied_format ≡ format_number (implied t)
+  pub version : AreVersionOf facts (version_held t.operating_system)
+
+-- the text reads as a triple with these facts
+abbrev pub AreFactsRead : List ℕ → LexiconFacts → Type 0
+AreFactsRead text facts = (t : Values) × ReadsAs text t × AreFactsOf facts t

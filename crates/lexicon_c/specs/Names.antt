@@ -1,0 +1,69 @@
+-- Printed texts and names, as they go out.
+use Rattle.std.specs.Prelude.{◌≡◌, ◌⊎◌, ℕ, suc, List, Option, Some, None, true, option_map, IsSome}
+use Rattle.lexicon_fields.specs.Architecture.{architecture_name, architecture_of}
+use Rattle.lexicon_fields.specs.BinaryFormat.{binary_format_name, binary_format_of}
+use Rattle.lexicon_fields.specs.Environment.{environment_name, environment_of}
+use Rattle.lexicon_fields.specs.OperatingSystem.{operating_system_name, operating_system_of, version_held}
+use Rattle.lexicon_fields.specs.Vendor.{vendor_name, vendor_of, is_admitted}
+use Rattle.lexicon_fields.specs.declared.operating_system.OperatingSystem.{OperatingSystem}
+use Rattle.lexicon_c.specs.Told.{IsTold}
+use Rattle.target_lexicon.specs.Field as field
+use Rattle.target_lexicon.specs.Field.{Field, place}
+use Rattle.target_lexicon.specs.FixedPoints.{settled}
+use Rattle.target_lexicon.specs.Printing.{text_of}
+use Rattle.target_lexicon.specs.Reading.{ReadsAs, MayWantMemory}
+use Rattle.target_lexicon.specs.Values.{Values}
+
+-- the text reads as a triple, whose printed text is told
+abbrev pub IsPrintedTold : List ℕ → List ℕ → List ℕ → ℕ → Type 0
+IsPrintedTold text old new size = (t : Values) × ReadsAs text t × IsTold (text_of t) old new size
+
+-- the text reads as a triple, whose printed text once it is settled is told
+abbrev pub IsSettledTold : List ℕ → List ℕ → List ℕ → ℕ → Type 0
+IsSettledTold text old new size = (t : Values) × ReadsAs text t × IsTold (text_of (settled t)) old new size
+
+-- the name of a triple's value in a field
+abbrev pub name_in : Values → Field → List ℕ
+name_in t field.Architecture = architecture_name t.architecture
+name_in t field.Vendor = vendor_name t.vendor
+name_in t field.OperatingSystem = operating_system_name t.operating_system
+name_in t field.Environment = environment_name t.environment
+name_in t field.BinaryFormat = binary_format_name t.binary_format
+
+-- the text reads as a triple, whose name in the field of this number is told
+abbrev pub IsNameTold : ℕ → List ℕ → List ℕ → List ℕ → ℕ → Type 0
+IsNameTold number text old new size =
+    (f : Field) × ((t : Values) × (place f ≡ number) × ReadsAs text t × IsTold (name_in t f) old new size)
+
+-- a system that holds a version, whose name may want memory
+abbrev pub HoldsVersion : OperatingSystem → Type 0
+HoldsVersion system = IsSome (version_held system)
+
+-- the only texts whose names may want memory: those whose reading does, and, of the system, those with a version
+abbrev pub MayNameWantMemory : ℕ → List ℕ → Type 0
+MayNameWantMemory number text =
+    MayWantMemory text ⊎ ((t : Values) × (number ≡ 2) × ReadsAs text t × HoldsVersion t.operating_system)
+
+-- the name of the value that a text reads as in a field, if it does
+abbrev pub name_read : Field → List ℕ → Option (List ℕ)
+name_read field.Architecture text = option_map architecture_name (architecture_of text)
+name_read field.Vendor text = option_map vendor_name (vendor_of text)
+name_read field.OperatingSystem text = option_map operating_system_name (operating_system_of text)
+name_read field.Environment text = option_map environment_name (environment_of text)
+name_read field.BinaryFormat text = option_map binary_format_name (binary_format_of text)
+
+-- the text reads in the field of this number, and the name is told
+abbrev pub IsReadNameTold : ℕ → List ℕ → List ℕ → List ℕ → ℕ → Type 0
+IsReadNameTold number text old new size =
+    (f : Field) × ((name : List ℕ) × (place f ≡ number) × (name_read f text ≡ Some name) × IsTold name old new size)
+
+-- the text doesn't read in the field of this number, and is told itself; the status is that of the field
+abbrev pub IsUnreadTold : ℕ → ℕ → List ℕ → List ℕ → List ℕ → ℕ → Type 0
+IsUnreadTold status number text old new size =
+    (f : Field) × (place f ≡ number) × (status ≡ suc (place f)) × (name_read f text ≡ None) × IsTold text old new size
+
+-- the only texts of a field that may want memory: those of custom vendors and of systems with a version
+abbrev pub MayReadNameWantMemory : ℕ → List ℕ → Type 0
+MayReadNameWantMemory number text =
+    ((number ≡ 1) × (is_admitted text ≡ true))
+    ⊎ ((system : OperatingSystem) × (number ≡ 2) × (operating_system_of text ≡ Some system) × HoldsVersion system)

@@ -1,0 +1,142 @@
+//! The facts of a triple, as numbers.
+ghost use Rattle.std.specs.Prelude.{◌≡◌};
+ghost use Rattle.std.specs.Option.{option_map_or};
+ghost use Rattle.lexicon_fields.specs.OperatingSystem.{version_held};
+ghost use Rattle.lexicon_fields.specs.Width.{width_bits};
+ghost use Rattle.target_lexicon.specs.Queries.{endianness, pointer_width, calling_convention, data_model};
+ghost use Rattle.target_lexicon.specs.Values.{values_of};
+ghost use Rattle.lexicon_c.specs.Facts.{AreFactsOf, endianness_number, convention_number, model_number, format_number};
+
+use target_lexicon::{
+    BinaryFormat, CDataModel, CallingConvention, DeploymentTarget, Endianness, OperatingSystem,
+    PointerWidth, Triple, default_binary_format,
+};
+
+/// What C asks of a triple. Each number is 0 where there is no answer.
+#[repr(C)]
+#[derive(Clone, Copy, PartialEq, Eq, Debug)]
+pub struct LexiconFacts {
+    /// The byte order: 1 is little, 2 big.
+    pub endianness: u32,
+    /// The width of a pointer: 16, 32 or 64.
+    pub pointer_bits: u32,
+    /// The calling convention: 1 is System V, 2 the C ABI of WebAssembly, 3 Windows Fastcall, 4 Apple's on 64-bit Arm.
+    pub calling_convention: u32,
+    /// The data model of C: 1 is LP32, 2 ILP32, 3 LLP64, 4 LP64, 5 ILP64.
+    pub data_model: u32,
+    /// The binary format: 1 is ELF, 2 COFF, 3 Mach-O, 4 WebAssembly, 5 XCOFF.
+    pub binary_format: u32,
+    /// The binary format that the other fields imply, numbered as `binary_format`.
+    pub implied_format: u32,
+    /// Whether the operating system holds a version: 1 or 0. Without one the next three are 0.
+    pub has_version: u32,
+    /// The first number of the version.
+    pub major: u32,
+    /// The second number.
+    pub minor: u32,
+    /// The third number.
+    pub patch: u32,
+}
+
+/// The facts of a triple.
+pub(crate) fn facts_of(triple: &Triple) -> LexiconFacts
+    ensures { AreFactsOf result (values_of triple.now) }
+{
+    let version = version_of(triple.operating_system);
+    let DeploymentTarget {
+        major,
+        minor,
+        patch,
+    } = version.unwrap_or(DeploymentTarget {
+        major: 0,
+        minor: 0,
+        patch: 0,
+    });
+    LexiconFacts {
+        endianness: endianness_number(triple),
+        pointer_bits: pointer_bits(triple),
+        calling_convention: convention_number(triple),
+        data_model: model_number(triple),
+        binary_format: format_number(triple.binary_format),
+        implied_format: format_number(default_binary_format(triple)),
+        has_version: u32::from(version.is_some()),
+        major: u32::from(major),
+        minor: u32::from(minor),
+        patch: u32::from(patch),
+    }
+}
+
+fn endianness_number(triple: &Triple) -> u32
+    ensures { result ≡ endianness_number (endianness (values_of triple.now)) }
+{
+    match triple.endianness() {
+        Ok(Endianness::Little) => 1,
+        Ok(Endianness::Big) => 2,
+        Err(()) => 0,
+    }
+}
+
+fn pointer_bits(triple: &Triple) -> u32
+    ensures { result ≡ option_map_or width_bits (pointer_width (values_of triple.now)) 0 }
+{
+    match triple.pointer_width() {
+        Ok(PointerWidth::U16) => 16,
+        Ok(PointerWidth::U32) => 32,
+        Ok(PointerWidth::U64) => 64,
+        Err(()) => 0,
+    }
+}
+
+fn convention_number(triple: &Triple) -> u32
+    ensures { result ≡ convention_number (calling_convention (values_of triple.now)) }
+{
+    match triple.default_calling_convention() {
+        Ok(CallingConvention::SystemV) => 1,
+        Ok(CallingConvention::WasmBasicCAbi) => 2,
+        Ok(CallingConvention::WindowsFastcall) => 3,
+        Ok(CallingConvention::AppleAarch64) => 4,
+        Err(()) => 0,
+    }
+}
+
+fn model_number(triple: &Triple) -> u32
+    ensures { result ≡ model_number (data_model (values_of triple.now)) }
+{
+    match triple.data_model() {
+        Ok(CDataModel::LP32) => 1,
+        Ok(CDataModel::ILP32) => 2,
+        Ok(CDataModel::LLP64) => 3,
+        Ok(CDataModel::LP64) => 4,
+        Ok(CDataModel::ILP64) => 5,
+        Err(()) => 0,
+    }
+}
+
+fn format_number(format: BinaryFormat) -> u32
+    ensures { result ≡ format_number format }
+{
+    match format {
+        BinaryFormat::Unknown => 0,
+        BinaryFormat::Elf => 1,
+        BinaryFormat::Coff => 2,
+        BinaryFormat::Macho => 3,
+        BinaryFormat::Wasm => 4,
+        BinaryFormat::Xcoff => 5,
+    }
+}
+
+/// The version that an operating system holds.
+fn version_of(system: OperatingSystem) -> Option<DeploymentTarget>
+    ensures { result ≡ version_held system }
+{
+    match system {
+        OperatingSystem::Darwin(version)
+        | OperatingSystem::IOS(version)
+        | OperatingSystem::MacOSX(version)
+        | OperatingSystem::TvOS(version)
+        | OperatingSystem::VisionOS(version)
+        | OperatingSystem::WatchOS(version)
+        | OperatingSystem::XROS(version) => version,
+        _ => None,
+    }
+}

@@ -1,0 +1,262 @@
+//! The calls of `target_lexicon` for C: a text of a triple goes in, texts and numbers come out.
+#![tactic(auto)]
+
+mod facts;
+mod names;
+mod read;
+mod status;
+#[cfg(test)]
+mod tests;
+mod told;
+
+ghost use Rattle.std.specs.Prelude.{◌≡◌, ◌≤◌, ◌<◌, ◌↔◌, ◌⊎◌};
+ghost use Rattle.std.specs.Str.{IsUtf8};
+ghost use Rattle.lexicon_c.specs.Answers.{IsRead, IsFixedTold, IsComparedTold, IsEitherRefusedBy};
+ghost use Rattle.lexicon_c.specs.Facts.{AreFactsRead};
+ghost use Rattle.lexicon_c.specs.Names.{IsPrintedTold, IsSettledTold, IsNameTold, MayNameWantMemory, IsReadNameTold, IsUnreadTold, MayReadNameWantMemory};
+ghost use Rattle.lexicon_c.specs.Refused.{IsRefusedBy, IsRefusedTold, IsLineTold};
+ghost use Rattle.lexicon_c.specs.Told.{IsNothingTold};
+ghost use Rattle.target_lexicon.specs.Reading.{MayWantMemory};
+
+pub use facts::LexiconFacts;
+use facts::facts_of;
+use names::{
+    tell_architecture, tell_binary_format, tell_environment, tell_operating_system, tell_vendor,
+};
+use read::{are_equal, read};
+use status::{DONE, NO_SUCH_FIELD, NOT_UTF8, OUT_OF_MEMORY, tell_error, tell_line};
+use std::alloc::Global;
+use target_lexicon::Triple;
+use told::{tell, tell_system};
+
+/// Reads a text as a triple, and tells its printed text, or the refused part.
+#[unsafe(no_mangle)]
+pub extern "C" fn lexicon_normalize(
+    alloc: Global,
+    text: &[u8],
+    out: &mut [u8],
+    length: &mut usize,
+) -> u32
+    ensures done { result ≡ 0 → IsPrintedTold text.now out.old out.new length.new }
+    ensures refused { 1 ≤ result → result ≤ 6 → IsRefusedTold result text.now out.old out.new length.new }
+    ensures utf8 { (result ≡ 7) ↔ ¬ (IsUtf8 text.now) }
+    ensures nothing { 7 ≤ result → IsNothingTold out.old out.new length.new }
+    ensures all { result ≤ 8 }
+{
+    *length = 0;
+    let Ok(text) = str::from_utf8(text) else {
+        return NOT_UTF8;
+    };
+    match Triple::from_str(alloc, text) {
+        Ok(triple) => match triple.to_text(alloc) {
+            Ok(printed) => tell(DONE, printed.as_str(), out, length),
+            Err(_) => OUT_OF_MEMORY,
+        },
+        Err(error) => tell_error(&error, out, length),
+    }
+}
+
+/// Reads a text as a triple, settles it, and tells its printed text, or the refused part. A settled text is the key of a target:
+/// it reads and settles as itself, and no other target has it.
+#[unsafe(no_mangle)]
+pub extern "C" fn lexicon_settle(
+    alloc: Global,
+    text: &[u8],
+    out: &mut [u8],
+    length: &mut usize,
+) -> u32
+    ensures done { result ≡ 0 → IsSettledTold text.now out.old out.new length.new }
+    ensures refused { 1 ≤ result → result ≤ 6 → IsRefusedTold result text.now out.old out.new length.new }
+    ensures utf8 { (result ≡ 7) ↔ ¬ (IsUtf8 text.now) }
+    ensures nothing { 7 ≤ result → IsNothingTold out.old out.new length.new }
+    ensures all { result ≤ 8 }
+{
+    *length = 0;
+    let Ok(text) = str::from_utf8(text) else {
+        return NOT_UTF8;
+    };
+    match Triple::from_str(alloc, text) {
+        Ok(triple) => match triple.settle().to_text(alloc) {
+            Ok(printed) => tell(DONE, printed.as_str(), out, length),
+            Err(_) => OUT_OF_MEMORY,
+        },
+        Err(error) => tell_error(&error, out, length),
+    }
+}
+
+/// Reads a text as a triple, and tells the name of one of its fields, or the refused part. The fields are numbered from 0 in
+/// their order: architecture, vendor, operating system, environment, binary format.
+#[unsafe(no_mangle)]
+pub extern "C" fn lexicon_field(
+    alloc: Global,
+    text: &[u8],
+    field: u32,
+    out: &mut [u8],
+    length: &mut usize,
+) -> u32
+    ensures done { result ≡ 0 → IsNameTold field text.now out.old out.new length.new }
+    ensures refused { 1 ≤ result → result ≤ 6 → IsRefusedTold result text.now out.old out.new length.new }
+    ensures utf8 { (result ≡ 7) ↔ ((field ≤ 4) × ¬ (IsUtf8 text.now)) }
+    ensures no_such_field { (result ≡ 9) ↔ (4 < field) }
+    ensures memory { result ≡ 8 → MayNameWantMemory field text.now }
+    ensures nothing { 7 ≤ result → IsNothingTold out.old out.new length.new }
+    ensures all { result ≤ 9 }
+{
+    *length = 0;
+    if field > 4 {
+        return NO_SUCH_FIELD;
+    }
+    let Ok(text) = str::from_utf8(text) else {
+        return NOT_UTF8;
+    };
+    let triple = match Triple::from_str(alloc, text) {
+        Ok(triple) => triple,
+        Err(error) => return tell_error(&error, out, length),
+    };
+    match field {
+        0 => tell(DONE, triple.architecture.into_str().as_str(), out, length),
+        1 => tell(DONE, triple.vendor.as_str(), out, length),
+        2 => tell_system(alloc, triple.operating_system, out, length),
+        3 => tell(DONE, triple.environment.into_str().as_str(), out, length),
+        _ => tell(DONE, triple.binary_format.into_str().as_str(), out, length),
+    }
+}
+
+/// Reads a text as a triple, and tells its facts.
+#[unsafe(no_mangle)]
+pub extern "C" fn lexicon_facts(alloc: Global, text: &[u8], facts: &mut LexiconFacts) -> u32
+    ensures done { result ≡ 0 → AreFactsRead text.now facts.new }
+    ensures refused { 1 ≤ result → result ≤ 6 → IsRefusedBy result text.now }
+    ensures utf8 { (result ≡ 7) ↔ ¬ (IsUtf8 text.now) }
+    ensures memory { result ≡ 8 → MayWantMemory text.now }
+    ensures nothing { 0 < result → facts.new ≡ facts.old }
+    ensures all { result ≤ 8 }
+{
+    let Ok(text) = str::from_utf8(text) else {
+        return NOT_UTF8;
+    };
+    match read(alloc, text) {
+        Ok(triple) => {
+            *facts = facts_of(&triple);
+            DONE
+        }
+        Err(status) => status,
+    }
+}
+
+/// Reads a text as a triple, and tells whether it comes back: printed and read again, it is itself.
+#[unsafe(no_mangle)]
+pub extern "C" fn lexicon_comes_back(alloc: Global, text: &[u8], answer: &mut bool) -> u32
+    ensures done { result ≡ 0 → IsFixedTold text.now answer.new }
+    ensures refused { 1 ≤ result → result ≤ 6 → IsRefusedBy result text.now }
+    ensures utf8 { (result ≡ 7) ↔ ¬ (IsUtf8 text.now) }
+    ensures memory { result ≡ 8 → MayWantMemory text.now }
+    ensures nothing { 0 < result → answer.new ≡ answer.old }
+    ensures all { result ≤ 8 }
+{
+    let Ok(text) = str::from_utf8(text) else {
+        return NOT_UTF8;
+    };
+    match read(alloc, text) {
+        Ok(triple) => {
+            *answer = triple.comes_back();
+            DONE
+        }
+        Err(status) => status,
+    }
+}
+
+/// Reads two texts as triples, and tells whether these are equal. The status of a refusal is the first text's, or the second's
+/// where the first is read.
+#[unsafe(no_mangle)]
+pub extern "C" fn lexicon_equal(
+    alloc: Global,
+    first: &[u8],
+    second: &[u8],
+    answer: &mut bool,
+) -> u32
+    ensures done { result ≡ 0 → IsComparedTold first.now second.now answer.new }
+    ensures refused { 1 ≤ result → result ≤ 6 → IsEitherRefusedBy result first.now second.now }
+    ensures utf8 { (result ≡ 7) ↔ ((¬ (IsUtf8 first.now)) ⊎ (¬ (IsUtf8 second.now))) }
+    ensures memory { result ≡ 8 → MayWantMemory first.now ⊎ MayWantMemory second.now }
+    ensures nothing { 0 < result → answer.new ≡ answer.old }
+    ensures all { result ≤ 8 }
+{
+    let Ok(first) = str::from_utf8(first) else {
+        return NOT_UTF8;
+    };
+    let Ok(second) = str::from_utf8(second) else {
+        return NOT_UTF8;
+    };
+    let one = match read(alloc, first) {
+        Ok(triple) => triple,
+        Err(status) => return status,
+    };
+    match read(alloc, second) {
+        Ok(other) => {
+            *answer = are_equal(&one, &other);
+            DONE
+        }
+        Err(status) => status,
+    }
+}
+
+/// Tells the line of a text's refusal, as `Unrecognized operating system: bar`. A text that reads as a triple has none, and
+/// status 0.
+#[unsafe(no_mangle)]
+pub extern "C" fn lexicon_error_line(
+    alloc: Global,
+    text: &[u8],
+    out: &mut [u8],
+    length: &mut usize,
+) -> u32
+    ensures done { result ≡ 0 → IsRead text.now × IsNothingTold out.old out.new length.new }
+    ensures refused { 1 ≤ result → result ≤ 6 → IsLineTold result text.now out.old out.new length.new }
+    ensures utf8 { (result ≡ 7) ↔ ¬ (IsUtf8 text.now) }
+    ensures memory { result ≡ 8 → MayWantMemory text.now }
+    ensures nothing { 7 ≤ result → IsNothingTold out.old out.new length.new }
+    ensures all { result ≤ 8 }
+{
+    *length = 0;
+    let Ok(text) = str::from_utf8(text) else {
+        return NOT_UTF8;
+    };
+    match Triple::from_str(alloc, text) {
+        Ok(_) => DONE,
+        Err(error) => tell_line(alloc, &error, out, length),
+    }
+}
+
+/// Reads a text as a value of one field, numbered as for `lexicon_field`, and tells the name of the value; a text that doesn't
+/// read is told itself, and the status is that of the field.
+#[unsafe(no_mangle)]
+pub extern "C" fn lexicon_read_name(
+    alloc: Global,
+    text: &[u8],
+    field: u32,
+    out: &mut [u8],
+    length: &mut usize,
+) -> u32
+    ensures done { result ≡ 0 → IsReadNameTold field text.now out.old out.new length.new }
+    ensures refused { 1 ≤ result → result ≤ 6 → IsUnreadTold result field text.now out.old out.new length.new }
+    ensures utf8 { (result ≡ 7) ↔ ((field ≤ 4) × ¬ (IsUtf8 text.now)) }
+    ensures no_such_field { (result ≡ 9) ↔ (4 < field) }
+    ensures memory { result ≡ 8 → MayReadNameWantMemory field text.now }
+    ensures nothing { 7 ≤ result → IsNothingTold out.old out.new length.new }
+    ensures all { result ≤ 9 }
+{
+    *length = 0;
+    if field > 4 {
+        return NO_SUCH_FIELD;
+    }
+    let Ok(text) = str::from_utf8(text) else {
+        return NOT_UTF8;
+    };
+    match field {
+        0 => tell_architecture(text, out, length),
+        1 => tell_vendor(alloc, text, out, length),
+        2 => tell_operating_system(alloc, text, out, length),
+        3 => tell_environment(text, out, length),
+        _ => tell_binary_format(text, out, length),
+    }
+}

@@ -1,0 +1,88 @@
+//! The statuses that a call answers.
+ghost use Rattle.std.specs.Prelude.{◌≡◌, ◌≢◌, ◌≤◌, MatchOption};
+ghost use Rattle.target_lexicon.specs.Refusal.{refusal_of, refusal_line};
+ghost use Rattle.lexicon_c.specs.Refused.{lack_status};
+ghost use Rattle.lexicon_c.specs.Told.{IsTold, IsNothingTold};
+
+use crate::told::tell;
+use std::alloc::Global;
+use target_lexicon::ParseError;
+
+pub(crate) const DONE: u32 = 0;
+
+pub(crate) const NO_ARCHITECTURE: u32 = 1;
+
+pub(crate) const NO_VENDOR: u32 = 2;
+
+pub(crate) const NO_OPERATING_SYSTEM: u32 = 3;
+
+pub(crate) const NO_ENVIRONMENT: u32 = 4;
+
+pub(crate) const NO_BINARY_FORMAT: u32 = 5;
+
+pub(crate) const NO_FIELD: u32 = 6;
+
+pub(crate) const NOT_UTF8: u32 = 7;
+
+pub(crate) const OUT_OF_MEMORY: u32 = 8;
+
+pub(crate) const NO_SUCH_FIELD: u32 = 9;
+
+/// The status of an error.
+pub(crate) fn status_of(error: &ParseError) -> u32
+    ensures { MatchOption (refusal_of error.now) (result ≡ 8) (λ refusal. result ≡ lack_status refusal.lack) }
+{
+    match error {
+        ParseError::UnrecognizedArchitecture(_) => NO_ARCHITECTURE,
+        ParseError::UnrecognizedVendor(_) => NO_VENDOR,
+        ParseError::UnrecognizedOperatingSystem(_) => NO_OPERATING_SYSTEM,
+        ParseError::UnrecognizedEnvironment(_) => NO_ENVIRONMENT,
+        ParseError::UnrecognizedBinaryFormat(_) => NO_BINARY_FORMAT,
+        ParseError::UnrecognizedField(_) => NO_FIELD,
+        ParseError::OutOfMemory => OUT_OF_MEMORY,
+    }
+}
+
+/// Tells the refused part of an error; answers its status.
+pub(crate) fn tell_error(error: &ParseError, out: &mut [u8], length: &mut usize) -> u32
+    ensures { MatchOption (refusal_of error.now)
+        ((result ≡ 8) × IsNothingTold out.old out.new length.new)
+        (λ refusal. (result ≡ lack_status refusal.lack) × IsTold refusal.part out.old out.new length.new) }
+{
+    let status = status_of(error);
+    match error {
+        ParseError::UnrecognizedArchitecture(part)
+        | ParseError::UnrecognizedVendor(part)
+        | ParseError::UnrecognizedOperatingSystem(part)
+        | ParseError::UnrecognizedEnvironment(part)
+        | ParseError::UnrecognizedBinaryFormat(part)
+        | ParseError::UnrecognizedField(part) => tell(status, part.as_str(), out, length),
+        ParseError::OutOfMemory => {
+            *length = 0;
+            status
+        }
+    }
+}
+
+/// Tells the line of an error, which wants memory; answers the error's status, or that memory was refused.
+pub(crate) fn tell_line(
+    alloc: Global,
+    error: &ParseError,
+    out: &mut [u8],
+    length: &mut usize,
+) -> u32
+    ensures told { result ≤ 6 → MatchOption (refusal_of error.now) ⊥
+        (λ refusal. (result ≡ lack_status refusal.lack) × IsTold (refusal_line refusal) out.old out.new length.new) }
+    ensures nothing { 7 ≤ result → IsNothingTold out.old out.new length.new }
+    ensures range { (1 ≤ result) × (result ≤ 8) × (result ≢ 7) }
+{
+    *length = 0;
+    let status = status_of(error);
+    if status == OUT_OF_MEMORY {
+        return OUT_OF_MEMORY;
+    }
+    match error.to_string(alloc) {
+        Ok(line) => tell(status, line.as_str(), out, length),
+        Err(_) => OUT_OF_MEMORY,
+    }
+}
