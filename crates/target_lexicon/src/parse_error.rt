@@ -112,42 +112,45 @@ impl Error for ParseError {}
 #[cfg(test)]
 mod tests {
     use super::*;
+    use std::process::Abort;
     use std::test::Fail;
+
+    /// The error prints this line, and its clone is equal to it.
+    fn check(rt: &impl Abort, alloc: Global, error: ParseError, line: &str) -> Result<(), Fail> {
+        let printed = format!(in alloc; "{error}")?;
+        assert_eq!(rt; printed.as_str(), line);
+        assert_eq!(rt; error.clone(alloc)?, error);
+        Ok(())
+    }
 
     #[test]
     fn lines(rt: HostRuntime) -> Result<(), Fail> {
         let foo = || String::from_str(rt.alloc(), "foo");
-        for (error, line) in [
-            (
-                ParseError::UnrecognizedArchitecture(foo()?),
-                "Unrecognized architecture: foo",
-            ),
-            (
-                ParseError::UnrecognizedVendor(foo()?),
-                "Unrecognized vendor: foo",
-            ),
-            (
-                ParseError::UnrecognizedOperatingSystem(foo()?),
-                "Unrecognized operating system: foo",
-            ),
-            (
-                ParseError::UnrecognizedEnvironment(foo()?),
-                "Unrecognized environment: foo",
-            ),
-            (
-                ParseError::UnrecognizedBinaryFormat(foo()?),
-                "Unrecognized binary format: foo",
-            ),
-            (
-                ParseError::UnrecognizedField(foo()?),
-                "Unrecognized field: foo",
-            ),
-            (ParseError::OutOfMemory, "Out of memory"),
-        ] {
-            let printed = format!(in rt.alloc(); "{error}")?;
-            assert_eq!(rt; printed.as_str(), line);
-            assert_eq!(rt; error.clone(rt.alloc())?, error);
-        }
-        Ok(())
+        let check = |error: ParseError, line: &str| check(&rt, rt.alloc(), error, line);
+        check(
+            ParseError::UnrecognizedArchitecture(foo()?),
+            "Unrecognized architecture: foo",
+        )?;
+        check(
+            ParseError::UnrecognizedVendor(foo()?),
+            "Unrecognized vendor: foo",
+        )?;
+        check(
+            ParseError::UnrecognizedOperatingSystem(foo()?),
+            "Unrecognized operating system: foo",
+        )?;
+        check(
+            ParseError::UnrecognizedEnvironment(foo()?),
+            "Unrecognized environment: foo",
+        )?;
+        check(
+            ParseError::UnrecognizedBinaryFormat(foo()?),
+            "Unrecognized binary format: foo",
+        )?;
+        check(
+            ParseError::UnrecognizedField(foo()?),
+            "Unrecognized field: foo",
+        )?;
+        check(ParseError::OutOfMemory, "Out of memory")
     }
 }
