@@ -2,8 +2,10 @@
 
 mod architectures;
 mod environments;
+mod faults;
 mod widths;
 
+use faults::tells_each_fault;
 use std::alloc::Global;
 use std::borrow::CowStr;
 use std::fmt::{Debug, Display};
@@ -11,8 +13,8 @@ use std::process::Abort;
 use std::str::FromStr;
 use std::test::Fail;
 
-/// The text reads as the value, which has it for a name and prints it, whatever the width that is asked for.
-/// `read` and `name` are what the type's own calls answer.
+/// The text reads as the value, which has it for a name and prints it, whatever the width that is asked for,
+/// and each piece of it may fail. `read` and `name` are what the type's own calls answer.
 fn check_name<T: Copy + Debug + Display + FromStr<Err = ()> + PartialEq>(
     rt: &impl Abort,
     alloc: Global,
@@ -26,5 +28,6 @@ fn check_name<T: Copy + Debug + Display + FromStr<Err = ()> + PartialEq>(
     assert_eq!(rt; name.as_str(), text);
     assert_eq!(rt; format!(in alloc; "{value}")?.as_str(), text);
     assert_eq!(rt; format!(in alloc; "{value:*>40}")?.as_str(), text);
+    assert!(rt; tells_each_fault(&value), "{text}");
     Ok(())
 }

@@ -1,6 +1,8 @@
 //! Triples that are read from texts and printed.
 
+mod faults;
 pub(crate) mod fixtures;
+mod hostile;
 pub(crate) mod known_triples;
 
 use crate::{Architecture, BinaryFormat, Environment, OperatingSystem, ParseError, Triple, Vendor};

@@ -1,6 +1,4 @@
-use crate::tests::fixtures::{
-    AARCH64, ARMV6K, CLEVER, Pieces, RISCV32IMC, custom, triple, version,
-};
+use crate::tests::fixtures::{AARCH64, ARMV6K, CLEVER, RISCV32IMC, custom, triple, version};
 use crate::{
     Architecture, ArmArchitecture, BinaryFormat, CustomVendor, Environment, KnownVendor,
     OperatingSystem, Riscv64Architecture, Triple, Vendor, default_binary_format,
@@ -11,7 +9,6 @@ use Environment as E;
 use KnownVendor as V;
 use OperatingSystem as O;
 use std::alloc::Global;
-use std::fmt::Write as _;
 use std::process::Abort;
 use std::test::Fail;
 
@@ -232,22 +229,4 @@ fn width_and_fill_change_nothing(rt: HostRuntime) -> Result<(), Fail> {
     check_five_fields(&rt, format!(in rt.alloc(); "{triple:*^40}")?);
     check_five_fields(&rt, format!(in rt.alloc(); "{triple:#}")?);
     Ok(())
-}
-
-#[test]
-fn a_fault_comes_exactly_where_the_writer_failed(rt: HostRuntime) {
-    let triple = five_fields();
-    let mut taken_whole = 0u32;
-    for left in 0..12u32 {
-        let mut target = Pieces { left, failures: 0 };
-        let result = write!(target, "{triple}");
-        if result.is_ok() {
-            taken_whole = taken_whole.saturating_add(1);
-            assert_eq!(rt; target.failures, 0);
-        } else {
-            assert_eq!(rt; target.failures, 1);
-        }
-    }
-    assert!(rt; taken_whole > 0);
-    assert!(rt; taken_whole < 12);
 }

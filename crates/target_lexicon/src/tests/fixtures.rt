@@ -62,20 +62,20 @@ pub(crate) fn version(major: u16, minor: u8, patch: u8) -> Option<DeploymentTarg
     })
 }
 
-/// A target that takes `left` pieces, and then fails.
+/// Counts its pieces, and fails at its `fails_at`th one alone.
 #[derive(Drop)]
 pub(crate) struct Pieces {
-    pub left: u32,
-    pub failures: u32,
+    pub fails_at: usize,
+    pub pieces: usize,
 }
 
 impl fmt::Write for Pieces {
     fn write_str(&mut self, _s: &str) -> fmt::Result {
-        if self.left == 0 {
-            self.failures = self.failures.saturating_add(1);
+        let at = self.pieces;
+        self.pieces = self.pieces.saturating_add(1);
+        if at == self.fails_at {
             return Err(fmt::Error);
         }
-        self.left -= 1;
         Ok(())
     }
 }

@@ -1,9 +1,7 @@
 //! Runs in mode `json`.
 
-use super::{Gate, outcome};
-use crate::counted::Counted;
+use super::outcome;
 use crate::mode::Mode;
-use crate::run::run;
 use crate::run_error::RunError;
 use std::test::Fail;
 
@@ -126,26 +124,4 @@ fn lists_nest_as_deep_as_json_is_read(rt: HostRuntime) -> Result<(), Fail> {
         assert_eq!(rt; written.as_slice(), line.as_bytes());
     }
     Ok(())
-}
-
-#[test]
-fn a_failed_write_leaves_a_beginning(rt: HostRuntime) {
-    let whole = b"[\"wasm32-wasi\"]\n";
-    for fails_at in 0..18 {
-        let mut gate = Gate::new(rt.alloc());
-        gate.most = 1;
-        gate.fails_at = fails_at;
-        let mut writer = Counted::new(gate);
-        let mut reader = Counted::new(b"[\"wasm32-unknown-wasi\"]".as_slice());
-        let end = run(rt.alloc(), Mode::Json, &mut reader, &mut writer);
-        let wanted = if fails_at < whole.len() {
-            Err(RunError::Write)
-        } else {
-            Ok(())
-        };
-        assert_eq!(rt; end, wanted, "at {fails_at}");
-        let gate = writer.into_inner();
-        assert_eq!(rt; gate.kept.len(), fails_at.min(whole.len()));
-        assert!(rt; whole.starts_with(gate.kept.as_slice()));
-    }
 }
