@@ -1,0 +1,32 @@
+//! The calls that read a text.
+
+use crate::tell::tell;
+use std::alloc::Global;
+use target_lexicon::{Triple, Vendor};
+
+/// With a custom vendor, refused, and such as are read without memory.
+const TRIPLES: &str = "x86_64-customvendor-linux\n\
+    foo\n\
+    x86_64-customvendor-linux-foo-bar\n\
+    x86_64-unknown-linux-gnu-elf-foo\n\
+    x86_64-unknown-linux-gnu\n\
+    armv6k-nintendo-3ds\n\
+    riscv32imc-esp-espidf";
+
+pub(crate) fn tell_readings(rt: &impl Print, alloc: Global) -> Option<()> {
+    for text in TRIPLES.lines() {
+        tell_triple(rt, alloc, text)?;
+    }
+    tell_vendor(rt, alloc, "customvendor")?;
+    tell_vendor(rt, alloc, "pc")
+}
+
+fn tell_triple(rt: &impl Print, alloc: Global, text: &str) -> Option<()> {
+    let triple = Triple::from_str(alloc, text);
+    tell(rt, "Triple::from_str", &text, &triple)
+}
+
+fn tell_vendor(rt: &impl Print, alloc: Global, text: &str) -> Option<()> {
+    let vendor = Vendor::from_str(alloc, text);
+    tell(rt, "Vendor::from_str", &text, &vendor)
+}

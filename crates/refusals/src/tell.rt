@@ -1,0 +1,13 @@
+//! The line of a call.
+
+use std::fmt::Debug;
+
+/// Writes a call, what it was lent, as that is behind the call, and what it answered.
+pub(crate) fn tell<L: Debug, A: Debug>(
+    rt: &impl Print,
+    call: &str,
+    lent: &L,
+    answer: &A,
+) -> Option<()> {
+    println!(rt; "{call} of {lent:?}: {answer:?}").ok()
+}
