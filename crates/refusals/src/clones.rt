@@ -1,52 +1,67 @@
-//! The clones.
+//! The clones, and the calls that print.
 
 use crate::tell::tell;
 use std::alloc::Global;
-use target_lexicon::{CustomVendor, DefaultToHost, DefaultToUnknown, ParseError, Triple, Vendor};
+use target_lexicon::{
+    CustomVendor, DefaultToHost, DefaultToUnknown, DeploymentTarget, OperatingSystem, ParseError,
+    Triple, Vendor,
+};
 
-pub(crate) fn tell_clones(rt: &impl Print, alloc: Global) -> Option<()> {
-    tell_vendor(rt, alloc, &Vendor::Pc)?;
-    tell_custom(rt, alloc, &CustomVendor::Static("foo"))?;
-    tell_refusal(rt, alloc)?;
-    let triple = Triple::from_str(alloc, "x86_64-customvendor-linux").ok()?;
-    tell_triple(rt, alloc, triple)
+/// Of values that own no text.
+pub(crate) fn tell_fixed(rt: &impl Print, alloc: Global) {
+    tell_vendor(rt, alloc, &Vendor::Pc);
+    tell_custom(rt, alloc, &CustomVendor::Static("foo"));
+    let version = DeploymentTarget {
+        major: 23,
+        minor: 6,
+        patch: 0,
+    };
+    tell_system(rt, alloc, OperatingSystem::Darwin(Some(version)));
+    tell_system(rt, alloc, OperatingSystem::Darwin(None));
 }
 
-/// The triple, what it holds, and the wrappers around it.
-fn tell_triple(rt: &impl Print, alloc: Global, triple: Triple) -> Option<()> {
-    tell(rt, "Triple::clone", &triple, &triple.clone(alloc))?;
-    tell_vendor(rt, alloc, &triple.vendor)?;
-    tell_host(rt, alloc, DefaultToHost(triple))
-}
-
-fn tell_vendor(rt: &impl Print, alloc: Global, vendor: &Vendor) -> Option<()> {
-    tell(rt, "Vendor::clone", vendor, &vendor.clone(alloc))?;
-    match vendor {
-        Vendor::Custom(custom) => tell_custom(rt, alloc, custom),
-        _ => Some(()),
+/// Of a triple whose vendor owns its text, of what it holds, and of the wrappers around it.
+pub(crate) fn tell_triple(rt: &impl Print, alloc: Global, triple: Triple) {
+    tell(rt, "Triple::clone", &triple, &triple.clone(alloc));
+    tell(rt, "Triple::to_text", &triple, &triple.to_text(alloc));
+    tell(rt, "Triple::to_json", &triple, &triple.to_json(alloc));
+    tell_vendor(rt, alloc, &triple.vendor);
+    if let Vendor::Custom(custom) = &triple.vendor {
+        tell_custom(rt, alloc, custom);
     }
+    tell_wrapped(rt, alloc, triple);
 }
 
-fn tell_custom(rt: &impl Print, alloc: Global, custom: &CustomVendor) -> Option<()> {
-    tell(rt, "CustomVendor::clone", custom, &custom.clone(alloc))
+pub(crate) fn tell_refusal(rt: &impl Print, alloc: Global, part: String) {
+    let refusal = ParseError::UnrecognizedArchitecture(part);
+    tell(rt, "ParseError::clone", &refusal, &refusal.clone(alloc));
 }
 
-fn tell_host(rt: &impl Print, alloc: Global, host: DefaultToHost) -> Option<()> {
-    tell(rt, "DefaultToHost::clone", &host, &host.clone(alloc))?;
-    tell_unknown(rt, alloc, DefaultToUnknown(host.0))
-}
-
-fn tell_unknown(rt: &impl Print, alloc: Global, unknown: DefaultToUnknown) -> Option<()> {
+fn tell_wrapped(rt: &impl Print, alloc: Global, triple: Triple) {
+    let host = DefaultToHost(triple);
+    tell(rt, "DefaultToHost::clone", &host, &host.clone(alloc));
+    let unknown = DefaultToUnknown(host.0);
     tell(
         rt,
         "DefaultToUnknown::clone",
         &unknown,
         &unknown.clone(alloc),
-    )
+    );
 }
 
-fn tell_refusal(rt: &impl Print, alloc: Global) -> Option<()> {
-    let part = String::from_str(alloc, "foo").ok()?;
-    let refusal = ParseError::UnrecognizedArchitecture(part);
-    tell(rt, "ParseError::clone", &refusal, &refusal.clone(alloc))
+fn tell_vendor(rt: &impl Print, alloc: Global, vendor: &Vendor) {
+    tell(rt, "Vendor::clone", vendor, &vendor.clone(alloc));
+}
+
+fn tell_custom(rt: &impl Print, alloc: Global, custom: &CustomVendor) {
+    tell(rt, "CustomVendor::clone", custom, &custom.clone(alloc));
+}
+
+fn tell_system(rt: &impl Print, alloc: Global, system: OperatingSystem) {
+    tell(
+        rt,
+        "OperatingSystem::into_str",
+        &system,
+        &system.into_str(alloc),
+    );
 }

@@ -13,20 +13,28 @@ const TRIPLES: &str = "x86_64-customvendor-linux\n\
     armv6k-nintendo-3ds\n\
     riscv32imc-esp-espidf";
 
-pub(crate) fn tell_readings(rt: &impl Print, alloc: Global) -> Option<()> {
+pub(crate) fn tell_readings(rt: &impl Print, alloc: Global) {
     for text in TRIPLES.lines() {
-        tell_triple(rt, alloc, text)?;
+        tell_triple(rt, alloc, text);
     }
-    tell_vendor(rt, alloc, "customvendor")?;
-    tell_vendor(rt, alloc, "pc")
+    tell_vendor(rt, alloc, "customvendor");
+    tell_vendor(rt, alloc, "pc");
 }
 
-fn tell_triple(rt: &impl Print, alloc: Global, text: &str) -> Option<()> {
-    let triple = Triple::from_str(alloc, text);
-    tell(rt, "Triple::from_str", &text, &triple)
+fn tell_triple(rt: &impl Print, alloc: Global, text: &str) {
+    tell(
+        rt,
+        "Triple::from_str",
+        &text,
+        &Triple::from_str(alloc, text),
+    );
 }
 
-fn tell_vendor(rt: &impl Print, alloc: Global, text: &str) -> Option<()> {
-    let vendor = Vendor::from_str(alloc, text);
-    tell(rt, "Vendor::from_str", &text, &vendor)
+fn tell_vendor(rt: &impl Print, alloc: Global, text: &str) {
+    tell(
+        rt,
+        "Vendor::from_str",
+        &text,
+        &Vendor::from_str(alloc, text),
+    );
 }
