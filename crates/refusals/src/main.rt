@@ -1,0 +1,55 @@
+//! Makes each call of the libraries that asks for memory, and some of their kin that ask for none, and writes what each answers.
+//!
+//! What a call was lent is written as it is behind the call, so that a call that changed it would show. `checks/refuse_memory`
+//! refuses one request of this program after another.
+#![tactic(auto)]
+
+mod clones;
+mod json;
+mod readings;
+mod tell;
+
+use clones::{tell_fixed, tell_refusal, tell_triple};
+use json::{tell_triples, tell_values};
+use readings::tell_readings;
+use serde_json::Value;
+use std::alloc::Global;
+use std::process::ExitCode;
+use target_lexicon::{Triple, list_from_json};
+use tell::tell;
+
+/// The calls that are lent a value that takes memory, unless there is none for it.
+fn tell_lent(rt: &impl Print, alloc: Global) -> Option<()> {
+    tell_refusal(rt, alloc, String::from_str(alloc, "foo").ok()?);
+    tell_triple(
+        rt,
+        alloc,
+        Triple::from_str(alloc, "x86_64-customvendor-linux").ok()?,
+    );
+    tell_settled(rt, alloc, "riscv32imc-esp-espidf-unknown-unknown")?;
+    tell_json(rt, alloc, "[\"x86_64\",\"x86_64-foo-linux\"]")
+}
+
+fn tell_settled(rt: &impl Print, alloc: Global, text: &str) -> Option<()> {
+    let triple = Triple::from_str(alloc, text).ok()?;
+    tell(rt, "Triple::settle", &text, &triple.settle());
+    Some(())
+}
+
+fn tell_json(rt: &impl Print, alloc: Global, text: &str) -> Option<()> {
+    let list = Value::from_str(alloc, text).ok()?;
+    tell_values(rt, alloc, &list, list.as_array()?.as_slice());
+    let triples = list_from_json(alloc, &list).ok()?;
+    tell_triples(rt, alloc, &triples);
+    Some(())
+}
+
+fn main(rt: HostRuntime) -> ExitCode {
+    tell_readings(&rt, rt.alloc());
+    tell_fixed(&rt, rt.alloc());
+    if tell_lent(&rt, rt.alloc()).is_some() {
+        return ExitCode::SUCCESS;
+    }
+    let _ = rt.println("Nothing to lend");
+    ExitCode::FAILURE
+}
