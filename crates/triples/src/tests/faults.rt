@@ -17,7 +17,7 @@ use std::process::Abort;
 type Row = (Mode, &'static [u8], &'static [u8]);
 
 /// The runs that are tried: a new mode needs a row here.
-fn rows() -> [Row; 6] {
+fn rows() -> [Row; 7] {
     [
         (Mode::Print, b"", b""),
         (
@@ -37,15 +37,21 @@ fn rows() -> [Row; 6] {
             b"[\"aarch64-apple-ios\"]\n",
         ),
         (Mode::Json, b"[7]", b"error: Element 0: Not a text\n"),
+        (
+            Mode::Matrix,
+            b"wasm32-wasi\nfoo\nwasm32-unknown-wasi",
+            b"wasm32-wasi\nerror: Unrecognized architecture: foo\n",
+        ),
     ]
 }
 
 /// Inputs that have no output, and why.
-fn refused_inputs() -> [(Mode, &'static [u8], RunError); 5] {
+fn refused_inputs() -> [(Mode, &'static [u8], RunError); 6] {
     [
         (Mode::Print, b"avr-pc-none\n\xff", RunError::NotUtf8),
         (Mode::Show, b"avr-pc-none\n\xff", RunError::NotUtf8),
         (Mode::Settle, b"avr-pc-none\n\xff", RunError::NotUtf8),
+        (Mode::Matrix, b"avr-pc-none\n\xff", RunError::NotUtf8),
         (Mode::Json, b"[]]", RunError::NotJson),
         (Mode::Json, b"{}", RunError::NotList),
     ]

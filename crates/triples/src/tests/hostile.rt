@@ -8,7 +8,7 @@ use std::process::Abort;
 use std::test::Fail;
 
 /// The modes that go line by line: a new one needs a word here.
-const LINE_MODES: [Mode; 3] = [Mode::Print, Mode::Show, Mode::Settle];
+const LINE_MODES: [Mode; 4] = [Mode::Print, Mode::Show, Mode::Settle, Mode::Matrix];
 
 /// Runs in each mode of lines, and finds the same output.
 fn check_line_modes(rt: &impl Abort, alloc: Global, input: &str, output: &str) {
@@ -65,7 +65,13 @@ fn other_bytes() -> [&'static [u8]; 6] {
 #[test]
 fn other_bytes_are_refused_in_each_mode(rt: HostRuntime) {
     for input in other_bytes() {
-        for mode in [Mode::Print, Mode::Show, Mode::Settle, Mode::Json] {
+        for mode in [
+            Mode::Print,
+            Mode::Show,
+            Mode::Settle,
+            Mode::Json,
+            Mode::Matrix,
+        ] {
             let (end, written) = outcome(rt.alloc(), mode, input);
             assert_eq!(rt; end, Err(RunError::NotUtf8), "{mode:?}");
             assert!(rt; written.is_empty());

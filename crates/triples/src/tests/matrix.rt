@@ -1,12 +1,8 @@
-//! What mode `matrix` writes, and how it ends over devices that fail.
+//! What mode `matrix` writes.
 
-use super::{Drip, Gate, Oddity, outcome};
-use crate::counted::Counted;
+use super::outcome;
 use crate::mode::Mode;
-use crate::run::run;
-use crate::run_error::RunError;
 use std::alloc::{AllocError, Global};
-use std::io::ErrorKind;
 use std::test::Fail;
 
 /// Inputs, and behind ` => ` what is written for them. A `;` stands for a line feed.
@@ -58,74 +54,4 @@ fn many_texts_stay_in_their_order(rt: HostRuntime) -> Result<(), Fail> {
     assert_eq!(rt; end, Ok(()));
     assert_eq!(rt; written.as_slice(), once.as_bytes());
     Ok(())
-}
-
-/// Lines of which two share an entry, and what is written for them.
-const LINES: &[u8] = b"wasm32-wasi\nfoo\nwasm32-unknown-wasi";
-
-const WRITTEN: &[u8] = b"wasm32-wasi\nerror: Unrecognized architecture: foo\n";
-
-#[test]
-fn tells_a_failed_read(rt: HostRuntime) {
-    for kind in [ErrorKind::Interrupted, ErrorKind::BrokenPipe] {
-        for fails_at in 0..LINES.len() {
-            let mut reader = Counted::new(Drip::new(LINES, fails_at, Oddity::Error(kind)));
-            let mut writer = Counted::new(Gate::new(rt.alloc()));
-            let end = run(rt.alloc(), Mode::Matrix, &mut reader, &mut writer);
-            assert_eq!(rt; end, Err(RunError::Read), "at {fails_at}");
-            let gate = writer.into_inner();
-            assert_eq!(rt; (gate.writes, gate.flushed), (0, 0));
-        }
-    }
-}
-
-#[test]
-fn tells_a_failed_write(rt: HostRuntime) {
-    for fails_at in 0..WRITTEN.len() + 2 {
-        let mut gate = Gate::new(rt.alloc());
-        gate.most = 1;
-        gate.fails_at = fails_at;
-        let mut writer = Counted::new(gate);
-        let mut reader = Counted::new(Drip::new(LINES, usize::MAX, Oddity::End));
-        let end = run(rt.alloc(), Mode::Matrix, &mut reader, &mut writer);
-        let (wanted, flushes) = if fails_at < WRITTEN.len() {
-            (Err(RunError::Write), 0)
-        } else {
-            (Ok(()), 1)
-        };
-        assert_eq!(rt; end, wanted, "at {fails_at}");
-        let gate = writer.into_inner();
-        assert_eq!(rt; gate.kept.len(), fails_at.min(WRITTEN.len()));
-        assert!(rt; WRITTEN.starts_with(gate.kept.as_slice()));
-        assert_eq!(rt; gate.flushed, flushes);
-    }
-}
-
-#[test]
-fn tells_a_write_that_takes_none_and_a_failed_flush(rt: HostRuntime) {
-    for (most, kept, flushed) in [(0, b"".as_slice(), 0), (usize::MAX, WRITTEN, 1)] {
-        let mut gate = Gate::new(rt.alloc());
-        gate.most = most;
-        gate.flushes = false;
-        let mut writer = Counted::new(gate);
-        let end = run(
-            rt.alloc(),
-            Mode::Matrix,
-            &mut Counted::new(LINES),
-            &mut writer,
-        );
-        assert_eq!(rt; end, Err(RunError::Write));
-        let gate = writer.into_inner();
-        assert_eq!(rt; gate.kept.as_slice(), kept);
-        assert_eq!(rt; gate.flushed, flushed);
-    }
-}
-
-#[test]
-fn tells_what_is_not_utf8(rt: HostRuntime) {
-    for input in [b"\xff".as_slice(), b"wasm32-wasi\nwasm32-wasi\n\xff"] {
-        let (end, written) = outcome(rt.alloc(), Mode::Matrix, input);
-        assert_eq!(rt; end, Err(RunError::NotUtf8));
-        assert!(rt; written.is_empty());
-    }
 }
