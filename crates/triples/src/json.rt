@@ -11,11 +11,13 @@ use serde_json::Value;
 use std::alloc::{AllocError, Global};
 use target_lexicon::{JsonError, ListError, ParseError, Triple, list_from_json, list_to_json};
 
-/// The compact JSON text of the triples.
-fn list_text(alloc: Global, triples: &[Triple]) -> Result<String, AllocError>
-    ensures { IfOk result (λ text. string_bytes text ≡ compact_text (list_json_of (map values_of triples.now))) }
+/// The compact JSON text of the triples, which are let go before it is made.
+fn list_text(alloc: Global, triples: Vec<Triple>) -> Result<String, AllocError>
+    ensures { IfOk result (λ text. string_bytes text ≡ compact_text (list_json_of (map values_of triples.items))) }
 {
-    list_to_json(alloc, triples)?.to_string(alloc)
+    let value = list_to_json(alloc, triples.as_slice())?;
+    drop(triples);
+    value.to_string(alloc)
 }
 
 /// The line that names the refused element.
@@ -33,13 +35,16 @@ fn is_want_of_memory(error: &JsonError) -> bool
     matches!(error, JsonError::Parse(ParseError::OutOfMemory))
 }
 
-/// The text of the list that the value reads as, or the line that names its first refused element.
-fn answer(alloc: Global, value: &Value) -> Result<String, RunError>
-    ensures ok { IfOk result (λ answer. IsJsonAnswer (view value.now) (string_bytes answer)) }
-    ensures err { IfErr result (λ e. IsJsonAnswerFault (view value.now) e) }
+/// The text of the list that the value reads as, or the line that names its first refused element. The value is let go before
+/// that is made.
+fn answer(alloc: Global, value: Value) -> Result<String, RunError>
+    ensures ok { IfOk result (λ answer. IsJsonAnswer (view value) (string_bytes answer)) }
+    ensures err { IfErr result (λ e. IsJsonAnswerFault (view value) e) }
 {
-    let written = match list_from_json(alloc, value) {
-        Ok(triples) => list_text(alloc, &triples),
+    let list = list_from_json(alloc, &value);
+    drop(value);
+    let written = match list {
+        Ok(triples) => list_text(alloc, triples),
         Err(ListError::NotList) => return Err(RunError::NotList),
         Err(ListError::OutOfMemory) => return Err(RunError::OutOfMemory),
         Err(ListError::Element(i, error)) => {
@@ -69,7 +74,7 @@ pub(crate) fn json_output(alloc: Global, input: &str) -> Result<String, RunError
             return Err(RunError::NotJson);
         }
     };
-    let mut output = answer(alloc, &value)?;
+    let mut output = answer(alloc, value)?;
     match output.push('\n') {
         Ok(()) => Ok(output),
         Err(_) => Err(RunError::OutOfMemory),
