@@ -44,9 +44,9 @@ fn writes_each_settled_text_once(rt: HostRuntime) -> Result<(), Fail> {
 #[test]
 fn many_texts_stay_in_their_order(rt: HostRuntime) -> Result<(), Fail> {
     let mut once = String::new(rt.alloc());
-    for vendor in 0..200 {
+    for vendor in 0..200u32 {
         once.push_str("x86_64-v")?;
-        once.write(&(vendor * 97 % 200))?;
+        once.write(&(vendor.wrapping_mul(97) % 200))?;
         once.push_str("-linux\n")?;
     }
     let twice = format!(in rt.alloc(); "{once}{once}")?;
