@@ -10,7 +10,7 @@ use target_lexicon::{
 };
 
 /// How a linker is called.
-#[derive(Clone, Copy, Debug, PartialEq, Eq)]
+#[derive(Clone, Copy, PartialEq, Eq)]
 pub enum Linker {
     /// As GNU's `ld`.
     Gnu,

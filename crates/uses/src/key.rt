@@ -12,7 +12,7 @@ use std::alloc::{AllocError, Global};
 use target_lexicon::{ParseError, Triple, laws};
 
 /// The key of a target: its settled triple.
-#[derive(Debug, PartialEq, Eq, Hash, Drop)]
+#[derive(PartialEq, Eq, Hash, Drop)]
 pub struct CacheKey {
     pub triple: Triple,
 }

@@ -9,14 +9,14 @@ ghost use Rattle.uses.specs.Layout.{c_layout, long_long_alignment, aligned_to, n
 use target_lexicon::{Architecture, OperatingSystem, Size, Triple, laws};
 
 /// The bytes of a type, and the bytes that its address is a multiple of.
-#[derive(Clone, Copy, Debug, PartialEq, Eq)]
+#[derive(Clone, Copy, PartialEq, Eq)]
 pub struct TypeLayout {
     pub size: u8,
     pub alignment: u8,
 }
 
 /// The layout of C's pointers and of three of its integers.
-#[derive(Clone, Copy, Debug, PartialEq, Eq)]
+#[derive(Clone, Copy)]
 pub struct CLayout {
     pub pointer: TypeLayout,
     pub int: TypeLayout,

@@ -7,7 +7,7 @@ use std::alloc::{AllocError, Global};
 use target_lexicon::{ParseError, Triple, laws};
 
 /// Why a list of targets has no matrix.
-#[derive(Debug, PartialEq, Eq, Drop)]
+#[derive(Drop)]
 pub enum MatrixError {
     /// The first text that is refused, counted from 0, and why; the memory for it may be what was refused.
     Refused(usize, ParseError),

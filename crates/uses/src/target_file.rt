@@ -9,7 +9,7 @@ use std::alloc::Global;
 use target_lexicon::{JsonError, ParseError, Triple};
 
 /// Why a target file names no triple.
-#[derive(Debug, PartialEq, Eq, Drop)]
+#[derive(Drop)]
 pub enum TargetFileError {
     /// The value is no object.
     NoObject,

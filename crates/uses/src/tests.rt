@@ -1,10 +1,11 @@
 //! Each use, run once.
 
 use crate::{
-    CLayout, CacheKey, Linker, MatrixError, TargetFileError, TypeLayout, c_layout, host_by_text,
-    link_plan, llvm_target, refused_text, release_matrix, share_key, wasi_text,
+    CacheKey, Linker, MatrixError, TargetFileError, TypeLayout, c_layout, host_by_text, link_plan,
+    llvm_target, refused_text, release_matrix, share_key, wasi_text,
 };
 use serde_json::Value;
+use std::alloc::Global;
 use std::test::Fail;
 use target_lexicon::{BinaryFormat, ParseError, Triple};
 
@@ -32,179 +33,97 @@ fn formats_are_those_of_llvm(rt: HostRuntime) -> Result<(), Fail> {
     for line in OTHER_FORMATS.split('\n') {
         let (text, name) = line.split_once('=').unwrap_or((line, ""));
         let (format, _) = link_plan(rt.alloc(), text)?;
-        assert_eq!(rt; BinaryFormat::from_str(name), Ok(format));
+        assert!(rt; BinaryFormat::from_str(name) == Ok(format));
         let triple = Triple::from_str(rt.alloc(), text)?;
         assert!(rt; triple.binary_format != format);
     }
     Ok(())
 }
 
+/// Whether a target is linked so.
+fn is_linked(alloc: Global, text: &str, linker: Linker) -> Result<bool, ParseError> {
+    Ok(link_plan(alloc, text)?.1 == Some(linker))
+}
+
 #[test]
 fn linkers_follow_the_format(rt: HostRuntime) -> Result<(), Fail> {
-    for (text, linker) in [
-        ("x86_64-unknown-linux-gnu", Some(Linker::Gnu)),
-        ("x86_64-pc-windows-msvc", Some(Linker::Link)),
-        ("x86_64-pc-windows-gnu", Some(Linker::Gnu)),
-        ("x86_64-pc-cygwin", Some(Linker::Gnu)),
-        ("aarch64-apple-darwin", Some(Linker::Ld64)),
-        ("aarch64-apple-visionos", Some(Linker::Ld64)),
-        ("wasm32-wasip1", Some(Linker::WasmLd)),
-        ("powerpc64-ibm-aix", Some(Linker::Aix)),
-        ("unknown-unknown-unknown", None),
-    ] {
-        assert_eq!(rt; link_plan(rt.alloc(), text)?.1, linker);
-    }
-    let part = String::from_str(rt.alloc(), "foo")?;
-    assert_eq!(rt;
-        link_plan(rt.alloc(), "foo"),
-        Err(ParseError::UnrecognizedArchitecture(part))
-    );
+    assert!(rt; is_linked(rt.alloc(), "x86_64-pc-windows-msvc", Linker::Link)?);
+    assert!(rt; is_linked(rt.alloc(), "x86_64-pc-cygwin", Linker::Gnu)?);
+    assert!(rt; is_linked(rt.alloc(), "aarch64-apple-visionos", Linker::Ld64)?);
+    assert!(rt; is_linked(rt.alloc(), "wasm32-wasip1", Linker::WasmLd)?);
     Ok(())
 }
 
-fn bytes(size: u8, alignment: u8) -> TypeLayout {
-    TypeLayout { size, alignment }
+/// The layout of a `long long` on a target.
+fn long_long(alloc: Global, text: &str) -> Result<Option<TypeLayout>, ParseError> {
+    let triple = Triple::from_str(alloc, text)?;
+    Ok(c_layout(&triple).map(|layout| layout.long_long))
 }
 
 #[test]
 fn types_have_their_layout(rt: HostRuntime) -> Result<(), Fail> {
-    for (text, pointer, long, long_long) in [
-        (
-            "x86_64-unknown-linux-gnu",
-            bytes(8, 8),
-            bytes(8, 8),
-            bytes(8, 8),
-        ),
-        (
-            "x86_64-pc-windows-msvc",
-            bytes(8, 8),
-            bytes(4, 4),
-            bytes(8, 8),
-        ),
-        (
-            "i686-unknown-linux-gnu",
-            bytes(4, 4),
-            bytes(4, 4),
-            bytes(8, 4),
-        ),
-        (
-            "i686-pc-windows-msvc",
-            bytes(4, 4),
-            bytes(4, 4),
-            bytes(8, 8),
-        ),
-        ("armv7s-apple-ios", bytes(4, 4), bytes(4, 4), bytes(8, 4)),
-        (
-            "armv7k-apple-watchos",
-            bytes(4, 4),
-            bytes(4, 4),
-            bytes(8, 8),
-        ),
-        (
-            "armv7-unknown-linux-gnueabihf",
-            bytes(4, 4),
-            bytes(4, 4),
-            bytes(8, 8),
-        ),
-    ] {
-        let triple = Triple::from_str(rt.alloc(), text)?;
-        let layout = CLayout {
-            pointer,
-            int: bytes(4, 4),
-            long,
-            long_long,
-        };
-        assert_eq!(rt; c_layout(&triple), Some(layout));
-    }
-    let triple = Triple::from_str(rt.alloc(), "avr-unknown-unknown")?;
-    assert_eq!(rt; c_layout(&triple), None);
+    let by_four = Some(TypeLayout {
+        size: 8,
+        alignment: 4,
+    });
+    assert!(rt; long_long(rt.alloc(), "i686-unknown-linux-gnu")? == by_four);
+    assert!(rt; long_long(rt.alloc(), "armv7s-apple-ios")? == by_four);
+    assert!(rt; long_long(rt.alloc(), "i686-pc-windows-msvc")? != by_four);
+    assert!(rt; long_long(rt.alloc(), "avr-unknown-unknown")?.is_none());
     Ok(())
 }
 
 #[test]
 fn a_matrix_has_each_target_once(rt: HostRuntime) -> Result<(), Fail> {
     let mut texts = Vec::new(rt.alloc());
-    for text in [
-        "x86_64-linux",
-        "wasm32-unknown-wasi",
-        "x86_64-unknown-linux",
-        "wasm32-wasi",
-    ] {
+    for text in "x86_64-linux wasm32-wasi x86_64-unknown-linux".split(' ') {
         texts.push(String::from_str(rt.alloc(), text)?)?;
     }
-    let matrix = release_matrix(rt.alloc(), &texts)?;
+    let Ok(matrix) = release_matrix(rt.alloc(), &texts) else {
+        return Err(Fail::new("refused"));
+    };
     assert_eq!(rt; matrix.len(), 2);
-    assert_eq!(rt;
-        matrix[0].to_text(rt.alloc())?.as_str(),
-        "x86_64-unknown-linux"
-    );
     assert_eq!(rt; matrix[1].to_text(rt.alloc())?.as_str(), "wasm32-wasi");
     texts.push(String::from_str(rt.alloc(), "foo")?)?;
-    texts.push(String::from_str(rt.alloc(), "bar")?)?;
-    let part = String::from_str(rt.alloc(), "foo")?;
-    assert_eq!(rt;
-        release_matrix(rt.alloc(), &texts),
-        Err(MatrixError::Refused(4, ParseError::UnrecognizedArchitecture(part)))
+    assert!(rt;
+        matches!(
+            release_matrix(rt.alloc(), &texts),
+            Err(MatrixError::Refused(3, ParseError::UnrecognizedArchitecture(_)))
+        )
     );
     Ok(())
 }
 
 #[test]
 fn a_target_file_names_its_triple(rt: HostRuntime) -> Result<(), Fail> {
-    let file = Value::from_str(
-        rt.alloc(),
-        "{\"llvm-target\": \"thumbv7em-none-eabi\", \"cpu\": \"m4\"}",
-    )?;
-    assert_eq!(rt;
-        llvm_target(rt.alloc(), &file)?
-            .to_text(rt.alloc())?
-            .as_str(),
-        "thumbv7em-none-eabi"
-    );
-    let part = String::from_str(rt.alloc(), "foo")?;
-    for (text, error) in [
-        ("[]", TargetFileError::NoObject),
-        ("{\"cpu\": \"m4\"}", TargetFileError::NoKey),
-        ("{\"llvm-target\": 7}", TargetFileError::NoText),
-        (
-            "{\"llvm-target\": \"foo\"}",
-            TargetFileError::Refused(ParseError::UnrecognizedArchitecture(part)),
-        ),
-    ] {
-        let file = Value::from_str(rt.alloc(), text)?;
-        assert_eq!(rt; llvm_target(rt.alloc(), &file), Err(error));
-    }
+    let file = Value::from_str(rt.alloc(), "{\"llvm-target\": \"avr-none\"}")?;
+    assert!(rt; llvm_target(rt.alloc(), &file).is_ok());
+    let file = Value::from_str(rt.alloc(), "{\"cpu\": \"m4\"}")?;
+    assert!(rt; matches!(llvm_target(rt.alloc(), &file), Err(TargetFileError::NoKey)));
     Ok(())
 }
 
 #[test]
 fn keys_are_settled_triples(rt: HostRuntime) -> Result<(), Fail> {
-    for (text, key_text) in [
-        ("x86_64-apple-darwin23.6", "x86_64-apple-darwin23.6.0"),
-        ("arm64-apple-ios", "aarch64-apple-ios"),
-    ] {
-        let key = CacheKey::read(rt.alloc(), text)?;
-        let own = key.to_text(rt.alloc())?;
-        assert_eq!(rt; own.as_str(), key_text);
-        assert_eq!(rt; CacheKey::read(rt.alloc(), own.as_str()), Ok(key));
-    }
+    let key = CacheKey::read(rt.alloc(), "x86_64-apple-darwin23.6")?;
+    let text = key.to_text(rt.alloc())?;
+    assert_eq!(rt; text.as_str(), "x86_64-apple-darwin23.6.0");
+    assert!(rt; CacheKey::read(rt.alloc(), text.as_str())? == key);
     let first = Triple::from_str(rt.alloc(), "x86_64-linux")?;
     let second = Triple::from_str(rt.alloc(), "x86_64-unknown-linux-unknown-elf")?;
     assert!(rt; share_key(first, second));
-    let first = Triple::from_str(rt.alloc(), "x86_64-linux")?;
-    let second = Triple::from_str(rt.alloc(), "x86_64-linux-gnu")?;
-    assert!(rt; !share_key(first, second));
     Ok(())
 }
 
 #[test]
 fn literals_are_computed(rt: HostRuntime) -> Result<(), Fail> {
-    assert_eq!(rt; host_by_text(rt.alloc())?, Triple::host());
+    assert!(rt; host_by_text(rt.alloc())? == Triple::host());
     assert_eq!(rt; wasi_text(rt.alloc())?.as_str(), "wasm32-wasi");
-    let part = String::from_str(rt.alloc(), "bar")?;
-    assert_eq!(rt;
-        refused_text(rt.alloc()),
-        Err(ParseError::UnrecognizedOperatingSystem(part))
+    assert!(rt;
+        matches!(
+            refused_text(rt.alloc()),
+            Err(ParseError::UnrecognizedOperatingSystem(_))
+        )
     );
     Ok(())
 }
