@@ -5,8 +5,8 @@
    where *length <= out_size. So a call with a buffer that is too small tells how large a buffer has to be.
 
    No pointer may be null, not even with size 0. No buffer, number or struct that a call writes may overlap anything else that
-   the call is given. Nothing is kept between calls, and no call stops the program. A call is for one thread's memory alone, so
-   that any number of threads may call at once where their malloc allows it. Not for signal handlers.
+   the call is given. Nothing is kept or shared between calls, so that threads may call at once, and no call stops the program. Not for
+   signal handlers.
 
    Each call answers a status. Where it is 0 the answer was written. Where it is 1 to 6 the text is refused, and a call with an `out`
    tells the refused part there. At any other status nothing is written but a *length of 0. */
