@@ -1,5 +1,6 @@
 -- What reading is: Cuts, LookedUp, Vendors (a text's parts, and what each reads as); NamesAcross (a name of one field in a field
--- before it); Greedy, Held, Taken, Refused, Unique, Returned, Computed (from the steps of the code to the least placement).
+-- before it); Greedy, Held, Taken, Refused, Unique, Returned, Computed (from the steps of the code to the least placement); ReadVersions
+-- (a version that is read is in range).
 -- What printing is: Printed, Writes.
 -- What comes back: Rounds, TextRounds (a text read again); FamilyTests, StepCases, Fixed, Settled, Stays (families and the step).
 -- For callers: OnLiterals (what computes on a literal).
@@ -17,6 +18,7 @@ pub mod NamesAcross
 pub mod OnLiterals
 pub mod Printed
 pub mod QueriesKept
+pub mod ReadVersions
 pub mod Refused
 pub mod Returned
 pub mod Rounds

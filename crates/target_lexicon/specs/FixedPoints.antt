@@ -1,5 +1,5 @@
 -- Laws of rounds, in which a triple is printed and its text read again: which triples come back, and what the others become.
-use Rattle.std.specs.Prelude.{◌≡◌, ◌↔◌, ◌⊎◌, true}
+use Rattle.std.specs.Prelude.{ℕ, List, ◌≡◌, ◌↔◌, ◌⊎◌, true}
 use Rattle.lexicon_fields.specs.Laws.{HasVersionInRange}
 use Rattle.lexicon_fields.specs.Vendor.{is_plain}
 use Rattle.target_lexicon.specs.Families.{IsInSomeFamily}
@@ -14,6 +14,10 @@ use Rattle.target_lexicon.specs.Values.{Values}
 pub record IsPlainTriple (t : Values) : Type 0 where
   pub vendor : is_plain t.vendor ≡ true
   pub version : HasVersionInRange t.operating_system
+
+-- what a text reads as is such a triple
+abbrev pub ReadTriplesArePlain : Type 0
+ReadTriplesArePlain = (text : List ℕ) (t : Values) → ReadsAs text t → IsPlainTriple t
 
 -- a round of every plain triple succeeds and is the normal step
 abbrev pub RoundIsNormalStep : Type 0

@@ -1,7 +1,7 @@
 //! Triples and lists of triples as JSON values.
-ghost use Rattle.std.specs.Prelude.{◌≡◌, map, All, IfOk, IfErr};
+ghost use Rattle.std.specs.Prelude.{◌≡◌, true, map, All, IfOk, IfErr};
 ghost use Rattle.serde_json.specs.View.{view};
-ghost use Rattle.lexicon_fields.specs.Vendor.{OwnsCustomText};
+ghost use Rattle.lexicon_fields.specs.Vendor.{OwnsCustomText, is_plain, vendor_value};
 ghost use Rattle.target_lexicon.specs.Json.{json_of, list_json_of, JsonReadsAs, IsJsonFault, json_fault_of, ListReadsAs, IsListFault, list_fault_of};
 ghost use Rattle.target_lexicon.specs.Values.{values_of};
 
@@ -28,6 +28,7 @@ impl Triple {
     pub fn from_json(alloc: Global, value: &Value) -> Result<Triple, JsonError>
         ensures ok { IfOk result (λ triple. JsonReadsAs (view value.now) (values_of triple)) }
         ensures owned { IfOk result (λ triple. OwnsCustomText triple.vendor) }
+        ensures plain { IfOk result (λ triple. is_plain (vendor_value triple.vendor) ≡ true) }
         ensures err { IfErr result (λ error. IsJsonFault (view value.now) (json_fault_of error)) }
     {
         let Some(text) = value.as_str() else {
@@ -62,6 +63,7 @@ pub fn list_to_json(alloc: Global, triples: &[Triple]) -> Result<Value, AllocErr
 pub fn list_from_json(alloc: Global, value: &Value) -> Result<Vec<Triple>, ListError>
     ensures ok { IfOk result (λ triples. ListReadsAs (view value.now) (map values_of triples.items)) }
     ensures owned { IfOk result (λ triples. All (λ triple. OwnsCustomText triple.vendor) triples.items) }
+    ensures plain { IfOk result (λ triples. All (λ triple. is_plain (vendor_value triple.vendor) ≡ true) triples.items) }
     ensures err { IfErr result (λ error. IsListFault (view value.now) (list_fault_of error)) }
 {
     let Some(elements) = value.as_array() else {

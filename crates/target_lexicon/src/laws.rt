@@ -3,7 +3,7 @@ ghost use Rattle.std.specs.Prelude.{◌≡◌, ◌↔◌, true};
 ghost use Rattle.target_lexicon.specs.ComputedAnswers.{AnswersAreComputed};
 ghost use Rattle.target_lexicon.specs.Laws.{OneLeastPlacement, OneOutcomeEach, ReadingIsComputed, ReadVendorsArePlain, FieldNamesReadBack, EqualTextsEqualTriples};
 ghost use Rattle.lexicon_fields.specs.Laws.{ComparesByValue};
-ghost use Rattle.target_lexicon.specs.FixedPoints.{FixedExactlyOutsideFamilies, RoundIsNormalStep, SecondStepChangesNone, SettledTextsAreKeys, RoundsAreKnown};
+ghost use Rattle.target_lexicon.specs.FixedPoints.{ReadTriplesArePlain, FixedExactlyOutsideFamilies, RoundIsNormalStep, SecondStepChangesNone, SettledTextsAreKeys, RoundsAreKnown};
 ghost use Rattle.target_lexicon.specs.Json.{ListsReadBack, json_fault_of, list_fault_of};
 ghost use Rattle.target_lexicon.specs.QueryLaws.{ModelWidth, NoRareModel, IntegersGrowInEach, BytesHaveEightBits, QueriesKept};
 ghost use Rattle.target_lexicon.specs.Refusal.{refusal_of};
@@ -49,6 +49,11 @@ pub fn answers_are_computed()
 /// Every text that is read has a plain vendor.
 pub fn read_vendors_are_plain()
     ensures { ReadVendorsArePlain }
+{}
+
+/// What a text reads as has a plain vendor, and a version in range where its system holds one; so the laws of rounds speak of it.
+pub fn read_triples_are_plain()
+    ensures { ReadTriplesArePlain }
 {}
 
 /// Every value but a custom vendor reads back from its name as itself, and its name holds no dash.

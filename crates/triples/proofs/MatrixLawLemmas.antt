@@ -1,33 +1,29 @@
 -- The laws of mode `matrix`.
-use Rattle.std.proofs.Common.{◌≡◌, ◌↔◌, ℕ, ◌<◌, Bool, true, false, ◌||◌, not, List, [], ◌∷◌, ◌++◌, cond, map, take, length, if◌then◌else◌, refl, sym, ap, ◌∙◌, subst, arith}
+use Rattle.std.proofs.Common.{◌≡◌, ℕ, Bool, true, false, ◌||◌, not, List, [], ◌∷◌, ◌++◌, cond, map, take, if◌then◌else◌, refl, sym, ap, ◌∙◌, subst}
 use Rattle.std.proofs.lemmas.List.Elements.{filter-append}
 use Rattle.std.proofs.lemmas.List.Folds.{list_any-append}
 use Rattle.std.proofs.lemmas.Slice.Eq.{bytes_eq-Decides}
 use Rattle.std.specs.Cmp.Lexicographic.{same_text}
-use Rattle.std.specs.List.{Contains, filter, list_any}
+use Rattle.std.specs.List.{filter, list_any}
 use Rattle.std.specs.Str.{bytes_eq}
-use Rattle.target_lexicon.specs.FixedPoints.{IsPlainTriple, RoundIsNormalStep, SettledTextsAreKeys, settled}
+use Rattle.target_lexicon.specs.FixedPoints.{ReadTriplesArePlain, RoundIsNormalStep, SettledTextsAreKeys, settled}
 use Rattle.target_lexicon.specs.NormalStep.{normal_step}
-use Rattle.target_lexicon.specs.Laws.{OneOutcomeEach, ReadVendorsArePlain}
+use Rattle.target_lexicon.specs.Laws.{OneOutcomeEach}
 use Rattle.target_lexicon.specs.Printing.{text_of}
 use Rattle.target_lexicon.specs.Reading.{ReadsAs}
 use Rattle.target_lexicon.specs.Values.{Values}
-use Rattle.triples.specs.MatrixLaws.{ShareAnEntry, EntriesAreSettledTriples, entries_of, is_refusal, KeepsEntriesOnce, EntriesAreKeptOnce, EachSettledTripleIsThere, entries_alone, MatricesAreTheirOwn}
+use Rattle.triples.specs.MatrixLaws.{EntriesAreSettledTriples, entries_of, is_refusal, EntriesAreKeptOnce, EachSettledTripleIsThere, entries_alone, MatricesAreTheirOwn}
 use Rattle.triples.specs.Output.{SettleLine, Entry, RefusalTold, IsSettleLine, AreSettleLines, is_entry_of, stays_behind, staying_behind, matrix_of, settled_text, line_bytes}
 use Rattle.triples.proofs.MatrixLemmas.{if_stays, or-false}
-use Rattle.triples.proofs.ReadVersions.{read-in_range}
 
 -- two lines that are read share an entry exactly where their settled triples are equal
 
-read-plain : ReadVendorsArePlain → (text : List ℕ) (t : Values) → ReadsAs text t → IsPlainTriple t
-read-plain plain text t reads = record { vendor = plain text t reads; version = read-in_range text t reads }
-
-pub entries_are_settled_triples : OneOutcomeEach → ReadVendorsArePlain → SettledTextsAreKeys → EntriesAreSettledTriples
+pub entries_are_settled_triples : OneOutcomeEach → ReadTriplesArePlain → SettledTextsAreKeys → EntriesAreSettledTriples
 entries_are_settled_triples one plain keys a b t u reads_a reads_b = (
   λ shared.
       let first : shared.1.0 ≡ t = (one a).values shared.1.0 t shared.1.1 reads_a in
       let second : shared.2.0 ≡ u = (one b).values shared.2.0 u shared.2.1 reads_b in
-      keys.own t u (read-plain plain a t reads_a) (read-plain plain b u reads_b)
+      keys.own t u (plain a t reads_a) (plain b u reads_b)
       (ap settled_text (sym first) ∙ sym shared.1.2 ∙ shared.2.2 ∙ ap settled_text second),
   λ same. (settled_text t, (t, reads_a, refl), (u, reads_b, ap text_of same)),
 )
@@ -182,17 +178,17 @@ own-lines [] own = tt
 own-lines (RefusalTold told ∷ lines) own = own-lines lines own
 own-lines (Entry text ∷ lines) own = (own.0, own-lines lines own.1)
 
-module _ (one : OneOutcomeEach) (plain : ReadVendorsArePlain) (round : RoundIsNormalStep) (keys : SettledTextsAreKeys) where
+module _ (one : OneOutcomeEach) (plain : ReadTriplesArePlain) (round : RoundIsNormalStep) (keys : SettledTextsAreKeys) where
   -- what is settled stays, since it comes back and a round is a normal step
   settled-stays : (t : Values) → ReadsAs (text_of (settled t)) (settled t) → settled (settled t) ≡ settled t
   settled-stays t back =
       let u = settled t in
-      let step : normal_step u ≡ u = (one (text_of u)).values (normal_step u) u (round u (read-plain plain (text_of u) u back)) back in
+      let step : normal_step u ≡ u = (one (text_of u)).values (normal_step u) u (round u (plain (text_of u) u back)) back in
       ap normal_step step ∙ step
 
   own-line : (line text : List ℕ) → IsSettleLine line (Entry text) → IsSettleLine text (Entry text)
   own-line line text is =
-      let back = keys.comes_back is.0 (read-plain plain line is.0 is.1) in
+      let back = keys.comes_back is.0 (plain line is.0 is.1) in
       (settled is.0, subst (λ (x : List ℕ). ReadsAs x (settled is.0)) (sym is.2) back, is.2 ∙ ap text_of (sym (settled-stays is.0 back)))
 
   are-own : (lines : List (List ℕ)) (settle_lines : List SettleLine) → AreSettleLines lines settle_lines → AreOwn settle_lines

@@ -18,7 +18,7 @@ pub fn entries_are_settled_triples()
     ensures { EntriesAreSettledTriples }
 {
     target_lexicon::laws::one_outcome_each();
-    target_lexicon::laws::read_vendors_are_plain();
+    target_lexicon::laws::read_triples_are_plain();
     target_lexicon::laws::settled_texts_are_keys();
 }
 
@@ -39,7 +39,7 @@ pub fn matrices_are_their_own()
     ensures { MatricesAreTheirOwn }
 {
     target_lexicon::laws::one_outcome_each();
-    target_lexicon::laws::read_vendors_are_plain();
+    target_lexicon::laws::read_triples_are_plain();
     target_lexicon::laws::round_is_normal_step();
     target_lexicon::laws::settled_texts_are_keys();
 }

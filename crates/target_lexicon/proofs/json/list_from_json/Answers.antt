@@ -1,5 +1,5 @@
-use Rattle.std.proofs.Common.{arith}
-use Rattle.lexicon_fields.specs.Vendor.{OwnsCustomText}
+use Rattle.std.proofs.Common.{◌≡◌, true, arith}
+use Rattle.lexicon_fields.specs.Vendor.{OwnsCustomText, is_plain, vendor_value}
 use Rattle.target_lexicon.proofs.Elements.{at_array, elements_begun, elements_read-more, elements_refused, all_triples-more}
 use Rattle.target_lexicon.proofs.json.list_from_json.Goals as goal
 
@@ -19,4 +19,5 @@ loop-i-preserved c =
     record {
       read = elements_read-more _ c.loop-i.i _ _ _ _ (omega arith) c.element-item.is grown c.loop-i.invariant.read c.in-Ok.ensures.ok;
       owned = all_triples-more (λ triple. OwnsCustomText triple.vendor) _ _ _ grown c.loop-i.invariant.owned c.in-Ok.ensures.owned;
+      plain = all_triples-more (λ triple. is_plain (vendor_value triple.vendor) ≡ true) _ _ _ grown c.loop-i.invariant.plain c.in-Ok.ensures.plain;
     }

@@ -1,5 +1,5 @@
 -- The version that a text holds which is read is in range.
-use Rattle.std.proofs.Common.{◌≡◌, ◌∙◌, ℕ, ◌<◌, ◌≤◌, ◌^◌, List, [], ◌∷◌, Bool, true, false, ◌&&◌, cond, is_none, Option, Some, None, IfSome, MatchOption, option_map, option_and_then, refl, sym, ap, subst, nat_le, nat_lt, length, arith}
+use Rattle.std.proofs.Common.{◌≡◌, ◌∙◌, ℕ, ◌≤◌, List, [], ◌∷◌, Bool, true, false, ◌&&◌, cond, is_none, Option, Some, None, IfSome, MatchOption, option_map, option_and_then, refl, sym, ap, subst, nat_le, nat_lt, length, arith}
 use Rattle.std.specs.Char.{is_ascii_digit}
 use Rattle.std.specs.List.{list_all}
 use Rattle.std.specs.Option.{option_or}
