@@ -4,12 +4,13 @@
    caller's buffer as a pointer and a size; *length is its whole length, and it is written, with no zero byte behind it, exactly
    where *length <= out_size. So a call with a buffer that is too small tells how large a buffer has to be.
 
-   No pointer may be null, not even with size 0. No buffer, number or struct that a call writes may overlap anything else that
-   the call is given. Nothing is kept or shared between calls, so that threads may call at once, and no call stops the program. Not for
+   No pointer may be null, not even with size 0. No buffer, number, answer or struct that a call writes may overlap anything else
+   that the call is given. Nothing is kept or shared between calls, so that threads may call at once, and no call stops the program. Not for
    signal handlers.
 
-   Each call answers a status. Where it is 0 the answer was written. Where it is 1 to 6 the text is refused, and a call with an `out`
-   tells the refused part there. At any other status nothing is written but a *length of 0. */
+   Each call answers a status. Where it is 0 the answer is told. Where it is 1 to 6 the text is refused: a call with an `out` tells the
+   refused part there, lexicon_error_line the line, lexicon_read_name the text itself; a struct or an answer is left as it was. At any
+   other status nothing is written but a *length of 0. */
 #ifndef LEXICON_H
 #define LEXICON_H
 

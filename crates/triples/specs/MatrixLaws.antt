@@ -23,7 +23,7 @@ abbrev pub is_refusal : SettleLine → Bool
 is_refusal (Entry text) = false
 is_refusal (RefusalTold told) = true
 
--- the matrix keeps the first entry of each text and no other of it, and every refusal
+-- the matrix keeps one entry of each text, and every refusal
 pub record KeepsEntriesOnce (lines : List SettleLine) : Type 0 where
   pub entries : (text : List ℕ) → entries_of text (matrix_of lines) ≡ take 1 (entries_of text lines)
   pub refusals : filter is_refusal (matrix_of lines) ≡ filter is_refusal lines
@@ -41,7 +41,7 @@ EachSettledTripleIsThere = (front back : List (List ℕ)) (line : List ℕ) (set
 abbrev pub entries_alone : List SettleLine → List SettleLine
 entries_alone lines = filter (λ line. not (is_refusal line)) lines
 
--- the entries of a matrix, read as lines of an input, give that matrix again: mode `settle` writes them as they are, and
+-- the entries of a matrix, as lines, give these entries again: mode `settle` writes them as they are, and
 -- all of them stay
 pub record IsItsOwnMatrix (entries : List SettleLine) : Type 0 where
   pub settled : AreSettleLines (map line_bytes entries) entries

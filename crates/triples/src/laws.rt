@@ -13,7 +13,7 @@ pub fn words_are_equal_by_variant()
     ensures fault { ComparesByValue ⟦<RunError as PartialEq>⟧.eq }
 {}
 
-/// Two lines that are read share an entry of the matrix exactly where their settled triples are equal.
+/// Mode `settle` writes the same text for two lines that are read exactly where their settled triples are equal.
 pub fn entries_are_settled_triples()
     ensures { EntriesAreSettledTriples }
 {
@@ -22,7 +22,7 @@ pub fn entries_are_settled_triples()
     target_lexicon::laws::settled_texts_are_keys();
 }
 
-/// The matrix keeps the first entry of each text and no other of it, and every refusal.
+/// The matrix keeps one entry of each text, and every refusal.
 pub fn entries_are_kept_once()
     ensures { EntriesAreKeptOnce }
 {}
@@ -34,7 +34,7 @@ pub fn each_settled_triple_is_there()
     target_lexicon::laws::one_outcome_each();
 }
 
-/// The entries of a matrix, as the lines of an input, give that matrix again.
+/// The entries of a matrix, as lines that are given to mode `matrix`, give these entries again.
 pub fn matrices_are_their_own()
     ensures { MatricesAreTheirOwn }
 {

@@ -12,12 +12,18 @@ use Rattle.target_lexicon.specs.Values.{Values}
 use Rattle.uses.specs.declared.driver.Linker.{Linker}
 use Rattle.uses.specs.declared.driver.Linker.TheVariants.{Gnu, Ld64, Link, WasmLd, Aix}
 
--- the format that LLVM writes: WebAssembly has one alone, Cygwin has that of Windows, and machines without a system have ELF
+-- the format that LLVM writes for a machine without a system
+abbrev pub bare_format : Architecture → BinaryFormat
+bare_format architecture.Wasm32 = binary_format.Wasm
+bare_format architecture.Wasm64 = binary_format.Wasm
+bare_format a = binary_format.Elf
+
+-- the format that LLVM writes: WebAssembly has its own, Cygwin that of Windows, and a machine without a system has one too
 abbrev pub format_for : BinaryFormat → Architecture → OperatingSystem → BinaryFormat
 format_for binary_format.Elf architecture.Wasm32 s = binary_format.Wasm
 format_for binary_format.Elf architecture.Wasm64 s = binary_format.Wasm
 format_for binary_format.Elf a operating_system.Cygwin = binary_format.Coff
-format_for binary_format.Unknown a operating_system.None_ = binary_format.Elf
+format_for binary_format.Unknown a operating_system.None_ = bare_format a
 format_for f a s = f
 
 abbrev pub object_format : Values → BinaryFormat

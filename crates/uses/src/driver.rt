@@ -2,7 +2,7 @@
 ghost use Rattle.std.specs.Prelude.{◌≡◌, IfOk, IfErr};
 ghost use Rattle.target_lexicon.specs.Reading.{ReadsAs, IsFaultOf};
 ghost use Rattle.target_lexicon.specs.Values.{Values, values_of};
-ghost use Rattle.uses.specs.Driver.{object_format, coff_linker, linker_for, linker};
+ghost use Rattle.uses.specs.Driver.{bare_format, object_format, coff_linker, linker_for, linker};
 
 use std::alloc::Global;
 use target_lexicon::{
@@ -37,7 +37,7 @@ pub fn link_plan(alloc: Global, text: &str) -> Result<(BinaryFormat, Option<Link
     ))
 }
 
-/// The format in which LLVM writes objects, which is the triple's own in all but three cases.
+/// The format in which LLVM writes objects, which is the triple's own but on WebAssembly, Cygwin and machines without a system.
 fn object_format(triple: &Triple) -> BinaryFormat
     ensures { result ≡ object_format (values_of triple.now) }
 {
@@ -48,10 +48,20 @@ fn object_format(triple: &Triple) -> BinaryFormat
             _ => BinaryFormat::Elf,
         },
         BinaryFormat::Unknown => match triple.operating_system {
-            OperatingSystem::None_ => BinaryFormat::Elf,
+            OperatingSystem::None_ => bare_format(triple.architecture),
             _ => BinaryFormat::Unknown,
         },
         own => own,
+    }
+}
+
+/// The format in which LLVM writes objects for a machine without a system.
+fn bare_format(architecture: Architecture) -> BinaryFormat
+    ensures { result ≡ bare_format architecture }
+{
+    match architecture {
+        Architecture::Wasm32 | Architecture::Wasm64 => BinaryFormat::Wasm,
+        _ => BinaryFormat::Elf,
     }
 }
 

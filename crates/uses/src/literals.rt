@@ -1,5 +1,5 @@
 //! Texts that are known when the program is written: the checker computes what the library makes of them.
-ghost use Rattle.std.specs.Prelude.{◌≡◌, codes, IfOk, IfErr, IsOkAnd, IsErrAnd, Some, IfSome, string_bytes};
+ghost use Rattle.std.specs.Prelude.{◌≡◌, codes, IfOk, IfErr, IsOkAnd, IsErrAnd, Some, None, IfSome, string_bytes};
 ghost use Rattle.target_lexicon.specs.Field.{OperatingSystem};
 ghost use Rattle.target_lexicon.specs.Host.{host_values};
 ghost use Rattle.target_lexicon.specs.Refusal.{Lacks, refused, refusal_of};
@@ -16,13 +16,16 @@ pub fn host_by_text(alloc: Global) -> Result<Triple, ParseError>
     Triple::from_str(alloc, "x86_64-unknown-linux-gnu")
 }
 
-/// The text of WASI's target, whose vendor is not shown.
+/// The text of WASI's target, whose vendor is not shown. Only the memory for it may be wanted.
 pub fn wasi_text(alloc: Global) -> Result<String, ParseError>
-    ensures { IfOk result (λ text. string_bytes text ≡ codes "wasm32-wasi") }
+    ensures ok { IfOk result (λ text. string_bytes text ≡ codes "wasm32-wasi") }
+    ensures err { IfErr result (λ error. refusal_of error ≡ None) }
 {
     laws::answers_are_computed();
-    let triple = Triple::from_str(alloc, "wasm32-unknown-wasi")?;
-    Ok(triple.to_text(alloc)?)
+    match Triple::from_str(alloc, "wasm32-unknown-wasi") {
+        Ok(triple) => Ok(triple.to_text(alloc)?),
+        Err(error) => Err(error),
+    }
 }
 
 /// Why a text is refused: `bar` is no operating system. The memory to tell it may be wanted.

@@ -17,7 +17,7 @@ pub enum TargetFileError {
     NoKey,
     /// The `llvm-target` is no text.
     NoText,
-    /// The text is refused.
+    /// The text is refused; the memory for it may be what was refused.
     Refused(ParseError),
 }
 

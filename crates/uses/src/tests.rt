@@ -22,6 +22,7 @@ loongarch64-unknown-none-softfloat=elf
 mipsel-unknown-none=elf
 s390x-unknown-none-softfloat=elf
 x86_64-unknown-none=elf
+wasm32-unknown-none=wasm
 wasm32-wali-linux-musl=wasm
 wasm32-wasip1=wasm
 wasm32-wasip1-threads=wasm
