@@ -26,8 +26,9 @@ static void expect_facts(const char *text, struct lexicon_facts facts) {
 int main(void) {
   char out[64];
   size_t length;
+  uint32_t is;
   bool answer = false;
-#define TOLD(status, told, call) (memset(out, '~', sizeof out), expect_told(call, out, length, status, told, #call))
+#define TOLD(status, told, call) (memset(out, '~', sizeof out), is = call, expect_told(is, out, length, status, told, #call))
   TOLD(LEXICON_OK, "wasm32-wasi", lexicon_normalize("wasm32-unknown-wasi", 19, out, sizeof out, &length));
   TOLD(LEXICON_NO_OPERATING_SYSTEM, "bar", lexicon_normalize("x86_64-foo-bar", 14, out, sizeof out, &length));
   TOLD(LEXICON_NOT_UTF8, "", lexicon_normalize("\xff", 1, out, sizeof out, &length));
@@ -44,10 +45,17 @@ int main(void) {
   expect(lexicon_equal("arm64-apple-ios", 15, "aarch64-apple-ios", 17, &answer) == LEXICON_OK && answer, "equal");
   expect(lexicon_equal("x86_64", 6, "foo", 3, &answer) == LEXICON_NO_ARCHITECTURE, "equal to a refused text");
   expect_facts("aarch64-apple-ios17.2.1-gnu-elf",
-      (struct lexicon_facts){LEXICON_LITTLE, 64, LEXICON_APPLE_AARCH64, LEXICON_LP64, LEXICON_ELF, LEXICON_MACHO, 1, 17, 2, 1});
+      (struct lexicon_facts){.endianness = LEXICON_LITTLE, .pointer_bits = 64, .calling_convention = LEXICON_APPLE_AARCH64,
+          .data_model = LEXICON_LP64, .binary_format = LEXICON_ELF, .implied_format = LEXICON_MACHO, .has_version = 1, .major = 17,
+          .minor = 2, .patch = 1});
   expect_facts("s390x-unknown-linux-unknown-unknown",
-      (struct lexicon_facts){LEXICON_BIG, 64, LEXICON_SYSTEM_V, LEXICON_LP64, 0, LEXICON_ELF, 0, 0, 0, 0});
-  expect_facts("unknown", (struct lexicon_facts){0, 0, 0, 0, 0, 0, 0, 0, 0, 0});
+      (struct lexicon_facts){.endianness = LEXICON_BIG, .pointer_bits = 64, .calling_convention = LEXICON_SYSTEM_V,
+          .data_model = LEXICON_LP64, .implied_format = LEXICON_ELF});
+  expect_facts("x86_64-apple-darwin23.6",
+      (struct lexicon_facts){.endianness = LEXICON_LITTLE, .pointer_bits = 64, .calling_convention = LEXICON_SYSTEM_V,
+          .data_model = LEXICON_LP64, .binary_format = LEXICON_MACHO, .implied_format = LEXICON_MACHO, .has_version = 1, .major = 23,
+          .minor = 6});
+  expect_facts("unknown", (struct lexicon_facts){0});
   if (failures == 0) printf("calls: each as expected\n");
   return failures != 0;
 }
