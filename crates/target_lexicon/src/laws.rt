@@ -133,8 +133,7 @@ pub fn round_is_normal_step()
     ensures { RoundIsNormalStep }
 {}
 
-/// A second normal step changes no triple, so that one round settles. (It changed one, as upstream's still does, before the
-/// print told an unknown format by an unknown environment; the name is from then.)
+/// A second normal step changes no triple, so that one round settles. (By upstream's rules it changes one, hence the name.)
 pub fn second_step_changes_one()
     ensures { SecondStepChangesNone }
 {}

@@ -1,4 +1,4 @@
-//! Uses of `target_lexicon`, as a caller writes them: each function is proved from the library's public contracts alone.
+//! Uses of `target_lexicon`, as a caller writes them: each function is proved from the library's public contracts and definitions alone.
 #![tactic(auto)]
 
 mod driver;
