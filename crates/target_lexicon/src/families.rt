@@ -1,6 +1,6 @@
 //! What printing and reading again keep of a triple: the five families that don't come back, and the normal step.
-ghost use Rattle.std.specs.Prelude.{◌≡◌, ◌↔◌, ◌⊎◌, ◌<◌, ◌^◌, true};
-ghost use Rattle.lexicon_fields.specs.Laws.{HasVersionInRange, IsVersionInRange};
+ghost use Rattle.std.specs.Prelude.{◌≡◌, ◌↔◌, ◌⊎◌, true};
+ghost use Rattle.lexicon_fields.specs.Laws.{HasVersionInRange};
 ghost use Rattle.lexicon_fields.specs.Vendor.{is_plain, vendor_value};
 ghost use Rattle.lexicon_fields.specs.declared.vendor.Vendor.TheVariants.{Espressif};
 ghost use Rattle.target_lexicon.specs.FixedPoints.{settled};
@@ -12,8 +12,8 @@ ghost use Rattle.target_lexicon.specs.Values.{values_of};
 
 use crate::triple::Triple;
 use lexicon_fields::{
-    Architecture, ArmArchitecture, BinaryFormat, DeploymentTarget, Environment, OperatingSystem,
-    Riscv32Architecture, Vendor,
+    Architecture, ArmArchitecture, BinaryFormat, Environment, OperatingSystem, Riscv32Architecture,
+    Vendor,
 };
 
 impl Triple {
@@ -193,33 +193,6 @@ fn elf_if_unknown(binary_format: BinaryFormat) -> BinaryFormat
 /// A version that a system holds is in range, by its types.
 fn version_fits(operating_system: OperatingSystem)
     ensures { HasVersionInRange operating_system }
-{
-    match operating_system {
-        OperatingSystem::Darwin(Some(version))
-        | OperatingSystem::IOS(Some(version))
-        | OperatingSystem::MacOSX(Some(version))
-        | OperatingSystem::TvOS(Some(version))
-        | OperatingSystem::VisionOS(Some(version))
-        | OperatingSystem::WatchOS(Some(version))
-        | OperatingSystem::XROS(Some(version)) => numbers_fit(version),
-        _ => {}
-    }
-}
-
-/// The numbers of a version are in range, by their types.
-fn numbers_fit(version: DeploymentTarget)
-    ensures { IsVersionInRange version }
-{
-    let DeploymentTarget {
-        major,
-        minor,
-        patch,
-    } = version;
-    parts_fit(major, minor, patch);
-}
-
-fn parts_fit(major: u16, minor: u8, patch: u8)
-    ensures { (major < 2 ^ 16) × (minor < 2 ^ 8) × (patch < 2 ^ 8) }
 {}
 
 #[cfg(test)]
