@@ -27,11 +27,9 @@ IsAdded triple before after =
 abbrev pub SettlesAs : Text → Values → Type 0
 SettlesAs text u = (t : Values) × ReadsAs (string_bytes text) t × (u ≡ settled t)
 
--- behind the triples so far come those that the texts settle as, in order, each unless it is there
-abbrev pub ComeBehind : List Triple → List Text → List Triple → Type 0
-ComeBehind before [] after = after ≡ before
-ComeBehind before (text ∷ texts) after =
-    (triple : Triple) × (between : List Triple) × SettlesAs text (values_of triple) × IsAdded triple before between × ComeBehind between texts after
+-- one more text: the triple that it settles as is added
+abbrev pub IsOneMore : List Triple → Text → List Triple → Type 0
+IsOneMore before text after = (triple : Triple) × SettlesAs text (values_of triple) × IsAdded triple before after
 
 -- the text settles as one of the triples
 abbrev pub IsCovered : List Triple → Text → Type 0

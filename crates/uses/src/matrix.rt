@@ -1,7 +1,7 @@
 //! A release matrix: the targets of a list, each once.
 ghost use Rattle.std.specs.Prelude.{[], All, IfOk, IfErr, OnOk};
-ghost use Rattle.std.specs.List.{AllPairs};
-ghost use Rattle.uses.specs.Matrix.{IsAdded, ComeBehind, IsCovered, HaveOtherTexts, IsMatrixFault};
+ghost use Rattle.std.specs.List.{AllPairs, FoldsTo};
+ghost use Rattle.uses.specs.Matrix.{IsAdded, IsOneMore, IsCovered, HaveOtherTexts, IsMatrixFault};
 
 use std::alloc::{AllocError, Global};
 use target_lexicon::{ParseError, Triple, laws};
@@ -17,7 +17,7 @@ pub enum MatrixError {
 
 /// The settled triples of a list of texts, in order, each where it first comes.
 pub fn release_matrix(alloc: Global, texts: &[String]) -> Result<Vec<Triple>, MatrixError>
-    ensures built { IfOk result (λ matrix. ComeBehind [] texts.now matrix.items) }
+    ensures built { IfOk result (λ matrix. FoldsTo IsOneMore [] texts.now matrix.items) }
     ensures each { IfOk result (λ matrix. All (IsCovered matrix.items) texts.now) }
     ensures apart { IfOk result (λ matrix. AllPairs HaveOtherTexts matrix.items) }
     ensures err { IfErr result (λ error. IsMatrixFault texts.now error) }
