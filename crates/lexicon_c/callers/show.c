@@ -26,6 +26,12 @@ static const char *const byte_orders[] = {"-", "little", "big"};
 static const char *const conventions[] = {"-", "SystemV", "WasmBasicCAbi", "WindowsFastcall", "AppleAarch64"};
 static const char *const models[] = {"-", "LP32", "ILP32", "LLP64", "LP64", "ILP64"};
 
+/* A refused part may hold any byte, 0 too. */
+static void show_text(const char *before, const struct buffer *text) {
+  fputs(before, stdout);
+  fwrite(text->bytes, 1, text->length, stdout);
+}
+
 static void show_facts(const struct lexicon_facts *facts) {
   printf(" %s", byte_orders[facts->endianness]);
   if (facts->pointer_bits == 0) printf(" -");
@@ -39,13 +45,14 @@ static uint32_t show(const char *line, size_t size, struct buffer *buffer) {
   if (status >= LEXICON_NO_ARCHITECTURE && status <= LEXICON_NO_FIELD) {
     status = told(lexicon_error_line, line, size, buffer);
     if (status > LEXICON_NO_FIELD) return status;
-    printf("error: %.*s\n", (int)buffer->length, buffer->bytes);
+    show_text("error: ", buffer);
+    putchar('\n');
     return LEXICON_OK;
   }
   struct lexicon_facts facts;
   if (status == LEXICON_OK) status = lexicon_facts(line, size, &facts);
   if (status != LEXICON_OK) return status;
-  printf("%.*s", (int)buffer->length, buffer->bytes);
+  show_text("", buffer);
   show_facts(&facts);
   return LEXICON_OK;
 }
