@@ -8,6 +8,7 @@ pub(crate) mod known_triples;
 use crate::{Architecture, BinaryFormat, Environment, OperatingSystem, ParseError, Triple, Vendor};
 use fixtures::{custom, plain};
 use std::alloc::Global;
+use std::process::Abort;
 use std::test::Fail;
 
 /// A text, and behind `=` what the triple that it reads as prints.
@@ -45,14 +46,19 @@ clever-unknown-unknown-unknown-unknown=clever-unknown-unknown-unknown-unknown
 clever-unknown-unknown=clever-unknown-elf
 x86_64-unknown-linux-unknown=x86_64-unknown-linux";
 
+fn check_print(rt: &impl Abort, alloc: Global, row: &str) -> Result<(), Fail> {
+    let (text, print) = row.split_once('=').ok_or("no print")?;
+    let triple = Triple::from_str(alloc, text)?;
+    assert_eq!(rt; triple.to_text(alloc)?.as_str(), print);
+    assert_eq!(rt; format!(in alloc; "{triple}")?.as_str(), print);
+    assert_eq!(rt; format!(in alloc; "{triple:*>60}")?.as_str(), print);
+    Ok(())
+}
+
 #[test]
 fn read_triples_print(rt: HostRuntime) -> Result<(), Fail> {
     for row in PRINTS.lines() {
-        let (text, print) = row.split_once('=').ok_or("no print")?;
-        let triple = Triple::from_str(rt.alloc(), text)?;
-        assert_eq!(rt; triple.to_text(rt.alloc())?.as_str(), print);
-        assert_eq!(rt; format!(in rt.alloc(); "{triple}")?.as_str(), print);
-        assert_eq!(rt; format!(in rt.alloc(); "{triple:*>60}")?.as_str(), print);
+        check_print(&rt, rt.alloc(), row)?;
     }
     Ok(())
 }

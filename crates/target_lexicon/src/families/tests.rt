@@ -2,6 +2,7 @@ use crate::{
     Architecture, BinaryFormat, CustomVendor, Environment, OperatingSystem, Triple, Vendor,
 };
 use std::alloc::Global;
+use std::process::Abort;
 use std::test::Fail;
 
 /// A text, and behind it the prints of the triple that it reads as, of its normal step, and so on.
@@ -153,58 +154,83 @@ fn settle(triple: Triple) -> Result<Triple, Fail> {
     Err("the vendor is not plain".into())
 }
 
+/// The triple prints so, and its normal step is its round, which is the answer.
+fn check_step(rt: &impl Abort, alloc: Global, triple: Triple, print: &str) -> Result<Triple, Fail> {
+    assert_eq!(rt; triple.to_text(alloc)?.as_str(), print);
+    let round = round(alloc, &triple)?;
+    assert_eq!(rt; triple.comes_back(), triple == round);
+    assert_eq!(rt; normal(triple)?, round);
+    Ok(round)
+}
+
+fn check_rounds(rt: &impl Abort, alloc: Global, row: &str) -> Result<(), Fail> {
+    let mut words = row.split_whitespace();
+    let text = words.next().ok_or("no text")?;
+    let mut triple = Triple::from_str(alloc, text)?;
+    for print in words {
+        triple = check_step(rt, alloc, triple, print)?;
+    }
+    assert!(rt; triple.comes_back(), "{row}");
+    assert_eq!(rt; settle(Triple::from_str(alloc, text)?)?, triple);
+    Ok(())
+}
+
 #[test]
 fn each_step_is_a_round(rt: HostRuntime) -> Result<(), Fail> {
     for row in ROUNDS.lines() {
-        let mut words = row.split_whitespace();
-        let text = words.next().ok_or("no text")?;
-        let mut triple = Triple::from_str(rt.alloc(), text)?;
-        for print in words {
-            assert_eq!(rt; triple.to_text(rt.alloc())?.as_str(), print);
-            let round = round(rt.alloc(), &triple)?;
-            assert_eq!(rt; triple.comes_back(), triple == round);
-            triple = normal(triple)?;
-            assert_eq!(rt; triple, round);
-        }
-        assert!(rt; triple.comes_back(), "{row}");
-        assert_eq!(rt; settle(Triple::from_str(rt.alloc(), text)?)?, triple);
+        check_rounds(&rt, rt.alloc(), row)?;
     }
+    Ok(())
+}
+
+fn check_settled(rt: &impl Abort, alloc: Global, row: &str) -> Result<(), Fail> {
+    let (text, print) = row.split_once(' ').ok_or("no print")?;
+    let settled = settle(Triple::from_str(alloc, text)?)?;
+    assert_eq!(rt; settled.to_text(alloc)?.as_str(), print);
+    assert!(rt; settled.comes_back(), "{row}");
+    assert_eq!(rt; round(alloc, &settled)?, settled);
     Ok(())
 }
 
 #[test]
 fn settled_triples_print(rt: HostRuntime) -> Result<(), Fail> {
     for row in SETTLED.lines() {
-        let (text, print) = row.split_once(' ').ok_or("no print")?;
-        let settled = settle(Triple::from_str(rt.alloc(), text)?)?;
-        assert_eq!(rt; settled.to_text(rt.alloc())?.as_str(), print);
-        assert!(rt; settled.comes_back(), "{row}");
-        assert_eq!(rt; round(rt.alloc(), &settled)?, settled);
+        check_settled(&rt, rt.alloc(), row)?;
     }
+    Ok(())
+}
+
+fn check_change(rt: &impl Abort, alloc: Global, row: &'static str) -> Result<(), Fail> {
+    let (values, step) = row.split_once('=').ok_or("no step")?;
+    let triple = built(alloc, values)?;
+    let step = built(alloc, step)?;
+    assert!(rt; !triple.comes_back(), "{row}");
+    assert_eq!(rt; round(alloc, &triple)?, step);
+    assert_eq!(rt; normal(triple)?, step);
     Ok(())
 }
 
 #[test]
 fn triples_of_the_families_change(rt: HostRuntime) -> Result<(), Fail> {
     for row in CHANGES.lines() {
-        let (values, step) = row.split_once('=').ok_or("no step")?;
-        let triple = built(rt.alloc(), values)?;
-        let step = built(rt.alloc(), step)?;
-        assert!(rt; !triple.comes_back(), "{row}");
-        assert_eq!(rt; round(rt.alloc(), &triple)?, step);
-        assert_eq!(rt; normal(triple)?, step);
+        check_change(&rt, rt.alloc(), row)?;
     }
+    Ok(())
+}
+
+fn check_comes_back(rt: &impl Abort, alloc: Global, values: &'static str) -> Result<(), Fail> {
+    let triple = built(alloc, values)?;
+    assert!(rt; triple.comes_back(), "{values}");
+    assert_eq!(rt; round(alloc, &triple)?, triple);
+    assert_eq!(rt; normal(built(alloc, values)?)?, triple);
+    assert_eq!(rt; settle(built(alloc, values)?)?, triple);
     Ok(())
 }
 
 #[test]
 fn triples_beside_the_families_come_back(rt: HostRuntime) -> Result<(), Fail> {
     for values in COMES_BACK.lines() {
-        let triple = built(rt.alloc(), values)?;
-        assert!(rt; triple.comes_back(), "{values}");
-        assert_eq!(rt; round(rt.alloc(), &triple)?, triple);
-        assert_eq!(rt; normal(built(rt.alloc(), values)?)?, triple);
-        assert_eq!(rt; settle(built(rt.alloc(), values)?)?, triple);
+        check_comes_back(&rt, rt.alloc(), values)?;
     }
     Ok(())
 }
