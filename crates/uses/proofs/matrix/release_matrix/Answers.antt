@@ -1,37 +1,11 @@
-use Rattle.std.proofs.Common.{List, [], ◌∷◌, ◌++◌, string_bytes, inl, inr, refl, sym, ap, ◌∙◌, length, length-append, get_or, take, arith}
-use Rattle.std.proofs.Math.ListN.{get_or-append}
-use Rattle.std.proofs.Math.Seq.{get_or-append_seam}
-use Rattle.std.proofs.lemmas.Fn.{FoldsTo-push}
-use Rattle.std.proofs.lemmas.List.{get_or_default, take_all, take_more}
-use Rattle.std.proofs.lemmas.List.Elements.{All-push, All-weaker, at_read}
-use Rattle.std.proofs.lemmas.List.Quantifiers.{all_pairs_push}
-use Rattle.target_lexicon.specs.declared.triple.Triple.{Triple}
-use Rattle.target_lexicon.specs.Laws.{ComesBack, EqualTextsEqualTriples}
+use Rattle.std.proofs.Common.{[], ◌∷◌, ◌++◌, string_bytes, sym, ap, ◌∙◌, take}
+use Rattle.std.proofs.lemmas.List.{take_all, take_more}
+use Rattle.std.proofs.lemmas.List.Elements.{All-weaker, at_read}
 use Rattle.target_lexicon.specs.Reading.{IsFaultOf}
-use Rattle.target_lexicon.specs.Values.{Values, values_of}
-use Rattle.uses.specs.Matrix.{Text, Has, IsAdded, SettlesAs, IsOneMore, IsCovered, HaveOtherTexts, Reads}
+use Rattle.target_lexicon.specs.Values.{values_of}
+use Rattle.uses.specs.Matrix.{IsCovered, Reads}
+use Rattle.uses.proofs.OneMore.{more}
 use Rattle.uses.proofs.matrix.release_matrix.Goals as goal
-use Rattle.uses.proofs.matrix.release_matrix.Invariants.{IsMatrix}
-
-kept : (x : Triple) (triples : List Triple) (t : Values) → Has triples t → Has (triples ++ x ∷ []) t
-kept x triples t (k, within, at) = (k, grind (arith, length-append), λ d. rw (get_or-append triples (x ∷ []) d k within) (at d))
-
-last : (x : Triple) (triples : List Triple) → Has (triples ++ x ∷ []) (values_of x)
-last x triples = (length triples, grind (arith, length-append), λ d. rw (get_or-append_seam triples x [] d) refl)
-
-more : EqualTextsEqualTriples → (texts : List Text) (text : Text) (x : Triple) (before after : List Triple) → SettlesAs text (values_of x)
-    → ComesBack (values_of x) → (added : IsAdded x before after) → IsMatrix texts before → IsMatrix (texts ++ text ∷ []) after
-more equal texts text x before after settles back (inl is) m = record {
-    built = FoldsTo-push IsOneMore [] texts before text after m.built (x, settles, inl is);
-    each = rw is.1 (All-push (IsCovered before) texts text m.each (values_of x, settles, is.0));
-    apart = rw is.1 m.apart; back = rw is.1 m.back }
-more equal texts text x before after settles back (inr is) m = record {
-    built = FoldsTo-push IsOneMore [] texts before text after m.built (x, settles, inr is);
-    each = rw is.1 (All-push (IsCovered (before ++ x ∷ [])) texts text
-      (All-weaker (IsCovered before) (IsCovered (before ++ x ∷ [])) (λ _ is. (is.0, is.1, kept x before is.0 is.2)) texts m.each) (values_of x, settles, last x before));
-    apart = rw is.1 (all_pairs_push HaveOtherTexts before x m.apart (λ k d within same. is.0 (k, within, λ e.
-      rw (get_or_default before k e d within) ((equal (values_of (get_or before k d)) (values_of x) (m.back k d within) back).1 same))));
-    back = rw is.1 (All-push (λ y. ComesBack (values_of y)) before x m.back back) }
 
 pub returns-in-Err-clause-err : goal.returns-in-Err-clause-err
 returns-in-Err-clause-err c = (
@@ -44,7 +18,7 @@ pub loop-i-preserved : goal.loop-i-preserved
 loop-i-preserved c =
     let next = take_more c.args.texts.now c.loop-i.i c.index-texts-i.result c.loop-i-test.true ∙ ap (λ text. take c.loop-i.i c.args.texts.now ++ text ∷ []) (sym c.index-texts-i.is) in
     rw next (more c.equal_texts_equal_triples.ensures _ c.index-texts-i.result c.settle.result _ _
-      (values_of c.in-Ok.triple, rw c.as_str.ensures.value at c.in-Ok.ensures.ok, c.settle.ensures.steps) c.settle.ensures.back c.in-Ok-push_new.ensures c.loop-i.invariant)
+    (values_of c.in-Ok.triple, rw c.as_str.ensures.value at c.in-Ok.ensures.ok, c.settle.ensures.steps) c.settle.ensures.back c.in-Ok-push_new.ensures c.loop-i.invariant)
 
 pub returns-clause-each : goal.returns-clause-each
 returns-clause-each c = rw (sym (take_all c.loop-i.i c.args.texts.now c.loop-i-test.false)) c.loop-i.invariant.each

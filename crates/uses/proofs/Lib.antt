@@ -1,0 +1,3 @@
+-- IsMatrix: what the release matrix is, as far as it has come. OneMore: the matrix of one more text.
+pub mod IsMatrix
+pub mod OneMore
