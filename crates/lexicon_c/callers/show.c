@@ -27,10 +27,7 @@ static const char *const conventions[] = {"-", "SystemV", "WasmBasicCAbi", "Wind
 static const char *const models[] = {"-", "LP32", "ILP32", "LLP64", "LP64", "ILP64"};
 
 /* A refused part may hold any byte, 0 too. */
-static void show_text(const char *before, const struct buffer *text) {
-  fputs(before, stdout);
-  fwrite(text->bytes, 1, text->length, stdout);
-}
+static void show_text(const struct buffer *text) { fwrite(text->bytes, 1, text->length, stdout); }
 
 static void show_facts(const struct lexicon_facts *facts) {
   printf(" %s", byte_orders[facts->endianness]);
@@ -45,14 +42,15 @@ static uint32_t show(const char *line, size_t size, struct buffer *buffer) {
   if (status >= LEXICON_NO_ARCHITECTURE && status <= LEXICON_NO_FIELD) {
     status = told(lexicon_error_line, line, size, buffer);
     if (status > LEXICON_NO_FIELD) return status;
-    show_text("error: ", buffer);
+    fputs("error: ", stdout);
+    show_text(buffer);
     putchar('\n');
     return LEXICON_OK;
   }
   struct lexicon_facts facts;
   if (status == LEXICON_OK) status = lexicon_facts(line, size, &facts);
   if (status != LEXICON_OK) return status;
-  show_text("", buffer);
+  show_text(buffer);
   show_facts(&facts);
   return LEXICON_OK;
 }
