@@ -13,7 +13,6 @@ use Rattle.std.proofs.lemmas.Map.Views.{Contains-from_any, list_any-from_Contain
 use Rattle.std.proofs.lemmas.Option.{get_or_from_slice_get, slice_get-get_or}
 use Rattle.std.proofs.lemmas.Slice.Eq.{bytes_eq-Decides}
 use Rattle.lexicon_fields.specs.Names.{named}
-use Rattle.lexicon_fields.specs.SubArchitecture.{arm_of, aarch64_of, x86_32_of, mips32_of, mips64_of, riscv32_of, riscv64_of, clever_of, z80_of}
 use Rattle.lexicon_fields.specs.Architecture.{architecture_of}
 use Rattle.lexicon_fields.specs.declared.known_vendor.KnownVendor.{KnownVendor}
 use Rattle.lexicon_fields.specs.Vendor.{known_name, known_vendors, known_vendor_of}
@@ -55,7 +54,7 @@ no_row s none =
 
 -- each row's text is a name of some field
 row_text-stands : (s : List ℕ) → is_row_text s ≡ true → has_row s ≡ true
-unfolding row_texts architecture_of arm_of aarch64_of x86_32_of mips32_of mips64_of riscv32_of riscv64_of clever_of z80_of known_vendor_of fixed_operating_system_of environment_of binary_format_of
+unfolding row_texts architecture_of known_vendor_of fixed_operating_system_of environment_of binary_format_of
 row_text-stands s found = row_text-passes has_row s refl found
 
 row_text-found : (i : ℕ) → i < 192 → is_row_text (row_text i) ≡ true

@@ -16,7 +16,6 @@ use Rattle.lexicon_fields.specs.declared.binary_format.BinaryFormat.{BinaryForma
 use Rattle.lexicon_fields.specs.declared.binary_format.BinaryFormat.TheVariants as binary_format
 use Rattle.lexicon_fields.specs.ArchitectureQueries.{is_clever}
 use Rattle.lexicon_fields.specs.Names.{is_dash_free}
-use Rattle.lexicon_fields.specs.SubArchitecture.{arm_of, aarch64_of, x86_32_of, mips32_of, mips64_of, riscv32_of, riscv64_of, clever_of, z80_of}
 use Rattle.lexicon_fields.specs.Architecture.{architecture_name, architecture_of}
 use Rattle.lexicon_fields.specs.declared.known_vendor.KnownVendor.TheVariants.{Nintendo, Espressif}
 use Rattle.lexicon_fields.specs.Vendor.{VendorValue, Known, Custom, vendor_of, known_vendor_of, is_admitted, is_plain}
@@ -106,11 +105,11 @@ custom_esp-round = refl
 -- the special texts, read by their parts
 
 nintendo-parts : read_parts (parts_of nintendo_3ds_text) ≡ Err (refused (Lacks field.OperatingSystem) (codes "3ds"))
-unfolding architecture_of arm_of vendor_of known_vendor_of operating_system_of fixed_operating_system_of environment_of binary_format_of
+unfolding architecture_of vendor_of known_vendor_of operating_system_of fixed_operating_system_of environment_of binary_format_of
 nintendo-parts = refl
 
 esp_idf-parts : read_parts (parts_of esp_idf_text) ≡ Ok custom_esp
-unfolding architecture_of arm_of aarch64_of x86_32_of mips32_of mips64_of riscv32_of riscv64_of clever_of z80_of vendor_of known_vendor_of is_admitted operating_system_of fixed_operating_system_of environment_of binary_format_of implied_format
+unfolding architecture_of vendor_of known_vendor_of is_admitted operating_system_of fixed_operating_system_of environment_of binary_format_of implied_format
 esp_idf-parts = refl
 
 -- a text that isn't special is read by its parts
