@@ -1,10 +1,11 @@
+//! The table of fixed names beside a plain scan of them.
+
 ghost use Rattle.std.specs.Prelude.{◌<◌};
 
-use super::*;
-use crate::architecture::{Aarch64Architecture, CleverArchitecture};
-use std::alloc::Global;
+use std::alloc::{AllocError, Global};
+use std::cmp::Ordering;
 use std::process::Abort;
-use std::test::Fail;
+use target_lexicon::{FixedRow, KnownVendor, Steps, fixed_row, row_order};
 
 // The fixed names of each field, in the order in which target-lexicon 0.13.5 declares its values; behind those of the
 // architectures stands the alias `arm64`.
@@ -41,8 +42,8 @@ fn is_in(names: &str, text: &str) -> bool {
     names.split_whitespace().any(|name| name == text)
 }
 
-/// The row of the text holds what a plain scan of the names finds.
-fn check(rt: &impl Abort, alloc: Global, text: &str) -> Result<(), Fail> {
+/// The fields of the row of the text are those of which a plain scan finds it, and its values have it for a name.
+fn check(rt: &impl Abort, alloc: Global, text: &str) -> Result<(), AllocError> {
     let row = fixed_row(text, &mut Steps::new());
     let scanned = [
         is_in(ARCHITECTURES, text),
@@ -55,55 +56,48 @@ fn check(rt: &impl Abort, alloc: Global, text: &str) -> Result<(), Fail> {
         assert_eq!(rt; scanned, [false; 5], "{text}");
         return Ok(());
     };
-    let found = [
+    assert_eq!(rt; fields(&row), scanned, "{text}");
+    assert_eq!(rt; row.text, text);
+    check_names(rt, alloc, &row)
+}
+
+/// Which of the five fields the row has.
+fn fields(row: &FixedRow) -> [bool; 5] {
+    [
         row.architecture.is_some(),
         row.vendor.is_some(),
         row.operating_system.is_some(),
         row.environment.is_some(),
         row.binary_format.is_some(),
-    ];
-    assert_eq!(rt; found, scanned, "{text}");
-    assert_eq!(rt; row.text, text);
+    ]
+}
+
+fn check_names(rt: &impl Abort, alloc: Global, row: &FixedRow) -> Result<(), AllocError> {
     if let Some(architecture) = row.architecture {
-        let name = if text == "arm64" { "aarch64" } else { text };
+        let name = if row.text == "arm64" {
+            "aarch64"
+        } else {
+            row.text
+        };
         assert_eq!(rt; architecture.into_str().as_str(), name);
     }
     if let Some(vendor) = row.vendor {
-        assert_eq!(rt; vendor.to_vendor().as_str(), text);
+        assert_eq!(rt; vendor.to_vendor().as_str(), row.text);
     }
     if let Some(system) = row.operating_system {
-        assert_eq!(rt; system.into_str(alloc)?.as_str(), text);
+        assert_eq!(rt; system.into_str(alloc)?.as_str(), row.text);
     }
     if let Some(environment) = row.environment {
-        assert_eq!(rt; environment.into_str().as_str(), text);
+        assert_eq!(rt; environment.into_str().as_str(), row.text);
     }
     if let Some(format) = row.binary_format {
-        assert_eq!(rt; format.into_str().as_str(), text);
+        assert_eq!(rt; format.into_str().as_str(), row.text);
     }
     Ok(())
 }
 
-/// The same of the texts round a row's.
-fn check_neighbours(rt: &impl Abort, alloc: Global, text: &str) -> Result<(), Fail> {
-    let mut front = String::from_str(alloc, text)?;
-    let last = front.pop().ok_or("empty")?;
-    check(rt, alloc, front.as_str())?;
-    check_last(rt, alloc, front.as_str(), (last as u32).saturating_sub(1))?;
-    check_last(rt, alloc, front.as_str(), (last as u32).saturating_add(1))?;
-    check_last(rt, alloc, text, 0)
-}
-
-/// The same of a text with one more character, and with one behind that.
-fn check_last(rt: &impl Abort, alloc: Global, front: &str, last: u32) -> Result<(), Fail> {
-    let mut text = String::from_str(alloc, front)?;
-    text.push(char::from_u32(last).ok_or("no character")?)?;
-    check(rt, alloc, text.as_str())?;
-    text.push('~')?;
-    check(rt, alloc, text.as_str())
-}
-
 #[test]
-fn holds_what_a_scan_finds(rt: HostRuntime) -> Result<(), Fail> {
+fn holds_what_a_scan_finds(rt: HostRuntime) -> Result<(), AllocError> {
     let mut count = 0u32;
     for names in [
         ARCHITECTURES,
@@ -114,82 +108,22 @@ fn holds_what_a_scan_finds(rt: HostRuntime) -> Result<(), Fail> {
     ] {
         for name in names.split_whitespace() {
             check(&rt, rt.alloc(), name)?;
-            check_neighbours(&rt, rt.alloc(), name)?;
+            let longer = format!(in rt.alloc(); "{name}~")?;
+            check(&rt, rt.alloc(), longer.as_str())?;
             count = count.saturating_add(1);
         }
     }
     assert_eq!(rt; count, 197);
-    Ok(())
-}
-
-/// The row of a text that is a name of no field.
-const EMPTY: FixedRow = FixedRow {
-    text: "",
-    architecture: None,
-    vendor: None,
-    operating_system: None,
-    environment: None,
-    binary_format: None,
-};
-
-fn check_row(rt: &impl Abort, row: FixedRow) {
-    let found = fixed_row(row.text, &mut Steps::new());
-    assert!(rt; found == Some(row), "{}", row.text);
-}
-
-#[test]
-fn none_is_a_system_and_an_environment(rt: HostRuntime) {
-    let row = FixedRow {
-        text: "none",
-        operating_system: Some(OperatingSystem::None_),
-        environment: Some(Environment::None),
-        ..EMPTY
-    };
-    check_row(&rt, row);
-}
-
-#[test]
-fn unknown_is_in_each_field(rt: HostRuntime) {
-    let row = FixedRow {
-        text: "unknown",
-        architecture: Some(Architecture::Unknown),
-        vendor: Some(KnownVendor::Unknown),
-        operating_system: Some(OperatingSystem::Unknown),
-        environment: Some(Environment::Unknown),
-        binary_format: Some(BinaryFormat::Unknown),
-    };
-    check_row(&rt, row);
-}
-
-#[test]
-fn other_texts_are_in_one_field(rt: HostRuntime) {
-    let vendor = FixedRow {
-        text: "pc",
-        vendor: Some(KnownVendor::Pc),
-        ..EMPTY
-    };
-    check_row(&rt, vendor);
-    let alias = FixedRow {
-        text: "arm64",
-        architecture: Some(Architecture::Aarch64(Aarch64Architecture::Aarch64)),
-        ..EMPTY
-    };
-    check_row(&rt, alias);
-    let clever = FixedRow {
-        text: "clever1.0",
-        architecture: Some(Architecture::Clever(CleverArchitecture::Clever1_0)),
-        ..EMPTY
-    };
-    check_row(&rt, clever);
-}
-
-#[test]
-fn no_other_text_has_a_row(rt: HostRuntime) {
-    for text in [
-        "", "\0", "a", "A", "zz", "é", "ios17", "darwin", "AARCH64", "aarch64 ",
-    ] {
-        assert!(rt; fixed_row(text, &mut Steps::new()).is_none(), "{text}");
+    for text in "\0 a A zz é ios17 darwin AARCH64 aarch6 zkasn".split_whitespace() {
+        check(&rt, rt.alloc(), text)?;
     }
+    check(&rt, rt.alloc(), "")
+}
+
+#[test]
+fn a_vendor_of_the_table_is_the_vendor_of_its_name(rt: HostRuntime) {
+    let row = fixed_row("pc", &mut Steps::new());
+    assert!(rt; matches!(row, Some(row) if row.vendor == Some(KnownVendor::Pc)));
 }
 
 fn check_order(rt: &impl Abort, i: usize, text: &str, order: Ordering)
@@ -203,11 +137,6 @@ fn rows_are_ordered_by_bytes(rt: HostRuntime) {
     check_order(&rt, 0, "aarch64", Ordering::Equal);
     check_order(&rt, 0, "aarch6", Ordering::Greater);
     check_order(&rt, 0, "aarch64\0", Ordering::Less);
-    check_order(&rt, 0, "", Ordering::Greater);
-    check_order(&rt, 1, "aarch64_be", Ordering::Equal);
-    check_order(&rt, 1, "aarch64_bd", Ordering::Greater);
-    check_order(&rt, 1, "aarch64_bf", Ordering::Less);
     check_order(&rt, 191, "zkasm", Ordering::Equal);
-    check_order(&rt, 191, "zkasl", Ordering::Greater);
     check_order(&rt, 191, "é", Ordering::Less);
 }
