@@ -6,9 +6,6 @@ ghost use Rattle.lexicon_fields.specs.Private.{pieces_left};
 
 use std::fmt;
 
-#[cfg(test)]
-mod tests;
-
 /// The oldest version of a system like Darwin that a target supports, within the limits of a Mach-O file.
 #[derive(Clone, Copy, Debug, PartialEq, Eq, PartialOrd, Ord, Hash)]
 pub struct DeploymentTarget {

@@ -10,8 +10,6 @@ pub mod laws;
 mod operating_system;
 mod steps;
 mod table;
-#[cfg(test)]
-mod tests;
 mod vendor;
 mod width;
 

@@ -5,9 +5,6 @@ ghost use Rattle.lexicon_fields.specs.Names.{Answers};
 ghost use Rattle.lexicon_fields.specs.Version.{version_name};
 ghost use Rattle.lexicon_fields.specs.OperatingSystem.{operating_system_name, operating_system_of, version_held, version_suffix, optional_version_of, darwin_like_by, darwin_prefixes, is_like_darwin};
 
-#[cfg(test)]
-mod tests;
-
 use crate::deployment_target::DeploymentTarget;
 use crate::steps::Steps;
 use crate::table::fixed_row;

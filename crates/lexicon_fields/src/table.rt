@@ -6,8 +6,6 @@ ghost use Rattle.lexicon_fields.specs.FixedRow.{has_row, IsRowOf, row_text};
 
 mod front;
 mod rows;
-#[cfg(test)]
-mod tests;
 
 use crate::architecture::Architecture;
 use crate::binary_format::BinaryFormat;

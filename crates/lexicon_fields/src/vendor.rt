@@ -8,9 +8,6 @@ ghost use Rattle.std.specs.Hash.{on_Alike, same_Alike};
 ghost use Rattle.std.specs.List.{list_all};
 ghost use Rattle.lexicon_fields.specs.Vendor.{custom_text, is_owned, owns_text, vendor_value, vendor_name, vendor_of, Known, known_vendor_of, is_vendor_character, has_vendor_form, is_admitted, is_plain, IsVendorFault};
 
-#[cfg(test)]
-mod tests;
-
 use crate::operating_system::OperatingSystem;
 use crate::steps::Steps;
 use crate::table::fixed_row;

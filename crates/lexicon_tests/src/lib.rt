@@ -3,4 +3,30 @@
 #![tactic(auto)]
 
 #[cfg(test)]
-mod host;
+mod defaults;
+#[cfg(test)]
+mod faults;
+#[cfg(test)]
+mod fixtures;
+#[cfg(test)]
+mod hostile;
+#[cfg(test)]
+mod json;
+#[cfg(test)]
+mod known_triples;
+#[cfg(test)]
+mod names;
+#[cfg(test)]
+mod printing;
+#[cfg(test)]
+mod queries;
+#[cfg(test)]
+mod reading;
+#[cfg(test)]
+mod rounds;
+#[cfg(test)]
+mod systems;
+#[cfg(test)]
+mod table;
+#[cfg(test)]
+mod vendors;

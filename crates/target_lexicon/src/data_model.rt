@@ -2,9 +2,6 @@
 ghost use Rattle.std.specs.Prelude.{◌≡◌, ◌*◌};
 ghost use Rattle.target_lexicon.specs.DataModel.{size_bits, size_bytes, sizes_of};
 
-#[cfg(test)]
-mod tests;
-
 /// The size of a type.
 #[derive(Clone, Copy, Debug, PartialEq, Eq, Hash)]
 pub enum Size {

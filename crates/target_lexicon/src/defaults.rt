@@ -3,9 +3,6 @@ ghost use Rattle.std.specs.Prelude.{◌≡◌, IfOk, IsOk, false};
 ghost use Rattle.lexicon_fields.specs.Vendor.{owns_text};
 ghost use Rattle.target_lexicon.specs.Values.{values_of};
 
-#[cfg(test)]
-mod tests;
-
 use crate::triple::Triple;
 use std::alloc::{AllocError, Global};
 

@@ -181,6 +181,3 @@ fn is_bare_arm(architecture: ArmArchitecture) -> bool
             | ArmArchitecture::Thumbv8mMain
     )
 }
-
-#[cfg(test)]
-mod tests;

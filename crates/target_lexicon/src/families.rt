@@ -194,6 +194,3 @@ fn elf_if_unknown(binary_format: BinaryFormat) -> BinaryFormat
 fn version_fits(operating_system: OperatingSystem)
     ensures { HasVersionInRange operating_system }
 {}
-
-#[cfg(test)]
-mod tests;

@@ -82,6 +82,3 @@ pub fn list_from_json(alloc: Global, value: &Value) -> Result<Vec<Triple>, ListE
     }
     Ok(triples)
 }
-
-#[cfg(test)]
-mod tests;

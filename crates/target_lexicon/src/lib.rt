@@ -18,8 +18,6 @@ mod part;
 mod queries;
 mod read;
 mod special;
-#[cfg(test)]
-mod tests;
 mod triple;
 
 pub use calling_convention::CallingConvention;

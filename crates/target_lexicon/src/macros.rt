@@ -8,24 +8,3 @@ macro_rules! triple {
         $crate::Triple::from_str($alloc, $text)
     };
 }
-
-#[cfg(test)]
-mod tests {
-    use crate::{ParseError, Triple};
-    use std::test::Fail;
-
-    #[test]
-    fn reads_the_text(rt: HostRuntime) -> Result<(), Fail> {
-        let text = "x86_64-unknown-linux-gnu";
-        assert_eq!(rt;
-            crate::triple!(rt.alloc(), text),
-            Triple::from_str(rt.alloc(), text)
-        );
-        let part = String::from_str(rt.alloc(), "foo")?;
-        assert_eq!(rt;
-            crate::triple!(rt.alloc(), "foo",),
-            Err(ParseError::UnrecognizedArchitecture(part))
-        );
-        Ok(())
-    }
-}

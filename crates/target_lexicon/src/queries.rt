@@ -4,9 +4,6 @@ ghost use Rattle.lexicon_fields.specs.Names.{Answers};
 ghost use Rattle.target_lexicon.specs.Queries.{endianness, pointer_width, calling_convention, data_model, is_ilp32, model_64, model_32};
 ghost use Rattle.target_lexicon.specs.Values.{values_of};
 
-#[cfg(test)]
-mod tests;
-
 use crate::calling_convention::CallingConvention;
 use crate::data_model::CDataModel;
 use crate::triple::Triple;

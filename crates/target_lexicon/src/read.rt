@@ -172,6 +172,3 @@ impl Triple {
         })
     }
 }
-
-#[cfg(test)]
-mod tests;

@@ -4,16 +4,11 @@ ghost use Rattle.std.specs.Io.{WritesAtMost};
 
 mod devices;
 mod faults;
-mod hostile;
-mod json;
-mod line_modes;
-mod macros;
-mod matrix;
+mod outputs;
 
 use crate::asked_mode;
 use crate::counted::Counted;
 use crate::mode::Mode;
-use crate::run::run;
 use crate::run_error::RunError;
 use std::alloc::Global;
 use std::env::FillError;
@@ -65,79 +60,6 @@ fn fill(buf: &mut [u8], bytes: &[u8]) -> Result<usize, FillError>
         }
         None => Err(FillError::TooLong),
     }
-}
-
-/// How a run over memory ends, and what it writes.
-fn outcome(alloc: Global, mode: Mode, input: &[u8]) -> (Result<(), RunError>, Vec<u8>) {
-    let mut reader = Counted::new(input);
-    let mut writer = Counted::new(Vec::new(alloc));
-    let end = run(alloc, mode, &mut reader, &mut writer);
-    (end, writer.into_inner())
-}
-
-#[test]
-fn prints_each_line(rt: HostRuntime) -> Result<(), Fail> {
-    let rows = [
-        ("x86_64-unknown-linux", "x86_64-unknown-linux"),
-        ("x86_64-unknown-unknown", "x86_64-unknown-unknown-elf"),
-        ("wasm32-unknown-wasi", "wasm32-wasi"),
-        ("msp430-unknown-none", "msp430-none"),
-        ("avr-unknown-unknown", "avr-unknown-unknown"),
-        ("unknown-unknown-unknown", "unknown-unknown-unknown"),
-        ("msp430-pc-none", "msp430-pc-none"),
-        ("wasm64-unknown-wasip2", "wasm64-wasip2"),
-        ("powerpc-ibm-aix", "powerpc-ibm-aix"),
-        ("x86_64-unknown-linux-gnu", "x86_64-unknown-linux-gnu"),
-        ("arm64-apple-ios", "aarch64-apple-ios"),
-        ("x86_64-customvendor-linux", "x86_64-customvendor-linux"),
-        ("", "error: Unrecognized architecture: "),
-        ("x86_64-é-linux", "error: Unrecognized vendor: é"),
-        (
-            "x86_64-foo-bar",
-            "error: Unrecognized operating system: bar",
-        ),
-        ("x86_64-linux-foo", "error: Unrecognized environment: foo"),
-        (
-            "x86_64-gnu-linux",
-            "error: Unrecognized binary format: linux",
-        ),
-        ("x86_64-elf-linux", "error: Unrecognized field: linux"),
-        (
-            "x86_64-unknown-linux\r",
-            "error: Unrecognized operating system: linux\r",
-        ),
-    ];
-    for (line, answer) in rows {
-        let input = format!(in rt.alloc(); "{line}\n")?;
-        let wanted = format!(in rt.alloc(); "{answer}\n")?;
-        let (end, written) = outcome(rt.alloc(), Mode::Print, input.as_bytes());
-        assert_eq!(rt; end, Ok(()));
-        assert_eq!(rt; written.as_slice(), wanted.as_bytes());
-    }
-    Ok(())
-}
-
-#[test]
-fn cuts_lines_at_line_feeds(rt: HostRuntime) -> Result<(), Fail> {
-    let rows = [
-        (b"".as_slice(), b"".as_slice()),
-        (b"avr-pc-none", b"avr-pc-none\n"),
-        (b"avr-pc-none\n", b"avr-pc-none\n"),
-        (
-            b"\navr-pc-none",
-            b"error: Unrecognized architecture: \navr-pc-none\n",
-        ),
-        (
-            b"\n\n",
-            b"error: Unrecognized architecture: \nerror: Unrecognized architecture: \n",
-        ),
-    ];
-    for (input, wanted) in rows {
-        let (end, written) = outcome(rt.alloc(), Mode::Print, input);
-        assert_eq!(rt; end, Ok(()));
-        assert_eq!(rt; written.as_slice(), wanted);
-    }
-    Ok(())
 }
 
 #[test]

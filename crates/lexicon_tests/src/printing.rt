@@ -1,0 +1,153 @@
+//! What triples print, read or built, and the lines of errors.
+
+use crate::fixtures::built;
+use std::alloc::{AllocError, Global};
+use std::process::Abort;
+use target_lexicon::{
+    BinaryFormat, CustomVendor, Environment, OperatingSystem, ParseError, Triple, Vendor,
+    default_binary_format,
+};
+
+/// The triple prints so, whatever the width that is asked for.
+fn check_print(
+    rt: &impl Abort,
+    alloc: Global,
+    triple: &Triple,
+    print: &str,
+) -> Result<(), AllocError> {
+    assert_eq!(rt; triple.to_text(alloc)?.as_str(), print);
+    assert_eq!(rt; format!(in alloc; "{triple:*>60}")?.as_str(), print);
+    Ok(())
+}
+
+/// A text, and behind `=` what the triple that it reads as prints.
+const READ: &str = "\
+unknown-unknown-unknown=unknown-unknown-unknown
+unknown-unknown-unknown-unknown=unknown-unknown-unknown
+unknown-unknown-unknown-unknown-unknown=unknown-unknown-unknown
+riscv64=riscv64-unknown-unknown-elf
+x86_64-apple-darwin+023.6=x86_64-apple-darwin23.6.0
+x86_64-darwin23.0.0.0=x86_64-darwin23.0.0.0-unknown-elf
+x86_64-apple-ios65535.255.255=x86_64-apple-ios65535.255.255
+x86_64-none-none=x86_64-unknown-none-none
+armv6k-nintendo-3ds=armv6k-nintendo-3ds
+armv6k-nintendo-horizon-gnu-coff=armv6k-nintendo-3ds
+aarch64-nintendo-horizon-newlib-unknown=aarch64-nintendo-horizon-unknown
+riscv32imc-esp-espidf=riscv32imc-esp-espidf
+x86_64-unknown-linux-unknown-unknown=x86_64-unknown-linux-unknown-unknown
+arm64-apple-ios=aarch64-apple-ios
+x86_64-customvendor-linux=x86_64-customvendor-linux
+x86_64-fortanix-unknown-sgx=x86_64-fortanix-unknown-sgx
+hexagon-unknown-none-elf=hexagon-unknown-none-elf
+x86_64-unknown-linux-kernel=x86_64-linux-kernel
+x86_64-none-linuxkernel=x86_64-unknown-none-linuxkernel
+wasm32-wasi-unknown-unknown=wasm32-wasi-unknown-unknown
+wasm32-unknown-wasi-unknown-unknown=wasm32-wasi-unknown-unknown
+wasm32-wasi-unknown=wasm32-wasi
+x86_64-unknown-none-unknown-unknown=x86_64-unknown-none
+wasm32-wasip1=wasm32-wasip1
+x86_64-ffi-linux=x86_64-ffi-linux
+riscv32imc-esp-espidf-unknown-unknown=riscv32imc-esp-espidf-unknown-unknown
+armv6k-nintendo-horizon-unknown-unknown=armv6k-nintendo-3ds
+riscv32imc-esp-espidf-unknown=riscv32imc-esp-espidf
+clever-unknown-unknown-none=clever-unknown-none-elf
+clever-unknown-unknown-unknown-unknown=clever-unknown-unknown-unknown-unknown
+clever-unknown-unknown=clever-unknown-elf
+x86_64-unknown-linux-unknown=x86_64-unknown-linux";
+
+#[test]
+fn read_triples_print(rt: HostRuntime) -> Result<(), ParseError> {
+    for row in READ.lines() {
+        let (text, print) = row.split_once('=').unwrap_or((row, ""));
+        let triple = Triple::from_str(rt.alloc(), text)?;
+        check_print(&rt, rt.alloc(), &triple, print)?;
+    }
+    Ok(())
+}
+
+/// The five names of a triple, and behind ` = ` what it prints. A custom vendor stands behind a quote.
+const BUILT: &str = "\
+armv7a unknown none eabihf elf = armv7a-none-eabihf
+clever pc unknown gnu elf = clever-pc-gnu-elf
+wasm32 unknown wasi unknown unknown = wasm32-wasi-unknown-unknown
+x86_64 'customvendor linux unknown elf = x86_64-customvendor-linux
+armv6k nintendo horizon newlib elf = armv6k-nintendo-3ds
+riscv32imc espressif espidf gnu coff = riscv32imc-esp-espidf
+aarch64 nintendo horizon unknown elf = aarch64-nintendo-horizon
+clever unknown unknown none elf = clever-unknown-none-elf
+x86_64 apple ios gnu elf = x86_64-apple-ios-gnu-elf";
+
+#[test]
+fn built_triples_print(rt: HostRuntime) -> Result<(), AllocError> {
+    for row in BUILT.lines() {
+        let (names, print) = row.split_once(" = ").unwrap_or((row, ""));
+        let Some(triple) = built(rt.alloc(), names) else {
+            panic!(rt; "{names}");
+        };
+        check_print(&rt, rt.alloc(), &triple, print)?;
+    }
+    Ok(())
+}
+
+#[test]
+fn an_owned_custom_vendor_prints(rt: HostRuntime) -> Result<(), AllocError> {
+    let owned = String::from_str(rt.alloc(), "owned")?;
+    let mut triple = Triple::host();
+    triple.vendor = Vendor::Custom(CustomVendor::Owned(Box::new(rt.alloc(), owned)?));
+    assert_eq!(rt;
+        triple.to_text(rt.alloc())?.as_str(),
+        "x86_64-owned-linux-gnu"
+    );
+    Ok(())
+}
+
+/// The other fields decide it, and not the format that the triple has.
+#[test]
+fn the_implied_format_is_of_the_other_fields(rt: HostRuntime) {
+    let mut triple = Triple::host();
+    triple.binary_format = BinaryFormat::Coff;
+    assert_eq!(rt; default_binary_format(&triple), BinaryFormat::Elf);
+    triple.operating_system = OperatingSystem::XROS(None);
+    assert_eq!(rt; default_binary_format(&triple), BinaryFormat::Macho);
+    triple.operating_system = OperatingSystem::None_;
+    assert_eq!(rt; default_binary_format(&triple), BinaryFormat::Unknown);
+    triple.environment = Environment::Eabi;
+    assert_eq!(rt; default_binary_format(&triple), BinaryFormat::Elf);
+}
+
+#[test]
+fn want_of_memory_has_its_line(rt: HostRuntime) -> Result<(), AllocError> {
+    let error = ParseError::OutOfMemory.clone(rt.alloc())?;
+    assert_eq!(rt;
+        format!(in rt.alloc(); "{error:*>40}")?.as_str(),
+        "Out of memory"
+    );
+    Ok(())
+}
+
+/// Built triples whose vendor isn't plain; what each prints; and what that reads as or why it is refused.
+const NOT_PLAIN: &str = "\
+x86_64 'a-b linux unknown elf = x86_64-a-b-linux = Unrecognized operating system: b
+x86_64 ' linux unknown elf = x86_64--linux = Unrecognized vendor:\u{20}
+x86_64 'apple darwin unknown macho = x86_64-apple-darwin = x86_64 apple darwin unknown macho
+x86_64 'pc windows msvc coff = x86_64-pc-windows-msvc = x86_64 pc windows msvc coff
+x86_64 'unknown-linux unknown unknown elf = x86_64-unknown-linux-unknown-elf = x86_64 unknown linux unknown elf
+x86_64 'none linux unknown elf = x86_64-none-linux = Unrecognized environment: linux";
+
+#[test]
+fn no_triple_comes_back_whose_vendor_is_not_plain(rt: HostRuntime) -> Result<(), AllocError> {
+    for row in NOT_PLAIN.lines() {
+        let (names, rest) = row.split_once(" = ").unwrap_or((row, ""));
+        let (print, want) = rest.split_once(" = ").unwrap_or((rest, ""));
+        let Some(triple) = built(rt.alloc(), names) else {
+            panic!(rt; "{names}");
+        };
+        assert!(rt; !triple.comes_back(), "{row}");
+        check_print(&rt, rt.alloc(), &triple, print)?;
+        match Triple::from_str(rt.alloc(), print) {
+            Ok(read) => assert!(rt; built(rt.alloc(), want) == Some(read), "{row}"),
+            Err(error) => assert_eq!(rt; format!(in rt.alloc(); "{error}")?.as_str(), want),
+        }
+    }
+    Ok(())
+}

@@ -1,0 +1,118 @@
+//! What triples and data models answer.
+
+use crate::fixtures::{convention_word, model_word, order_word, width_word};
+use std::alloc::{AllocError, Global};
+use target_lexicon::{Architecture, CDataModel, OperatingSystem, ParseError, Size, Triple};
+
+/// A text, and the byte order, pointer width, calling convention and data model of its triple; `-` for a refusal.
+const ANSWERS: &str = "\
+wasm32-wasip1 little 32 - ILP32
+wasm32-wasi little 32 WasmBasicCAbi ILP32
+aarch64-apple-ios-gnu_ilp32 little 32 AppleAarch64 -
+aarch64-apple-ios-macabi little 64 AppleAarch64 LP64
+x86_64-unknown-linux-gnu little 64 SystemV LP64
+x86_64-pc-windows-msvc little 64 WindowsFastcall LLP64
+avr-unknown-unknown little 16 - -
+wasm64-unknown-unknown little 64 - LP64
+unknown-unknown-linux-gnux32 - 32 SystemV ILP32
+unknown - - - -
+x86_64-unknown-linux-gnux32 little 32 SystemV ILP32
+i686-pc-windows-gnu little 32 WindowsFastcall ILP32
+aarch64-apple-darwin little 64 AppleAarch64 LP64
+aarch64-apple-ios little 64 AppleAarch64 LP64
+aarch64-apple-tvos little 64 AppleAarch64 LP64
+aarch64-apple-watchos little 64 AppleAarch64 LP64
+aarch64-linux-android little 64 SystemV LP64
+x86_64-apple-ios little 64 SystemV LP64
+aarch64_be-unknown-linux-gnu_ilp32 big 32 SystemV ILP32
+aarch64-unknown-linux-gnu_ilp32 little 32 SystemV ILP32
+aarch64_be-unknown-linux-gnu big 64 SystemV LP64
+aarch64-unknown-linux-gnu little 64 SystemV LP64
+aarch64_be-apple-darwin big 64 AppleAarch64 LP64
+wasm64-wasi little 64 - LP64
+wasm64-unknown-linux little 64 SystemV LP64
+x86_64-unknown-illumos little 64 - -
+x86_64-pc-cygwin little 64 - -
+x86_64-unknown-uefi little 64 - -
+x86_64-pc-windows-gnux32 little 32 WindowsFastcall ILP32
+wasm64-pc-windows little 64 WindowsFastcall LLP64
+wasm32-pc-windows little 32 WindowsFastcall ILP32
+wasm32-unknown-none little 32 - ILP32
+wasm32-unknown-linux little 32 SystemV ILP32
+wasm64-unknown-unknown-gnux32 little 32 - -
+asmjs-unknown-emscripten little 32 - -
+thumbv7m-none-eabi little 32 - -
+armeb-unknown-linux-gnueabi big 32 SystemV ILP32
+i386-apple-ios little 32 SystemV ILP32
+avr-unknown-linux little 16 SystemV -
+msp430-pc-windows little 16 WindowsFastcall -
+z80-apple-darwin little 16 SystemV -
+avr-unknown-linux-gnu_ilp32 little 32 SystemV ILP32
+unknown-unknown-linux - - SystemV -
+unknown-pc-windows - - WindowsFastcall -
+unknown-apple-darwin - - SystemV -
+unknown-pc-windows-gnu_ilp32 - 32 WindowsFastcall ILP32
+x86_64-customvendor-linux little 64 SystemV LP64";
+
+/// The four answers of the triple.
+fn answers(alloc: Global, triple: &Triple) -> Result<String, AllocError> {
+    let order = order_word(triple.endianness());
+    let width = width_word(triple.pointer_width());
+    let convention = convention_word(triple.default_calling_convention());
+    let model = model_word(triple.data_model());
+    format!(in alloc; "{order} {width} {convention} {model}")
+}
+
+#[test]
+fn triples_answer(rt: HostRuntime) -> Result<(), ParseError> {
+    for row in ANSWERS.lines() {
+        let (text, want) = row.split_once(' ').unwrap_or((row, ""));
+        let triple = Triple::from_str(rt.alloc(), text)?;
+        assert_eq!(rt; answers(rt.alloc(), &triple)?.as_str(), want, "{text}");
+    }
+    assert_eq!(rt;
+        answers(rt.alloc(), &Triple::unknown())?.as_str(),
+        "- - - -"
+    );
+    Ok(())
+}
+
+#[test]
+fn hosts_are_fixed(rt: HostRuntime) {
+    assert!(rt; matches!(OperatingSystem::host(), OperatingSystem::Linux));
+    assert_eq!(rt; width_word(Architecture::host().pointer_width()), "64");
+}
+
+/// The bits of short, int, long, long long, pointer, float and double.
+fn sizes(alloc: Global, model: CDataModel) -> Result<String, AllocError> {
+    let short = model.short_size().bits();
+    let int = model.int_size().bits();
+    let long = model.long_size().bits();
+    let long_long = model.long_long_size().bits();
+    let pointer = model.pointer_width().bits();
+    let float = model.float_size().bits();
+    let double = model.double_size().bits();
+    format!(in alloc; "{short} {int} {long} {long_long} {pointer} {float} {double}")
+}
+
+#[test]
+fn models_have_sizes(rt: HostRuntime) -> Result<(), AllocError> {
+    for (model, bits) in [
+        (CDataModel::LP32, "16 16 32 64 32 32 64"),
+        (CDataModel::ILP32, "16 32 32 64 32 32 64"),
+        (CDataModel::LLP64, "16 32 32 64 64 32 64"),
+        (CDataModel::LP64, "16 32 64 64 64 32 64"),
+        (CDataModel::ILP64, "16 64 64 64 64 32 64"),
+    ] {
+        assert_eq!(rt; sizes(rt.alloc(), model)?.as_str(), bits);
+    }
+    Ok(())
+}
+
+#[test]
+fn sizes_in_bits_and_bytes(rt: HostRuntime) {
+    assert!(rt; Size::U8.bits() == 8 && Size::U8.bytes() == 1);
+    assert!(rt; Size::U16.bits() == 16 && Size::U16.bytes() == 2);
+    assert!(rt; Size::U32.bits() == 32 && Size::U32.bytes() == 4);
+    assert!(rt; Size::U64.bits() == 64 && Size::U64.bytes() == 8);
+}
