@@ -104,40 +104,26 @@ impl Triple {
     }
 
     /// Whether a special text is printed, and environment and format aren't `Newlib` and `Elf`.
+    #[tactic(auto, unfolding(crate::specs::SpecialTexts::special_text))]
     fn prints_as_special(&self) -> bool
         ensures { result ≡ prints_as_special self.now.operating_system (vendor_value self.now.vendor) self.now.architecture
             self.now.environment self.now.binary_format }
     {
-        matches!(
-            (self.operating_system, &self.vendor, self.architecture),
-            (
-                OperatingSystem::Horizon,
-                Vendor::Nintendo,
-                Architecture::Arm(ArmArchitecture::Armv6k),
-            ) | (
-                OperatingSystem::Espidf,
-                Vendor::Espressif,
-                Architecture::Riscv32(Riscv32Architecture::Riscv32imc),
-            )
-        ) && !matches!(
-            (self.environment, self.binary_format),
-            (Environment::Newlib, BinaryFormat::Elf)
-        )
+        match (self.environment, self.binary_format) {
+            (Environment::Newlib, BinaryFormat::Elf) => false,
+            _ => self.special_text().is_some(),
+        }
     }
 
     /// Whether `Newlib` isn't shown, and the text isn't special.
+    #[tactic(auto, unfolding(crate::specs::SpecialTexts::special_text, crate::specs::Printing::shows_environment))]
     fn hides_newlib(&self) -> bool
         ensures { result ≡ hides_newlib self.now.environment self.now.operating_system (vendor_value self.now.vendor) self.now.architecture }
     {
-        match (self.environment, self.operating_system, &self.vendor) {
-            (Environment::Newlib, OperatingSystem::Horizon, Vendor::Nintendo) => !matches!(
-                self.architecture,
-                Architecture::Arm(ArmArchitecture::Armv6k)
-            ),
-            (Environment::Newlib, OperatingSystem::Espidf, Vendor::Espressif) => !matches!(
-                self.architecture,
-                Architecture::Riscv32(Riscv32Architecture::Riscv32imc)
-            ),
+        match self.environment {
+            Environment::Newlib => {
+                self.special_text().is_none() && !self.shows_environment(false)
+            }
             _ => false,
         }
     }
@@ -166,17 +152,14 @@ impl Triple {
     }
 
     /// Whether the environment `none` is shown alone, on Clever without a system.
+    #[tactic(auto, unfolding(crate::specs::Printing::shows_operating_system))]
     fn shows_none_alone(&self) -> bool
         ensures { result ≡ shows_none_alone self.now.environment self.now.operating_system self.now.architecture }
     {
-        matches!(
-            (self.environment, self.operating_system, self.architecture),
-            (
-                Environment::None,
-                OperatingSystem::Unknown,
-                Architecture::Clever(_)
-            )
-        )
+        match self.environment {
+            Environment::None => !self.shows_operating_system(false),
+            _ => false,
+        }
     }
 }
 
