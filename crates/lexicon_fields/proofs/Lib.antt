@@ -1,7 +1,7 @@
 -- RowTexts, FrontLemmas, Halving, RowsHold, RowReads: the table of names is in order, its search finds each row, and a row
 -- holds what the lists of names say. LookUps: what a look-up in a list tells, and how names are shown to read back.
 -- NamesReadBack, VersionsReadBack, OperatingSystemsReadBack, OperatingSystemsDashFree, VendorsReadBack: that the names of
--- each type read back as the values that bear them, and hold no dash. SubArchitectures: the names of architectures in parts.
+-- each type read back as the values that bear them, and hold no dash.
 -- EqualByValue: that `==` tells exactly which values are the same.
 pub mod EqualByValue
 pub mod FrontLemmas
@@ -13,6 +13,5 @@ pub mod OperatingSystemsReadBack
 pub mod RowReads
 pub mod RowTexts
 pub mod RowsHold
-pub mod SubArchitectures
 pub mod VendorsReadBack
 pub mod VersionsReadBack

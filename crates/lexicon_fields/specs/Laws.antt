@@ -1,9 +1,7 @@
 -- Laws of names, queries, versions and equality.
-use Rattle.std.specs.Prelude.{◌≡◌, ◌↔◌, ℕ, ◌<◌, ◌^◌, Bool, true, List, Option, Some, None, IfSome, Decides}
+use Rattle.std.specs.Prelude.{◌≡◌, ℕ, ◌<◌, ◌^◌, Bool, true, List, Option, Some, IfSome, Decides}
 use Rattle.std.specs.Ordering.{nat_cmp, on, then_cmp}
 use Rattle.std.specs.declared.cmp.Ordering.{Ordering}
-use Rattle.lexicon_fields.specs.declared.architecture.Architecture.{Architecture}
-use Rattle.lexicon_fields.specs.declared.architecture.Architecture.TheVariants.{Unknown}
 use Rattle.lexicon_fields.specs.declared.deployment_target.DeploymentTarget.{DeploymentTarget}
 use Rattle.lexicon_fields.specs.declared.operating_system.OperatingSystem.{OperatingSystem}
 use Rattle.lexicon_fields.specs.Names.{is_dash_free}
@@ -31,10 +29,6 @@ HasVersionInRange s = IfSome (version_held s) IsVersionInRange
 -- the order of versions: by major, then by minor, then by patch
 abbrev pub version_cmp : DeploymentTarget → DeploymentTarget → Ordering
 version_cmp = then_cmp (on (λ v. v.major) nat_cmp) (then_cmp (on (λ v. v.minor) nat_cmp) (on (λ v. v.patch) nat_cmp))
-
--- a query of architectures has no answer for `Unknown` alone
-abbrev pub IsRefusedForUnknownAlone : {V : Type 0} → (Architecture → Option V) → Type 0
-IsRefusedForUnknownAlone query = (a : Architecture) → (query a ≡ None) ↔ (a ≡ Unknown)
 
 -- two values are told equal exactly where they are the same
 abbrev pub ComparesByValue : {V : Type 0} → (V → V → Bool) → Type 0

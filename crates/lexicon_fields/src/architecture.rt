@@ -2,7 +2,7 @@
 ghost use Rattle.std.specs.Prelude.{◌≡◌, ◌↔◌, IsErr, Some};
 ghost use Rattle.std.specs.Cow.{cow_str_bytes, IsBorrowedStr};
 ghost use Rattle.lexicon_fields.specs.Names.{Answers};
-ghost use Rattle.lexicon_fields.specs.Architecture.{architecture_name, architecture_of, family_of};
+ghost use Rattle.lexicon_fields.specs.Architecture.{architecture_name, architecture_of};
 ghost use Rattle.lexicon_fields.specs.ArchitectureQueries.{architecture_endianness, architecture_width, is_clever};
 
 mod aarch64;

@@ -3,17 +3,13 @@ ghost use Rattle.std.specs.Prelude.{◌≡◌, ◌↔◌, true, ℕ, List, lengt
 ghost use Rattle.std.specs.Cmp.Lexicographic.{slice_cmp};
 ghost use Rattle.std.specs.List.Sorted.{IsStrictlySortedBy};
 ghost use Rattle.std.specs.Ordering.{nat_cmp};
-ghost use Rattle.lexicon_fields.specs.Laws.{NamesOfReadBack, NamesReadBack, HasVersionInRange, IsRefusedForUnknownAlone, ComparesByValue, version_cmp};
-ghost use Rattle.lexicon_fields.specs.SubArchitecture.{arm_name, arm_of, aarch64_name, aarch64_of, x86_32_name, x86_32_of};
-ghost use Rattle.lexicon_fields.specs.SubArchitecture.{mips32_name, mips32_of, mips64_name, mips64_of};
-ghost use Rattle.lexicon_fields.specs.SubArchitecture.{riscv32_name, riscv32_of, riscv64_name, riscv64_of};
-ghost use Rattle.lexicon_fields.specs.SubArchitecture.{clever_name, clever_of, z80_name, z80_of};
-ghost use Rattle.lexicon_fields.specs.Architecture.{architecture_name, architecture_of};
+ghost use Rattle.lexicon_fields.specs.Laws.{NamesOfReadBack, NamesReadBack, HasVersionInRange, ComparesByValue, version_cmp};
+ghost use Rattle.lexicon_fields.specs.SubArchitecture.{arm_name, aarch64_name, x86_32_name, mips32_name, mips64_name, riscv32_name, riscv64_name, clever_name, z80_name};
+ghost use Rattle.lexicon_fields.specs.Architecture.{architecture_name, architecture_of, arm_of, aarch64_of, x86_32_of, mips32_of, mips64_of, riscv32_of, riscv64_of, clever_of, z80_of};
 ghost use Rattle.lexicon_fields.specs.Environment.{environment_name, environment_of};
 ghost use Rattle.lexicon_fields.specs.OperatingSystem.{operating_system_name, operating_system_of};
 ghost use Rattle.lexicon_fields.specs.BinaryFormat.{binary_format_name, binary_format_of};
-ghost use Rattle.lexicon_fields.specs.ArchitectureQueries.{architecture_endianness, architecture_width};
-ghost use Rattle.lexicon_fields.specs.FixedRow.{has_row, row_texts, HoldSameValues};
+ghost use Rattle.lexicon_fields.specs.FixedRow.{has_row, row_count, row_texts, HoldSameValues};
 ghost use Rattle.lexicon_fields.specs.declared.vendor.CustomVendor.{CustomVendor};
 ghost use Rattle.lexicon_fields.specs.declared.vendor.Vendor.{Vendor};
 ghost use Rattle.lexicon_fields.specs.Vendor.{custom_text, vendor_value, vendor_name, vendor_of, is_plain};
@@ -52,12 +48,6 @@ pub fn names_read_back()
     ensures vendor { NamesOfReadBack (λ v. is_plain v ≡ true) vendor_name vendor_of }
 {}
 
-/// An architecture has no byte order and no pointer width exactly where it is `Unknown`.
-pub fn unknown_alone_is_refused()
-    ensures endianness { IsRefusedForUnknownAlone architecture_endianness }
-    ensures pointer_width { IsRefusedForUnknownAlone architecture_width }
-{}
-
 /// Versions are ordered by major, then by minor, then by patch.
 pub fn versions_are_ordered()
     ensures { (x y : DeploymentTarget) → ⟦<DeploymentTarget as Ord>⟧.cmp x y ≡ version_cmp x y }
@@ -71,7 +61,7 @@ pub fn vendors_are_equal_by_value()
 /// The texts of the rows are those that are a fixed name of some field, each once, in the order of their bytes.
 pub fn rows_are_sorted_and_whole()
     ensures sorted { IsStrictlySortedBy (slice_cmp nat_cmp) row_texts }
-    ensures count { length row_texts ≡ 192 }
+    ensures count { length row_texts ≡ row_count }
     ensures whole { (text : List ℕ) → Contains row_texts text ↔ (has_row text ≡ true) }
 {}
 

@@ -4,13 +4,12 @@ use Rattle.std.specs.Prelude.{is_some, option_map, option_and_then, MatchOption,
 use Rattle.std.specs.Option.{option_or}
 use Rattle.lexicon_fields.specs.declared.table.FixedRow.{FixedRow}
 use Rattle.lexicon_fields.specs.OperatingSystem.{operating_system_of}
-use Rattle.lexicon_fields.specs.Vendor.{VendorValue, Known, is_admitted, vendor_of}
+use Rattle.lexicon_fields.specs.Vendor.{VendorValue, Known, Custom, is_admitted, vendor_of}
 use Rattle.lexicon_fields.proofs.RowsHold.{row_reads_by_name}
-use Rattle.lexicon_fields.proofs.VendorsReadBack.{row_not_admitted}
+use Rattle.lexicon_fields.proofs.VendorsReadBack.{row_not_admitted, vendor_names_read_back}
 use Rattle.target_lexicon.specs.Field.{Vendor}
 use Rattle.target_lexicon.specs.Private.{IsLookedUp, part_for}
 use Rattle.target_lexicon.proofs.Taken.{reads-vendor}
-use Rattle.target_lexicon.proofs.Vendors.{admitted_custom}
 
 abbrev vendor_column : Option FixedRow → Option VendorValue
 vendor_column row = option_map Known (option_and_then (λ (r : FixedRow). r.vendor) row)
@@ -35,4 +34,4 @@ row-operating_system text row r looked is =
 pub part-wants_memory : {T E : Type 0} (r : Result T E) (parts : List (List ℕ)) (p : List ℕ) (ps : List (List ℕ)) → parts ≡ p ∷ ps → is_admitted p ≡ true
     → OnErr r (MatchOption (part_for Vendor parts) ⊥ (λ part. is_admitted part ≡ true))
 part-wants_memory (Ok _) parts p ps are admitted = tt
-part-wants_memory (Err _) parts p ps are admitted = rw (are, reads-vendor p ∙ ap is_some (admitted_custom p admitted)) admitted
+part-wants_memory (Err _) parts p ps are admitted = rw (are, reads-vendor p ∙ ap is_some (vendor_names_read_back.reads_back (Custom p) admitted)) admitted

@@ -1,11 +1,11 @@
 //! Laws over the definitions alone: each function's contract is one, and it does nothing.
 ghost use Rattle.std.specs.Prelude.{◌≡◌, ◌↔◌, true};
 ghost use Rattle.target_lexicon.specs.ComputedAnswers.{AnswersAreComputed};
-ghost use Rattle.target_lexicon.specs.Laws.{OneLeastPlacement, OneOutcomeEach, ReadingIsComputed, ReadVendorsArePlain, FieldNamesReadBack, EqualTextsEqualTriples};
+ghost use Rattle.target_lexicon.specs.Laws.{OneLeastPlacement, OneOutcomeEach, ReadingIsComputed, ReadVendorsArePlain, EqualTextsEqualTriples};
 ghost use Rattle.lexicon_fields.specs.Laws.{ComparesByValue};
 ghost use Rattle.target_lexicon.specs.FixedPoints.{ReadTriplesArePlain, FixedExactlyOutsideFamilies, RoundIsNormalStep, SecondStepChangesNone, SettledTextsAreKeys, RoundsAreKnown};
 ghost use Rattle.target_lexicon.specs.Json.{ListsReadBack, json_fault_of, list_fault_of};
-ghost use Rattle.target_lexicon.specs.QueryLaws.{ModelWidth, NoRareModel, IntegersGrowInEach, BytesHaveEightBits, QueriesKept};
+ghost use Rattle.target_lexicon.specs.QueryLaws.{ModelWidth, NoRareModel, IntegersGrowInEach, QueriesKept};
 ghost use Rattle.target_lexicon.specs.Refusal.{refusal_of};
 ghost use Rattle.target_lexicon.specs.Upstream.{OtherTextsThanUpstream};
 ghost use Rattle.target_lexicon.specs.Values.{values_of};
@@ -23,6 +23,7 @@ use crate::json_error::JsonError;
 use crate::list_error::ListError;
 use crate::parse_error::ParseError;
 use crate::triple::Triple;
+pub use lexicon_fields::laws::names_read_back;
 
 /// Parts that have a placement have exactly one least, and so has each front of them.
 pub fn one_least_placement()
@@ -56,14 +57,6 @@ pub fn read_triples_are_plain()
     ensures { ReadTriplesArePlain }
 {}
 
-/// Every value but a custom vendor reads back from its name as itself, and its name holds no dash.
-/// A custom vendor does so where its text is admitted.
-pub fn names_read_back()
-    ensures { FieldNamesReadBack }
-{
-    lexicon_fields::laws::names_read_back();
-}
-
 /// Two triples that come back when they are printed and read are equal exactly where their texts are.
 pub fn equal_texts_equal_triples()
     ensures { EqualTextsEqualTriples }
@@ -95,11 +88,6 @@ pub fn no_rare_model()
 /// In each data model `short`, `int`, `long` and `long long` don't decrease.
 pub fn integers_grow_in_each()
     ensures { IntegersGrowInEach }
-{}
-
-/// A size has eight times as many bits as bytes.
-pub fn bytes_have_eight_bits()
-    ensures { BytesHaveEightBits }
 {}
 
 /// The normal step keeps the architecture of a triple, and what the four queries answer or refuse.
