@@ -39,3 +39,7 @@ IsRefusedForUnknownAlone query = (a : Architecture) → (query a ≡ None) ↔ (
 -- two values are told equal exactly where they are the same
 abbrev pub ComparesByValue : {V : Type 0} → (V → V → Bool) → Type 0
 ComparesByValue {V} eq = (x y : V) → Decides (eq x y) (x ≡ y)
+
+-- a copy is its source, and comes without memory
+abbrev pub CopiesAreTheirSources : {V : Type 0} → (V → V → Type 0) → (V → Type 0) → Type 0
+CopiesAreTheirSources {V} IsCopy NeedsNoMemory = (source : V) → NeedsNoMemory source × ((copy : V) → IsCopy source copy → copy ≡ source)
