@@ -65,7 +65,7 @@ pub record IsSoFar (lines rest : List (List ℕ)) (output : List ℕ) (seen : BT
 abbrev pub if_stays : Bool → SettleLine → List SettleLine
 if_stays stays line = if stays then line ∷ [] else []
 
-staying-push : (before lines : List SettleLine) (line : SettleLine)
+pub staying-push : (before lines : List SettleLine) (line : SettleLine)
     → staying_behind before (lines ++ line ∷ []) ≡ staying_behind before lines ++ if_stays (stays_behind (before ++ lines) line) line
 staying-push before [] line = append-nil (if_stays (stays_behind before line) line) ∙ ap (λ (t : List SettleLine). if_stays (stays_behind t line) line) (sym (append-nil before))
 staying-push before (first ∷ lines) line =
