@@ -5,11 +5,13 @@
 #![tactic(auto)]
 
 mod clones;
+mod free;
 mod json;
 mod readings;
 mod tell;
 
-use clones::{tell_fixed, tell_refusal, tell_triple};
+use clones::{tell_made, tell_refusal, tell_triple};
+use free::tell_free;
 use json::{tell_triples, tell_values};
 use readings::tell_readings;
 use serde_json::Value;
@@ -27,7 +29,12 @@ fn tell_lent(rt: &impl Print, alloc: Global) -> Option<()> {
         Triple::from_str(alloc, "x86_64-customvendor-linux").ok()?,
     );
     tell_settled(rt, alloc, "riscv32imc-esp-espidf-unknown-unknown")?;
-    tell_json(rt, alloc, "[\"x86_64\",\"x86_64-foo-linux\"]")
+    tell_json(rt, alloc, "[\"x86_64\",\"x86_64-foo-linux\"]")?;
+    tell_json(
+        rt,
+        alloc,
+        "[\"x86_64-longervendor-linux\",\"avr\",\"x86_64-a-linux\",\"avr-pc-none\",\"x86_64-customvendor-linux\"]",
+    )
 }
 
 fn tell_settled(rt: &impl Print, alloc: Global, text: &str) -> Option<()> {
@@ -46,7 +53,8 @@ fn tell_json(rt: &impl Print, alloc: Global, text: &str) -> Option<()> {
 
 fn main(rt: HostRuntime) -> ExitCode {
     tell_readings(&rt, rt.alloc());
-    tell_fixed(&rt, rt.alloc());
+    tell_free(&rt, rt.alloc());
+    tell_made(&rt, rt.alloc());
     if tell_lent(&rt, rt.alloc()).is_some() {
         return ExitCode::SUCCESS;
     }

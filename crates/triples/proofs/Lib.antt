@@ -1,4 +1,4 @@
--- LineLemmas: the lines of an input. AnswerLemmas, JsonAnswers: their answers. MatrixLemmas, MatrixLawLemmas: the matrix of the lines.
+-- LineLemmas: the lines of an input. AnswerLemmas, JsonAnswers: their answers. MatrixLemmas, MatrixLawLemmas, MatrixOrder: the matrix of the lines.
 -- KnownBytes: what is read and written.
 pub mod AnswerLemmas
 pub mod JsonAnswers
@@ -6,3 +6,4 @@ pub mod KnownBytes
 pub mod LineLemmas
 pub mod MatrixLawLemmas
 pub mod MatrixLemmas
+pub mod MatrixOrder

@@ -6,23 +6,23 @@ use Rattle.triples.specs.MatrixLaws.{entries_of, StaysAtItsFirst, FirstEntriesSt
 use Rattle.triples.specs.Output.{SettleLine, Entry, RefusalTold, is_entry_of, matrix_of}
 use Rattle.triples.proofs.MatrixLemmas.{if_stays, staying-push}
 
-module _ {X : Type 0} (test : X → Bool) where
-  -- no element passes exactly where none is kept
-  none-passes : (xs : List X) → filter test xs ≡ [] → list_any test xs ≡ false
-  none-passes [] none = refl
-  none-passes (x ∷ xs) none = either (test x) none
-    where
-      either : (passes : Bool) → cond passes (x ∷ filter test xs) (filter test xs) ≡ [] → (passes || list_any test xs) ≡ false
-      either true none = absurd cc
-      either false none = none-passes xs none
+module _ {X : Type 0} (x : X) (kept : List X) (any : Bool) where
+  none-passes-here : (passes : Bool) → (kept ≡ [] → any ≡ false) → cond passes (x ∷ kept) kept ≡ [] → (passes || any) ≡ false
+  none-passes-here true behind none = absurd cc
+  none-passes-here false behind none = behind none
 
-  one-passes : (xs : List X) → ¬ (filter test xs ≡ []) → list_any test xs ≡ true
-  one-passes [] some = absurd (some refl)
-  one-passes (x ∷ xs) some = either (test x) some
-    where
-      either : (passes : Bool) → ¬ (cond passes (x ∷ filter test xs) (filter test xs) ≡ []) → (passes || list_any test xs) ≡ true
-      either true some = refl
-      either false some = one-passes xs some
+  one-passes-here : (passes : Bool) → (¬ (kept ≡ []) → any ≡ true) → ¬ (cond passes (x ∷ kept) kept ≡ []) → (passes || any) ≡ true
+  one-passes-here true behind some = refl
+  one-passes-here false behind some = behind some
+
+-- no element passes exactly where none is kept
+none-passes : {X : Type 0} (test : X → Bool) (xs : List X) → filter test xs ≡ [] → list_any test xs ≡ false
+none-passes test [] none = refl
+none-passes test (x ∷ xs) none = none-passes-here x (filter test xs) (list_any test xs) (test x) (none-passes test xs) none
+
+one-passes : {X : Type 0} (test : X → Bool) (xs : List X) → ¬ (filter test xs ≡ []) → list_any test xs ≡ true
+one-passes test [] some = absurd (some refl)
+one-passes test (x ∷ xs) some = one-passes-here x (filter test xs) (list_any test xs) (test x) (one-passes test xs) some
 
 pub first_entries_stay_in_order : FirstEntriesStayInOrder
 first_entries_stay_in_order = record {
