@@ -4,3 +4,5 @@
 
 #[cfg(test)]
 mod host;
+#[cfg(test)]
+mod rows;

@@ -13,7 +13,7 @@ use target_lexicon::{
 const SYSTEMS: &str =
     "unknown aix amdhsa bitrig cloudabi cuda cygwin dragonfly emscripten espidf freebsd fuchsia haiku hermit \
     horizon hurd illumos l4re linux nebulet netbsd none openbsd psp redox solaris solid_asp3 uefi vxworks wasi wasip1 wasip2 \
-    windows ios macosx tvos visionos watchos xros";
+    windows darwin ios macosx tvos visionos watchos xros";
 
 /// The names of the known vendors.
 const VENDORS: &str =
