@@ -15,12 +15,12 @@ const TRIPLES: &str = "x86_64-customvendor-linux\n\
 
 pub(crate) fn tell_readings(rt: &impl Print, alloc: Global) {
     for text in TRIPLES.lines() {
-        tell_triple(rt, alloc, text);
+        tell_read_triple(rt, alloc, text);
     }
     tell_read_vendor(rt, alloc, "customvendor");
 }
 
-fn tell_triple(rt: &impl Print, alloc: Global, text: &str) {
+pub(crate) fn tell_read_triple(rt: &impl Print, alloc: Global, text: &str) {
     tell(
         rt,
         "Triple::from_str",

@@ -2,7 +2,7 @@
 
 use super::devices::Gate;
 use crate::counted::Counted;
-use std::alloc::Global;
+use std::alloc::{AllocError, Global};
 use std::io::Write;
 use std::process::Abort;
 use std::test::Fail;
@@ -21,17 +21,21 @@ fn a_piece_of_no_bytes_is_handed_on(rt: HostRuntime) {
     check_piece(&rt, rt.alloc(), b"");
 }
 
-/// More than any buffer would hold.
-const MANY: usize = 300_000;
+/// A piece of so many bytes, of which neighbours differ.
+fn piece(alloc: Global, length: usize) -> Result<Vec<u8>, AllocError> {
+    let mut bytes = Vec::new(alloc);
+    for i in 0..length {
+        bytes.push((i % 251) as u8)?;
+    }
+    Ok(bytes)
+}
 
 #[test]
 fn a_long_piece_is_handed_on_whole(rt: HostRuntime) -> Result<(), Fail> {
-    let mut piece = Vec::new(rt.alloc());
-    for i in 0..MANY {
-        piece.push((i % 251) as u8)?;
+    for length in [53, 4097, 65537, 300_000] {
+        let bytes = piece(rt.alloc(), length)?;
+        assert_eq!(rt; bytes.len(), length);
+        check_piece(&rt, rt.alloc(), &bytes);
     }
-    check_piece(&rt, rt.alloc(), &piece[..53]);
-    check_piece(&rt, rt.alloc(), &piece[..4097]);
-    check_piece(&rt, rt.alloc(), &piece);
     Ok(())
 }
