@@ -2,8 +2,9 @@
 -- holds what the lists of names say. LookUps: what a look-up in a list tells, and how names are shown to read back.
 -- NamesReadBack, VersionsReadBack, OperatingSystemsReadBack, OperatingSystemsDashFree, VendorsReadBack: that the names of
 -- each type read back as the values that bear them, and hold no dash.
--- EqualByValue: that `==` tells exactly which values are the same.
+-- Feeds: that what values feed a hasher tells them apart. EqualByValue: that `==` tells exactly which values are the same.
 pub mod EqualByValue
+pub mod Feeds
 pub mod FrontLemmas
 pub mod Halving
 pub mod LookUps

@@ -33,3 +33,7 @@ version_cmp = then_cmp (on (λ v. v.major) nat_cmp) (then_cmp (on (λ v. v.minor
 -- two values are told equal exactly where they are the same
 abbrev pub ComparesByValue : {V : Type 0} → (V → V → Bool) → Type 0
 ComparesByValue {V} eq = (x y : V) → Decides (eq x y) (x ≡ y)
+
+-- a copy is its source, and comes without memory
+abbrev pub CopiesAreTheirSources : {V : Type 0} → (V → V → Type 0) → (V → Type 0) → Type 0
+CopiesAreTheirSources {V} IsCopy NeedsNoMemory = (source : V) → NeedsNoMemory source × ((copy : V) → IsCopy source copy → copy ≡ source)

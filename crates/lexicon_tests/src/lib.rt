@@ -25,6 +25,8 @@ mod reading;
 #[cfg(test)]
 mod rounds;
 #[cfg(test)]
+mod rows;
+#[cfg(test)]
 mod systems;
 #[cfg(test)]
 mod table;

@@ -2,7 +2,8 @@
 ghost use Rattle.std.specs.Prelude.{◌≡◌, ◌↔◌, true};
 ghost use Rattle.target_lexicon.specs.ComputedAnswers.{AnswersAreComputed};
 ghost use Rattle.target_lexicon.specs.Laws.{OneLeastPlacement, OneOutcomeEach, ReadingIsComputed, ReadVendorsArePlain, EqualTextsEqualTriples};
-ghost use Rattle.lexicon_fields.specs.Laws.{ComparesByValue};
+ghost use Rattle.lexicon_fields.specs.Hashing.{FeedsOfTell, FeedsTell};
+ghost use Rattle.lexicon_fields.specs.Laws.{ComparesByValue, CopiesAreTheirSources, HasVersionInRange};
 ghost use Rattle.target_lexicon.specs.FixedPoints.{ReadTriplesArePlain, FixedExactlyOutsideFamilies, RoundIsNormalStep, SecondStepChangesNone, SettledTextsAreKeys, RoundsAreKnown};
 ghost use Rattle.target_lexicon.specs.Json.{ListsReadBack, json_fault_of, list_fault_of};
 ghost use Rattle.target_lexicon.specs.QueryLaws.{ModelWidth, NoRareModel, IntegersGrowInEach, QueriesKept};
@@ -24,6 +25,7 @@ use crate::list_error::ListError;
 use crate::parse_error::ParseError;
 use crate::triple::Triple;
 pub use lexicon_fields::laws::names_read_back;
+use std::hash::Hash;
 
 /// Parts that have a placement have exactly one least, and so has each front of them.
 pub fn one_least_placement()
@@ -168,3 +170,27 @@ pub fn json_errors_are_equal_by_value()
 pub fn list_errors_are_equal_by_value()
     ensures { (x y : ListError) → (⟦<ListError as PartialEq>⟧.eq x y ≡ true) ↔ (list_fault_of x ≡ list_fault_of y) }
 {}
+
+/// A copy of a size, a data model or a calling convention is that value, and copying needs no memory.
+pub fn copies_are_their_sources()
+    ensures size { CopiesAreTheirSources ⟦<Size as Clone>⟧.is_clone ⟦<Size as Clone>⟧.is_infallible }
+    ensures data_model { CopiesAreTheirSources ⟦<CDataModel as Clone>⟧.is_clone ⟦<CDataModel as Clone>⟧.is_infallible }
+    ensures calling_convention { CopiesAreTheirSources ⟦<CallingConvention as Clone>⟧.is_clone ⟦<CallingConvention as Clone>⟧.is_infallible }
+{}
+
+/// Sizes, data models and calling conventions feed a hasher the same exactly where their variants are the same.
+pub fn answers_feed_by_variant()
+    ensures size { FeedsTell ⟦<Size as Hash>⟧.hash_input }
+    ensures data_model { FeedsTell ⟦<CDataModel as Hash>⟧.hash_input }
+    ensures calling_convention { FeedsTell ⟦<CallingConvention as Hash>⟧.hash_input }
+{}
+
+/// Two triples, with a default or without, feed a hasher the same exactly where their five values are the same; versions are those
+/// whose numbers fit their fields. What is fed behind a triple is told apart from what it feeds.
+pub fn triples_feed_by_value()
+    ensures triple { FeedsOfTell (λ t. HasVersionInRange t.operating_system) values_of ⟦<Triple as Hash>⟧.hash_input }
+    ensures host { FeedsOfTell (λ t. HasVersionInRange t.0.operating_system) (λ t. values_of t.0) ⟦<DefaultToHost as Hash>⟧.hash_input }
+    ensures unknown { FeedsOfTell (λ t. HasVersionInRange t.0.operating_system) (λ t. values_of t.0) ⟦<DefaultToUnknown as Hash>⟧.hash_input }
+{
+    lexicon_fields::laws::values_feed_by_variant_and_fields();
+}

@@ -66,7 +66,7 @@ so-far-none mode lines output seen empty none = record {
 abbrev pub if_stays : Bool → Answer → List Answer
 if_stays stays line = if stays then line ∷ [] else []
 
-staying-push : (before lines : List Answer) (line : Answer)
+pub staying-push : (before lines : List Answer) (line : Answer)
     → staying_behind before (lines ++ line ∷ []) ≡ staying_behind before lines ++ if_stays (stays_behind (before ++ lines) line) line
 staying-push before [] line = append-nil (if_stays (stays_behind before line) line) ∙ ap (λ (t : List Answer). if_stays (stays_behind t line) line) (sym (append-nil before))
 staying-push before (first ∷ lines) line =

@@ -32,6 +32,18 @@ pub record KeepsEntriesOnce (lines : List Answer) : Type 0 where
 abbrev pub EntriesAreKeptOnce : Type 0
 EntriesAreKeptOnce = (lines : List Answer) → KeepsEntriesOnce lines
 
+-- A line that comes behind others is added to their matrix, at its end, where it tells a refusal or is the first entry of its text;
+-- an entry whose text has one before adds nothing.
+pub record StaysAtItsFirst (before : List Answer) : Type 0 where
+  pub refusal : (told : List ℕ) → matrix_of (before ++ Refused told ∷ []) ≡ matrix_of before ++ Refused told ∷ []
+  pub first : (text : List ℕ) → entries_of text before ≡ [] → matrix_of (before ++ Shown text ∷ []) ≡ matrix_of before ++ Shown text ∷ []
+  pub again : (text : List ℕ) → ¬ (entries_of text before ≡ []) → matrix_of (before ++ Shown text ∷ []) ≡ matrix_of before
+
+-- so it is behind any lines, of which none have no matrix
+pub record FirstEntriesStayInOrder : Type 0 where
+  pub none : matrix_of [] ≡ []
+  pub behind : (before : List Answer) → StaysAtItsFirst before
+
 -- of the lines of an input, the settled triple of each that is read has one entry in the matrix
 abbrev pub EachSettledTripleIsThere : Type 0
 EachSettledTripleIsThere = (front back : List (List ℕ)) (line : List ℕ) (answers : List Answer) → AreAnswers settled_text (front ++ line ∷ back) answers

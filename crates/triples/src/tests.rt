@@ -5,6 +5,7 @@ ghost use Rattle.std.specs.Io.{WritesAtMost};
 mod devices;
 mod faults;
 mod outputs;
+mod pieces;
 
 use crate::asked_mode;
 use crate::counted::Counted;
@@ -93,6 +94,20 @@ fn asks_for_a_mode(rt: HostRuntime) {
             words,
         };
         assert_eq!(rt; asked_mode(&given), mode);
+    }
+}
+
+#[test]
+fn a_lone_byte_may_be_no_utf8(rt: HostRuntime) {
+    for mode in [
+        Mode::Print,
+        Mode::Show,
+        Mode::Settle,
+        Mode::Matrix,
+        Mode::Json,
+    ] {
+        let (end, written) = outcome(rt.alloc(), mode, b"\xff");
+        assert_eq!(rt; (end, written.len()), (Err(RunError::NotUtf8), 0));
     }
 }
 
