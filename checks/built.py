@@ -14,7 +14,7 @@ def newest_source():
     return found
 
 
-def program(check, crate):
+def program(check, crate, status=1):
     """The path of a crate's program, which is built where it is missing or older than a source. Where that fails, the check ends."""
     made = f"{ROOT}/crates/{crate}/out/{crate}"
     if not os.path.exists(made) or os.path.getmtime(made) < newest_source():
@@ -22,6 +22,6 @@ def program(check, crate):
         ran = subprocess.run(["rt", "run"], cwd=f"{ROOT}/crates/{crate}", stdin=subprocess.DEVNULL, stdout=subprocess.DEVNULL)
         if ran.returncode or not os.path.exists(made):
             print(f"{check}: crates/{crate} is not built")
-            sys.exit(1)
+            sys.exit(status)
         os.utime(made)
     return made
