@@ -25,8 +25,6 @@ mod reading;
 #[cfg(test)]
 mod rounds;
 #[cfg(test)]
-mod rows;
-#[cfg(test)]
 mod systems;
 #[cfg(test)]
 mod table;

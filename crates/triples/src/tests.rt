@@ -98,20 +98,6 @@ fn asks_for_a_mode(rt: HostRuntime) {
 }
 
 #[test]
-fn a_lone_byte_may_be_no_utf8(rt: HostRuntime) {
-    for mode in [
-        Mode::Print,
-        Mode::Show,
-        Mode::Settle,
-        Mode::Matrix,
-        Mode::Json,
-    ] {
-        let (end, written) = outcome(rt.alloc(), mode, b"\xff");
-        assert_eq!(rt; (end, written.len()), (Err(RunError::NotUtf8), 0));
-    }
-}
-
-#[test]
 fn prints_faults(rt: HostRuntime) -> Result<(), Fail> {
     let rows = [
         (RunError::Read, "Read failed"),
