@@ -14,10 +14,6 @@ pub maps-agree : {X Y V : Type 0} (f : X → V) (g : Y → V) (xs : List X) (ys 
 maps-agree {V = V} f g xs ys i d e in_xs in_ys same =
     sym (get_or-map f xs i d (f d) in_xs) ∙ ap (λ (vs : List V). get_or vs i (f d)) same ∙ get_or-map g ys i e (f d) in_ys
 
--- what two columns say alike of all rows, they say of each
-pub columns-agree : {X V : Type 0} (f g : X → V) (xs : List X) (i : ℕ) (d : X) → i < row_count → length xs ≡ row_count → map f xs ≡ map g xs → f (get_or xs i d) ≡ g (get_or xs i d)
-columns-agree f g xs i d below long same = maps-agree f g xs xs i d d (omega (arith, long)) (omega (arith, long)) same
-
 -- what a column reads from the texts of all rows, it reads from each
 pub column-is : {X V : Type 0} (column : X → V) (find : List ℕ → V) (xs : List X) (i : ℕ) (d : X)
     → i < row_count → length xs ≡ row_count → map column xs ≡ map find row_texts → column (get_or xs i d) ≡ find (row_text i)

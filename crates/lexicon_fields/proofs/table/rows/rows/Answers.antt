@@ -7,9 +7,6 @@ use Rattle.lexicon_fields.specs.Environment.{environment_of}
 use Rattle.lexicon_fields.specs.BinaryFormat.{binary_format_of}
 use Rattle.lexicon_fields.proofs.table.rows.rows.Goals as goal
 
-pub returns-clause-fronts : goal.returns-clause-fronts
-returns-clause-fronts c = refl
-
 pub returns-clause-texts : goal.returns-clause-texts
 unfolding row_texts
 returns-clause-texts c = refl
