@@ -29,9 +29,9 @@ int main(void) {
   uint32_t is;
   bool answer = false;
 #define TOLD(status, told, call) (memset(out, '~', sizeof out), is = call, expect_told(is, out, length, status, told, #call))
-  TOLD(LEXICON_OK, "wasm32-wasi", lexicon_normalize("wasm32-unknown-wasi", 19, out, sizeof out, &length));
-  TOLD(LEXICON_NO_OPERATING_SYSTEM, "bar", lexicon_normalize("x86_64-foo-bar", 14, out, sizeof out, &length));
-  TOLD(LEXICON_NOT_UTF8, "", lexicon_normalize("\xff", 1, out, sizeof out, &length));
+  TOLD(LEXICON_OK, "wasm32-wasi", lexicon_print("wasm32-unknown-wasi", 19, out, sizeof out, &length));
+  TOLD(LEXICON_NO_OPERATING_SYSTEM, "bar", lexicon_print("x86_64-foo-bar", 14, out, sizeof out, &length));
+  TOLD(LEXICON_NOT_UTF8, "", lexicon_print("\xff", 1, out, sizeof out, &length));
   TOLD(LEXICON_OK, "riscv32imc-esp-espidf", lexicon_settle("riscv32imc-esp-espidf-elf", 25, out, sizeof out, &length));
   TOLD(LEXICON_OK, "linux", lexicon_field("x86_64-linux-gnu", 16, LEXICON_OPERATING_SYSTEM, out, sizeof out, &length));
   TOLD(LEXICON_NO_SUCH_FIELD, "", lexicon_field("x86_64", 6, 5, out, sizeof out, &length));
@@ -39,7 +39,7 @@ int main(void) {
   TOLD(LEXICON_OK, "aarch64", lexicon_read_name("arm64", 5, LEXICON_ARCHITECTURE, out, sizeof out, &length));
   TOLD(LEXICON_NO_ENVIRONMENT, "linux", lexicon_read_name("linux", 5, LEXICON_ENVIRONMENT, out, sizeof out, &length));
   memset(out, '~', sizeof out);
-  expect(lexicon_normalize("wasm32-unknown-wasi", 19, out, 10, &length) == LEXICON_OK && length == 11 && out[0] == '~', "a small buffer");
+  expect(lexicon_print("wasm32-unknown-wasi", 19, out, 10, &length) == LEXICON_OK && length == 11 && out[0] == '~', "a small buffer");
   expect(lexicon_comes_back("x86_64-linux", 12, &answer) == LEXICON_OK && answer, "comes back");
   expect(lexicon_comes_back("armv6k-nintendo-horizon-gnu", 27, &answer) == LEXICON_OK && !answer, "comes back as another");
   expect(lexicon_equal("arm64-apple-ios", 15, "aarch64-apple-ios", 17, &answer) == LEXICON_OK && answer, "equal");

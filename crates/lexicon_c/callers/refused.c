@@ -47,7 +47,7 @@ static struct told tell(unsigned call, const char *text) {
   struct told it;
   memset(&it, 0, sizeof it);
   switch (call) {
-    case 0: it.status = lexicon_normalize(text, size, it.out, sizeof it.out, &it.length); break;
+    case 0: it.status = lexicon_print(text, size, it.out, sizeof it.out, &it.length); break;
     case 1: it.status = lexicon_settle(text, size, it.out, sizeof it.out, &it.length); break;
     case 2: it.status = lexicon_error_line(text, size, it.out, sizeof it.out, &it.length); break;
     case 3: it.status = lexicon_facts(text, size, &it.facts); break;

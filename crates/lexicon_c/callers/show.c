@@ -38,7 +38,7 @@ static void show_facts(const struct lexicon_facts *facts) {
 
 /* Shows a line; the status is one at which the run has to end, or LEXICON_OK. */
 static uint32_t show(const char *line, size_t size, struct buffer *buffer) {
-  uint32_t status = told(lexicon_normalize, line, size, buffer);
+  uint32_t status = told(lexicon_print, line, size, buffer);
   if (status >= LEXICON_NO_ARCHITECTURE && status <= LEXICON_NO_FIELD) {
     status = told(lexicon_error_line, line, size, buffer);
     if (status > LEXICON_NO_FIELD) return status;

@@ -20,7 +20,7 @@ const NO_FACTS: LexiconFacts = LexiconFacts {
 };
 
 #[test]
-fn normalizes(rt: HostRuntime) -> Result<(), Fail> {
+fn prints(rt: HostRuntime) -> Result<(), Fail> {
     for (text, answer, written) in [
         (
             b"wasm32-unknown-wasi".as_slice(),
@@ -38,7 +38,7 @@ fn normalizes(rt: HostRuntime) -> Result<(), Fail> {
         (b"\xff", (7, 0), b"................"),
     ] {
         let (mut out, mut length) = (DOTS, 99);
-        let status = lexicon_normalize(rt.alloc(), text, &mut out, &mut length);
+        let status = lexicon_print(rt.alloc(), text, &mut out, &mut length);
         assert_eq!(rt; (status, length), answer);
         assert_eq!(rt; &out, written);
     }
