@@ -19,7 +19,6 @@ struct Facts {
 
 type Telling = unsafe extern "C" fn(*const u8, usize, *mut u8, usize, *mut usize) -> u32;
 
-#[link(name = "lexicon_c", kind = "static")]
 unsafe extern "C" {
     fn lexicon_print(text: *const u8, text_size: usize, out: *mut u8, out_size: usize, length: *mut usize) -> u32;
     fn lexicon_error_line(text: *const u8, text_size: usize, out: *mut u8, out_size: usize, length: *mut usize) -> u32;
