@@ -19,13 +19,18 @@ fn main() {
 }
 
 fn of_pkg_config() -> Option<String> {
-    let ran = Command::new("pkg-config").args(["--variable=libdir", "lexicon_c"]).output().ok()?;
+    let ran = Command::new("pkg-config")
+        .args(["--variable=libdir", "lexicon_c"])
+        .output()
+        .ok()?;
     let folder = String::from_utf8(ran.stdout).ok()?;
     Some(folder.trim().to_string()).filter(|it| ran.status.success() && !it.is_empty())
 }
 
 fn stop(why: &str) -> ! {
     println!("cargo:warning={why}. Install it by `crates/lexicon_c/install PREFIX`,");
-    println!("cargo:warning=then set PKG_CONFIG_PATH=PREFIX/lib/pkgconfig, or LEXICON_C_LIB=PREFIX/lib where there is no pkg-config.");
+    println!(
+        "cargo:warning=then set PKG_CONFIG_PATH=PREFIX/lib/pkgconfig, or LEXICON_C_LIB=PREFIX/lib where there is no pkg-config."
+    );
     exit(1)
 }

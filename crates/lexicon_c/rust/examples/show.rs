@@ -12,9 +12,19 @@ fn word(answer: Option<impl Debug>) -> String {
 fn shown(line: &str) -> Result<String, Error> {
     let triple: Triple = line.parse()?;
     let facts = triple.facts()?;
-    let order = facts.endianness.map(|it| if it == Endianness::Little { "little" } else { "big" });
+    let order = facts.endianness.map(|it| {
+        if it == Endianness::Little {
+            "little"
+        } else {
+            "big"
+        }
+    });
     let (order, bits) = (order.unwrap_or("-"), word(facts.pointer_bits));
-    Ok(format!("{triple} {order} {bits} {} {}", word(facts.calling_convention), word(facts.data_model)))
+    Ok(format!(
+        "{triple} {order} {bits} {} {}",
+        word(facts.calling_convention),
+        word(facts.data_model)
+    ))
 }
 
 fn main() -> io::Result<()> {

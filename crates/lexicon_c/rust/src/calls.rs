@@ -19,13 +19,45 @@ type Telling = unsafe extern "C" fn(*const u8, usize, *mut u8, usize, *mut usize
 type Naming = unsafe extern "C" fn(*const u8, usize, u32, *mut u8, usize, *mut usize) -> u32;
 
 unsafe extern "C" {
-    fn lexicon_print(text: *const u8, text_size: usize, out: *mut u8, out_size: usize, length: *mut usize) -> u32;
-    fn lexicon_settle(text: *const u8, text_size: usize, out: *mut u8, out_size: usize, length: *mut usize) -> u32;
-    fn lexicon_field(text: *const u8, text_size: usize, field: u32, out: *mut u8, out_size: usize, length: *mut usize) -> u32;
+    fn lexicon_print(
+        text: *const u8,
+        text_size: usize,
+        out: *mut u8,
+        out_size: usize,
+        length: *mut usize,
+    ) -> u32;
+    fn lexicon_settle(
+        text: *const u8,
+        text_size: usize,
+        out: *mut u8,
+        out_size: usize,
+        length: *mut usize,
+    ) -> u32;
+    fn lexicon_field(
+        text: *const u8,
+        text_size: usize,
+        field: u32,
+        out: *mut u8,
+        out_size: usize,
+        length: *mut usize,
+    ) -> u32;
     fn lexicon_facts(text: *const u8, text_size: usize, facts: *mut RawFacts) -> u32;
     fn lexicon_comes_back(text: *const u8, text_size: usize, answer: *mut bool) -> u32;
-    fn lexicon_equal(first: *const u8, first_size: usize, second: *const u8, second_size: usize, answer: *mut bool) -> u32;
-    fn lexicon_read_name(text: *const u8, text_size: usize, field: u32, out: *mut u8, out_size: usize, length: *mut usize) -> u32;
+    fn lexicon_equal(
+        first: *const u8,
+        first_size: usize,
+        second: *const u8,
+        second_size: usize,
+        answer: *mut bool,
+    ) -> u32;
+    fn lexicon_read_name(
+        text: *const u8,
+        text_size: usize,
+        field: u32,
+        out: *mut u8,
+        out_size: usize,
+        length: *mut usize,
+    ) -> u32;
 }
 
 /// The printed triple.
@@ -68,18 +100,43 @@ pub fn comes_back(text: &[u8]) -> Result<bool, Error> {
 pub fn equal(first: &[u8], second: &[u8]) -> Result<bool, Error> {
     let mut answer = false;
     // SAFETY: as for `facts`.
-    let status = unsafe { lexicon_equal(first.as_ptr(), first.len(), second.as_ptr(), second.len(), &mut answer) };
+    let status = unsafe {
+        lexicon_equal(
+            first.as_ptr(),
+            first.len(),
+            second.as_ptr(),
+            second.len(),
+            &mut answer,
+        )
+    };
     answered(status, answer)
 }
 
 fn tell(call: Telling, text: &[u8]) -> Result<String, Error> {
     // SAFETY: the pointers and sizes are those of slices, and what is written is borrowed alone.
-    told(|out, length| unsafe { call(text.as_ptr(), text.len(), out.as_mut_ptr(), out.len(), length) })
+    told(|out, length| unsafe {
+        call(
+            text.as_ptr(),
+            text.len(),
+            out.as_mut_ptr(),
+            out.len(),
+            length,
+        )
+    })
 }
 
 fn name(call: Naming, text: &[u8], number: u32) -> Result<String, Error> {
     // SAFETY: as for `tell`.
-    told(|out, length| unsafe { call(text.as_ptr(), text.len(), number, out.as_mut_ptr(), out.len(), length) })
+    told(|out, length| unsafe {
+        call(
+            text.as_ptr(),
+            text.len(),
+            number,
+            out.as_mut_ptr(),
+            out.len(),
+            length,
+        )
+    })
 }
 
 /// What a call tells, or its refusal. A buffer that is too small is made as large as the call tells.

@@ -57,7 +57,10 @@ impl From<RawFacts> for Facts {
         Facts {
             endianness: nth(&[Endianness::Little, Endianness::Big], raw.endianness),
             pointer_bits: Some(raw.pointer_bits).filter(|&bits| bits != 0),
-            calling_convention: nth(&[SystemV, WasmBasicCAbi, WindowsFastcall, AppleAarch64], raw.calling_convention),
+            calling_convention: nth(
+                &[SystemV, WasmBasicCAbi, WindowsFastcall, AppleAarch64],
+                raw.calling_convention,
+            ),
             data_model: nth(&[LP32, ILP32, LLP64, LP64, ILP64], raw.data_model),
             binary_format: nth(&formats, raw.binary_format),
             implied_format: nth(&formats, raw.implied_format),

@@ -49,13 +49,18 @@ pub struct Triple {
 impl Triple {
     /// Reads bytes that need not be a text.
     pub fn from_bytes(text: &[u8]) -> Result<Self, Error> {
-        std::str::from_utf8(text).map_err(|_| Error::NotUtf8)?.parse()
+        std::str::from_utf8(text)
+            .map_err(|_| Error::NotUtf8)?
+            .parse()
     }
 
     /// The settled triple: a key, which no other target has.
     pub fn settle(&self) -> Result<Self, Error> {
         let text = calls::settle(self.text.as_bytes())?;
-        Ok(Triple { printed: text.clone(), text })
+        Ok(Triple {
+            printed: text.clone(),
+            text,
+        })
     }
 
     /// Whether the triple, printed and read again, is itself.
@@ -99,7 +104,8 @@ impl fmt::Display for Triple {
 /// By value, as in the Rust crate. Panics where the heap refuses the library's request, as Rust's own collections do.
 impl PartialEq for Triple {
     fn eq(&self, other: &Self) -> bool {
-        calls::equal(self.text.as_bytes(), other.text.as_bytes()).expect("memory to compare two triples")
+        calls::equal(self.text.as_bytes(), other.text.as_bytes())
+            .expect("memory to compare two triples")
     }
 }
 

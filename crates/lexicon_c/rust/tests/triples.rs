@@ -1,11 +1,15 @@
 //! The crate over the library that is installed.
-use lexicon::{BinaryFormat, CDataModel, CallingConvention, Endianness, Error, Facts, Field, ParseError, Triple};
+use lexicon::{
+    BinaryFormat, CDataModel, CallingConvention, Endianness, Error, Facts, Field, ParseError,
+    Triple,
+};
 use std::collections::HashMap;
 
 const KNOWN_TRIPLES: &str = include_str!("../../../../checks/known_triples");
 
 fn read(text: &str) -> Triple {
-    text.parse().unwrap_or_else(|error| panic!("{text}: {error}"))
+    text.parse()
+        .unwrap_or_else(|error| panic!("{text}: {error}"))
 }
 
 #[test]
@@ -23,13 +27,39 @@ fn known_triples_print_as_they_are() {
 #[test]
 fn each_refusal_tells_its_part_and_line() {
     use ParseError::*;
-    let rows: [(&str, fn(String) -> ParseError, &str, &str); 6] = [
-        ("foo", UnrecognizedArchitecture, "foo", "Unrecognized architecture: foo"),
+    type Refusing = fn(String) -> ParseError;
+    let rows: [(&str, Refusing, &str, &str); 6] = [
+        (
+            "foo",
+            UnrecognizedArchitecture,
+            "foo",
+            "Unrecognized architecture: foo",
+        ),
         ("x86_64-", UnrecognizedVendor, "", "Unrecognized vendor: "),
-        ("x86_64-foo-bar", UnrecognizedOperatingSystem, "bar", "Unrecognized operating system: bar"),
-        ("x86_64-linux-gnuu", UnrecognizedEnvironment, "gnuu", "Unrecognized environment: gnuu"),
-        ("x86_64-gnu-linux", UnrecognizedBinaryFormat, "linux", "Unrecognized binary format: linux"),
-        ("x86_64-elf-linux", UnrecognizedField, "linux", "Unrecognized field: linux"),
+        (
+            "x86_64-foo-bar",
+            UnrecognizedOperatingSystem,
+            "bar",
+            "Unrecognized operating system: bar",
+        ),
+        (
+            "x86_64-linux-gnuu",
+            UnrecognizedEnvironment,
+            "gnuu",
+            "Unrecognized environment: gnuu",
+        ),
+        (
+            "x86_64-gnu-linux",
+            UnrecognizedBinaryFormat,
+            "linux",
+            "Unrecognized binary format: linux",
+        ),
+        (
+            "x86_64-elf-linux",
+            UnrecognizedField,
+            "linux",
+            "Unrecognized field: linux",
+        ),
     ];
     for (text, error, part, line) in rows {
         let is = text.parse::<Triple>().unwrap_err();
@@ -50,7 +80,10 @@ fn a_map_by_settled_key() {
         "x86_64-customvendor-linux",
     ];
     for text in texts {
-        targets.entry(read(text).settle().unwrap()).or_default().push(text);
+        targets
+            .entry(read(text).settle().unwrap())
+            .or_default()
+            .push(text);
     }
     assert_eq!(targets.len(), 3);
     assert_eq!(targets[&read("aarch64-apple-ios1.0.0")], texts[2..4]);
@@ -72,13 +105,31 @@ fn facts_and_names() {
     };
     assert_eq!(triple.facts(), Ok(facts));
     let unknown = read("unknown").facts().unwrap();
-    assert_eq!((unknown.endianness, unknown.pointer_bits, unknown.version), (None, None, None));
-    let fields = [Field::Architecture, Field::Vendor, Field::OperatingSystem, Field::Environment, Field::BinaryFormat];
+    assert_eq!(
+        (unknown.endianness, unknown.pointer_bits, unknown.version),
+        (None, None, None)
+    );
+    let fields = [
+        Field::Architecture,
+        Field::Vendor,
+        Field::OperatingSystem,
+        Field::Environment,
+        Field::BinaryFormat,
+    ];
     let names = fields.map(|field| triple.name(field).unwrap());
-    assert_eq!(names, ["aarch64", "apple", "darwin23.6.0", "unknown", "macho"]);
-    assert_eq!(Field::Architecture.read_name("arm64").as_deref(), Ok("aarch64"));
+    assert_eq!(
+        names,
+        ["aarch64", "apple", "darwin23.6.0", "unknown", "macho"]
+    );
+    assert_eq!(
+        Field::Architecture.read_name("arm64").as_deref(),
+        Ok("aarch64")
+    );
     let refused = Field::Environment.read_name("linux").unwrap_err();
-    assert_eq!(refused, Error::Parse(ParseError::UnrecognizedEnvironment("linux".to_string())));
+    assert_eq!(
+        refused,
+        Error::Parse(ParseError::UnrecognizedEnvironment("linux".to_string()))
+    );
 }
 
 #[test]
