@@ -2,8 +2,8 @@
 use Rattle.std.proofs.Common.{◌≡◌, Bool, true, false, ◌||◌, not, List, [], ◌∷◌, ◌++◌, cond, refl, ap, ◌∙◌}
 use Rattle.std.proofs.lemmas.List.{append-nil}
 use Rattle.std.specs.List.{filter, list_any}
-use Rattle.triples.specs.MatrixLaws.{entries_of, StaysAtItsFirst, FirstEntriesStayInOrder}
-use Rattle.triples.specs.Output.{SettleLine, Entry, RefusalTold, is_entry_of, matrix_of}
+use Rattle.triples.specs.MatrixLaws.{FirstEntriesStayInOrder}
+use Rattle.triples.specs.Output.{Entry, RefusalTold, is_entry_of, matrix_of}
 use Rattle.triples.proofs.MatrixLemmas.{if_stays, staying-push}
 
 module _ {X : Type 0} (x : X) (kept : List X) (any : Bool) where
