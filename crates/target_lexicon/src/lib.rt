@@ -17,6 +17,7 @@ mod parse_error;
 mod part;
 mod queries;
 mod read;
+mod settles_as;
 mod special;
 mod triple;
 
