@@ -7,7 +7,7 @@ mod layout;
 mod literals;
 mod matrix;
 mod same_target;
-mod settled_text;
+mod spelling;
 #[cfg(test)]
 mod spelling_tests;
 mod target_file;
@@ -20,5 +20,5 @@ pub use layout::{CLayout, TypeLayout, c_layout};
 pub use literals::{host_by_text, refused_text, wasi_text};
 pub use matrix::{MatrixError, release_matrix};
 pub use same_target::names_target;
-pub use settled_text::settled_text;
+pub use spelling::settled_text;
 pub use target_file::{TargetFileError, llvm_target};
