@@ -1,10 +1,41 @@
-/* The heap that the library asks for memory, over the caller's malloc. Rattle's kit has the same as c/liblibc_c.a. */
+/* The heap that the library asks for memory, over malloc, realloc and free. It stands in the library; a program that brings these
+   three functions itself, on another allocator, links the static library and has its own in their place. Rattle's kit has the same
+   as c/liblibc_c.a. Right as C and as C++.
+
+   SPDX-License-Identifier: Apache-2.0 WITH LLVM-exception */
 #include <stdbool.h>
+#include <stddef.h>
 #include <stdlib.h>
 
-struct tried { bool done; void *block; };
-static char nothing[16];
-static struct tried tried(void *block) { return (struct tried){block != NULL, block ? block : nothing}; }
-struct tried rattle_alloc(size_t size, size_t align) { return tried(malloc(size ? size : align)); }
-struct tried rattle_realloc(void *old, size_t kept, size_t size, size_t align) { (void)kept; return tried(realloc(old, size ? size : align)); }
+#ifdef __cplusplus
+extern "C" {
+#endif
+
+/* Whether there is a block, and it; where there is none, any valid address. A block is aligned to 16. */
+struct rattle_tried { bool done; void *block; };
+
+struct rattle_tried rattle_alloc(size_t size, size_t align);
+struct rattle_tried rattle_realloc(void *old, size_t kept, size_t size, size_t align);
+void rattle_dealloc(void *block);
+
+static char rattle_nothing[16];
+
+static struct rattle_tried rattle_told(void *block) {
+  struct rattle_tried tried;
+  tried.done = block != NULL;
+  tried.block = block ? block : rattle_nothing;
+  return tried;
+}
+
+struct rattle_tried rattle_alloc(size_t size, size_t align) { return rattle_told(malloc(size ? size : align)); }
+
+struct rattle_tried rattle_realloc(void *old, size_t kept, size_t size, size_t align) {
+  (void)kept;
+  return rattle_told(realloc(old, size ? size : align));
+}
+
 void rattle_dealloc(void *block) { free(block); }
+
+#ifdef __cplusplus
+}
+#endif

@@ -4,15 +4,27 @@
    caller's buffer as a pointer and a size; *length is its whole length, and it is written, with no zero byte behind it, exactly
    where *length <= out_size. So a call with a buffer that is too small tells how large a buffer has to be.
 
-   No pointer may be null, not even with size 0. No buffer, number, answer or struct that a call writes may overlap anything else
-   that the call is given. Nothing is kept or shared between calls, so that threads may call at once, and no call stops the program. Not for
-   signal handlers.
+   A text or a buffer of size 0 may be null, as with snprintf; no other pointer may. No buffer, number, answer or struct that a call
+   writes may overlap anything else that the call is given. Nothing is kept or shared between calls, so that threads may call at
+   once, and no call stops the program. Not for signal handlers.
 
    Each call answers a status. Where it is 0 the answer is told. Where it is 1 to 6 the text is refused: a call with an `out` tells the
    refused part there, lexicon_error_line the line, lexicon_read_name the text itself; a struct or an answer is left as it was. At any
-   other status nothing is written but a *length of 0. */
+   other status nothing is written but a *length of 0.
+
+   The library is machine code for x86-64 Linux, level x86-64-v2 (SSE4.2 and POPCNT, as in processors since 2009).
+
+   SPDX-License-Identifier: Apache-2.0 WITH LLVM-exception */
 #ifndef LEXICON_H
 #define LEXICON_H
+
+/* The version of these calls, which a shared library has in its name by the first number. `install` reads these three lines. */
+#define LEXICON_VERSION_MAJOR 0
+#define LEXICON_VERSION_MINOR 1
+#define LEXICON_VERSION_PATCH 0
+#define LEXICON_TEXT_OF(number) #number
+#define LEXICON_DOTTED(major, minor, patch) LEXICON_TEXT_OF(major) "." LEXICON_TEXT_OF(minor) "." LEXICON_TEXT_OF(patch)
+#define LEXICON_VERSION LEXICON_DOTTED(LEXICON_VERSION_MAJOR, LEXICON_VERSION_MINOR, LEXICON_VERSION_PATCH)
 
 #include <stdbool.h>
 #include <stddef.h>
@@ -78,7 +90,7 @@ struct lexicon_facts {
 };
 
 /* The printed triple: wasm32-unknown-wasi gives wasm32-wasi. */
-uint32_t lexicon_normalize(const char *text, size_t text_size, char *out, size_t out_size, size_t *length);
+uint32_t lexicon_print(const char *text, size_t text_size, char *out, size_t out_size, size_t *length);
 
 /* The printed triple, settled: a key, which no other target has. */
 uint32_t lexicon_settle(const char *text, size_t text_size, char *out, size_t out_size, size_t *length);

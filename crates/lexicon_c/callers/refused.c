@@ -11,6 +11,15 @@ static size_t asked, first_refused, last_refused, refused, lent;
 struct tried { bool done; void *block; };
 static char nothing[16];
 
+struct tried rattle_alloc(size_t size, size_t align);
+struct tried rattle_realloc(void *old, size_t kept, size_t size, size_t align);
+void rattle_dealloc(void *block);
+
+static struct tried told_block(void *block) {
+  struct tried tried = {block != NULL, block ? block : nothing};
+  return tried;
+}
+
 static bool refuses(void) {
   bool is = first_refused <= asked && asked <= last_refused;
   asked++;
@@ -21,13 +30,13 @@ static bool refuses(void) {
 struct tried rattle_alloc(size_t size, size_t align) {
   void *block = refuses() ? NULL : malloc(size ? size : align);
   lent += block != NULL;
-  return (struct tried){block != NULL, block ? block : nothing};
+  return told_block(block);
 }
 
 struct tried rattle_realloc(void *old, size_t kept, size_t size, size_t align) {
   (void)kept;
   void *block = refuses() ? NULL : realloc(old, size ? size : align);
-  return (struct tried){block != NULL, block ? block : nothing};
+  return told_block(block);
 }
 
 void rattle_dealloc(void *block) {
@@ -47,7 +56,7 @@ static struct told tell(unsigned call, const char *text) {
   struct told it;
   memset(&it, 0, sizeof it);
   switch (call) {
-    case 0: it.status = lexicon_normalize(text, size, it.out, sizeof it.out, &it.length); break;
+    case 0: it.status = lexicon_print(text, size, it.out, sizeof it.out, &it.length); break;
     case 1: it.status = lexicon_settle(text, size, it.out, sizeof it.out, &it.length); break;
     case 2: it.status = lexicon_error_line(text, size, it.out, sizeof it.out, &it.length); break;
     case 3: it.status = lexicon_facts(text, size, &it.facts); break;

@@ -15,7 +15,7 @@ struct buffer { char *bytes; size_t size, length; };
 static uint32_t told(telling *call, const char *text, size_t size, struct buffer *buffer) {
   uint32_t status = call(text, size, buffer->bytes, buffer->size, &buffer->length);
   if (buffer->length <= buffer->size) return status;
-  char *larger = realloc(buffer->bytes, buffer->length);
+  char *larger = (char *)realloc(buffer->bytes, buffer->length);
   if (larger == NULL) return LEXICON_OUT_OF_MEMORY;
   buffer->bytes = larger;
   buffer->size = buffer->length;
@@ -38,7 +38,7 @@ static void show_facts(const struct lexicon_facts *facts) {
 
 /* Shows a line; the status is one at which the run has to end, or LEXICON_OK. */
 static uint32_t show(const char *line, size_t size, struct buffer *buffer) {
-  uint32_t status = told(lexicon_normalize, line, size, buffer);
+  uint32_t status = told(lexicon_print, line, size, buffer);
   if (status >= LEXICON_NO_ARCHITECTURE && status <= LEXICON_NO_FIELD) {
     status = told(lexicon_error_line, line, size, buffer);
     if (status > LEXICON_NO_FIELD) return status;
@@ -56,7 +56,7 @@ static uint32_t show(const char *line, size_t size, struct buffer *buffer) {
 }
 
 int main(void) {
-  struct buffer buffer = {malloc(8), 8, 0};
+  struct buffer buffer = {(char *)malloc(8), 8, 0};
   uint32_t status = buffer.bytes == NULL ? LEXICON_OUT_OF_MEMORY : LEXICON_OK;
   char *line = NULL;
   size_t room = 0;

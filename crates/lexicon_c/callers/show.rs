@@ -19,9 +19,8 @@ struct Facts {
 
 type Telling = unsafe extern "C" fn(*const u8, usize, *mut u8, usize, *mut usize) -> u32;
 
-#[link(name = "lexicon_c", kind = "static")]
 unsafe extern "C" {
-    fn lexicon_normalize(text: *const u8, text_size: usize, out: *mut u8, out_size: usize, length: *mut usize) -> u32;
+    fn lexicon_print(text: *const u8, text_size: usize, out: *mut u8, out_size: usize, length: *mut usize) -> u32;
     fn lexicon_error_line(text: *const u8, text_size: usize, out: *mut u8, out_size: usize, length: *mut usize) -> u32;
     fn lexicon_facts(text: *const u8, text_size: usize, facts: *mut Facts) -> u32;
 }
@@ -43,7 +42,7 @@ fn told(call: Telling, text: &[u8], buffer: &mut Vec<u8>) -> (u32, usize) {
 }
 
 fn show(line: &[u8], buffer: &mut Vec<u8>, out: &mut impl Write) -> io::Result<()> {
-    let (status, length) = told(lexicon_normalize, line, buffer);
+    let (status, length) = told(lexicon_print, line, buffer);
     if (1..=6).contains(&status) {
         let (_, length) = told(lexicon_error_line, line, buffer);
         out.write_all(b"error: ")?;

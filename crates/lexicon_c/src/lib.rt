@@ -31,7 +31,7 @@ use told::{tell, tell_system};
 
 /// Reads a text as a triple, and tells its printed text, or the refused part.
 #[unsafe(no_mangle)]
-pub extern "C" fn lexicon_normalize(
+pub extern "C" fn lexicon_print(
     alloc: Global,
     text: &[u8],
     out: &mut [u8],

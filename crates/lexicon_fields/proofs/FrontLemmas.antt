@@ -1,12 +1,12 @@
 -- Fronts order as texts do.
-use Rattle.std.proofs.Common.{◌≡◌, ℕ, zero, suc, ◌+◌, ◌*◌, ◌^◌, ◌<◌, ◌≤◌, List, [], ◌∷◌, arith, refl, sym, ap, ◌∙◌, Less, Equal, Greater, nat_cmp, inl, inr, get_or, length, drop, ◌-◌, ◌/◌}
+use Rattle.std.proofs.Common.{◌≡◌, ℕ, zero, suc, ◌+◌, ◌*◌, ◌^◌, ◌<◌, ◌≤◌, List, [], ◌∷◌, arith, refl, sym, ap, ◌∙◌, Less, Equal, Greater, nat_cmp, inl, inr, get_or, length, take, drop, ◌-◌, ◌%◌, w32}
 use Rattle.std.specs.Cmp.Lexicographic.{slice_cmp}
 use Rattle.std.specs.Cmp.{nat_cmp_is}
+use Rattle.std.specs.Int.{from_be_bytes}
 use Rattle.std.specs.Ordering.{ordering_reverse}
 use Rattle.std.proofs.lemmas.Bool.{cases_order}
 use Rattle.std.proofs.lemmas.Cmp.{nat_list_cmp_total}
 use Rattle.std.proofs.Math.Nat.{mul-le-mul_right, pow-suc}
-use Rattle.std.proofs.Math.Seq.{drop-cons}
 use Rattle.lexicon_fields.specs.Private.{front_of}
 
 abbrev pub AreBytes : List ℕ → Type 0
@@ -64,11 +64,20 @@ order_of_same_front (suc k) (x ∷ xs) (y ∷ ys) p q m n h = elim (cases_order 
   ]
 ]
 
--- a byte of the front, and what is behind it
-pub front_step : (s : List ℕ) (at : ℕ) → at < length s → at < 8 → front_of (8 - at) (drop at s) ≡ get_or s at 0 * 256 ^ (7 - at) + front_of (7 - at) (drop (at + 1) s)
-front_step s at h lt = let e : 8 - at ≡ suc (7 - at) = omega arith in let n : at + 1 ≡ suc at = omega arith in rw (e, n, drop-cons s at 0 h) refl
-
-pub weight_step : (at weight : ℕ) → at + 1 < 8 → weight ≡ 256 ^ (7 - at) → weight / 256 ≡ 256 ^ (7 - (at + 1))
-weight_step at weight lt h = let e : 7 - at ≡ suc (7 - (at + 1)) = omega arith in
-    let p : weight ≡ 256 ^ (7 - (at + 1)) * 256 = h ∙ ap (λ n. 256 ^ n) e ∙ pow-suc 256 (7 - (at + 1)) in
-    omega (arith, p)
+-- the front of four to seven bytes, by the first four and the last four; what both hold is shifted out of the last
+pub front_of_ends : (s head tail : List ℕ) (x y : ℕ) → AreBytes s → 4 ≤ length s → length s < 8 → head ≡ take 4 s → tail ≡ drop (length s - 4) s
+    → x ≡ from_be_bytes w32 head → y ≡ from_be_bytes w32 tail
+    → x * 4294967296 + y * 2 ^ (64 - 8 * length s) % 18446744073709551616 % 4294967296 ≡ front_of 8 s
+front_of_ends s head tail x y h some few first last number rest = rw (number, rest, first, last) (by_length s h some few)
+  where
+    by_length : (s : List ℕ) → AreBytes s → 4 ≤ length s → length s < 8
+        → from_be_bytes w32 (take 4 s) * 4294967296 + from_be_bytes w32 (drop (length s - 4) s) * 2 ^ (64 - 8 * length s) % 18446744073709551616 % 4294967296 ≡ front_of 8 s
+    by_length (a ∷ b ∷ c ∷ d ∷ []) h some few = omega (arith, h 0, h 1, h 2, h 3)
+    by_length (a ∷ b ∷ c ∷ d ∷ e ∷ []) h some few = omega (arith, h 0, h 1, h 2, h 3, h 4)
+    by_length (a ∷ b ∷ c ∷ d ∷ e ∷ f ∷ []) h some few = omega (arith, h 0, h 1, h 2, h 3, h 4, h 5)
+    by_length (a ∷ b ∷ c ∷ d ∷ e ∷ f ∷ g ∷ []) h some few = omega (arith, h 0, h 1, h 2, h 3, h 4, h 5, h 6)
+    by_length (a ∷ b ∷ c ∷ d ∷ e ∷ f ∷ g ∷ i ∷ more) h some few = absurd (omega (arith, few))
+    by_length (a ∷ b ∷ c ∷ []) h some few = absurd (omega (arith, some))
+    by_length (a ∷ b ∷ []) h some few = absurd (omega (arith, some))
+    by_length (a ∷ []) h some few = absurd (omega (arith, some))
+    by_length [] h some few = absurd (omega (arith, some))

@@ -1,9 +1,10 @@
 -- RowTexts, FrontLemmas, Halving, RowsHold, RowReads: the table of names is in order, its search finds each row, and a row
 -- holds what the lists of names say. LookUps: what a look-up in a list tells, and how names are shown to read back.
 -- NamesReadBack, VersionsReadBack, OperatingSystemsReadBack, OperatingSystemsDashFree, VendorsReadBack: that the names of
--- each type read back as the values that bear them, and hold no dash. SubArchitectures: the names of architectures in parts.
--- EqualByValue: that `==` tells exactly which values are the same.
+-- each type read back as the values that bear them, and hold no dash.
+-- Feeds: that what values feed a hasher tells them apart. EqualByValue: that `==` tells exactly which values are the same.
 pub mod EqualByValue
+pub mod Feeds
 pub mod FrontLemmas
 pub mod Halving
 pub mod LookUps
@@ -13,6 +14,5 @@ pub mod OperatingSystemsReadBack
 pub mod RowReads
 pub mod RowTexts
 pub mod RowsHold
-pub mod SubArchitectures
 pub mod VendorsReadBack
 pub mod VersionsReadBack

@@ -1,5 +1,5 @@
 -- What a look-up tells of the text, and how names are shown to read back.
-use Rattle.std.proofs.Common.{◌≡◌, ◌∙◌, ℕ, List, [], ◌∷◌, Bool, true, false, Option, Some, None, option_map, refl, ap, sym, subst, cond}
+use Rattle.std.proofs.Common.{◌≡◌, ◌∙◌, ℕ, List, [], ◌∷◌, Bool, true, false, Option, Some, None, is_none, option_map, refl, ap, sym, subst, cond}
 use Rattle.std.specs.Option.{option_or}
 use Rattle.std.specs.Str.{bytes_eq}
 use Rattle.std.specs.List.{list_all}
@@ -43,10 +43,9 @@ unfolding PassesIfRead
 option_or-passes test (Some _) next text of_first of_next v found = of_first v found
 option_or-passes test None next text of_first of_next v found = of_next v found
 
--- a test that gave a value has passed
-pub passed : {V : Type 0} (b : Bool) (value v : V) → cond b (Some value) None ≡ Some v → b ≡ true
-passed true value v found = refl
-passed false value v found = cc
+pub none_is : {V : Type 0} (o : Option V) → is_none o ≡ true → o ≡ None
+none_is None none = refl
+none_is (Some v) none = absurd cc
 
 -- names that read back hold no dash where no text that reads does
 pub of_kind-read_back : {V : Type 0} (IsOfKind : V → Type 0) (name : V → List ℕ) (find : List ℕ → Option V)

@@ -1,5 +1,5 @@
 -- How the names of systems are read.
-use Rattle.std.proofs.Common.{is_none, true, [], ◌∷◌, Option, Some, IfSome, option_map, ◌≡◌, ◌≢◌, ◌∙◌, ℕ, List, ◌++◌, codes, take, drop, length, nat_eq, None, refl, sym, ap}
+use Rattle.std.proofs.Common.{is_none, [], ◌∷◌, Option, Some, IfSome, option_map, ◌≡◌, ◌≢◌, ◌∙◌, ℕ, List, ◌++◌, codes, take, drop, length, nat_eq, None, refl, sym, ap}
 use Rattle.std.specs.List.{starts_with}
 use Rattle.std.specs.Option.{option_or}
 use Rattle.std.proofs.lemmas.Bool.{false_from_ne_true, cond-false}
@@ -11,7 +11,7 @@ use Rattle.lexicon_fields.specs.declared.operating_system.OperatingSystem.TheVar
 use Rattle.lexicon_fields.specs.Names.{named}
 use Rattle.lexicon_fields.specs.Laws.{IsVersionInRange, HasVersionInRange}
 use Rattle.lexicon_fields.specs.Version.{version_of, version_name}
-use Rattle.lexicon_fields.proofs.LookUps.{value_of-all}
+use Rattle.lexicon_fields.proofs.LookUps.{value_of-all, none_is}
 use Rattle.lexicon_fields.proofs.VersionsReadBack.{version_of-name}
 use Rattle.lexicon_fields.specs.OperatingSystem.{operating_system_name, fixed_operating_systems, fixed_operating_system_of, operating_system_of, optional_version_of, version_suffix, behind_prefix, darwin_like_by, darwin_prefixes}
 
@@ -41,11 +41,7 @@ no_darwin_prefix text darwin ios macosx tvos visionos watchos xros =
 
 fixed_unlike_darwin : (text : List ℕ) (s : OperatingSystem) → fixed_operating_system_of text ≡ Some s → darwin_like_by darwin_prefixes text ≡ None
 unfolding fixed_operating_system_of
-fixed_unlike_darwin text s found = missing _ (value_of-all (λ pair. is_none (darwin_like_by darwin_prefixes pair.0)) (named operating_system_name fixed_operating_systems) text s refl found)
-  where
-    missing : {V : Type 0} (o : Option V) → is_none o ≡ true → o ≡ None
-    missing None none = refl
-    missing (Some v) none = absurd cc
+fixed_unlike_darwin text s found = none_is _ (value_of-all (λ pair. is_none (darwin_like_by darwin_prefixes pair.0)) (named operating_system_name fixed_operating_systems) text s refl found)
 
 either_way : {V : Type 0} (fixed like : Option V) → ((v : V) → fixed ≡ Some v → like ≡ None) → option_or fixed like ≡ option_or like fixed
 either_way None None apart = refl

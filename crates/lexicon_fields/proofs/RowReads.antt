@@ -1,11 +1,11 @@
 -- What a look at a row tells.
 use Rattle.std.proofs.Common.{◌≡◌, ◌∙◌, ℕ, ◌<◌, List, [], ap, sym, map, length, get_or, arith}
 use Rattle.std.proofs.lemmas.List.{get_or-map, length-map}
-use Rattle.lexicon_fields.specs.FixedRow.{row_texts, row_text}
+use Rattle.lexicon_fields.specs.FixedRow.{row_count, row_texts, row_text}
 use Rattle.lexicon_fields.proofs.RowTexts.{length-row_texts}
 
 -- there are as many rows as texts
-pub rows-length : {X : Type 0} (text : X → List ℕ) (xs : List X) → map text xs ≡ row_texts → length xs ≡ 192
+pub rows-length : {X : Type 0} (text : X → List ℕ) (xs : List X) → map text xs ≡ row_texts → length xs ≡ row_count
 rows-length text xs texts = sym (length-map xs text) ∙ ap length texts ∙ length-row_texts
 
 -- what two lists are read from alike, their elements are
@@ -14,12 +14,8 @@ pub maps-agree : {X Y V : Type 0} (f : X → V) (g : Y → V) (xs : List X) (ys 
 maps-agree {V = V} f g xs ys i d e in_xs in_ys same =
     sym (get_or-map f xs i d (f d) in_xs) ∙ ap (λ (vs : List V). get_or vs i (f d)) same ∙ get_or-map g ys i e (f d) in_ys
 
--- what two columns say alike of all rows, they say of each
-pub columns-agree : {X V : Type 0} (f g : X → V) (xs : List X) (i : ℕ) (d : X) → i < 192 → length xs ≡ 192 → map f xs ≡ map g xs → f (get_or xs i d) ≡ g (get_or xs i d)
-columns-agree f g xs i d below long same = maps-agree f g xs xs i d d (omega (arith, long)) (omega (arith, long)) same
-
 -- what a column reads from the texts of all rows, it reads from each
 pub column-is : {X V : Type 0} (column : X → V) (find : List ℕ → V) (xs : List X) (i : ℕ) (d : X)
-    → i < 192 → length xs ≡ 192 → map column xs ≡ map find row_texts → column (get_or xs i d) ≡ find (row_text i)
+    → i < row_count → length xs ≡ row_count → map column xs ≡ map find row_texts → column (get_or xs i d) ≡ find (row_text i)
 column-is column find xs i d below long same =
     maps-agree column find xs row_texts i d [] (omega (arith, long)) (omega (arith, length-row_texts)) same

@@ -11,9 +11,9 @@ use Rattle.std.proofs.lemmas.Map.Keys.{sorted_from_all_adjacent, Less-from_sorte
 use Rattle.std.proofs.lemmas.Map.Text.{is_eq-slice_cmp}
 use Rattle.std.proofs.lemmas.Slice.Eq.{bytes_eq-Decides}
 use Rattle.lexicon_fields.specs.Names.{is_dash_free}
-use Rattle.lexicon_fields.specs.FixedRow.{row_texts, row_text}
+use Rattle.lexicon_fields.specs.FixedRow.{row_count, row_texts, row_text}
 
-pub length-row_texts : length row_texts ≡ 192
+pub length-row_texts : length row_texts ≡ row_count
 unfolding row_texts
 length-row_texts = refl
 
@@ -39,11 +39,12 @@ rises_from_96 : (k : ℕ) → 96 ≤ k → k < 144 → rises_at k ≡ true
 unfolding row_texts
 rises_from_96 = rises_within 96 48 refl
 
-rises_from_144 : (k : ℕ) → 144 ≤ k → k < 191 → rises_at k ≡ true
+-- the last row has none behind it
+rises_from_144 : (k : ℕ) → 144 ≤ k → k + 1 < row_count → rises_at k ≡ true
 unfolding row_texts
-rises_from_144 = rises_within 144 47 refl
+rises_from_144 k from to = rises_within 144 (row_count - 145) refl k from (omega (arith, to))
 
-rises : (k : ℕ) → k < 191 → rises_at k ≡ true
+rises : (k : ℕ) → k + 1 < row_count → rises_at k ≡ true
 rises k below = elim (cases_lt k 96) [
   | inl front ↦ elim (cases_lt k 48) [ inl lt ↦ rises_from_0 k (omega arith) lt | inr ge ↦ rises_from_48 k (omega arith) front ]
   | inr back ↦ elim (cases_lt k 144) [ inl lt ↦ rises_from_96 k (omega arith) lt | inr ge ↦ rises_from_144 k (omega arith) below ]
@@ -57,11 +58,11 @@ less_from_is_lt Greater h = cc
 pub row_texts_sorted : IsStrictlySortedBy (slice_cmp nat_cmp) row_texts
 row_texts_sorted = sorted_from_all_adjacent nat_list_cmp_total row_texts [] (λ k h. less_from_is_lt _ (rises k (omega (arith, h, length-row_texts))))
 
-row_less : (i j : ℕ) → i < j → j < 192 → slice_cmp nat_cmp (row_text i) (row_text j) ≡ Less
+row_less : (i j : ℕ) → i < j → j < row_count → slice_cmp nat_cmp (row_text i) (row_text j) ≡ Less
 row_less i j lt below = Less-from_sorted (slice_cmp nat_cmp) row_texts i j [] row_texts_sorted lt (omega (arith, length-row_texts))
 
 -- the rows up to one that is before a text are before it
-pub rows_below : (middle : ℕ) (s : List ℕ) → middle < 192 → slice_cmp nat_cmp (row_text middle) s ≡ Less → (k : ℕ) → k < middle + 1 → slice_cmp nat_cmp (row_text k) s ≡ Less
+pub rows_below : (middle : ℕ) (s : List ℕ) → middle < row_count → slice_cmp nat_cmp (row_text middle) s ≡ Less → (k : ℕ) → k < middle + 1 → slice_cmp nat_cmp (row_text k) s ≡ Less
 rows_below middle s below is k lt = elim (cases_order k middle) [
   | inl same ↦ rw same is
   | inr other ↦ elim other [
@@ -74,7 +75,7 @@ turned : (x y : List ℕ) (o : Ordering) → slice_cmp nat_cmp x y ≡ o → sli
 turned x y o h = nat_list_cmp_total.antisymm y x ∙ ap ordering_reverse h
 
 -- the rows from one that is behind a text on are behind it
-pub rows_above : (middle : ℕ) (s : List ℕ) → slice_cmp nat_cmp (row_text middle) s ≡ Greater → (k : ℕ) → middle ≤ k → k < 192 → slice_cmp nat_cmp (row_text k) s ≡ Greater
+pub rows_above : (middle : ℕ) (s : List ℕ) → slice_cmp nat_cmp (row_text middle) s ≡ Greater → (k : ℕ) → middle ≤ k → k < row_count → slice_cmp nat_cmp (row_text k) s ≡ Greater
 rows_above middle s is k le below = elim (cases_order k middle) [
   | inl same ↦ rw same is
   | inr other ↦ elim other [

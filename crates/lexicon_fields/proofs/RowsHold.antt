@@ -13,7 +13,6 @@ use Rattle.std.proofs.lemmas.Map.Views.{Contains-from_any, list_any-from_Contain
 use Rattle.std.proofs.lemmas.Option.{get_or_from_slice_get, slice_get-get_or}
 use Rattle.std.proofs.lemmas.Slice.Eq.{bytes_eq-Decides}
 use Rattle.lexicon_fields.specs.Names.{named}
-use Rattle.lexicon_fields.specs.SubArchitecture.{arm_of, aarch64_of, x86_32_of, mips32_of, mips64_of, riscv32_of, riscv64_of, clever_of, z80_of}
 use Rattle.lexicon_fields.specs.Architecture.{architecture_of}
 use Rattle.lexicon_fields.specs.declared.known_vendor.KnownVendor.{KnownVendor}
 use Rattle.lexicon_fields.specs.Vendor.{known_name, known_vendors, known_vendor_of}
@@ -21,7 +20,7 @@ use Rattle.lexicon_fields.specs.declared.operating_system.OperatingSystem.{Opera
 use Rattle.lexicon_fields.specs.OperatingSystem.{operating_system_name, operating_system_of, darwin_prefixes, darwin_like_by, fixed_operating_systems, fixed_operating_system_of}
 use Rattle.lexicon_fields.specs.Environment.{environment_of}
 use Rattle.lexicon_fields.specs.BinaryFormat.{binary_format_of}
-use Rattle.lexicon_fields.specs.FixedRow.{has_row, row_texts, row_text}
+use Rattle.lexicon_fields.specs.FixedRow.{has_row, row_count, row_texts, row_text}
 use Rattle.lexicon_fields.proofs.LookUps.{value_of-passes}
 use Rattle.lexicon_fields.proofs.RowTexts.{is_row_text, row_text-passes, length-row_texts}
 use Rattle.lexicon_fields.proofs.NamesReadBack.{architecture_of-row, environment_of-row, binary_format_of-row}
@@ -35,7 +34,7 @@ unfolding fixed_operating_system_of is_row_text row_texts
 fixed_operating_system_of-row text v found = value_of-passes is_row_text (named operating_system_name fixed_operating_systems) text v refl found
 
 -- a text that is no row's reads as nothing
-pub none_without_row : {V : Type 0} (find : List ℕ → Option V) → ((text : List ℕ) (v : V) → find text ≡ Some v → is_row_text text ≡ true)
+none_without_row : {V : Type 0} (find : List ℕ → Option V) → ((text : List ℕ) (v : V) → find text ≡ Some v → is_row_text text ≡ true)
     → (s : List ℕ) → is_row_text s ≡ false → find s ≡ None
 none_without_row {V} find row s none = by_reading (find s) refl
   where
@@ -55,25 +54,25 @@ no_row s none =
 
 -- each row's text is a name of some field
 row_text-stands : (s : List ℕ) → is_row_text s ≡ true → has_row s ≡ true
-unfolding row_texts architecture_of arm_of aarch64_of x86_32_of mips32_of mips64_of riscv32_of riscv64_of clever_of z80_of known_vendor_of fixed_operating_system_of environment_of binary_format_of
+unfolding row_texts architecture_of known_vendor_of fixed_operating_system_of environment_of binary_format_of
 row_text-stands s found = row_text-passes has_row s refl found
 
-row_text-found : (i : ℕ) → i < 192 → is_row_text (row_text i) ≡ true
+row_text-found : (i : ℕ) → i < row_count → is_row_text (row_text i) ≡ true
 unfolding is_row_text
 row_text-found i below = list_any_at (bytes_eq (row_text i)) row_texts i [] (omega (arith, length-row_texts)) ((bytes_eq-Decides (row_text i) (row_text i)).1 refl)
 
-pub row-stands : (i : ℕ) → i < 192 → has_row (row_text i) ≡ true
+pub row-stands : (i : ℕ) → i < row_count → has_row (row_text i) ≡ true
 row-stands i below = row_text-stands (row_text i) (row_text-found i below)
 
-row_text-default : (i : ℕ) (d : List ℕ) → i < 192 → get_or row_texts i d ≡ row_text i
+row_text-default : (i : ℕ) (d : List ℕ) → i < row_count → get_or row_texts i d ≡ row_text i
 row_text-default i d below = get_or_from_slice_get row_texts i (row_text i) d (slice_get-get_or row_texts i [] (omega (arith, length-row_texts)))
 
 -- the row that a text is that of
-pub row_text-at : (s : List ℕ) → is_row_text s ≡ true → (i : ℕ) × (i < 192) × (row_text i ≡ s)
+row_text-at : (s : List ℕ) → is_row_text s ≡ true → (i : ℕ) × (i < row_count) × (row_text i ≡ s)
 unfolding is_row_text
 row_text-at s found =
     let at = Contains-from_any (λ x y. (bytes_eq-Decides x y).0) s row_texts found in
-    let below : at.0 < 192 = omega (arith, at.1, length-row_texts) in
+    let below : at.0 < row_count = omega (arith, at.1, length-row_texts) in
     (at.0, below, sym (row_text-default at.0 s below) ∙ at.2)
 
 apart : (x y : List ℕ) (o : Ordering) → is_eq o ≡ false → slice_cmp nat_cmp x y ≡ o → x ≢ y
@@ -81,7 +80,7 @@ apart x y o other is same = let bad : true ≡ false = sym (is_eq-slice_cmp x y 
 
 -- a text that all rows before a place are before, and all others behind, has no row
 pub no_row-between : (s : List ℕ) (place : ℕ) → ((k : ℕ) → k < place → slice_cmp nat_cmp (row_text k) s ≡ Less)
-    → ((k : ℕ) → place ≤ k → k < 192 → slice_cmp nat_cmp (row_text k) s ≡ Greater) → has_row s ≡ false
+    → ((k : ℕ) → place ≤ k → k < row_count → slice_cmp nat_cmp (row_text k) s ≡ Greater) → has_row s ≡ false
 no_row-between s place below above = no_row s (false_from_ne_true (is_row_text s) (λ found.
     let at = row_text-at s found in
     elim (cases_lt at.0 place) [

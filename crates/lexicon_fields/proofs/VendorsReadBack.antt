@@ -3,13 +3,14 @@ use Rattle.std.proofs.Common.{[], ◌∷◌, nat_eq, Bool, not, ◌&&◌, ◌||�
 use Rattle.std.specs.List.{list_all}
 use Rattle.std.specs.Option.{option_or}
 use Rattle.std.proofs.lemmas.Bool.{and_parts, ne_eqb}
+use Rattle.std.proofs.lemmas.Option.{cond_some}
 use Rattle.lexicon_fields.specs.declared.vendor.Vendor.{Vendor}
 use Rattle.lexicon_fields.specs.declared.vendor.Vendor.TheVariants as vendor
 use Rattle.lexicon_fields.specs.declared.known_vendor.KnownVendor.{KnownVendor}
 use Rattle.lexicon_fields.specs.declared.known_vendor.KnownVendor.TheVariants.{Unknown}
 use Rattle.lexicon_fields.specs.Vendor.{VendorValue, Known, Custom, known_name, known_vendors, custom_of, vendor_name, is_plain, is_free, is_lowercase_letter, is_vendor_character, has_vendor_form, vendor_of, vendor_value, owns_text, known_vendor_of, is_admitted}
 use Rattle.lexicon_fields.specs.Names.{named, is_dash_free}
-use Rattle.lexicon_fields.proofs.LookUps.{PassesIfRead, value_of-passes, option_map-passes, option_or-passes, passed, of_kind-read_back}
+use Rattle.lexicon_fields.proofs.LookUps.{PassesIfRead, value_of-passes, option_map-passes, option_or-passes, none_is, of_kind-read_back}
 use Rattle.lexicon_fields.proofs.RowTexts.{row_text-dash_free}
 use Rattle.lexicon_fields.proofs.RowsHold.{known_vendor_of-row}
 use Rattle.lexicon_fields.specs.Architecture.{architecture_of}
@@ -100,10 +101,6 @@ admitted_parts text admitted =
     let whole = and_parts (is_free text) (has_vendor_form text) admitted in
     ((and_parts _ _ (and_parts _ _ (and_parts _ _ (and_parts _ _ whole.0).0).0).0).0, whole.1)
 
-none_is : {V : Type 0} (o : Option V) → is_none o ≡ true → o ≡ None
-none_is None none = refl
-none_is (Some v) none = absurd cc
-
 vendor_of-name : (v : VendorValue) → is_plain v ≡ true → vendor_of (vendor_name v) ≡ Some v
 unfolding vendor_of known_vendor_of
 vendor_of-name (Custom text) plain = rw (none_is (known_vendor_of text) (admitted_parts text plain).0, plain) refl
@@ -134,7 +131,7 @@ known-dash_free text v found = row_text-dash_free text (known_vendor_of-row text
 
 custom-dash_free : (text : List ℕ) → PassesIfRead is_dash_free text (custom_of text)
 unfolding PassesIfRead
-custom-dash_free text v found = form-dash_free text (admitted_parts text (passed (is_admitted text) (Custom text) v found)).1
+custom-dash_free text v found = form-dash_free text (admitted_parts text (cond_some (is_admitted text) (Custom text) v found).0).1
 
 vendor_of-dash_free : (text : List ℕ) (v : VendorValue) → vendor_of text ≡ Some v → is_dash_free text ≡ true
 unfolding vendor_of PassesIfRead

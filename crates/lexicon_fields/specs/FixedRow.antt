@@ -32,6 +32,10 @@ pub record HoldSameValues (x y : FixedRow) : Type 0 where
   pub environment : x.environment ≡ y.environment
   pub binary_format : x.binary_format ≡ y.binary_format
 
+-- how many texts have a row
+abbrev pub row_count : ℕ
+row_count = 192
+
 -- the texts that have a row, in the order of their bytes
 unfoldable pub row_texts : List (List ℕ)
 row_texts =

@@ -1,9 +1,7 @@
 -- Laws of names, queries, versions and equality.
-use Rattle.std.specs.Prelude.{◌≡◌, ◌↔◌, ℕ, ◌<◌, ◌^◌, Bool, true, List, Option, Some, None, IfSome, Decides}
+use Rattle.std.specs.Prelude.{◌≡◌, ℕ, ◌<◌, ◌^◌, Bool, true, List, Option, Some, IfSome, Decides}
 use Rattle.std.specs.Ordering.{nat_cmp, on, then_cmp}
 use Rattle.std.specs.declared.cmp.Ordering.{Ordering}
-use Rattle.lexicon_fields.specs.declared.architecture.Architecture.{Architecture}
-use Rattle.lexicon_fields.specs.declared.architecture.Architecture.TheVariants.{Unknown}
 use Rattle.lexicon_fields.specs.declared.deployment_target.DeploymentTarget.{DeploymentTarget}
 use Rattle.lexicon_fields.specs.declared.operating_system.OperatingSystem.{OperatingSystem}
 use Rattle.lexicon_fields.specs.Names.{is_dash_free}
@@ -32,10 +30,10 @@ HasVersionInRange s = IfSome (version_held s) IsVersionInRange
 abbrev pub version_cmp : DeploymentTarget → DeploymentTarget → Ordering
 version_cmp = then_cmp (on (λ v. v.major) nat_cmp) (then_cmp (on (λ v. v.minor) nat_cmp) (on (λ v. v.patch) nat_cmp))
 
--- a query of architectures has no answer for `Unknown` alone
-abbrev pub IsRefusedForUnknownAlone : {V : Type 0} → (Architecture → Option V) → Type 0
-IsRefusedForUnknownAlone query = (a : Architecture) → (query a ≡ None) ↔ (a ≡ Unknown)
-
 -- two values are told equal exactly where they are the same
 abbrev pub ComparesByValue : {V : Type 0} → (V → V → Bool) → Type 0
 ComparesByValue {V} eq = (x y : V) → Decides (eq x y) (x ≡ y)
+
+-- a copy is its source, and comes without memory
+abbrev pub CopiesAreTheirSources : {V : Type 0} → (V → V → Type 0) → (V → Type 0) → Type 0
+CopiesAreTheirSources {V} IsCopy NeedsNoMemory = (source : V) → NeedsNoMemory source × ((copy : V) → IsCopy source copy → copy ≡ source)

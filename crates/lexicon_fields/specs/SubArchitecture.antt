@@ -1,5 +1,5 @@
--- The names of the sub-architectures, and what reads as which.
-use Rattle.std.specs.Prelude.{ℕ, List, [], ◌∷◌, codes, Option}
+-- The names of the sub-architectures.
+use Rattle.std.specs.Prelude.{ℕ, List, [], ◌∷◌, codes}
 use Rattle.lexicon_fields.specs.declared.architecture.arm.ArmArchitecture.{ArmArchitecture}
 use Rattle.lexicon_fields.specs.declared.architecture.arm.ArmArchitecture.TheVariants as arm
 use Rattle.lexicon_fields.specs.declared.architecture.aarch64.Aarch64Architecture.{Aarch64Architecture}
@@ -18,7 +18,6 @@ use Rattle.lexicon_fields.specs.declared.architecture.clever.CleverArchitecture.
 use Rattle.lexicon_fields.specs.declared.architecture.clever.CleverArchitecture.TheVariants as clever
 use Rattle.lexicon_fields.specs.declared.architecture.z80.Z80Architecture.{Z80Architecture}
 use Rattle.lexicon_fields.specs.declared.architecture.z80.Z80Architecture.TheVariants as z80
-use Rattle.lexicon_fields.specs.Names.{value_of, named}
 
 -- the name of an Arm architecture
 abbrev pub arm_name : ArmArchitecture → List ℕ
@@ -76,10 +75,6 @@ arm_values =
     arm.Thumbv4t ∷ arm.Thumbv5te ∷ arm.Thumbv6m ∷ arm.Thumbv7a ∷ arm.Thumbv7em ∷ arm.Thumbv7m ∷
     arm.Thumbv7neon ∷ arm.Thumbv8mBase ∷ arm.Thumbv8mMain ∷ []
 
--- what a text reads as, if anything
-unfoldable pub arm_of : List ℕ → Option ArmArchitecture
-arm_of text = value_of (named arm_name arm_values) text
-
 -- the name of a 64-bit Arm architecture
 abbrev pub aarch64_name : Aarch64Architecture → List ℕ
 aarch64_name aarch64.Aarch64 = codes "aarch64"
@@ -89,10 +84,6 @@ aarch64_name aarch64.Aarch64be = codes "aarch64_be"
 abbrev pub aarch64_values : List Aarch64Architecture
 aarch64_values =
     aarch64.Aarch64 ∷ aarch64.Aarch64be ∷ []
-
--- what a text reads as, if anything; `arm64` is an alias: it reads, and is no name
-unfoldable pub aarch64_of : List ℕ → Option Aarch64Architecture
-aarch64_of text = value_of ((codes "arm64", aarch64.Aarch64) ∷ named aarch64_name aarch64_values) text
 
 -- the name of a 32-bit x86 architecture
 abbrev pub x86_32_name : X86_32Architecture → List ℕ
@@ -104,10 +95,6 @@ x86_32_name x86_32.I686 = codes "i686"
 abbrev pub x86_32_values : List X86_32Architecture
 x86_32_values =
     x86_32.I386 ∷ x86_32.I586 ∷ x86_32.I686 ∷ []
-
--- what a text reads as, if anything
-unfoldable pub x86_32_of : List ℕ → Option X86_32Architecture
-x86_32_of text = value_of (named x86_32_name x86_32_values) text
 
 -- the name of a 32-bit MIPS architecture
 abbrev pub mips32_name : Mips32Architecture → List ℕ
@@ -121,10 +108,6 @@ abbrev pub mips32_values : List Mips32Architecture
 mips32_values =
     mips32.Mips ∷ mips32.Mipsel ∷ mips32.Mipsisa32r6 ∷ mips32.Mipsisa32r6el ∷ []
 
--- what a text reads as, if anything
-unfoldable pub mips32_of : List ℕ → Option Mips32Architecture
-mips32_of text = value_of (named mips32_name mips32_values) text
-
 -- the name of a 64-bit MIPS architecture
 abbrev pub mips64_name : Mips64Architecture → List ℕ
 mips64_name mips64.Mips64 = codes "mips64"
@@ -136,10 +119,6 @@ mips64_name mips64.Mipsisa64r6el = codes "mipsisa64r6el"
 abbrev pub mips64_values : List Mips64Architecture
 mips64_values =
     mips64.Mips64 ∷ mips64.Mips64el ∷ mips64.Mipsisa64r6 ∷ mips64.Mipsisa64r6el ∷ []
-
--- what a text reads as, if anything
-unfoldable pub mips64_of : List ℕ → Option Mips64Architecture
-mips64_of text = value_of (named mips64_name mips64_values) text
 
 -- the name of a 32-bit RISC-V architecture
 abbrev pub riscv32_name : Riscv32Architecture → List ℕ
@@ -158,10 +137,6 @@ riscv32_values =
     riscv32.Riscv32 ∷ riscv32.Riscv32gc ∷ riscv32.Riscv32i ∷ riscv32.Riscv32im ∷
     riscv32.Riscv32ima ∷ riscv32.Riscv32imac ∷ riscv32.Riscv32imafc ∷ riscv32.Riscv32imc ∷ []
 
--- what a text reads as, if anything
-unfoldable pub riscv32_of : List ℕ → Option Riscv32Architecture
-riscv32_of text = value_of (named riscv32_name riscv32_values) text
-
 -- the name of a 64-bit RISC-V architecture
 abbrev pub riscv64_name : Riscv64Architecture → List ℕ
 riscv64_name riscv64.Riscv64 = codes "riscv64"
@@ -174,10 +149,6 @@ abbrev pub riscv64_values : List Riscv64Architecture
 riscv64_values =
     riscv64.Riscv64 ∷ riscv64.Riscv64gc ∷ riscv64.Riscv64imac ∷ riscv64.Riscv64a23 ∷ []
 
--- what a text reads as, if anything
-unfoldable pub riscv64_of : List ℕ → Option Riscv64Architecture
-riscv64_of text = value_of (named riscv64_name riscv64_values) text
-
 -- the name of a Clever architecture
 abbrev pub clever_name : CleverArchitecture → List ℕ
 clever_name clever.Clever = codes "clever"
@@ -187,10 +158,6 @@ clever_name clever.Clever1_0 = codes "clever1.0"
 abbrev pub clever_values : List CleverArchitecture
 clever_values =
     clever.Clever ∷ clever.Clever1_0 ∷ []
-
--- what a text reads as, if anything
-unfoldable pub clever_of : List ℕ → Option CleverArchitecture
-clever_of text = value_of (named clever_name clever_values) text
 
 -- the name of an architecture of the Z80 family
 abbrev pub z80_name : Z80Architecture → List ℕ
@@ -210,7 +177,3 @@ abbrev pub z80_values : List Z80Architecture
 z80_values =
     z80.Z80 ∷ z80.Z180 ∷ z80.Ez80 ∷ z80.Sm83 ∷ z80.Rabbit2000 ∷ z80.Rabbit2000A ∷ z80.Rabbit3000 ∷
     z80.Rabbit3000A ∷ z80.Tlcs90 ∷ z80.R800 ∷ []
-
--- what a text reads as, if anything
-unfoldable pub z80_of : List ℕ → Option Z80Architecture
-z80_of text = value_of (named z80_name z80_values) text

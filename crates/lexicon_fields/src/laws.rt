@@ -3,17 +3,14 @@ ghost use Rattle.std.specs.Prelude.{◌≡◌, ◌↔◌, true, ℕ, List, lengt
 ghost use Rattle.std.specs.Cmp.Lexicographic.{slice_cmp};
 ghost use Rattle.std.specs.List.Sorted.{IsStrictlySortedBy};
 ghost use Rattle.std.specs.Ordering.{nat_cmp};
-ghost use Rattle.lexicon_fields.specs.Laws.{NamesOfReadBack, NamesReadBack, HasVersionInRange, IsRefusedForUnknownAlone, ComparesByValue, version_cmp};
-ghost use Rattle.lexicon_fields.specs.SubArchitecture.{arm_name, arm_of, aarch64_name, aarch64_of, x86_32_name, x86_32_of};
-ghost use Rattle.lexicon_fields.specs.SubArchitecture.{mips32_name, mips32_of, mips64_name, mips64_of};
-ghost use Rattle.lexicon_fields.specs.SubArchitecture.{riscv32_name, riscv32_of, riscv64_name, riscv64_of};
-ghost use Rattle.lexicon_fields.specs.SubArchitecture.{clever_name, clever_of, z80_name, z80_of};
-ghost use Rattle.lexicon_fields.specs.Architecture.{architecture_name, architecture_of};
+ghost use Rattle.lexicon_fields.specs.Hashing.{FeedsOfTell, FeedsTell};
+ghost use Rattle.lexicon_fields.specs.Laws.{CopiesAreTheirSources, IsVersionInRange, HasVersionInRange, NamesOfReadBack, NamesReadBack, ComparesByValue, version_cmp};
+ghost use Rattle.lexicon_fields.specs.SubArchitecture.{arm_name, aarch64_name, x86_32_name, mips32_name, mips64_name, riscv32_name, riscv64_name, clever_name, z80_name};
+ghost use Rattle.lexicon_fields.specs.Architecture.{architecture_name, architecture_of, arm_of, aarch64_of, x86_32_of, mips32_of, mips64_of, riscv32_of, riscv64_of, clever_of, z80_of};
 ghost use Rattle.lexicon_fields.specs.Environment.{environment_name, environment_of};
 ghost use Rattle.lexicon_fields.specs.OperatingSystem.{operating_system_name, operating_system_of};
 ghost use Rattle.lexicon_fields.specs.BinaryFormat.{binary_format_name, binary_format_of};
-ghost use Rattle.lexicon_fields.specs.ArchitectureQueries.{architecture_endianness, architecture_width};
-ghost use Rattle.lexicon_fields.specs.FixedRow.{has_row, row_texts, HoldSameValues};
+ghost use Rattle.lexicon_fields.specs.FixedRow.{has_row, row_count, row_texts, HoldSameValues};
 ghost use Rattle.lexicon_fields.specs.declared.vendor.CustomVendor.{CustomVendor};
 ghost use Rattle.lexicon_fields.specs.declared.vendor.Vendor.{Vendor};
 ghost use Rattle.lexicon_fields.specs.Vendor.{custom_text, vendor_value, vendor_name, vendor_of, is_plain};
@@ -52,12 +49,6 @@ pub fn names_read_back()
     ensures vendor { NamesOfReadBack (λ v. is_plain v ≡ true) vendor_name vendor_of }
 {}
 
-/// An architecture has no byte order and no pointer width exactly where it is `Unknown`.
-pub fn unknown_alone_is_refused()
-    ensures endianness { IsRefusedForUnknownAlone architecture_endianness }
-    ensures pointer_width { IsRefusedForUnknownAlone architecture_width }
-{}
-
 /// Versions are ordered by major, then by minor, then by patch.
 pub fn versions_are_ordered()
     ensures { (x y : DeploymentTarget) → ⟦<DeploymentTarget as Ord>⟧.cmp x y ≡ version_cmp x y }
@@ -71,7 +62,7 @@ pub fn vendors_are_equal_by_value()
 /// The texts of the rows are those that are a fixed name of some field, each once, in the order of their bytes.
 pub fn rows_are_sorted_and_whole()
     ensures sorted { IsStrictlySortedBy (slice_cmp nat_cmp) row_texts }
-    ensures count { length row_texts ≡ 192 }
+    ensures count { length row_texts ≡ row_count }
     ensures whole { (text : List ℕ) → Contains row_texts text ↔ (has_row text ≡ true) }
 {}
 
@@ -101,4 +92,49 @@ pub fn values_are_equal_by_variant_and_fields()
 /// Two custom vendors feed a hasher equally exactly where their texts are equal.
 pub fn custom_vendors_feed_by_text()
     ensures { (x y : CustomVendor) → (⟦<CustomVendor as Hash>⟧.hash_input x ≡ ⟦<CustomVendor as Hash>⟧.hash_input y) ↔ (custom_text x ≡ custom_text y) }
+{}
+
+/// Two values of a type feed a hasher the same exactly where they are the same, or, of vendors, where they stand for the same;
+/// versions are those whose numbers fit their fields. What is fed behind a value is told apart from what it feeds.
+pub fn values_feed_by_variant_and_fields()
+    ensures architecture { FeedsTell ⟦<Architecture as Hash>⟧.hash_input }
+    ensures arm { FeedsTell ⟦<ArmArchitecture as Hash>⟧.hash_input }
+    ensures aarch64 { FeedsTell ⟦<Aarch64Architecture as Hash>⟧.hash_input }
+    ensures x86_32 { FeedsTell ⟦<X86_32Architecture as Hash>⟧.hash_input }
+    ensures mips32 { FeedsTell ⟦<Mips32Architecture as Hash>⟧.hash_input }
+    ensures mips64 { FeedsTell ⟦<Mips64Architecture as Hash>⟧.hash_input }
+    ensures riscv32 { FeedsTell ⟦<Riscv32Architecture as Hash>⟧.hash_input }
+    ensures riscv64 { FeedsTell ⟦<Riscv64Architecture as Hash>⟧.hash_input }
+    ensures clever { FeedsTell ⟦<CleverArchitecture as Hash>⟧.hash_input }
+    ensures z80 { FeedsTell ⟦<Z80Architecture as Hash>⟧.hash_input }
+    ensures vendor { FeedsOfTell (λ (v : Vendor). Unit {0}) vendor_value ⟦<Vendor as Hash>⟧.hash_input }
+    ensures version { FeedsOfTell IsVersionInRange (λ v. v) ⟦<DeploymentTarget as Hash>⟧.hash_input }
+    ensures operating_system { FeedsOfTell HasVersionInRange (λ s. s) ⟦<OperatingSystem as Hash>⟧.hash_input }
+    ensures environment { FeedsTell ⟦<Environment as Hash>⟧.hash_input }
+    ensures binary_format { FeedsTell ⟦<BinaryFormat as Hash>⟧.hash_input }
+    ensures endianness { FeedsTell ⟦<Endianness as Hash>⟧.hash_input }
+    ensures pointer_width { FeedsTell ⟦<PointerWidth as Hash>⟧.hash_input }
+{}
+
+/// A copy of a value is that value, and copying needs no memory.
+pub fn copies_are_their_sources()
+    ensures architecture { CopiesAreTheirSources ⟦<Architecture as Clone>⟧.is_clone ⟦<Architecture as Clone>⟧.is_infallible }
+    ensures arm { CopiesAreTheirSources ⟦<ArmArchitecture as Clone>⟧.is_clone ⟦<ArmArchitecture as Clone>⟧.is_infallible }
+    ensures aarch64 { CopiesAreTheirSources ⟦<Aarch64Architecture as Clone>⟧.is_clone ⟦<Aarch64Architecture as Clone>⟧.is_infallible }
+    ensures x86_32 { CopiesAreTheirSources ⟦<X86_32Architecture as Clone>⟧.is_clone ⟦<X86_32Architecture as Clone>⟧.is_infallible }
+    ensures mips32 { CopiesAreTheirSources ⟦<Mips32Architecture as Clone>⟧.is_clone ⟦<Mips32Architecture as Clone>⟧.is_infallible }
+    ensures mips64 { CopiesAreTheirSources ⟦<Mips64Architecture as Clone>⟧.is_clone ⟦<Mips64Architecture as Clone>⟧.is_infallible }
+    ensures riscv32 { CopiesAreTheirSources ⟦<Riscv32Architecture as Clone>⟧.is_clone ⟦<Riscv32Architecture as Clone>⟧.is_infallible }
+    ensures riscv64 { CopiesAreTheirSources ⟦<Riscv64Architecture as Clone>⟧.is_clone ⟦<Riscv64Architecture as Clone>⟧.is_infallible }
+    ensures clever { CopiesAreTheirSources ⟦<CleverArchitecture as Clone>⟧.is_clone ⟦<CleverArchitecture as Clone>⟧.is_infallible }
+    ensures z80 { CopiesAreTheirSources ⟦<Z80Architecture as Clone>⟧.is_clone ⟦<Z80Architecture as Clone>⟧.is_infallible }
+    ensures version { CopiesAreTheirSources ⟦<DeploymentTarget as Clone>⟧.is_clone ⟦<DeploymentTarget as Clone>⟧.is_infallible }
+    ensures operating_system { CopiesAreTheirSources ⟦<OperatingSystem as Clone>⟧.is_clone ⟦<OperatingSystem as Clone>⟧.is_infallible }
+    ensures environment { CopiesAreTheirSources ⟦<Environment as Clone>⟧.is_clone ⟦<Environment as Clone>⟧.is_infallible }
+    ensures binary_format { CopiesAreTheirSources ⟦<BinaryFormat as Clone>⟧.is_clone ⟦<BinaryFormat as Clone>⟧.is_infallible }
+    ensures endianness { CopiesAreTheirSources ⟦<Endianness as Clone>⟧.is_clone ⟦<Endianness as Clone>⟧.is_infallible }
+    ensures pointer_width { CopiesAreTheirSources ⟦<PointerWidth as Clone>⟧.is_clone ⟦<PointerWidth as Clone>⟧.is_infallible }
+    ensures vendor_error { CopiesAreTheirSources ⟦<VendorError as Clone>⟧.is_clone ⟦<VendorError as Clone>⟧.is_infallible }
+    ensures known_vendor { CopiesAreTheirSources ⟦<KnownVendor as Clone>⟧.is_clone ⟦<KnownVendor as Clone>⟧.is_infallible }
+    ensures fixed_row { CopiesAreTheirSources ⟦<FixedRow as Clone>⟧.is_clone ⟦<FixedRow as Clone>⟧.is_infallible }
 {}

@@ -84,8 +84,9 @@ impl OperatingSystem {
         }
     }
 
-    /// The system like Darwin that the text reads as. A text with another first letter is told at once.
-    pub(crate) fn like_darwin(s: &str) -> Option<Self>
+    /// The system like Darwin that the text reads as, which is all that a text without a row in the table of names reads
+    /// as. A text with another first letter is told at once.
+    pub fn like_darwin(s: &str) -> Option<Self>
         ensures { result ≡ darwin_like_by darwin_prefixes s.now }
     {
         match s.as_bytes().first() {

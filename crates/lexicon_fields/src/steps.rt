@@ -4,7 +4,7 @@ ghost use Rattle.std.specs.Borrow.{ftrue};
 
 use std::marker::Model;
 
-/// How often texts were compared with rows. The count takes no bytes and has no greatest value; only contracts see it.
+/// A count, as of the rows that a text was compared with. It takes no bytes and has no greatest value; only contracts see it.
 #[derive(Drop)]
 pub struct Steps {
     pub ghost count: { ℕ },

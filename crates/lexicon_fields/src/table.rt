@@ -13,7 +13,7 @@ use crate::environment::Environment;
 use crate::known_vendor::KnownVendor;
 use crate::operating_system::OperatingSystem;
 use crate::steps::Steps;
-use rows::row;
+use rows::{row, row_front};
 use std::cmp::Ordering;
 
 /// What a text reads as in each field, by the fixed names and the alias: no version, and no custom vendor.
@@ -49,8 +49,7 @@ pub fn row_order(i: usize, text: &str, steps: &mut Steps) -> Ordering
     ensures count { steps.new.count ≡ steps.old.count + 1 }
 {
     steps.tick();
-    let row = row(i);
-    front::order(row.0, row.1, text)
+    front::order(row_front(i), row(i).0, text)
 }
 
 /// The number of the row that has the text.
@@ -87,11 +86,11 @@ fn row_at(i: usize) -> FixedRow
 {
     let row = row(i);
     FixedRow {
-        text: row.1,
-        architecture: row.2,
-        vendor: row.3,
-        operating_system: row.4,
-        environment: row.5,
-        binary_format: row.6,
+        text: row.0,
+        architecture: row.1,
+        vendor: row.2,
+        operating_system: row.3,
+        environment: row.4,
+        binary_format: row.5,
     }
 }

@@ -6,6 +6,7 @@ ghost use Rattle.std.specs.Cmp.Lexicographic.{pointwise, nat_list_eq_equiv, byte
 ghost use Rattle.std.specs.Hash as fed;
 ghost use Rattle.std.specs.Hash.{on_Alike, same_Alike};
 ghost use Rattle.std.specs.List.{list_all};
+ghost use Rattle.lexicon_fields.specs.FixedRow.{has_row};
 ghost use Rattle.lexicon_fields.specs.Vendor.{custom_text, is_owned, owns_text, vendor_value, vendor_name, vendor_of, Known, known_vendor_of, is_vendor_character, has_vendor_form, is_admitted, is_plain, IsVendorFault};
 
 use crate::operating_system::OperatingSystem;
@@ -120,14 +121,24 @@ impl Vendor {
         ensures owned { IfOk result (λ vendor. owns_text vendor ≡ is_admitted s.now) }
         ensures err { IfErr result (IsVendorFault s.now) }
     {
-        if !has_vendor_form(s) {
-            return Err(VendorError::Unrecognized);
-        }
-        if let Some(row) = fixed_row(s, &mut Steps::new()) {
-            return match row.vendor {
+        match fixed_row(s, &mut Steps::new()) {
+            Some(row) => match row.vendor {
                 Some(known) => Ok(known.to_vendor()),
                 None => Err(VendorError::Unrecognized),
-            };
+            },
+            None => Vendor::of_rowless(alloc, s),
+        }
+    }
+
+    /// What `from_str` answers for a text that has no row in the table of names: a custom vendor, or why there is none.
+    pub fn of_rowless(alloc: Global, s: &str) -> Result<Self, VendorError>
+        requires { has_row s.now ≡ false }
+        ensures ok { IfOk result (λ vendor. vendor_of s.now ≡ Some (vendor_value vendor)) }
+        ensures owned { IfOk result (λ vendor. owns_text vendor ≡ is_admitted s.now) }
+        ensures err { IfErr result (IsVendorFault s.now) }
+    {
+        if !has_vendor_form(s) {
+            return Err(VendorError::Unrecognized);
         }
         if OperatingSystem::like_darwin(s).is_some() {
             return Err(VendorError::Unrecognized);

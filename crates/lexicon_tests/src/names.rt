@@ -322,8 +322,8 @@ fn texts_read_in_each_type(rt: HostRuntime) {
         let text = words.next().unwrap_or("");
         let want = words.next().unwrap_or("");
         match name_of(family, text) {
-            Ok(name) => assert_eq!(rt; name.as_str(), want, "{row}"),
-            Err(()) => assert_eq!(rt; want, "-", "{row}"),
+            Ok(name) => assert_eq!(rt; name.as_str(), want),
+            Err(()) => assert_eq!(rt; want, "-"),
         }
     }
 }

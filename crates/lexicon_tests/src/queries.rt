@@ -63,12 +63,17 @@ fn answers(alloc: Global, triple: &Triple) -> Result<String, AllocError> {
     format!(in alloc; "{order} {width} {convention} {model}")
 }
 
+fn answers_of(alloc: Global, text: &str) -> Result<String, ParseError> {
+    let triple = Triple::from_str(alloc, text)?;
+    Ok(answers(alloc, &triple)?)
+}
+
 #[test]
 fn triples_answer(rt: HostRuntime) -> Result<(), ParseError> {
     for row in ANSWERS.lines() {
         let (text, want) = row.split_once(' ').unwrap_or((row, ""));
-        let triple = Triple::from_str(rt.alloc(), text)?;
-        assert_eq!(rt; answers(rt.alloc(), &triple)?.as_str(), want, "{text}");
+        let answers = answers_of(rt.alloc(), text)?;
+        assert_eq!(rt; answers.as_str(), want);
     }
     assert_eq!(rt;
         answers(rt.alloc(), &Triple::unknown())?.as_str(),

@@ -62,7 +62,7 @@ fn texts_read_as_triples(rt: HostRuntime) -> Result<(), ParseError> {
     for row in READ.lines() {
         let (text, want) = row.split_once(" = ").unwrap_or((row, ""));
         let triple = Triple::from_str(rt.alloc(), text)?;
-        assert_eq!(rt; values(rt.alloc(), &triple)?.as_str(), want, "{text}");
+        assert_eq!(rt; values(rt.alloc(), &triple)?.as_str(), want);
     }
     Ok(())
 }

@@ -48,10 +48,10 @@ fn check_step(
     assert_eq!(rt; triple.to_text(alloc)?.as_str(), print);
     let round = round(alloc, &triple)?;
     assert!(rt; triple.comes_back() == (triple == round), "{print}");
-    match normal(triple) {
-        Some(step) => assert!(rt; step == round, "{print}"),
-        None => assert!(rt; false, "{print}"),
-    }
+    assert!(rt;
+        matches!(normal(triple), Some(step) if step == round),
+        "{print}"
+    );
     Ok(round)
 }
 

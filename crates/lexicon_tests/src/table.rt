@@ -53,12 +53,12 @@ fn check(rt: &impl Abort, alloc: Global, text: &str) -> Result<(), AllocError> {
         is_in(BINARY_FORMATS, text),
     ];
     let Some(row) = row else {
-        assert_eq!(rt; scanned, [false; 5], "{text}");
+        assert_eq!(rt; scanned, [false; 5]);
         return Ok(());
     };
-    assert_eq!(rt; fields(&row), scanned, "{text}");
+    assert_eq!(rt; fields(&row), scanned);
     assert_eq!(rt; row.text, text);
-    check_names(rt, alloc, &row)
+    check_names(rt, alloc, row)
 }
 
 /// Which of the five fields the row has.
@@ -72,7 +72,7 @@ fn fields(row: &FixedRow) -> [bool; 5] {
     ]
 }
 
-fn check_names(rt: &impl Abort, alloc: Global, row: &FixedRow) -> Result<(), AllocError> {
+fn check_names(rt: &impl Abort, alloc: Global, row: FixedRow) -> Result<(), AllocError> {
     if let Some(architecture) = row.architecture {
         let name = if row.text == "arm64" {
             "aarch64"

@@ -38,15 +38,22 @@ fn read(rt: &impl Abort, alloc: Global, text: &str) -> Vendor {
     }
 }
 
+fn check_read(rt: &impl Abort, alloc: Global, row: &str) -> Result<(), AllocError> {
+    let (text, _) = row.split_once(' ').unwrap_or((row, ""));
+    let vendor = read(rt, alloc, text);
+    assert!(rt; vendor.is_plain());
+    assert!(rt; vendor.as_str() == text);
+    assert_eq!(rt;
+        format!(in alloc; "{vendor:*>40} {vendor:?}")?.as_str(),
+        row
+    );
+    Ok(())
+}
+
 #[test]
 fn vendors_are_read_and_named(rt: HostRuntime) -> Result<(), AllocError> {
     for row in READ.lines() {
-        let (text, _) = row.split_once(' ').unwrap_or((row, ""));
-        let vendor = read(&rt, rt.alloc(), text);
-        assert!(rt; vendor.is_plain(), "{text}");
-        assert_eq!(rt; vendor.as_str(), text);
-        let told = format!(in rt.alloc(); "{vendor:*>40} {vendor:?}")?;
-        assert_eq!(rt; told.as_str(), row);
+        check_read(&rt, rt.alloc(), row)?;
     }
     Ok(())
 }

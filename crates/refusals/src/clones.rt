@@ -7,22 +7,19 @@ use target_lexicon::{
     Triple, Vendor,
 };
 
-/// Of values that own no text.
-pub(crate) fn tell_fixed(rt: &impl Print, alloc: Global) {
-    tell_vendor(rt, alloc, &Vendor::Pc);
-    tell_custom(rt, alloc, &CustomVendor::Static("foo"));
+/// Of a system whose name is made.
+pub(crate) fn tell_made(rt: &impl Print, alloc: Global) {
     let version = DeploymentTarget {
         major: 23,
         minor: 6,
         patch: 0,
     };
     tell_system(rt, alloc, OperatingSystem::Darwin(Some(version)));
-    tell_system(rt, alloc, OperatingSystem::Darwin(None));
 }
 
 /// Of a triple whose vendor owns its text, of what it holds, and of the wrappers around it.
 pub(crate) fn tell_triple(rt: &impl Print, alloc: Global, triple: Triple) {
-    tell(rt, "Triple::clone", &triple, &triple.clone(alloc));
+    tell_clone(rt, alloc, &triple);
     tell(rt, "Triple::to_text", &triple, &triple.to_text(alloc));
     tell(rt, "Triple::to_json", &triple, &triple.to_json(alloc));
     tell_vendor(rt, alloc, &triple.vendor);
@@ -37,7 +34,11 @@ pub(crate) fn tell_refusal(rt: &impl Print, alloc: Global, part: String) {
     tell(rt, "ParseError::clone", &refusal, &refusal.clone(alloc));
 }
 
-fn tell_wrapped(rt: &impl Print, alloc: Global, triple: Triple) {
+pub(crate) fn tell_clone(rt: &impl Print, alloc: Global, triple: &Triple) {
+    tell(rt, "Triple::clone", triple, &triple.clone(alloc));
+}
+
+pub(crate) fn tell_wrapped(rt: &impl Print, alloc: Global, triple: Triple) {
     let host = DefaultToHost(triple);
     tell(rt, "DefaultToHost::clone", &host, &host.clone(alloc));
     let unknown = DefaultToUnknown(host.0);
@@ -49,15 +50,15 @@ fn tell_wrapped(rt: &impl Print, alloc: Global, triple: Triple) {
     );
 }
 
-fn tell_vendor(rt: &impl Print, alloc: Global, vendor: &Vendor) {
+pub(crate) fn tell_vendor(rt: &impl Print, alloc: Global, vendor: &Vendor) {
     tell(rt, "Vendor::clone", vendor, &vendor.clone(alloc));
 }
 
-fn tell_custom(rt: &impl Print, alloc: Global, custom: &CustomVendor) {
+pub(crate) fn tell_custom(rt: &impl Print, alloc: Global, custom: &CustomVendor) {
     tell(rt, "CustomVendor::clone", custom, &custom.clone(alloc));
 }
 
-fn tell_system(rt: &impl Print, alloc: Global, system: OperatingSystem) {
+pub(crate) fn tell_system(rt: &impl Print, alloc: Global, system: OperatingSystem) {
     tell(
         rt,
         "OperatingSystem::into_str",

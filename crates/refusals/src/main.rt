@@ -1,15 +1,20 @@
 //! Makes each call of the libraries that asks for memory, and some of their kin that ask for none, and writes what each answers.
 //!
-//! What a call was lent is written as it is behind the call, so that a call that changed it would show. `checks/refuse_memory`
-//! refuses one request of this program after another.
+//! What a call was lent is written as it is behind the call, so that a call that changed it would show. Then so it does of each line of
+//! its input. `checks/refuse_memory` refuses one request of this program after another, without an input, and `checks/large` gives it
+//! large lines.
 #![tactic(auto)]
 
 mod clones;
+mod free;
+mod given;
 mod json;
 mod readings;
 mod tell;
 
-use clones::{tell_fixed, tell_refusal, tell_triple};
+use clones::{tell_made, tell_refusal, tell_triple};
+use free::tell_free;
+use given::{given_bytes, tell_given};
 use json::{tell_triples, tell_values};
 use readings::tell_readings;
 use serde_json::Value;
@@ -27,7 +32,12 @@ fn tell_lent(rt: &impl Print, alloc: Global) -> Option<()> {
         Triple::from_str(alloc, "x86_64-customvendor-linux").ok()?,
     );
     tell_settled(rt, alloc, "riscv32imc-esp-espidf-unknown-unknown")?;
-    tell_json(rt, alloc, "[\"x86_64\",\"x86_64-foo-linux\"]")
+    tell_json(rt, alloc, "[\"x86_64\",\"x86_64-foo-linux\"]")?;
+    tell_json(
+        rt,
+        alloc,
+        "[\"x86_64-longervendor-linux\",\"avr\",\"x86_64-a-linux\",\"avr-pc-none\",\"x86_64-customvendor-linux\"]",
+    )
 }
 
 fn tell_settled(rt: &impl Print, alloc: Global, text: &str) -> Option<()> {
@@ -46,10 +56,18 @@ fn tell_json(rt: &impl Print, alloc: Global, text: &str) -> Option<()> {
 
 fn main(rt: HostRuntime) -> ExitCode {
     tell_readings(&rt, rt.alloc());
-    tell_fixed(&rt, rt.alloc());
-    if tell_lent(&rt, rt.alloc()).is_some() {
-        return ExitCode::SUCCESS;
+    tell_free(&rt, rt.alloc());
+    tell_made(&rt, rt.alloc());
+    if tell_lent(&rt, rt.alloc()).is_none() {
+        let _ = rt.println("Nothing to lend");
+        return ExitCode::FAILURE;
     }
-    let _ = rt.println("Nothing to lend");
-    ExitCode::FAILURE
+    let Some(bytes) = given_bytes(rt.alloc(), &mut rt.stdin()) else {
+        return ExitCode::FAILURE;
+    };
+    match str::from_utf8(&bytes) {
+        Ok(text) => tell_given(&rt, rt.alloc(), text),
+        Err(_) => return ExitCode::FAILURE,
+    }
+    ExitCode::SUCCESS
 }

@@ -15,13 +15,12 @@ const TRIPLES: &str = "x86_64-customvendor-linux\n\
 
 pub(crate) fn tell_readings(rt: &impl Print, alloc: Global) {
     for text in TRIPLES.lines() {
-        tell_triple(rt, alloc, text);
+        tell_read_triple(rt, alloc, text);
     }
-    tell_vendor(rt, alloc, "customvendor");
-    tell_vendor(rt, alloc, "pc");
+    tell_read_vendor(rt, alloc, "customvendor");
 }
 
-fn tell_triple(rt: &impl Print, alloc: Global, text: &str) {
+pub(crate) fn tell_read_triple(rt: &impl Print, alloc: Global, text: &str) {
     tell(
         rt,
         "Triple::from_str",
@@ -30,7 +29,7 @@ fn tell_triple(rt: &impl Print, alloc: Global, text: &str) {
     );
 }
 
-fn tell_vendor(rt: &impl Print, alloc: Global, text: &str) {
+pub(crate) fn tell_read_vendor(rt: &impl Print, alloc: Global, text: &str) {
     tell(
         rt,
         "Vendor::from_str",

@@ -1,6 +1,7 @@
 -- The function that reads field by field gives what a text reads as by placements, and how it is refused.
 use Rattle.std.proofs.Common.{◌≡◌, ℕ, List, [], ◌∷◌, true, false, refl, sym, ◌∙◌, ap, subst, Option, Some, None, Result, Ok, Err, inl, inr, ◌↔◌, ◌⊎◌}
 use Rattle.std.specs.Prelude.{MatchResult, unwrap_or, is_some}
+use Rattle.std.proofs.lemmas.Bool.{cases_Bool}
 use Rattle.lexicon_fields.specs.declared.architecture.Architecture.{Architecture as AnyArchitecture}
 use Rattle.lexicon_fields.specs.declared.operating_system.OperatingSystem.TheVariants as operating_system
 use Rattle.lexicon_fields.specs.declared.environment.Environment.TheVariants as environment
@@ -19,7 +20,7 @@ use Rattle.target_lexicon.specs.ReadingByFields.{Taken, taken, take_part, finish
 use Rattle.target_lexicon.specs.Refusal.{Refusal}
 use Rattle.target_lexicon.specs.SpecialTexts.{special_values}
 use Rattle.target_lexicon.specs.Values.{Values}
-use Rattle.target_lexicon.proofs.Cuts.{parts_of-some, bool_cases}
+use Rattle.target_lexicon.proofs.Cuts.{parts_of-some}
 use Rattle.target_lexicon.proofs.Held.{value_for}
 use Rattle.target_lexicon.proofs.Unique.{values-unique, refusal-unique, read-not_refused}
 use Rattle.target_lexicon.proofs.Taken.{behind_vendor, behind_operating_system, behind_environment, behind_binary_format, taken_values, lacked_behind, reads-vendor, reads-operating_system, reads-environment, reads-binary_format, first-text-refused, left-text-refused, text-reads}
@@ -43,7 +44,7 @@ module _ {A : Type 0} (f : Field) (find : List ℕ → Option A) (is_read : (p :
       → ◌≡◌ {A = Taken A} (take_part f find d last ps) (value_for f find d ps, last_with f last (part_for f ps), parts_behind f ps)
   take_part-step d last [] = refl
   take_part-step d last (p ∷ ps) =
-      elim (bool_cases (reads f p)) [
+      elim (cases_Bool (reads f p)) [
         | inl takes ↦ rw takes (taken-some (find p) d last p ps (sym (is_read p) ∙ takes))
         | inr skips ↦ rw skips (taken-none (find p) d last p ps (sym (is_read p) ∙ skips))
       ]

@@ -1,19 +1,14 @@
 -- The parts of a text are one list.
-use Rattle.std.proofs.Common.{◌≡◌, ◌≢◌, ℕ, List, [], ◌∷◌, ◌++◌, ◌+◌, ◌-◌, take, drop, get_or, Bool, true, false, nat_eq, Some, None, refl, sym, length, ◌<◌, ◌∙◌, ap, arith, ◌≤◌, ◌⊎◌, inl, inr}
+use Rattle.std.proofs.Common.{◌≡◌, ◌≢◌, ℕ, List, [], ◌∷◌, ◌++◌, ◌+◌, ◌-◌, take, drop, get_or, Bool, true, false, nat_eq, Some, None, refl, sym, length, ◌<◌, ◌∙◌, ap, arith, ◌≤◌, inl, inr}
 use Rattle.std.specs.List.{list_all, list_any, join_with_byte, onto_first, slice_range, position, position_or_len}
 use Rattle.std.specs.Prelude.{◌==◌, ◌||◌, not}
-use Rattle.std.proofs.lemmas.Bool.{and_parts, eqb-true}
+use Rattle.std.proofs.lemmas.Bool.{and_parts, cases_Bool, eqb-true}
 use Rattle.std.proofs.lemmas.Grind.{common_steps}
 use Rattle.std.proofs.lemmas.List.Quantifiers.{position-Some}
 use Rattle.std.proofs.lemmas.List.Sums.{fails_before_first, position_or_len_is}
 use Rattle.std.proofs.lemmas.List.Splits.{join_with_byte-slice_split, slice_split_first, slice_split_none}
 use Rattle.lexicon_fields.specs.Names.{is_dash_free}
 use Rattle.target_lexicon.specs.Parts.{ArePartsOf, parts_of}
-
--- a test is true or false
-pub bool_cases : (b : Bool) → (b ≡ true) ⊎ (b ≡ false)
-bool_cases true = inl refl
-bool_cases false = inr refl
 
 -- the first byte of a text without dashes is none, and the others have none
 dash_free-parts : (b : ℕ) (bs : List ℕ) → is_dash_free (b ∷ bs) ≡ true → (nat_eq b 45 ≡ false) × (is_dash_free bs ≡ true)
@@ -44,7 +39,7 @@ onto_first-free b (p ∷ ps) other free = rw other free
 parts_of-free : (bs : List ℕ) → list_all is_dash_free (parts_of bs) ≡ true
 parts_of-free [] = refl
 parts_of-free (b ∷ bs) =
-    elim (bool_cases (nat_eq b 45)) [
+    elim (cases_Bool (nat_eq b 45)) [
       | inl dash ↦ rw dash (parts_of-free bs)
       | inr other ↦ rw other (onto_first-free b (parts_of bs) other (parts_of-free bs))
     ]
@@ -56,7 +51,7 @@ onto_first-some b (p ∷ ps) e = cc
 pub parts_of-some : (bs : List ℕ) → parts_of bs ≢ []
 parts_of-some [] e = cc
 parts_of-some (b ∷ bs) e =
-    elim (bool_cases (nat_eq b 45)) [
+    elim (cases_Bool (nat_eq b 45)) [
       | inl dash ↦ let h = rw dash at e in cc
       | inr other ↦ onto_first-some b (parts_of bs) (rw other at e)
     ]

@@ -3,7 +3,7 @@ use Rattle.std.proofs.Common.{◌≡◌, ◌≢◌, ℕ, zero, suc, ◌+◌, ◌
 use Rattle.target_lexicon.specs.Field.{Field, Architecture, Vendor, OperatingSystem, Environment, BinaryFormat, place, reads}
 use Rattle.target_lexicon.specs.Placement.{IsPlacedBehind, IsPlacement, AreNotBehind, IsLeast, HasPlacement}
 use Rattle.target_lexicon.specs.Laws.{HasOneLeast, OneLeastPlacement}
-use Rattle.target_lexicon.proofs.Cuts.{bool_cases}
+use Rattle.std.proofs.lemmas.Bool.{cases_Bool}
 
 -- the fields behind `last`, in their order
 abbrev pub Follows : Field → List Field → Type 0
@@ -64,7 +64,7 @@ filled-placed l [] [] h e = tt
 filled-placed l [] (p ∷ ps) h e = cc
 filled-placed l (f ∷ fs) [] h e = tt
 filled-placed l (f ∷ fs) (p ∷ ps) h e =
-    elim (bool_cases (reads f p)) [
+    elim (cases_Bool (reads f p)) [
       | inl takes ↦
           let rest : unread fs ps ≡ [] = (rw takes at e) in
           rw takes (omega (arith, h.0), takes, filled-placed f fs ps h.1 rest)
@@ -81,7 +81,7 @@ filled-least l fs [] (g ∷ gs) h w = absurd w
 filled-least l fs (p ∷ ps) [] h w = absurd w
 filled-least l [] (p ∷ ps) (g ∷ gs) h w = absurd (omega (arith, h, w.0, place_most g))
 filled-least l (f ∷ fs) (p ∷ ps) (g ∷ gs) h w =
-    elim (bool_cases (reads f p)) [
+    elim (cases_Bool (reads f p)) [
       | inl takes ↦
           let rest = filled-least f fs ps gs h.1 (weaken g f ps gs (omega (arith, h.0, w.0)) w.2) in
           rw takes (rest.0, (omega (arith, h.0, w.0), rest.1))

@@ -4,7 +4,7 @@ use Rattle.std.specs.Prelude.{option_and_then, unwrap_or, is_some}
 use Rattle.target_lexicon.specs.Field.{Field, Architecture, Vendor, OperatingSystem, Environment, BinaryFormat, place, reads}
 use Rattle.target_lexicon.specs.Reading.{part_at, lack_behind, last_of, IsValueOf}
 use Rattle.target_lexicon.specs.Private.{part_for, parts_behind, lack_of}
-use Rattle.target_lexicon.proofs.Cuts.{bool_cases}
+use Rattle.std.proofs.lemmas.Bool.{cases_Bool}
 use Rattle.target_lexicon.proofs.Greedy.{filled, unread, unread-nil, filled-nil, behind_architecture}
 
 -- one field more before these, where it has a part
@@ -14,26 +14,23 @@ with_field f (Some p) gs = f ∷ gs
 
 unread-step : (f : Field) (fs : List Field) (ps : List (List ℕ)) → unread (f ∷ fs) ps ≡ unread fs (parts_behind f ps)
 unread-step f fs [] = sym (unread-nil fs)
-unread-step f fs (p ∷ ps) = elim (bool_cases (reads f p)) [ inl takes ↦ rw takes refl | inr skips ↦ rw skips refl ]
+unread-step f fs (p ∷ ps) = elim (cases_Bool (reads f p)) [ inl takes ↦ rw takes refl | inr skips ↦ rw skips refl ]
 
 filled-step : (f : Field) (fs : List Field) (ps : List (List ℕ)) → filled (f ∷ fs) ps ≡ with_field f (part_for f ps) (filled fs (parts_behind f ps))
 filled-step f fs [] = sym (filled-nil fs)
-filled-step f fs (p ∷ ps) = elim (bool_cases (reads f p)) [ inl takes ↦ rw takes refl | inr skips ↦ rw skips refl ]
+filled-step f fs (p ∷ ps) = elim (cases_Bool (reads f p)) [ inl takes ↦ rw takes refl | inr skips ↦ rw skips refl ]
 
 -- none of these fields is f
 abbrev pub AreOthers : Field → List Field → Type 0
 AreOthers f [] = Unit {0}
 AreOthers f (g ∷ gs) = (nat_eq (place g) (place f) ≡ false) × AreOthers f gs
 
-part_at-nil : (f : Field) (gs : List Field) → part_at f [] gs ≡ None
-part_at-nil f gs = refl
-
 part_at-absent : (f : Field) (fs : List Field) (ps : List (List ℕ)) → AreOthers f fs → part_at f ps (filled fs ps) ≡ None
 part_at-absent f [] [] h = refl
 part_at-absent f [] (p ∷ ps) h = refl
 part_at-absent f (g ∷ fs) [] h = refl
 part_at-absent f (g ∷ fs) (p ∷ ps) h =
-    elim (bool_cases (reads g p)) [
+    elim (cases_Bool (reads g p)) [
       | inl takes ↦ rw (takes, h.0) (part_at-absent f fs ps h.1)
       | inr skips ↦ rw skips (part_at-absent f fs (p ∷ ps) h.1)
     ]
@@ -44,7 +41,7 @@ nat_eq-same n = grind arith
 part_at-first : (f : Field) (fs : List Field) (ps : List (List ℕ)) → AreOthers f fs → part_at f ps (filled (f ∷ fs) ps) ≡ part_for f ps
 part_at-first f fs [] h = refl
 part_at-first f fs (p ∷ ps) h =
-    elim (bool_cases (reads f p)) [
+    elim (cases_Bool (reads f p)) [
       | inl takes ↦ rw (takes, nat_eq-same (place f)) refl
       | inr skips ↦ rw skips (part_at-absent f fs (p ∷ ps) h)
     ]
@@ -53,7 +50,7 @@ part_at-later : (f g : Field) (fs : List Field) (ps : List (List ℕ)) → nat_e
     → part_at f ps (filled (g ∷ fs) ps) ≡ part_at f (parts_behind g ps) (filled fs (parts_behind g ps))
 part_at-later f g fs [] h = refl
 part_at-later f g fs (p ∷ ps) h =
-    elim (bool_cases (reads g p)) [
+    elim (cases_Bool (reads g p)) [
       | inl takes ↦ rw (takes, h) refl
       | inr skips ↦ rw skips refl
     ]
@@ -144,7 +141,7 @@ module _ {A : Type 0} (f : Field) (find : List ℕ → Option A) (is_read : (p :
   pub held : (d : A) (ps : List (List ℕ)) → IsValueOf find d (part_for f ps) (value_for f find d ps)
   held d [] = refl
   held d (p ∷ ps) =
-      elim (bool_cases (reads f p)) [
+      elim (cases_Bool (reads f p)) [
         | inl takes ↦ rw takes (value_cases (find p) (find p ≡ Some (unwrap_or (find p) d)) (sym (is_read p) ∙ takes) (λ x e. rw e refl))
         | inr skips ↦ rw skips refl
       ]
@@ -153,7 +150,7 @@ module _ {A : Type 0} (f : Field) (find : List ℕ → Option A) (is_read : (p :
   pub held_some : (ps : List (List ℕ)) → is_some (option_and_then find (part_for f ps)) ≡ is_some (part_for f ps)
   held_some [] = refl
   held_some (p ∷ ps) =
-      elim (bool_cases (reads f p)) [
+      elim (cases_Bool (reads f p)) [
         | inl takes ↦ rw takes (sym (is_read p) ∙ takes)
         | inr skips ↦ rw skips refl
       ]

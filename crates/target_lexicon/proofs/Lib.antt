@@ -4,11 +4,12 @@
 -- What printing is: Printed, Writes.
 -- What comes back: Rounds, TextRounds (a text read again); FamilyTests, StepCases, Fixed, Settled, SettlesAs, Stays (families and the step).
 -- For callers: OnLiterals (what computes on a literal).
--- Queries and JSON: ModelsKnown, QueriesKept; Elements. SameValues: equality of triples.
+-- Queries and JSON: ModelsKnown, QueriesKept; Elements. SameValues: equality of triples. FeedsTogether: what fields feed a hasher.
 pub mod Computed
 pub mod Cuts
 pub mod Elements
 pub mod FamilyTests
+pub mod FeedsTogether
 pub mod Fixed
 pub mod Greedy
 pub mod Held

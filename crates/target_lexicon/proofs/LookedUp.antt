@@ -1,16 +1,17 @@
 -- What the row of a part tells of the fields that read more than fixed names.
-use Rattle.std.proofs.Common.{◌≡◌, ◌∙◌, ℕ, List, ◌∷◌, true, Option, Some, None, Result, Ok, Err, refl, sym, ap}
+use Rattle.std.proofs.Common.{◌≡◌, ◌∙◌, ℕ, List, ◌∷◌, true, false, Option, Some, None, Result, Ok, Err, refl, sym, ap}
 use Rattle.std.specs.Prelude.{is_some, option_map, option_and_then, MatchOption, OnErr}
 use Rattle.std.specs.Option.{option_or}
 use Rattle.lexicon_fields.specs.declared.table.FixedRow.{FixedRow}
-use Rattle.lexicon_fields.specs.OperatingSystem.{operating_system_of}
-use Rattle.lexicon_fields.specs.Vendor.{VendorValue, Known, is_admitted, vendor_of}
-use Rattle.lexicon_fields.proofs.RowsHold.{row_reads_by_name}
-use Rattle.lexicon_fields.proofs.VendorsReadBack.{row_not_admitted}
+use Rattle.lexicon_fields.specs.FixedRow.{has_row}
+use Rattle.lexicon_fields.specs.OperatingSystem.{operating_system_of, darwin_like_by, darwin_prefixes}
+use Rattle.lexicon_fields.specs.Vendor.{VendorValue, Known, Custom, is_admitted, vendor_of}
+use Rattle.lexicon_fields.proofs.OperatingSystemsReadBack.{read_either_way}
+use Rattle.lexicon_fields.proofs.RowsHold.{nowhere, row_reads_by_name}
+use Rattle.lexicon_fields.proofs.VendorsReadBack.{row_not_admitted, vendor_names_read_back}
 use Rattle.target_lexicon.specs.Field.{Vendor}
 use Rattle.target_lexicon.specs.Private.{IsLookedUp, part_for}
 use Rattle.target_lexicon.proofs.Taken.{reads-vendor}
-use Rattle.target_lexicon.proofs.Vendors.{admitted_custom}
 
 abbrev vendor_column : Option FixedRow → Option VendorValue
 vendor_column row = option_map Known (option_and_then (λ (r : FixedRow). r.vendor) row)
@@ -31,8 +32,16 @@ row-operating_system text row r looked is =
     row_reads_by_name text (sym looked.known ∙ ap is_some is) ∙ sym looked.operating_system
     ∙ ap (λ (o : Option FixedRow). option_and_then (λ (r : FixedRow). r.operating_system) o) is
 
+-- a part without a row is a text that has none
+pub rowless : (text : List ℕ) (row : Option FixedRow) → IsLookedUp text row → row ≡ None → has_row text ≡ false
+rowless text row looked is = sym looked.known ∙ ap is_some is
+
+-- and such a text reads as a system like Darwin, or as none
+pub rowless-operating_system : (text : List ℕ) (row : Option FixedRow) → IsLookedUp text row → row ≡ None → operating_system_of text ≡ darwin_like_by darwin_prefixes text
+rowless-operating_system text row looked is = read_either_way text ∙ rw (nowhere text (rowless text row looked is)).2 (option_or-none _)
+
 -- memory is wanted for an admitted part
 pub part-wants_memory : {T E : Type 0} (r : Result T E) (parts : List (List ℕ)) (p : List ℕ) (ps : List (List ℕ)) → parts ≡ p ∷ ps → is_admitted p ≡ true
     → OnErr r (MatchOption (part_for Vendor parts) ⊥ (λ part. is_admitted part ≡ true))
 part-wants_memory (Ok _) parts p ps are admitted = tt
-part-wants_memory (Err _) parts p ps are admitted = rw (are, reads-vendor p ∙ ap is_some (admitted_custom p admitted)) admitted
+part-wants_memory (Err _) parts p ps are admitted = rw (are, reads-vendor p ∙ ap is_some (vendor_names_read_back.reads_back (Custom p) admitted)) admitted

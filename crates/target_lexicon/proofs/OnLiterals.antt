@@ -1,6 +1,5 @@
 -- What a caller's answer unfolds to compute what a literal reads as, and what it prints.
 use Rattle.std.specs.Prelude.{⊤}
-use Rattle.lexicon_fields.specs.SubArchitecture.{arm_of, aarch64_of, x86_32_of, mips32_of, mips64_of, riscv32_of, riscv64_of, clever_of, z80_of}
 use Rattle.lexicon_fields.specs.Architecture.{architecture_of}
 use Rattle.lexicon_fields.specs.Vendor.{known_vendor_of, is_admitted, vendor_of}
 use Rattle.lexicon_fields.specs.Version.{version_of}
@@ -15,5 +14,5 @@ use Rattle.target_lexicon.specs.NormalStep.{normal_step}
 use Rattle.target_lexicon.specs.Queries.{width_in, convention_on, model_of}
 
 unfoldable pub target_lexicon_on_literals : ⊤
-unfolding arm_of aarch64_of x86_32_of mips32_of mips64_of riscv32_of riscv64_of clever_of z80_of architecture_of known_vendor_of is_admitted vendor_of version_of fixed_operating_system_of operating_system_of environment_of binary_format_of implied_format special_values special_text reading shows_vendor shows_operating_system shows_environment shows_binary_format shown_parts text_of normal_step width_in convention_on model_of
+unfolding architecture_of known_vendor_of is_admitted vendor_of version_of fixed_operating_system_of operating_system_of environment_of binary_format_of implied_format special_values special_text reading shows_vendor shows_operating_system shows_environment shows_binary_format shown_parts text_of normal_step width_in convention_on model_of
 target_lexicon_on_literals = tt

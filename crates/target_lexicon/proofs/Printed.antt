@@ -1,6 +1,7 @@
 -- The pieces that are written are the text of the triple.
 use Rattle.std.proofs.Common.{◌≡◌, ◌||◌, ℕ, Bool, true, false, List, [], ◌∷◌, ◌++◌, refl, ap, ◌∙◌, append_assoc, Option, Some, None, unwrap_or}
 use Rattle.std.specs.List.{join_with_byte}
+use Rattle.std.proofs.lemmas.List.{append-nil}
 use Rattle.lexicon_fields.specs.Architecture.{architecture_name}
 use Rattle.lexicon_fields.specs.Vendor.{vendor_name}
 use Rattle.lexicon_fields.specs.OperatingSystem.{operating_system_name}
@@ -12,10 +13,6 @@ use Rattle.target_lexicon.specs.Printing.{shows_vendor, shows_operating_system, 
 use Rattle.target_lexicon.specs.Private.{part_text}
 use Rattle.target_lexicon.specs.SpecialTexts.{special_text}
 
-append_nil : (s : List ℕ) → s ++ [] ≡ s
-append_nil [] = refl
-append_nil (x ∷ s) = ap (λ l. x ∷ l) (append_nil s)
-
 -- each part behind a dash
 unfoldable pub dashed : List (List ℕ) → List ℕ
 dashed [] = []
@@ -23,7 +20,7 @@ dashed (part ∷ parts) = 45 ∷ part ++ dashed parts
 
 pub dashed_joined : (part : List ℕ) (parts : List (List ℕ)) → part ++ dashed parts ≡ join_with_byte 45 (part ∷ parts)
 unfolding dashed
-dashed_joined part [] = append_nil part
+dashed_joined part [] = append-nil part
 dashed_joined part (next ∷ parts) = ap (λ (s : List ℕ). part ++ (45 ∷ s)) (dashed_joined next parts)
 
 part_before : (b : Bool) (part : List ℕ) (parts : List (List ℕ)) → dashed (when b part parts) ≡ part_text b part ++ dashed parts
@@ -40,7 +37,7 @@ five_parts a p q r s w x y z =
       part_before x q (when y r (when z s [])),
       part_before y r (when z s []),
       part_before z s [],
-      append_nil (part_text z s),
+      append-nil (part_text z s),
     ) (simp append_assoc)
 
 abbrev special : Values → Option (List ℕ)

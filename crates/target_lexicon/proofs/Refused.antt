@@ -6,7 +6,7 @@ use Rattle.target_lexicon.specs.Field.{Field, Architecture, reads}
 use Rattle.target_lexicon.specs.Placement.{HasPlacement}
 use Rattle.target_lexicon.specs.Reading.{IsRefusal, IsLackedBehind, lack_behind, last_of}
 use Rattle.target_lexicon.specs.Refusal.{Lacks, refused}
-use Rattle.target_lexicon.proofs.Cuts.{bool_cases}
+use Rattle.std.proofs.lemmas.Bool.{cases_Bool}
 use Rattle.target_lexicon.proofs.Greedy.{filled, unread, filled-nil, behind_architecture, greedy-least, greedy-finds, placement-front}
 
 -- the parts that the fields take, and the part at which they stop
@@ -21,7 +21,7 @@ stop : (fs : List Field) (ps : List (List ℕ)) (q : List ℕ) (rest : List (Lis
 stop [] ps q rest e = record { front = []; split = e; taken = refl; same = refl; stuck = refl }
 stop (f ∷ fs) [] q rest e = cc
 stop (f ∷ fs) (p ∷ ps) q rest e =
-    elim (bool_cases (reads f p)) [
+    elim (cases_Bool (reads f p)) [
       | inl takes ↦
           let s = stop fs ps q rest (rw takes at e) in
           record {
@@ -71,9 +71,6 @@ first-refused p ps skips = record {
   placed = λ k h. absurd (omega (arith, h));
   lacked = refl;
 }
-
-pub first-unplaced : (p : List ℕ) (ps : List (List ℕ)) → reads Architecture p ≡ false → HasPlacement (p ∷ ps) → ⊥
-first-unplaced p ps skips h = let found = greedy-finds p ps h in let takes = found.0 in cc
 
 -- a part that the greedy placement leaves: the parts have no placement
 pub left-unplaced : (p : List ℕ) (ps : List (List ℕ)) (q : List ℕ) (rest : List (List ℕ)) → unread behind_architecture ps ≡ q ∷ rest → HasPlacement (p ∷ ps) → ⊥

@@ -22,6 +22,7 @@ use Rattle.lexicon_fields.proofs.NamesReadBack.{architecture_names, environment_
 use Rattle.lexicon_fields.proofs.OperatingSystemsDashFree.{operating_system_names}
 use Rattle.lexicon_fields.proofs.VendorsReadBack.{vendor_names_read_back}
 use Rattle.target_lexicon.specs.Field as field
+use Rattle.std.proofs.lemmas.Bool.{not-false, or_parts}
 use Rattle.target_lexicon.specs.Field.{Field}
 use Rattle.target_lexicon.specs.ImpliedFormat.{implied, implied_format}
 use Rattle.target_lexicon.specs.NormalStep.{normal_step, prints_as_special, hides_newlib, prints_the_esp_idf_text, shows_none_alone}
@@ -31,10 +32,6 @@ use Rattle.target_lexicon.specs.Refusal.{Refusal}
 use Rattle.target_lexicon.specs.SpecialTexts.{special_text}
 use Rattle.target_lexicon.specs.Values.{Values, values}
 use Rattle.target_lexicon.proofs.NamesAcross.{environment_of-format, operating_system_of-format, operating_system_of-environment, vendor_of-operating_system, system_as_vendor}
-
-not_false : (b : Bool) → not b ≡ false → b ≡ true
-not_false true h = refl
-not_false false h = absurd cc
 
 -- the format, behind an environment that is shown or not
 
@@ -187,7 +184,7 @@ hidden_vendor : (v : VendorValue) (s : OperatingSystem) (e : Environment) (a : A
 unfolding shows_vendor
 hidden_vendor (Known Unknown) s environment.HermitKernel a h = absurd cc
 hidden_vendor (Known Unknown) s environment.LinuxKernel a h = absurd cc
-hidden_vendor (Known Unknown) s e a h = (refl, not_false (goes_without_vendor s e a) h)
+hidden_vendor (Known Unknown) s e a h = (refl, not-false (goes_without_vendor s e a) h)
 hidden_vendor _ s e a h = absurd cc
 
 no_vendor : (s : OperatingSystem) (e : Environment) (a : Architecture) → goes_without_vendor s e a ≡ true → system_as_vendor s ≡ None
@@ -258,10 +255,6 @@ unfolding shows_operating_system
 hidden_system operating_system.Unknown (architecture.Clever sub) h = (refl, (sub, refl))
 hidden_system _ _ h = absurd cc
 
-neither : (b c : Bool) → (b || c) ≡ false → (b ≡ false) × (c ≡ false)
-neither true c h = absurd cc
-neither false c h = (refl, h)
-
 module _ (a : Architecture) (v : VendorValue) (s : OperatingSystem) (e : Environment) (f : BinaryFormat) (plain : is_plain v ≡ true) (range : HasVersionInRange s)
     (none : special_text s v a ≡ None) (apart : prints_the_esp_idf_text e f s a v ≡ false) where
   clever_by : (c : CleverArchitecture) → a ≡ architecture.Clever c → s ≡ operating_system.Unknown → both_unknown (values a v s e f) ≡ false
@@ -271,8 +264,8 @@ module _ (a : Architecture) (v : VendorValue) (s : OperatingSystem) (e : Environ
   parts_by : (b : Bool) → (both_unknown (values a v s e f) || shows_operating_system s a) ≡ b → read_parts (shown_parts (both_unknown (values a v s e f)) (values a v s e f)) ≡ Ok (normal_step (values a v s e f))
   parts_by true shown = plain-round a v s e f plain range none apart shown
   parts_by false hidden =
-      let neither_one = neither (both_unknown (values a v s e f)) (shows_operating_system s a) hidden in
-      let is = hidden_system s a neither_one.1 in clever_by is.1.0 is.1.1 is.0 neither_one.0
+      let both_hidden = or_parts (both_unknown (values a v s e f)) (shows_operating_system s a) hidden in
+      let is = hidden_system s a both_hidden.1 in clever_by is.1.0 is.1.1 is.0 both_hidden.0
 
   -- where no special text is printed, the shown parts read as the step
   pub parts-round : read_parts (shown_parts (both_unknown (values a v s e f)) (values a v s e f)) ≡ Ok (normal_step (values a v s e f))

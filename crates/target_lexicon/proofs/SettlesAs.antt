@@ -39,9 +39,16 @@ AreSameFields t u = ((((t.architecture ≡ u.architecture) × ((normal_step t).v
     × ((normal_step t).binary_format ≡ (normal_step u).binary_format)
 
 fields_of_settled : (t u : Values) → normal_step t ≡ normal_step u → AreSameFields t u
-fields_of_settled t u same =
-    ((((sym (step-architecture t) ∙ ap (λ x. x.architecture) same ∙ step-architecture u, ap (λ x. x.vendor) same),
-    ap (λ x. x.operating_system) same), ap (λ x. x.environment) same), ap (λ x. x.binary_format) same)
+fields_of_settled t u same = (
+  (
+    (
+      (sym (step-architecture t) ∙ ap (λ x. x.architecture) same ∙ step-architecture u, ap (λ x. x.vendor) same),
+      ap (λ x. x.operating_system) same,
+    ),
+    ap (λ x. x.environment) same,
+  ),
+  ap (λ x. x.binary_format) same,
+)
 
 pub settles_alike : (r : Bool) (t u : Values) → Decides r (AreSameFields t u) → Decides r (settled t ≡ settled u)
 settles_alike r t u tests = Decides-like r

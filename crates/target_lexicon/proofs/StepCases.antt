@@ -1,5 +1,6 @@
 -- What holds in the case of each family, and outside them, holds of the step.
-use Rattle.std.proofs.Common.{◌≡◌, Bool, true, false, cond, refl}
+use Rattle.std.proofs.Common.{◌≡◌, refl}
+use Rattle.std.proofs.lemmas.Bool.{cond_both}
 use Rattle.std.proofs.lemmas.Bool.Decides.{not_from_Decides}
 use Rattle.lexicon_fields.specs.declared.operating_system.OperatingSystem.TheVariants as operating_system
 use Rattle.lexicon_fields.specs.declared.environment.Environment.TheVariants as environment
@@ -18,10 +19,6 @@ pub record IsOutside (t : Values) : Type 0 where
   pub esp : ¬ PrintsTheEspIdfText t
   pub none : ¬ ShowsNoneAlone t
 
-pick : (P : Values → Type 0) (b : Bool) (x y : Values) → (b ≡ true → P x) → (b ≡ false → P y) → P (cond b x y)
-pick P true x y then other = then refl
-pick P false x y then other = other refl
-
 pub step_cases : (P : Values → Type 0) (t : Values)
     → (PrintsAsSpecial t → P (values t.architecture t.vendor t.operating_system environment.Newlib binary_format.Elf))
     → (HidesNewlib t → P (values t.architecture t.vendor t.operating_system environment.Unknown (elf_if_unknown t.binary_format)))
@@ -31,10 +28,10 @@ pub step_cases : (P : Values → Type 0) (t : Values)
     → P (normal_step t)
 unfolding normal_step
 step_cases P t special newlib esp none outside =
-    pick P _ _ _ (λ h. special ((prints_as_special-tells t).0 h))
-    (λ two. pick P _ _ _ (λ h. newlib ((hides_newlib-tells t).0 h))
-    (λ three. pick P _ _ _ (λ h. esp ((prints_the_esp_idf_text-tells t).0 h))
-    (λ four. pick P _ _ _ (λ h. none ((shows_none_alone-tells t).0 h))
+    cond_both _ _ _ P (λ h. special ((prints_as_special-tells t).0 h))
+    (λ two. cond_both _ _ _ P (λ h. newlib ((hides_newlib-tells t).0 h))
+    (λ three. cond_both _ _ _ P (λ h. esp ((prints_the_esp_idf_text-tells t).0 h))
+    (λ four. cond_both _ _ _ P (λ h. none ((shows_none_alone-tells t).0 h))
     (λ five. outside (record {
       special = not_from_Decides _ (prints_as_special-tells t) two;
       newlib = not_from_Decides _ (hides_newlib-tells t) three;

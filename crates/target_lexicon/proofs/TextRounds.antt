@@ -1,8 +1,7 @@
 -- The text of a triple with a plain vendor reads as its normal step.
-use Rattle.std.proofs.Common.{◌≡◌, ◌≢◌, ◌∙◌, ℕ, Bool, true, false, not, ◌||◌, cond, List, [], ◌∷◌, ◌++◌, nat_eq, Option, Some, None, Ok, Err, codes, refl, sym, ap, subst}
+use Rattle.std.proofs.Common.{◌≡◌, ◌≢◌, ◌∙◌, ℕ, Bool, true, false, ◌||◌, cond, List, [], ◌∷◌, Option, Some, None, Ok, Err, codes, refl, sym, ap, subst}
 use Rattle.std.specs.List.{list_all, join_with_byte}
 use Rattle.std.specs.Str.{bytes_eq}
-use Rattle.std.proofs.lemmas.Bool.{and_parts}
 use Rattle.std.proofs.lemmas.Slice.Eq.{bytes_eq-Decides}
 use Rattle.lexicon_fields.specs.declared.architecture.Architecture.{Architecture}
 use Rattle.lexicon_fields.specs.declared.architecture.Architecture.TheVariants as architecture
@@ -16,7 +15,6 @@ use Rattle.lexicon_fields.specs.declared.binary_format.BinaryFormat.{BinaryForma
 use Rattle.lexicon_fields.specs.declared.binary_format.BinaryFormat.TheVariants as binary_format
 use Rattle.lexicon_fields.specs.ArchitectureQueries.{is_clever}
 use Rattle.lexicon_fields.specs.Names.{is_dash_free}
-use Rattle.lexicon_fields.specs.SubArchitecture.{arm_of, aarch64_of, x86_32_of, mips32_of, mips64_of, riscv32_of, riscv64_of, clever_of, z80_of}
 use Rattle.lexicon_fields.specs.Architecture.{architecture_name, architecture_of}
 use Rattle.lexicon_fields.specs.declared.known_vendor.KnownVendor.TheVariants.{Nintendo, Espressif}
 use Rattle.lexicon_fields.specs.Vendor.{VendorValue, Known, Custom, vendor_of, known_vendor_of, is_admitted, is_plain}
@@ -39,29 +37,15 @@ use Rattle.target_lexicon.specs.Field as field
 use Rattle.target_lexicon.specs.SpecialTexts.{special_text, special_values, nintendo_3ds, nintendo_3ds_text, esp_idf, esp_idf_text}
 use Rattle.target_lexicon.specs.Values.{Values, values}
 use Rattle.target_lexicon.proofs.Computed.{reading-computed}
+use Rattle.target_lexicon.proofs.Cuts.{parts_of-joined}
 use Rattle.target_lexicon.proofs.FamilyTests.{prints_the_esp_idf_text-tells}
 use Rattle.target_lexicon.proofs.Rounds.{parts-round}
 use Rattle.target_lexicon.proofs.StepCases.{step_cases, step-architecture}
 
 -- parts without dashes are the parts of the text that joins them
 
-by_dash : (dash rest : Bool) → not (dash || rest) ≡ true → (dash ≡ false) × (not rest ≡ true)
-by_dash false rest free = (refl, free)
-by_dash true rest free = absurd cc
-
-parts_of-last : (p : List ℕ) → is_dash_free p ≡ true → parts_of p ≡ p ∷ []
-parts_of-last [] free = refl
-parts_of-last (c ∷ cs) free = let both = by_dash (nat_eq c 45) _ free in rw (both.0, parts_of-last cs both.1) refl
-
-parts_of-first : (p rest : List ℕ) → is_dash_free p ≡ true → parts_of (p ++ (45 ∷ rest)) ≡ p ∷ parts_of rest
-parts_of-first [] rest free = refl
-parts_of-first (c ∷ cs) rest free = let both = by_dash (nat_eq c 45) _ free in rw (both.0, parts_of-first cs rest both.1) refl
-
 parts_of-join : (p : List ℕ) (ps : List (List ℕ)) → is_dash_free p ≡ true → list_all is_dash_free ps ≡ true → parts_of (join_with_byte 45 (p ∷ ps)) ≡ p ∷ ps
-parts_of-join p [] free others = parts_of-last p free
-parts_of-join p (q ∷ ps) free others =
-    let both = and_parts (is_dash_free q) (list_all is_dash_free ps) others in
-    parts_of-first p (join_with_byte 45 (q ∷ ps)) free ∙ ap (λ k. p ∷ k) (parts_of-join q ps both.0 both.1)
+parts_of-join p ps free others = parts_of-joined p ps (rw (free, others) refl)
 
 when-free : (b : Bool) (p : List ℕ) (ps : List (List ℕ)) → is_dash_free p ≡ true → list_all is_dash_free ps ≡ true → list_all is_dash_free (when b p ps) ≡ true
 when-free true p ps free others = rw (free, others) refl
@@ -106,11 +90,11 @@ custom_esp-round = refl
 -- the special texts, read by their parts
 
 nintendo-parts : read_parts (parts_of nintendo_3ds_text) ≡ Err (refused (Lacks field.OperatingSystem) (codes "3ds"))
-unfolding architecture_of arm_of vendor_of known_vendor_of operating_system_of fixed_operating_system_of environment_of binary_format_of
+unfolding architecture_of vendor_of known_vendor_of operating_system_of fixed_operating_system_of environment_of binary_format_of
 nintendo-parts = refl
 
 esp_idf-parts : read_parts (parts_of esp_idf_text) ≡ Ok custom_esp
-unfolding architecture_of arm_of aarch64_of x86_32_of mips32_of mips64_of riscv32_of riscv64_of clever_of z80_of vendor_of known_vendor_of is_admitted operating_system_of fixed_operating_system_of environment_of binary_format_of implied_format
+unfolding architecture_of vendor_of known_vendor_of is_admitted operating_system_of fixed_operating_system_of environment_of binary_format_of implied_format
 esp_idf-parts = refl
 
 -- a text that isn't special is read by its parts

@@ -1,35 +1,15 @@
 -- What reads as a vendor.
-use Rattle.std.proofs.Common.{◌≡◌, ℕ, List, Bool, true, refl, sym, ◌∙◌, subst, Option, Some, None, inl, inr}
-use Rattle.std.specs.Prelude.{is_none, ◌&&◌, option_map}
+use Rattle.std.proofs.Common.{◌≡◌, ℕ, List, true, refl, sym, ◌∙◌, subst, Option, Some, None}
+use Rattle.std.specs.Prelude.{option_map}
 use Rattle.std.specs.Option.{option_or}
 use Rattle.lexicon_fields.specs.declared.known_vendor.KnownVendor.{KnownVendor}
 use Rattle.lexicon_fields.specs.Vendor.{VendorValue, Known, Custom, known_vendor_of, is_admitted, custom_of, vendor_of, vendor_value, owns_text, is_plain, IsCustom, OwnsCustomText}
 use Rattle.lexicon_fields.specs.declared.vendor.Vendor.{Vendor}
-use Rattle.target_lexicon.proofs.Cuts.{bool_cases}
+use Rattle.std.proofs.lemmas.Option.{cond_some}
 
--- no admitted text is a known vendor's name
-admitted-unknown : (text : List ℕ) → is_admitted text ≡ true → known_vendor_of text ≡ None
-unfolding is_admitted
-admitted-unknown text h = by_known (known_vendor_of text) _ _ _ _ _ h
-  where
-    by_known : (o : Option KnownVendor) (a s e f form : Bool) → (is_none o && a && s && e && f) && form ≡ true → o ≡ None
-    by_known None a s e f form h = refl
-    by_known (Some known) a s e f form h = cc
-
--- an admitted text reads as a custom vendor
-pub admitted_custom : (text : List ℕ) → is_admitted text ≡ true → vendor_of text ≡ Some (Custom text)
-unfolding vendor_of
-admitted_custom text h = rw (admitted-unknown text h, h) refl
-
+-- a custom vendor is read from an admitted text
 custom-plain : (text : List ℕ) (v : VendorValue) → custom_of text ≡ Some v → is_plain v ≡ true
-custom-plain text v h =
-    elim (bool_cases (is_admitted text)) [
-      | inl admitted ↦
-          let found = rw admitted at h in
-          let same : Custom text ≡ v = cc in
-          subst (λ x. is_plain x ≡ true) same admitted
-      | inr other ↦ let found = rw other at h in cc
-    ]
+custom-plain text v h = let admitted = cond_some (is_admitted text) (Custom text) v h in subst (λ x. is_plain x ≡ true) admitted.1 admitted.0
 
 -- what reads as a vendor is plain
 pub vendor-plain : (text : List ℕ) (v : VendorValue) → vendor_of text ≡ Some v → is_plain v ≡ true
@@ -42,20 +22,13 @@ vendor-plain text v h = by_known (known_vendor_of text) h
         let same : Known known ≡ v = cc in
         subst (λ x. is_plain x ≡ true) same refl
 
-admitted-if-custom : (text : List ℕ) (v : VendorValue) → custom_of text ≡ Some v → is_admitted text ≡ true
-admitted-if-custom text v h =
-    elim (bool_cases (is_admitted text)) [
-      | inl admitted ↦ admitted
-      | inr other ↦ let found = rw other at h in cc
-    ]
-
 -- a text that reads as a custom vendor is admitted
 custom-admitted : (text : List ℕ) (v : VendorValue) → vendor_of text ≡ Some v → IsCustom v → is_admitted text ≡ true
 unfolding vendor_of
 custom-admitted text v h = by_known (known_vendor_of text) h
   where
     by_known : (o : Option KnownVendor) → option_or (option_map Known o) (custom_of text) ≡ Some v → IsCustom v → is_admitted text ≡ true
-    by_known None h custom = admitted-if-custom text v h
+    by_known None h custom = (cond_some (is_admitted text) (Custom text) v h).0
     by_known (Some known) h custom =
         let same : Known known ≡ v = cc in
         absurd (subst IsCustom (sym same) custom)

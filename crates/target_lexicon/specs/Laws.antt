@@ -1,11 +1,6 @@
 -- Laws of reading and printing.
 use Rattle.std.specs.Prelude.{◌≡◌, ◌↔◌, ℕ, suc, List, true, Ok, Err, take, ◌⊎◌}
-use Rattle.lexicon_fields.specs.Laws.{NamesReadBack, NamesOfReadBack, HasVersionInRange}
-use Rattle.lexicon_fields.specs.Architecture.{architecture_name, architecture_of}
-use Rattle.lexicon_fields.specs.Vendor.{VendorValue, vendor_name, vendor_of, is_plain}
-use Rattle.lexicon_fields.specs.OperatingSystem.{operating_system_name, operating_system_of}
-use Rattle.lexicon_fields.specs.Environment.{environment_name, environment_of}
-use Rattle.lexicon_fields.specs.BinaryFormat.{binary_format_name, binary_format_of}
+use Rattle.lexicon_fields.specs.Vendor.{is_plain}
 use Rattle.target_lexicon.specs.Field.{Field}
 use Rattle.target_lexicon.specs.Placement.{IsLeast, HasPlacement}
 use Rattle.target_lexicon.specs.Printing.{text_of}
@@ -47,14 +42,6 @@ ReadingIsComputed = (text : List ℕ) → IsComputed text
 -- every text that is read has a plain vendor
 abbrev pub ReadVendorsArePlain : Type 0
 ReadVendorsArePlain = (text : List ℕ) (t : Values) → ReadsAs text t → is_plain t.vendor ≡ true
-
--- every value of the five fields reads back from its name, but custom vendors that aren't plain
-pub record FieldNamesReadBack : Type 0 where
-  pub architecture : NamesReadBack architecture_name architecture_of
-  pub vendor : NamesOfReadBack (λ (v : VendorValue). is_plain v ≡ true) vendor_name vendor_of
-  pub operating_system : NamesOfReadBack HasVersionInRange operating_system_name operating_system_of
-  pub environment : NamesReadBack environment_name environment_of
-  pub binary_format : NamesReadBack binary_format_name binary_format_of
 
 -- printed and read, the triple is itself
 abbrev pub ComesBack : Values → Type 0

@@ -68,10 +68,6 @@ convention_on operating_system.Nebulet a = wasm_convention a
 convention_on operating_system.Emscripten a = wasm_convention a
 convention_on operating_system.Wasi a = wasm_convention a
 convention_on operating_system.Unknown a = wasm_convention a
-convention_on operating_system.WasiP1 a = None
-convention_on operating_system.WasiP2 a = None
-convention_on operating_system.Illumos a = None
-convention_on operating_system.Cygwin a = None
 convention_on _ a = None
 
 -- the model of 64-bit pointers off Windows, by the convention and the architecture

@@ -1,10 +1,9 @@
 -- Laws of the four queries, and of sizes.
-use Rattle.std.specs.Prelude.{◌≡◌, ◌≢◌, ◌≤◌, ◌*◌, Some, option_map}
+use Rattle.std.specs.Prelude.{◌≡◌, ◌≢◌, ◌≤◌, Some, option_map}
 use Rattle.lexicon_fields.specs.Width.{width_bits}
-use Rattle.target_lexicon.specs.declared.data_model.Size.{Size}
 use Rattle.target_lexicon.specs.declared.data_model.CDataModel.{CDataModel}
 use Rattle.target_lexicon.specs.declared.data_model.CDataModel.TheVariants.{LP32, ILP64}
-use Rattle.target_lexicon.specs.DataModel.{size_bits, size_bytes, sizes_of}
+use Rattle.target_lexicon.specs.DataModel.{size_bits, sizes_of}
 use Rattle.target_lexicon.specs.NormalStep.{normal_step}
 use Rattle.target_lexicon.specs.Queries.{endianness, pointer_width, calling_convention, data_model}
 use Rattle.target_lexicon.specs.Values.{Values}
@@ -27,10 +26,6 @@ pub record IntegersGrow (model : CDataModel) : Type 0 where
 -- so it is in every model
 abbrev pub IntegersGrowInEach : Type 0
 IntegersGrowInEach = (model : CDataModel) → IntegersGrow model
-
--- a byte has 8 bits
-abbrev pub BytesHaveEightBits : Type 0
-BytesHaveEightBits = (size : Size) → size_bits size ≡ 8 * size_bytes size
 
 -- both have the same architecture, and each query has the same answer, or none
 pub record AnswersAlike (t u : Values) : Type 0 where

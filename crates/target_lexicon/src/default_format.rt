@@ -33,7 +33,13 @@ pub(crate) fn implied_format(
             _ => BinaryFormat::Unknown,
         },
         OperatingSystem::Aix => BinaryFormat::Xcoff,
-        system if system.is_like_darwin() => BinaryFormat::Macho,
+        OperatingSystem::Darwin(_)
+        | OperatingSystem::IOS(_)
+        | OperatingSystem::MacOSX(_)
+        | OperatingSystem::TvOS(_)
+        | OperatingSystem::VisionOS(_)
+        | OperatingSystem::WatchOS(_)
+        | OperatingSystem::XROS(_) => BinaryFormat::Macho,
         OperatingSystem::Windows => BinaryFormat::Coff,
         OperatingSystem::Nebulet
         | OperatingSystem::Emscripten
@@ -44,6 +50,30 @@ pub(crate) fn implied_format(
             Architecture::Unknown => BinaryFormat::Unknown,
             _ => BinaryFormat::Elf,
         },
-        _ => BinaryFormat::Elf,
+        OperatingSystem::AmdHsa
+        | OperatingSystem::Bitrig
+        | OperatingSystem::Cloudabi
+        | OperatingSystem::Cuda
+        | OperatingSystem::Cygwin
+        | OperatingSystem::Dragonfly
+        | OperatingSystem::Espidf
+        | OperatingSystem::Freebsd
+        | OperatingSystem::Fuchsia
+        | OperatingSystem::Haiku
+        | OperatingSystem::Hermit
+        | OperatingSystem::Horizon
+        | OperatingSystem::Hurd
+        | OperatingSystem::Illumos
+        | OperatingSystem::L4re
+        | OperatingSystem::Linux
+        | OperatingSystem::Netbsd
+        | OperatingSystem::Openbsd
+        | OperatingSystem::Psp
+        | OperatingSystem::Redox
+        | OperatingSystem::Solaris
+        | OperatingSystem::SolidAsp3
+        | OperatingSystem::Uefi
+        | OperatingSystem::WasiP1
+        | OperatingSystem::WasiP2 => BinaryFormat::Elf,
     }
 }

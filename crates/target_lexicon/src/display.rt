@@ -104,7 +104,7 @@ impl Triple {
 
     /// Whether the operating system is shown; always beside an environment and a format that are both shown as unknown.
     #[tactic(auto, unfolding(crate::specs::Printing::shows_operating_system))]
-    fn shows_operating_system(&self, both: bool) -> bool
+    pub(crate) fn shows_operating_system(&self, both: bool) -> bool
         ensures { result ≡ (both || shows_operating_system self.now.operating_system self.now.architecture) }
     {
         both || !matches!(
@@ -115,7 +115,7 @@ impl Triple {
 
     /// Whether the environment is shown; always where it and the format are both shown as unknown.
     #[tactic(auto, unfolding(crate::specs::Printing::shows_environment))]
-    fn shows_environment(&self, both: bool) -> bool
+    pub(crate) fn shows_environment(&self, both: bool) -> bool
         ensures { result ≡ (both || shows_environment self.now.environment self.now.operating_system (vendor_value self.now.vendor)) }
     {
         match (self.environment, self.operating_system, &self.vendor) {

@@ -1,11 +1,12 @@
 //! Laws over the definitions alone: each function's contract is one, and it does nothing.
 ghost use Rattle.std.specs.Prelude.{◌≡◌, ◌↔◌, true};
 ghost use Rattle.target_lexicon.specs.ComputedAnswers.{AnswersAreComputed};
-ghost use Rattle.target_lexicon.specs.Laws.{OneLeastPlacement, OneOutcomeEach, ReadingIsComputed, ReadVendorsArePlain, FieldNamesReadBack, EqualTextsEqualTriples};
-ghost use Rattle.lexicon_fields.specs.Laws.{ComparesByValue};
+ghost use Rattle.target_lexicon.specs.Laws.{OneLeastPlacement, OneOutcomeEach, ReadingIsComputed, ReadVendorsArePlain, EqualTextsEqualTriples};
+ghost use Rattle.lexicon_fields.specs.Hashing.{FeedsOfTell, FeedsTell};
+ghost use Rattle.lexicon_fields.specs.Laws.{ComparesByValue, CopiesAreTheirSources, HasVersionInRange};
 ghost use Rattle.target_lexicon.specs.FixedPoints.{ReadTriplesArePlain, FixedExactlyOutsideFamilies, RoundIsNormalStep, SecondStepChangesNone, SettledTextsAreKeys, RoundsAreKnown};
 ghost use Rattle.target_lexicon.specs.Json.{ListsReadBack, json_fault_of, list_fault_of};
-ghost use Rattle.target_lexicon.specs.QueryLaws.{ModelWidth, NoRareModel, IntegersGrowInEach, BytesHaveEightBits, QueriesKept};
+ghost use Rattle.target_lexicon.specs.QueryLaws.{ModelWidth, NoRareModel, IntegersGrowInEach, QueriesKept};
 ghost use Rattle.target_lexicon.specs.Refusal.{refusal_of};
 ghost use Rattle.target_lexicon.specs.Upstream.{OtherTextsThanUpstream};
 ghost use Rattle.target_lexicon.specs.Values.{values_of};
@@ -23,6 +24,8 @@ use crate::json_error::JsonError;
 use crate::list_error::ListError;
 use crate::parse_error::ParseError;
 use crate::triple::Triple;
+pub use lexicon_fields::laws::names_read_back;
+use std::hash::Hash;
 
 /// Parts that have a placement have exactly one least, and so has each front of them.
 pub fn one_least_placement()
@@ -56,14 +59,6 @@ pub fn read_triples_are_plain()
     ensures { ReadTriplesArePlain }
 {}
 
-/// Every value but a custom vendor reads back from its name as itself, and its name holds no dash.
-/// A custom vendor does so where its text is admitted.
-pub fn names_read_back()
-    ensures { FieldNamesReadBack }
-{
-    lexicon_fields::laws::names_read_back();
-}
-
 /// Two triples that come back when they are printed and read are equal exactly where their texts are.
 pub fn equal_texts_equal_triples()
     ensures { EqualTextsEqualTriples }
@@ -95,11 +90,6 @@ pub fn no_rare_model()
 /// In each data model `short`, `int`, `long` and `long long` don't decrease.
 pub fn integers_grow_in_each()
     ensures { IntegersGrowInEach }
-{}
-
-/// A size has eight times as many bits as bytes.
-pub fn bytes_have_eight_bits()
-    ensures { BytesHaveEightBits }
 {}
 
 /// The normal step keeps the architecture of a triple, and what the four queries answer or refuse.
@@ -180,3 +170,27 @@ pub fn json_errors_are_equal_by_value()
 pub fn list_errors_are_equal_by_value()
     ensures { (x y : ListError) → (⟦<ListError as PartialEq>⟧.eq x y ≡ true) ↔ (list_fault_of x ≡ list_fault_of y) }
 {}
+
+/// A copy of a size, a data model or a calling convention is that value, and copying needs no memory.
+pub fn copies_are_their_sources()
+    ensures size { CopiesAreTheirSources ⟦<Size as Clone>⟧.is_clone ⟦<Size as Clone>⟧.is_infallible }
+    ensures data_model { CopiesAreTheirSources ⟦<CDataModel as Clone>⟧.is_clone ⟦<CDataModel as Clone>⟧.is_infallible }
+    ensures calling_convention { CopiesAreTheirSources ⟦<CallingConvention as Clone>⟧.is_clone ⟦<CallingConvention as Clone>⟧.is_infallible }
+{}
+
+/// Sizes, data models and calling conventions feed a hasher the same exactly where their variants are the same.
+pub fn answers_feed_by_variant()
+    ensures size { FeedsTell ⟦<Size as Hash>⟧.hash_input }
+    ensures data_model { FeedsTell ⟦<CDataModel as Hash>⟧.hash_input }
+    ensures calling_convention { FeedsTell ⟦<CallingConvention as Hash>⟧.hash_input }
+{}
+
+/// Two triples, with a default or without, feed a hasher the same exactly where their five values are the same; versions are those
+/// whose numbers fit their fields. What is fed behind a triple is told apart from what it feeds.
+pub fn triples_feed_by_value()
+    ensures triple { FeedsOfTell (λ t. HasVersionInRange t.operating_system) values_of ⟦<Triple as Hash>⟧.hash_input }
+    ensures host { FeedsOfTell (λ t. HasVersionInRange t.0.operating_system) (λ t. values_of t.0) ⟦<DefaultToHost as Hash>⟧.hash_input }
+    ensures unknown { FeedsOfTell (λ t. HasVersionInRange t.0.operating_system) (λ t. values_of t.0) ⟦<DefaultToUnknown as Hash>⟧.hash_input }
+{
+    lexicon_fields::laws::values_feed_by_variant_and_fields();
+}

@@ -81,7 +81,7 @@ impl<'a> Part<'a> {
                 Some(known) => Ok(Some(known.to_vendor())),
                 None => Ok(None),
             },
-            None => match Vendor::from_str(alloc, self.text) {
+            None => match Vendor::of_rowless(alloc, self.text) {
                 Ok(vendor) => Ok(Some(vendor)),
                 Err(VendorError::Unrecognized) => Ok(None),
                 Err(VendorError::OutOfMemory) => Err(AllocError),
@@ -95,7 +95,7 @@ impl<'a> Part<'a> {
     {
         match self.row {
             Some(row) => row.operating_system,
-            None => OperatingSystem::from_str(self.text).ok(),
+            None => OperatingSystem::like_darwin(self.text),
         }
     }
 

@@ -72,7 +72,19 @@ impl Triple {
                 Architecture::Wasm32 => Ok(CallingConvention::WasmBasicCAbi),
                 _ => Err(()),
             },
-            _ => Err(()),
+            OperatingSystem::AmdHsa
+            | OperatingSystem::Cuda
+            | OperatingSystem::Cygwin
+            | OperatingSystem::Espidf
+            | OperatingSystem::Horizon
+            | OperatingSystem::Illumos
+            | OperatingSystem::None_
+            | OperatingSystem::Psp
+            | OperatingSystem::SolidAsp3
+            | OperatingSystem::Uefi
+            | OperatingSystem::VxWorks
+            | OperatingSystem::WasiP1
+            | OperatingSystem::WasiP2 => Err(()),
         }
     }
 

@@ -1,51 +1,197 @@
 -- The answers of an input's lines, one after another.
-use Rattle.std.proofs.Common.{◌≢◌, inl, inr, ◌≡◌, ℕ, List, [], ◌∷◌, ◌++◌, Result, Ok, Err, OnOk, codes, refl, ap, ◌∙◌, append_assoc, length, arith}
+use Rattle.std.proofs.Common.{◌≡◌, ◌≢◌, ℕ, Bool, true, false, ◌||◌, not, List, [], ◌∷◌, ◌++◌, codes, if◌then◌else◌, Result, Ok, Err, OnOk, refl, sym, ap, ◌∙◌, append_assoc, length, arith}
 use Rattle.std.proofs.lemmas.List.{append-nil}
-use Rattle.target_lexicon.specs.Refusal.{error_line}
+use Rattle.std.proofs.Math.Bool.{or-false, or_comm, or_assoc}
+use Rattle.std.proofs.lemmas.List.Folds.{list_any-append}
+use Rattle.std.specs.BTreeMap.{is_at}
+use Rattle.std.specs.BTreeSet.{BTreeSet, insert_key}
+use Rattle.std.specs.List.{list_any}
+use Rattle.std.specs.Ordering.{nat_cmp, is_eq, ordering_then, match_ordering}
+use Rattle.std.specs.Cmp.Lexicographic.{slice_cmp, same_text}
+use Rattle.std.specs.Str.{bytes_eq}
+use Rattle.std.specs.String.{string_bytes, string_cmp}
+use Rattle.std.proofs.lemmas.Cmp.{nat_cmp_total, tied_itself}
+use Rattle.std.proofs.lemmas.Map.Text.{is_eq-slice_cmp}
+use Rattle.std.specs.declared.cmp.Ordering.{Ordering}
+use Rattle.std.specs.declared.cmp.Ordering.TheVariants.{Less, Equal, Greater}
 use Rattle.target_lexicon.specs.Reading.{ReadsAs, IsFaultOf}
+use Rattle.target_lexicon.specs.Refusal.{error_line}
 use Rattle.target_lexicon.specs.Values.{Values}
 use Rattle.target_lexicon.specs.declared.parse_error.ParseError.{ParseError}
 use Rattle.target_lexicon.specs.declared.parse_error.ParseError.TheVariants.{UnrecognizedArchitecture, UnrecognizedVendor, UnrecognizedOperatingSystem, UnrecognizedEnvironment, UnrecognizedBinaryFormat, UnrecognizedField, OutOfMemory}
+use Rattle.triples.specs.declared.matrix.Marked.{Marked}
+use Rattle.triples.specs.declared.mode.Mode.{Mode}
+use Rattle.triples.specs.declared.mode.Mode.TheVariants.{Print, Show, Settle, Json, Matrix}
 use Rattle.triples.specs.Lines.{lines_of}
-use Rattle.triples.specs.Output.{IsRefusalTold, AreAnswered}
-use Rattle.triples.specs.Private.{AddsAnswer}
+use Rattle.triples.specs.Output.{Answer, Shown, Refused, IsAnswer, AreAnswers, AreAnswered, shows, shown_in, stays_behind, staying_behind, matrix_of, kept_in, answer_bytes, written}
+use Rattle.triples.specs.Private.{mark_of, text_cmp, has_text, HasOneMore, is_left_out, is_repeated, AddsAnswer}
+
+-- of a key that is put among others, of which none is equal to it
+module _ {K : Type 0} (cmp : K → K → Ordering) (test : K → Bool) (k : K) where
+  abbrev Inserts : List K → List K → Type 0
+  Inserts old new = list_any test new ≡ (list_any test old || test k)
+
+  inserts-at : (order : Ordering) (x : K) (xs : List K) → (is_eq order || list_any (is_at (cmp k)) xs) ≡ false
+      → (list_any (is_at (cmp k)) xs ≡ false → Inserts xs (insert_key cmp xs k))
+      → Inserts (x ∷ xs) (match_ordering order (k ∷ x ∷ xs) (x ∷ xs) (x ∷ insert_key cmp xs k))
+  inserts-at Less x xs absent more = or_comm (test k) (list_any test (x ∷ xs))
+  inserts-at Equal x xs absent more = absurd cc
+  inserts-at Greater x xs absent more = ap (λ (b : Bool). test x || b) (more absent) ∙ sym (or_assoc (test x) (list_any test xs) (test k))
+
+  inserts : (xs : List K) → list_any (is_at (cmp k)) xs ≡ false → Inserts xs (insert_key cmp xs k)
+  inserts [] absent = or-false (test k)
+  inserts (x ∷ xs) absent = inserts-at (cmp k x) x xs absent (inserts xs)
+
+-- the lines so far are those before the rest, what was written are their answers, and what `matrix` shows of them was seen
+pub record IsSoFar (mode : Mode) (lines rest : List (List ℕ)) (output : List ℕ) (seen : BTreeSet Marked) : Type 0 where
+  pub before : List Answer
+  pub whole : (more : List Answer) → AreAnswers (shown_in mode) rest more → AreAnswers (shown_in mode) lines (before ++ more)
+  pub kept : output ≡ written (kept_in mode before)
+  pub agree : mode ≡ Matrix → (text : List ℕ) → has_text seen text ≡ list_any (shows text) before
+
+pub so-far-none : (mode : Mode) (lines : List (List ℕ)) (output : List ℕ) (seen : BTreeSet Marked) → output ≡ [] → ((text : List ℕ) → has_text seen text ≡ false)
+    → IsSoFar mode lines lines output seen
+so-far-none mode lines output seen empty none = record {
+  before = [];
+  whole = λ more are. are;
+  kept = empty ∙ ap written (kept-none mode);
+  agree = λ matrix text. none text;
+}
+  where
+    kept-none : (mode : Mode) → [] ≡ kept_in mode []
+    kept-none Matrix = refl
+    kept-none _ = refl
+
+-- a line that is written if it stays behind others
+abbrev pub if_stays : Bool → Answer → List Answer
+if_stays stays line = if stays then line ∷ [] else []
+
+pub staying-push : (before lines : List Answer) (line : Answer)
+    → staying_behind before (lines ++ line ∷ []) ≡ staying_behind before lines ++ if_stays (stays_behind (before ++ lines) line) line
+staying-push before [] line = append-nil (if_stays (stays_behind before line) line) ∙ ap (λ (t : List Answer). if_stays (stays_behind t line) line) (sym (append-nil before))
+staying-push before (first ∷ lines) line =
+    ap (λ (t : List Answer). if_stays (stays_behind before first) first ++ t)
+    (staying-push (before ++ first ∷ []) lines line ∙ ap (λ (t : List Answer). staying_behind (before ++ first ∷ []) lines ++ if_stays (stays_behind t line) line) (append_assoc before (first ∷ []) lines))
+    ∙ sym (append_assoc (if_stays (stays_behind before first) first) _ _)
+
+written-append : (xs ys : List Answer) → written (xs ++ ys) ≡ written xs ++ written ys
+written-append [] ys = refl
+written-append (x ∷ xs) ys = ap (λ (t : List ℕ). answer_bytes x ++ (10 ∷ t)) (written-append xs ys) ∙ sym (append_assoc (answer_bytes x) (10 ∷ written xs) (written ys))
+
+repeated-stays : (before : List Answer) (seen : BTreeSet Marked) (answer : Answer)
+    → ((text : List ℕ) → has_text seen text ≡ list_any (shows text) before)
+    → (if is_repeated Matrix seen answer then [] else answer ∷ []) ≡ if_stays (stays_behind before answer) answer
+repeated-stays before seen (Shown text) agree = rw (agree text) (unless-repeated (list_any (shows text) before) (Shown text))
+  where
+    unless-repeated : (b : Bool) (answer : Answer) → (if b then [] else answer ∷ []) ≡ if_stays (not b) answer
+    unless-repeated true answer = refl
+    unless-repeated false answer = refl
+repeated-stays before seen (Refused told) agree = refl
+
+all-kept : (mode : Mode) (seen : BTreeSet Marked) (answer : Answer) → ((text : List ℕ) → is_left_out mode seen text ≡ false) → (if is_repeated mode seen answer then [] else answer ∷ []) ≡ answer ∷ []
+all-kept mode seen (Shown text) none = rw (none text) refl
+all-kept mode seen (Refused told) none = refl
+
+-- one answer more that the mode keeps, if it does
+kept-more : (mode : Mode) (before : List Answer) (seen : BTreeSet Marked) (answer : Answer)
+    → (mode ≡ Matrix → (text : List ℕ) → has_text seen text ≡ list_any (shows text) before)
+    → kept_in mode before ++ (if is_repeated mode seen answer then [] else answer ∷ []) ≡ kept_in mode (before ++ answer ∷ [])
+kept-more Matrix before seen answer agree =
+    ap (λ (t : List Answer). matrix_of before ++ t) (repeated-stays before seen answer (agree refl)) ∙ sym (staying-push [] before answer)
+kept-more Print before seen answer agree = ap (λ (t : List Answer). before ++ t) (all-kept Print seen answer (λ text. refl))
+kept-more Show before seen answer agree = ap (λ (t : List Answer). before ++ t) (all-kept Show seen answer (λ text. refl))
+kept-more Settle before seen answer agree = ap (λ (t : List Answer). before ++ t) (all-kept Settle seen answer (λ text. refl))
+kept-more Json before seen answer agree = ap (λ (t : List Answer). before ++ t) (all-kept Json seen answer (λ text. refl))
+
+pub so-far-more : (mode : Mode) (lines rest behind : List (List ℕ)) (line old new : List ℕ) (seen_old seen_new : BTreeSet Marked)
+    → rest ≡ line ∷ behind → AddsAnswer mode line old new seen_old seen_new → IsSoFar mode lines rest old seen_old → IsSoFar mode lines behind new seen_new
+so-far-more mode lines rest behind line old new seen_old seen_new cut adds far = record {
+  before = far.before ++ adds.answer ∷ [];
+  whole = λ more are. rw append_assoc (far.whole (adds.answer ∷ more) (rw cut (adds.is, are)));
+  kept =
+      adds.grown
+      ∙ ap (λ (t : List ℕ). t ++ written (if is_repeated mode seen_old adds.answer then [] else adds.answer ∷ [])) far.kept
+      ∙ sym (written-append (kept_in mode far.before) (if is_repeated mode seen_old adds.answer then [] else adds.answer ∷ []))
+      ∙ ap written (kept-more mode far.before seen_old adds.answer far.agree);
+  agree = λ matrix text.
+      adds.seen matrix text
+      ∙ ap (λ (b : Bool). b || shows text adds.answer) (far.agree matrix text)
+      ∙ ap (λ (b : Bool). list_any (shows text) far.before || b) (sym (or-false (shows text adds.answer)))
+      ∙ sym (list_any-append (shows text) far.before (adds.answer ∷ []));
+}
+
+-- an empty text has no line
+pub no_lines : (rest : List ℕ) → length rest ≡ 0 → lines_of rest ≡ []
+no_lines [] none = refl
+no_lines (b ∷ bs) none = absurd (omega arith)
+
+pub so-far-whole : (mode : Mode) (lines rest : List (List ℕ)) (output : List ℕ) (seen : BTreeSet Marked) → rest ≡ [] → IsSoFar mode lines rest output seen → AreAnswered mode lines output
+so-far-whole mode lines rest output seen none far = (far.before, rw append-nil at (far.whole [] (rw none tt)), far.kept)
 
 -- what an error that isn't want of memory says is the line of the refusal
-pub refusal_is_told : (line : List ℕ) (error : ParseError) → error ≢ OutOfMemory → IsFaultOf line error → IsRefusalTold line (codes "error: " ++ error_line error)
-refusal_is_told line (UnrecognizedArchitecture part) other fault = (_, fault, refl)
-refusal_is_told line (UnrecognizedVendor part) other fault = (_, fault, refl)
-refusal_is_told line (UnrecognizedOperatingSystem part) other fault = (_, fault, refl)
-refusal_is_told line (UnrecognizedEnvironment part) other fault = (_, fault, refl)
-refusal_is_told line (UnrecognizedBinaryFormat part) other fault = (_, fault, refl)
-refusal_is_told line (UnrecognizedField part) other fault = (_, fault, refl)
-refusal_is_told line OutOfMemory other fault = absurd (other refl)
+refusal_is_told : (shown : Values → List ℕ) (line : List ℕ) (error : ParseError) → error ≢ OutOfMemory → IsFaultOf line error → IsAnswer shown line (Refused (codes "error: " ++ error_line error))
+refusal_is_told shown line (UnrecognizedArchitecture part) other fault = (_, fault, refl)
+refusal_is_told shown line (UnrecognizedVendor part) other fault = (_, fault, refl)
+refusal_is_told shown line (UnrecognizedOperatingSystem part) other fault = (_, fault, refl)
+refusal_is_told shown line (UnrecognizedEnvironment part) other fault = (_, fault, refl)
+refusal_is_told shown line (UnrecognizedBinaryFormat part) other fault = (_, fault, refl)
+refusal_is_told shown line (UnrecognizedField part) other fault = (_, fault, refl)
+refusal_is_told shown line OutOfMemory other fault = absurd (other refl)
 
--- a refused line is answered by its refusal
-pub refusal_is_answer : {T E : Type 0} (shown : Values → List ℕ) (done : Result T E) (line : List ℕ) (error : ParseError) (old new : List ℕ) → error ≢ OutOfMemory
-    → IsFaultOf line error → OnOk done (new ≡ old ++ ((codes "error: " ++ error_line error) ++ 10 ∷ [])) → OnOk done (AddsAnswer shown line old new)
-refusal_is_answer shown (Ok _) line error old new other fault grown = (codes "error: " ++ error_line error, inr (refusal_is_told line error other fault), grown)
-refusal_is_answer shown (Err _) line error old new other fault grown = tt
+-- what a line adds that is read, and one that is refused
+module _ (mode : Mode) (line old new : List ℕ) (seen_old seen_new : BTreeSet Marked) where
+  unless-seen : (b : Bool) (text : List ℕ) → (if b then [] else text ++ 10 ∷ []) ≡ written (if b then [] else Shown text ∷ [])
+  unless-seen true text = refl
+  unless-seen false text = refl
 
--- what is shown of the triple that a line reads as is its answer
-pub shown_is_answer : {T E : Type 0} (shown : Values → List ℕ) (done : Result T E) (line : List ℕ) (t : Values) (old new : List ℕ)
-    → ReadsAs line t → OnOk done (new ≡ old ++ (shown t ++ 10 ∷ [])) → OnOk done (AddsAnswer shown line old new)
-shown_is_answer shown (Ok _) line t old new reads grown = (shown t, inl (t, reads, refl), grown)
-shown_is_answer shown (Err _) line t old new reads grown = tt
+  pub read-adds : {T E : Type 0} (done : Result T E) (t : Values) → ReadsAs line t
+      → OnOk done (new ≡ old ++ (if is_left_out mode seen_old (shown_in mode t) then [] else shown_in mode t ++ 10 ∷ []))
+      → OnOk done (mode ≡ Matrix → HasOneMore seen_old seen_new (shown_in mode t))
+      → OnOk done (AddsAnswer mode line old new seen_old seen_new)
+  read-adds (Ok _) t reads grown seen = record {
+    answer = Shown (shown_in mode t);
+    is = (t, reads, refl);
+    grown = grown ∙ ap (λ (t : List ℕ). old ++ t) (unless-seen (is_left_out mode seen_old (shown_in mode t)) (shown_in mode t));
+    seen = seen;
+  }
+  read-adds (Err _) t reads grown seen = tt
 
-module _ (shown : Values → List ℕ) where
-  -- the answer of the first line, and then those of the lines behind it
-  pub answered-more : (lines : List (List ℕ)) (rest line behind old new : List ℕ)
-      → ((others : List ℕ) → AreAnswered shown (lines_of rest) others → AreAnswered shown lines (old ++ others))
-      → lines_of rest ≡ line ∷ lines_of behind → AddsAnswer shown line old new
-      → (others : List ℕ) → AreAnswered shown (lines_of behind) others → AreAnswered shown lines (new ++ others)
-  answered-more lines rest line behind old new whole cut added others answered =
-      let first : AreAnswered shown (lines_of rest) (added.0 ++ (10 ∷ others)) = rw cut (added.0, others, added.1, answered, refl) in
-      let joined : new ++ others ≡ old ++ (added.0 ++ (10 ∷ others)) =
-      ap (λ (t : List ℕ). t ++ others) added.2 ∙ append_assoc old _ others ∙ ap (λ (t : List ℕ). old ++ t) (append_assoc added.0 (10 ∷ []) others) in
-      rw joined (whole (added.0 ++ (10 ∷ others)) first)
+  pub refusal-adds : {T E : Type 0} (done : Result T E) (error : ParseError) → error ≢ OutOfMemory → IsFaultOf line error
+      → OnOk done (new ≡ old ++ ((codes "error: " ++ error_line error) ++ 10 ∷ []))
+      → OnOk done (AddsAnswer mode line old new seen_old seen_old)
+  refusal-adds (Ok _) error other fault grown = record {
+    answer = Refused (codes "error: " ++ error_line error);
+    is = refusal_is_told (shown_in mode) line error other fault;
+    grown = grown;
+    seen = λ matrix text. sym (or-false (has_text seen_old text));
+  }
+  refusal-adds (Err _) error other fault grown = tt
 
-  -- behind the last line nothing is left
-  pub answered-whole : (lines : List (List ℕ)) (rest output : List ℕ) → length rest ≡ 0
-      → ((others : List ℕ) → AreAnswered shown (lines_of rest) others → AreAnswered shown lines (output ++ others)) → AreAnswered shown lines output
-  answered-whole lines [] output none whole = rw append-nil at (whole [] refl)
-  answered-whole lines (b ∷ bs) output none whole = absurd (omega arith)
+-- by the mark, and then by the text
+abbrev marked_cmp : Marked → Marked → Ordering
+marked_cmp a b = ordering_then (nat_cmp a.mark b.mark) (string_cmp a.text b.text)
+
+-- a second test beside one that it implies changes nothing
+then-same : (x : Ordering) (order : Ordering) (b : Bool) → is_eq order ≡ b → (b ≡ true → x ≡ Equal) → is_eq (ordering_then x order) ≡ b
+then-same Equal order b is implied = is
+then-same Less order true is implied = absurd (let bad = implied refl in cc)
+then-same Less order false is implied = refl
+then-same Greater order true is implied = absurd (let bad = implied refl in cc)
+then-same Greater order false is implied = refl
+
+-- a text that has its mark is found by its bytes
+found-by-bytes : (text other : List ℕ) → is_eq (ordering_then (nat_cmp (mark_of other) (mark_of text)) (slice_cmp nat_cmp other text)) ≡ bytes_eq other text
+found-by-bytes text other =
+    then-same (nat_cmp (mark_of other) (mark_of text)) (slice_cmp nat_cmp other text) (bytes_eq other text) (is_eq-slice_cmp other text)
+    (λ is. ap (λ (t : List ℕ). nat_cmp (mark_of t) (mark_of text)) (same_text other text (sym is)) ∙ tied_itself nat_cmp_total (mark_of text))
+
+-- a set that gets a text has it beside its others
+pub inserted : {T E : Type 0} (done : Result T E) (key : Marked) (text : List ℕ) (seen_old seen_new : BTreeSet Marked)
+    → key.mark ≡ mark_of text → string_bytes key.text ≡ text → list_any (is_at (marked_cmp key)) seen_old.keys ≡ false
+    → seen_new.keys ≡ insert_key marked_cmp seen_old.keys key
+    → OnOk done ((other : List ℕ) → has_text seen_new other ≡ (has_text seen_old other || bytes_eq other text))
+inserted (Ok _) key text seen_old seen_new mark same absent keys = λ other.
+    ap (λ (ks : List Marked). list_any (is_at (text_cmp other)) ks) keys
+    ∙ inserts marked_cmp (is_at (text_cmp other)) key seen_old.keys absent
+    ∙ ap (λ (b : Bool). has_text seen_old other || b) (rw (mark, same) (found-by-bytes text other))
+inserted (Err _) key text seen_old seen_new mark same absent keys = tt

@@ -1,8 +1,8 @@
--- LineLemmas: the lines of an input. AnswerLemmas, JsonAnswers: their answers. MatrixLemmas, MatrixLawLemmas: the matrix of the lines.
+-- LineLemmas: the lines of an input. AnswerLemmas, JsonAnswers: their answers. MatrixLawLemmas, MatrixOrder: the laws of the matrix.
 -- KnownBytes: what is read and written.
 pub mod AnswerLemmas
 pub mod JsonAnswers
 pub mod KnownBytes
 pub mod LineLemmas
 pub mod MatrixLawLemmas
-pub mod MatrixLemmas
+pub mod MatrixOrder

@@ -8,7 +8,7 @@ device counted = counted.device
 
 -- how often it has failed
 abbrev pub failures : {D : Type 0} → Counted D → ℕ
-failures counted = counted.tally.count
+failures counted = counted.failures.count
 
 -- 1 for an error, and else 0
 abbrev pub failures_of : {T E : Type 0} → Result T E → ℕ

@@ -4,49 +4,61 @@ use Rattle.std.specs.List.{filter}
 use Rattle.target_lexicon.specs.FixedPoints.{settled}
 use Rattle.target_lexicon.specs.Reading.{ReadsAs}
 use Rattle.target_lexicon.specs.Values.{Values}
-use Rattle.triples.specs.Output.{SettleLine, Entry, RefusalTold, IsSettleLine, AreSettleLines, is_entry_of, matrix_of, settled_text, line_bytes}
+use Rattle.triples.specs.Output.{Answer, Shown, Refused, IsAnswer, AreAnswers, shows, matrix_of, settled_text, answer_bytes}
 
 -- mode `settle` writes the same entry for two lines
 abbrev pub ShareAnEntry : List ℕ → List ℕ → Type 0
-ShareAnEntry a b = (text : List ℕ) × IsSettleLine a (Entry text) × IsSettleLine b (Entry text)
+ShareAnEntry a b = (text : List ℕ) × IsAnswer settled_text a (Shown text) × IsAnswer settled_text b (Shown text)
 
 -- two lines that are read share an entry exactly where their settled triples are equal
 abbrev pub EntriesAreSettledTriples : Type 0
 EntriesAreSettledTriples = (a b : List ℕ) (t u : Values) → ReadsAs a t → ReadsAs b u → ShareAnEntry a b ↔ (settled t ≡ settled u)
 
 -- the entries of a text among lines that mode `settle` writes
-abbrev pub entries_of : List ℕ → List SettleLine → List SettleLine
-entries_of text lines = filter (is_entry_of text) lines
+abbrev pub entries_of : List ℕ → List Answer → List Answer
+entries_of text lines = filter (shows text) lines
 
 -- whether a line tells a refusal
-abbrev pub is_refusal : SettleLine → Bool
-is_refusal (Entry text) = false
-is_refusal (RefusalTold told) = true
+abbrev pub is_refusal : Answer → Bool
+is_refusal (Shown text) = false
+is_refusal (Refused told) = true
 
 -- the matrix keeps one entry of each text, and every refusal
-pub record KeepsEntriesOnce (lines : List SettleLine) : Type 0 where
+pub record KeepsEntriesOnce (lines : List Answer) : Type 0 where
   pub entries : (text : List ℕ) → entries_of text (matrix_of lines) ≡ take 1 (entries_of text lines)
   pub refusals : filter is_refusal (matrix_of lines) ≡ filter is_refusal lines
 
 -- so it does whatever the lines are
 abbrev pub EntriesAreKeptOnce : Type 0
-EntriesAreKeptOnce = (lines : List SettleLine) → KeepsEntriesOnce lines
+EntriesAreKeptOnce = (lines : List Answer) → KeepsEntriesOnce lines
+
+-- A line that comes behind others is added to their matrix, at its end, where it tells a refusal or is the first entry of its text;
+-- an entry whose text has one before adds nothing.
+pub record StaysAtItsFirst (before : List Answer) : Type 0 where
+  pub refusal : (told : List ℕ) → matrix_of (before ++ Refused told ∷ []) ≡ matrix_of before ++ Refused told ∷ []
+  pub first : (text : List ℕ) → entries_of text before ≡ [] → matrix_of (before ++ Shown text ∷ []) ≡ matrix_of before ++ Shown text ∷ []
+  pub again : (text : List ℕ) → ¬ (entries_of text before ≡ []) → matrix_of (before ++ Shown text ∷ []) ≡ matrix_of before
+
+-- so it is behind any lines, of which none have no matrix
+pub record FirstEntriesStayInOrder : Type 0 where
+  pub none : matrix_of [] ≡ []
+  pub behind : (before : List Answer) → StaysAtItsFirst before
 
 -- of the lines of an input, the settled triple of each that is read has one entry in the matrix
 abbrev pub EachSettledTripleIsThere : Type 0
-EachSettledTripleIsThere = (front back : List (List ℕ)) (line : List ℕ) (settle_lines : List SettleLine) → AreSettleLines (front ++ line ∷ back) settle_lines
-    → (t : Values) → ReadsAs line t → entries_of (settled_text t) (matrix_of settle_lines) ≡ Entry (settled_text t) ∷ []
+EachSettledTripleIsThere = (front back : List (List ℕ)) (line : List ℕ) (answers : List Answer) → AreAnswers settled_text (front ++ line ∷ back) answers
+    → (t : Values) → ReadsAs line t → entries_of (settled_text t) (matrix_of answers) ≡ Shown (settled_text t) ∷ []
 
 -- the entries among lines
-abbrev pub entries_alone : List SettleLine → List SettleLine
+abbrev pub entries_alone : List Answer → List Answer
 entries_alone lines = filter (λ line. not (is_refusal line)) lines
 
 -- the entries of a matrix, as lines, give these entries again: mode `settle` writes them as they are, and
 -- all of them stay
-pub record IsItsOwnMatrix (entries : List SettleLine) : Type 0 where
-  pub settled : AreSettleLines (map line_bytes entries) entries
+pub record IsItsOwnMatrix (entries : List Answer) : Type 0 where
+  pub settled : AreAnswers settled_text (map answer_bytes entries) entries
   pub stays : matrix_of entries ≡ entries
 
 -- so it is for every matrix
 abbrev pub MatricesAreTheirOwn : Type 0
-MatricesAreTheirOwn = (lines : List (List ℕ)) (settle_lines : List SettleLine) → AreSettleLines lines settle_lines → IsItsOwnMatrix (entries_alone (matrix_of settle_lines))
+MatricesAreTheirOwn = (lines : List (List ℕ)) (answers : List Answer) → AreAnswers settled_text lines answers → IsItsOwnMatrix (entries_alone (matrix_of answers))

@@ -1,5 +1,5 @@
 -- What a mode writes for an input.
-use Rattle.std.specs.Prelude.{ℕ, ◌≡◌, ◌<◌, ◌⊎◌, Bool, true, false, not, if◌then◌else◌, List, length, [], ◌∷◌, ◌++◌, codes}
+use Rattle.std.specs.Prelude.{ℕ, ◌≡◌, ◌<◌, Bool, true, false, not, if◌then◌else◌, List, length, [], ◌∷◌, ◌++◌, codes}
 use Rattle.std.specs.List.{AllZip, list_any}
 use Rattle.std.specs.Str.{bytes_eq}
 use Rattle.target_lexicon.specs.FixedPoints.{settled}
@@ -15,82 +15,74 @@ use Rattle.triples.specs.Facts.{facts_of}
 use Rattle.triples.specs.JsonOutput.{IsJsonOutput, IsJsonInputFault}
 use Rattle.triples.specs.Lines.{lines_of}
 
--- what is shown of the triple that a line reads as
-abbrev pub IsShown : (Values → List ℕ) → List ℕ → List ℕ → Type 0
-IsShown shown line answer = (values : Values) × ReadsAs line values × (answer ≡ shown values)
-
--- `error: ` and the line of the refusal of a line
-abbrev pub IsRefusalTold : List ℕ → List ℕ → Type 0
-IsRefusalTold line answer = (refusal : Refusal) × IsRefusedAs line refusal × (answer ≡ codes "error: " ++ refusal_line refusal)
-
--- what is printed for a line
-abbrev pub IsAnswer : (Values → List ℕ) → List ℕ → List ℕ → Type 0
-IsAnswer shown line answer = IsShown shown line answer ⊎ IsRefusalTold line answer
-
--- the answer of each line, in order, and a line feed behind each
-abbrev pub AreAnswered : (Values → List ℕ) → List (List ℕ) → List ℕ → Type 0
-AreAnswered shown [] output = output ≡ []
-AreAnswered shown (line ∷ lines) output =
-    (answer : List ℕ) × (others : List ℕ) × IsAnswer shown line answer × AreAnswered shown lines others × (output ≡ answer ++ (10 ∷ others))
-
 -- the printed text of the settled triple
 abbrev pub settled_text : Values → List ℕ
 settled_text t = text_of (settled t)
 
--- a line that mode `settle` writes: the entry of a settled text, or what tells a refusal
-pub data SettleLine : Type 0 where
-  Entry : List ℕ → SettleLine
-  RefusalTold : List ℕ → SettleLine
+-- what a mode shows of a triple
+abbrev pub shown_in : Mode → Values → List ℕ
+shown_in Print = text_of
+shown_in Show = facts_of
+shown_in Settle = settled_text
+shown_in Matrix = settled_text
+shown_in Json = text_of
 
--- what mode `settle` writes for a line: an entry exactly where the line is read
-abbrev pub IsSettleLine : List ℕ → SettleLine → Type 0
-IsSettleLine line (Entry text) = IsShown settled_text line text
-IsSettleLine line (RefusalTold told) = IsRefusalTold line told
+-- the answer of a line: what is shown of its triple, or what tells its refusal
+pub data Answer : Type 0 where
+  Shown : List ℕ → Answer
+  Refused : List ℕ → Answer
 
--- what it writes for each of the lines
-abbrev pub AreSettleLines : List (List ℕ) → List SettleLine → Type 0
-AreSettleLines lines written = AllZip IsSettleLine lines written
+-- what is shown of the triple that the line reads as, or `error: ` and the line of its refusal
+abbrev pub IsAnswer : (Values → List ℕ) → List ℕ → Answer → Type 0
+IsAnswer shown line (Shown text) = (values : Values) × ReadsAs line values × (text ≡ shown values)
+IsAnswer shown line (Refused told) = (refusal : Refusal) × IsRefusedAs line refusal × (told ≡ codes "error: " ++ refusal_line refusal)
 
--- whether a line is the entry of this text; what tells a refusal never is, whatever its bytes
-abbrev pub is_entry_of : List ℕ → SettleLine → Bool
-is_entry_of text (Entry other) = bytes_eq text other
-is_entry_of text (RefusalTold told) = false
+-- the answer of each line, in order
+abbrev pub AreAnswers : (Values → List ℕ) → List (List ℕ) → List Answer → Type 0
+AreAnswers shown lines answers = AllZip (IsAnswer shown) lines answers
 
--- whether a line stays behind those before it: none of them is the entry of the same text
-abbrev pub stays_behind : List SettleLine → SettleLine → Bool
-stays_behind before (Entry text) = not (list_any (is_entry_of text) before)
-stays_behind before (RefusalTold told) = true
+-- whether an answer shows this text; what tells a refusal never does, whatever its bytes
+abbrev pub shows : List ℕ → Answer → Bool
+shows text (Shown other) = bytes_eq text other
+shows text (Refused told) = false
 
--- the lines that stay, of those that follow these
-abbrev pub staying_behind : List SettleLine → List SettleLine → List SettleLine
+-- whether an answer stays behind those before it: none of them shows the same text
+abbrev pub stays_behind : List Answer → Answer → Bool
+stays_behind before (Shown text) = not (list_any (shows text) before)
+stays_behind before (Refused told) = true
+
+-- the answers that stay, of those that follow these
+abbrev pub staying_behind : List Answer → List Answer → List Answer
 staying_behind before [] = []
-staying_behind before (line ∷ lines) =
-    (if stays_behind before line then line ∷ [] else []) ++ staying_behind (before ++ line ∷ []) lines
+staying_behind before (answer ∷ answers) =
+    (if stays_behind before answer then answer ∷ [] else []) ++ staying_behind (before ++ answer ∷ []) answers
 
--- the matrix: each entry at its first appearance alone, and each refusal
-abbrev pub matrix_of : List SettleLine → List SettleLine
-matrix_of lines = staying_behind [] lines
+-- the matrix: each text where it is shown first, and each refusal
+abbrev pub matrix_of : List Answer → List Answer
+matrix_of answers = staying_behind [] answers
 
-abbrev pub line_bytes : SettleLine → List ℕ
-line_bytes (Entry text) = text
-line_bytes (RefusalTold told) = told
+-- the answers that a mode writes: `matrix` those that stay, and every other mode all of them
+abbrev pub kept_in : Mode → List Answer → List Answer
+kept_in Matrix answers = matrix_of answers
+kept_in _ answers = answers
 
--- the lines, and a line feed behind each
-abbrev pub written : List SettleLine → List ℕ
+abbrev pub answer_bytes : Answer → List ℕ
+answer_bytes (Shown text) = text
+answer_bytes (Refused told) = told
+
+-- the answers, and a line feed behind each
+abbrev pub written : List Answer → List ℕ
 written [] = []
-written (line ∷ lines) = line_bytes line ++ (10 ∷ written lines)
+written (answer ∷ answers) = answer_bytes answer ++ (10 ∷ written answers)
 
--- the matrix of what mode `settle` writes for these lines
-abbrev pub IsMatrix : List (List ℕ) → List ℕ → Type 0
-IsMatrix lines output = (settle_lines : List SettleLine) × AreSettleLines lines settle_lines × (output ≡ written (matrix_of settle_lines))
+-- what a mode writes for these lines
+abbrev pub AreAnswered : Mode → List (List ℕ) → List ℕ → Type 0
+AreAnswered mode lines output = (answers : List Answer) × AreAnswers (shown_in mode) lines answers × (output ≡ written (kept_in mode answers))
 
 -- the mode's output for an input
 abbrev pub IsOutput : Mode → List ℕ → List ℕ → Type 0
-IsOutput Print input output = AreAnswered text_of (lines_of input) output
-IsOutput Show input output = AreAnswered facts_of (lines_of input) output
-IsOutput Settle input output = AreAnswered settled_text (lines_of input) output
 IsOutput Json input output = IsJsonOutput input output
-IsOutput Matrix input output = IsMatrix (lines_of input) output
+IsOutput mode input output = AreAnswered mode (lines_of input) output
 
 -- why an input has no output in the mode; in a mode of lines only memory may be wanted, and not for an empty input
 abbrev pub IsInputFault : Mode → List ℕ → RunError → Type 0

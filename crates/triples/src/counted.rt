@@ -3,16 +3,16 @@ ghost use Rattle.std.specs.Prelude.{◌≡◌, ◌+◌};
 ghost use Rattle.std.specs.Io.{ReadsAtMost, WritesAtMost};
 ghost use Rattle.std.specs.Io.KnownBytes.{Keeps, ReadConsumes, WriteAppends};
 
-use crate::tally::Tally;
 use std::io;
 use std::io::{Read, Write};
+use target_lexicon::Steps;
 
 /// A reader or a writer, and how often it has failed: a count that only contracts see, which takes no
 /// bytes and has no greatest value. A call passes on the device's call and answer.
 #[derive(Drop)]
 pub struct Counted<D> {
     device: D,
-    tally: Tally,
+    failures: Steps,
 }
 
 impl<D> Counted<D> {
@@ -25,7 +25,7 @@ impl<D> Counted<D> {
     {
         Counted {
             device: of,
-            tally: Tally::new(),
+            failures: Steps::new(),
         }
     }
 
@@ -33,7 +33,10 @@ impl<D> Counted<D> {
     pub fn into_inner(self) -> D
         ensures { result ≡ device self }
     {
-        let Counted { device, tally: _ } = self;
+        let Counted {
+            device,
+            failures: _,
+        } = self;
         device
     }
 }
@@ -49,7 +52,7 @@ impl<R: Read> Counted<R> {
     {
         let answer = self.device.read(buf);
         if answer.is_err() {
-            self.tally = self.tally.next();
+            self.failures.tick();
         }
         answer
     }
@@ -71,7 +74,7 @@ impl<W: Write> Counted<W> {
             Err(_) => true,
         };
         if is_refused {
-            self.tally = self.tally.next();
+            self.failures.tick();
         }
         answer
     }
@@ -83,7 +86,7 @@ impl<W: Write> Counted<W> {
     {
         let answer = self.device.flush();
         if answer.is_err() {
-            self.tally = self.tally.next();
+            self.failures.tick();
         }
         answer
     }

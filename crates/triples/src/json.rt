@@ -43,20 +43,16 @@ fn answer(alloc: Global, value: Value) -> Result<String, RunError>
 {
     let list = list_from_json(alloc, &value);
     drop(value);
-    let written = match list {
-        Ok(triples) => list_text(alloc, triples),
-        Err(ListError::NotList) => return Err(RunError::NotList),
-        Err(ListError::OutOfMemory) => return Err(RunError::OutOfMemory),
+    match list {
+        Ok(triples) => Ok(list_text(alloc, triples)?),
+        Err(ListError::NotList) => Err(RunError::NotList),
+        Err(ListError::OutOfMemory) => Err(RunError::OutOfMemory),
         Err(ListError::Element(i, error)) => {
             if is_want_of_memory(&error) {
                 return Err(RunError::OutOfMemory);
             }
-            element_line(alloc, i, error)
+            Ok(element_line(alloc, i, error)?)
         }
-    };
-    match written {
-        Ok(answer) => Ok(answer),
-        Err(_) => Err(RunError::OutOfMemory),
     }
 }
 
@@ -75,8 +71,6 @@ pub(crate) fn json_output(alloc: Global, input: &str) -> Result<String, RunError
         }
     };
     let mut output = answer(alloc, value)?;
-    match output.push('\n') {
-        Ok(()) => Ok(output),
-        Err(_) => Err(RunError::OutOfMemory),
-    }
+    output.push('\n')?;
+    Ok(output)
 }

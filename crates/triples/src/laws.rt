@@ -1,6 +1,6 @@
 //! Laws over the definitions alone: each function's contract is one, and it does nothing.
 ghost use Rattle.lexicon_fields.specs.Laws.{ComparesByValue};
-ghost use Rattle.triples.specs.MatrixLaws.{EntriesAreSettledTriples, EntriesAreKeptOnce, EachSettledTripleIsThere, MatricesAreTheirOwn};
+ghost use Rattle.triples.specs.MatrixLaws.{EntriesAreSettledTriples, EntriesAreKeptOnce, FirstEntriesStayInOrder, EachSettledTripleIsThere, MatricesAreTheirOwn};
 ghost use Rattle.triples.specs.declared.mode.Mode.{Mode};
 ghost use Rattle.triples.specs.declared.run_error.RunError.{RunError};
 
@@ -25,6 +25,12 @@ pub fn entries_are_settled_triples()
 /// The matrix keeps one entry of each text, and every refusal.
 pub fn entries_are_kept_once()
     ensures { EntriesAreKeptOnce }
+{}
+
+/// The matrix goes line by line, in their order: each refusal stays in its place, and so does the first entry of each text; a later
+/// entry of that text leaves the matrix as it was.
+pub fn first_entries_stay_in_order()
+    ensures { FirstEntriesStayInOrder }
 {}
 
 /// The settled triple of each line that is read has exactly one entry in the matrix.

@@ -13,7 +13,6 @@ mod mode;
 mod output;
 mod run;
 mod run_error;
-mod tally;
 #[cfg(test)]
 mod tests;
 

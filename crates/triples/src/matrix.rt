@@ -1,23 +1,25 @@
-//! What mode `matrix` writes for an input.
-ghost use Rattle.std.specs.Prelude.{◌≡◌, ◌<◌, ◌++◌, ◌∷◌, ◌||◌, ℕ, List, [], length, string_bytes, if◌then◌else◌, IfOk, OnOk, OnErr};
-ghost use Rattle.std.specs.Str.{bytes_eq};
+//! The texts that mode `matrix` has written.
+ghost use Rattle.std.specs.Prelude.{◌≡◌, ◌++◌, ◌∷◌, ℕ, List, [], false, string_bytes, if◌then◌else◌, OnOk};
 ghost use Rattle.target_lexicon.specs.Printing.{text_of};
 ghost use Rattle.target_lexicon.specs.Values.{values_of};
-ghost use Rattle.triples.specs.Lines.{lines_of};
-ghost use Rattle.triples.specs.Output.{IsMatrix};
-ghost use Rattle.triples.specs.Private.{AddsFirst, has_text, mark_of};
+ghost use Rattle.triples.specs.Private.{HasOneMore, has_text, mark_of};
 
-use crate::lines::first_line;
-use crate::output::push_refusal;
 use std::alloc::{AllocError, Global};
 use std::collections::BTreeSet;
-use target_lexicon::{ParseError, Triple};
+use target_lexicon::Triple;
 
 /// A text behind its mark, so that most comparisons are of two numbers.
 #[derive(PartialEq, Eq, PartialOrd, Ord, Drop)]
 pub(crate) struct Marked {
     mark: u64,
     text: String,
+}
+
+/// The texts that were seen, and a place for the next one.
+#[derive(Drop)]
+pub(crate) struct Seen {
+    texts: BTreeSet<Marked>,
+    place: Marked,
 }
 
 /// A number that most texts have for themselves.
@@ -54,7 +56,7 @@ fn push_unseen(
 ) -> Result<(), AllocError>
     requires { found.now.mark ≡ mark_of (string_bytes found.now.text) }
     ensures output { OnOk result (string_bytes output.new ≡ string_bytes output.old ++ (if has_text seen.old (string_bytes found.now.text) then [] else string_bytes found.now.text ++ 10 ∷ [])) }
-    ensures seen { OnOk result ((other : List ℕ) → has_text seen.new other ≡ (has_text seen.old other || bytes_eq other (string_bytes found.now.text))) }
+    ensures seen { OnOk result (HasOneMore seen.old seen.new (string_bytes found.now.text)) }
 {
     if seen.contains(found) {
         return Ok(());
@@ -68,42 +70,31 @@ fn push_unseen(
     output.push('\n')
 }
 
-/// Adds what mode `settle` writes for a line, unless that is a settled text that was seen.
-fn push_first(
-    alloc: Global,
-    output: &mut String,
-    seen: &mut BTreeSet<Marked>,
-    place: &mut Marked,
-    line: &str,
-) -> Result<(), AllocError>
-    ensures { OnOk result (AddsFirst line.now (string_bytes output.old) (string_bytes output.new) seen.old seen.new) }
-{
-    match Triple::from_str(alloc, line) {
-        Ok(triple) => {
-            put_text(place, &triple.settle())?;
-            push_unseen(alloc, output, seen, place)
+impl Seen {
+    /// No text was seen.
+    pub(crate) fn none(alloc: Global) -> Self
+        ensures { (text : List ℕ) → has_text result.texts text ≡ false }
+    {
+        Seen {
+            texts: BTreeSet::new(alloc),
+            place: Marked {
+                mark: 0,
+                text: String::new(alloc),
+            },
         }
-        Err(ParseError::OutOfMemory) => Err(AllocError),
-        Err(error) => push_refusal(output, &error),
     }
-}
 
-/// What mode `settle` writes for each line, but each settled text at its first appearance alone.
-pub(crate) fn matrix(alloc: Global, input: &str) -> Result<String, AllocError>
-    ensures output { IfOk result (λ output. IsMatrix (lines_of input.now) (string_bytes output)) }
-    ensures memory { OnErr result (0 < length input.now) }
-{
-    let mut output = String::new(alloc);
-    let mut seen = BTreeSet::new(alloc);
-    let mut place = Marked {
-        mark: 0,
-        text: String::new(alloc),
-    };
-    let mut rest = input;
-    while !rest.is_empty() {
-        let (line, behind) = first_line(rest);
-        push_first(alloc, &mut output, &mut seen, &mut place, line)?;
-        rest = behind;
+    /// Adds the printed text of a triple and a line feed, unless it was seen; and then it was.
+    pub(crate) fn push_first(
+        &mut self,
+        alloc: Global,
+        output: &mut String,
+        triple: &Triple,
+    ) -> Result<(), AllocError>
+        ensures output { OnOk result (string_bytes output.new ≡ string_bytes output.old ++ (if has_text self.old.texts (text_of (values_of triple.now)) then [] else text_of (values_of triple.now) ++ 10 ∷ [])) }
+        ensures seen { OnOk result (HasOneMore self.old.texts self.new.texts (text_of (values_of triple.now))) }
+    {
+        put_text(&mut self.place, triple)?;
+        push_unseen(alloc, output, &mut self.texts, &self.place)
     }
-    Ok(output)
 }

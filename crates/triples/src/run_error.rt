@@ -1,6 +1,7 @@
 //! Why a run ends early.
 ghost use Rattle.std.specs.Prelude.{◌≡◌, Some};
 
+use std::alloc::AllocError;
 use std::fmt;
 
 /// The fault that ends a run.
@@ -35,6 +36,16 @@ impl RunError {
             RunError::NotList => "Input is not a JSON list",
             RunError::OutOfMemory => "Out of memory",
         }
+    }
+}
+
+impl From<AllocError> for RunError {
+    ghost use Rattle.triples.specs.declared.run_error.RunError.TheVariants.{OutOfMemory};
+
+    ghost from_gives = { λ _ error. error ≡ OutOfMemory };
+
+    fn from(_error: AllocError) -> RunError {
+        RunError::OutOfMemory
     }
 }
 

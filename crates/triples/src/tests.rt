@@ -5,6 +5,7 @@ ghost use Rattle.std.specs.Io.{WritesAtMost};
 mod devices;
 mod faults;
 mod outputs;
+mod pieces;
 
 use crate::asked_mode;
 use crate::counted::Counted;

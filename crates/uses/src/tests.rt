@@ -6,6 +6,8 @@ use crate::{
 };
 use serde_json::Value;
 use std::alloc::Global;
+use std::collections::HashMap;
+use std::process::Abort;
 use std::test::Fail;
 use target_lexicon::{BinaryFormat, ParseError, Triple};
 
@@ -113,6 +115,40 @@ fn keys_are_settled_triples(rt: HostRuntime) -> Result<(), Fail> {
     let first = Triple::from_str(rt.alloc(), "x86_64-linux")?;
     let second = Triple::from_str(rt.alloc(), "x86_64-unknown-linux-unknown-elf")?;
     assert!(rt; share_key(first, second));
+    Ok(())
+}
+
+/// Texts of one key each, with a known vendor, a custom one and a version, and behind `=` another text that reads as the same.
+const KEYS: &str = "\
+x86_64-unknown-linux-gnu=x86_64-linux-gnu
+x86_64-customvendor-linux=x86_64-customvendor-linux-unknown-elf
+x86_64-apple-darwin23.6.0=x86_64-apple-darwin+023.6
+arm-linux=arm-unknown-linux
+x86_64-customvendos-linux=x86_64-customvendos-linux";
+
+/// The number that the map holds for the triple that a text reads as.
+fn found(alloc: Global, map: &HashMap<Triple, usize>, text: &str) -> Option<usize> {
+    let triple = Triple::from_str(alloc, text).ok()?;
+    map.get(&triple).copied()
+}
+
+fn check_found(rt: &impl Abort, alloc: Global, map: &HashMap<Triple, usize>) {
+    for (i, line) in KEYS.lines().enumerate() {
+        let (first, second) = line.split_once('=').unwrap_or((line, ""));
+        assert_eq!(rt; found(alloc, map, first), Some(i), "{line}");
+        assert_eq!(rt; found(alloc, map, second), Some(i), "{line}");
+    }
+    assert_eq!(rt; found(alloc, map, "x86_64-customvendor-linux-gnu"), None);
+}
+
+#[test]
+fn a_triple_that_is_read_anew_finds_its_value(rt: HostRuntime) -> Result<(), Fail> {
+    let mut map = HashMap::new(rt.alloc());
+    for (i, line) in KEYS.lines().enumerate() {
+        let (text, _) = line.split_once('=').unwrap_or((line, ""));
+        map.insert(Triple::from_str(rt.alloc(), text)?, i)?;
+    }
+    check_found(&rt, rt.alloc(), &map);
     Ok(())
 }
 

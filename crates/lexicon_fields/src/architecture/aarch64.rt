@@ -2,7 +2,8 @@
 ghost use Rattle.std.specs.Prelude.{◌≡◌, false, Some};
 ghost use Rattle.std.specs.Cow.{cow_str_bytes, IsBorrowedStr};
 ghost use Rattle.lexicon_fields.specs.Names.{Answers};
-ghost use Rattle.lexicon_fields.specs.SubArchitecture.{aarch64_name, aarch64_of};
+ghost use Rattle.lexicon_fields.specs.Architecture.{aarch64_of};
+ghost use Rattle.lexicon_fields.specs.SubArchitecture.{aarch64_name};
 ghost use Rattle.lexicon_fields.specs.ArchitectureQueries.{aarch64_endianness};
 
 use crate::architecture::Architecture;
@@ -46,7 +47,6 @@ impl Aarch64Architecture {
     }
 
     /// The value whose name the text is, and `Aarch64` for `arm64`; every other text is refused.
-    #[tactic(auto, using(crate::proofs::SubArchitectures::aarch64_is_part))]
     pub fn from_str(s: &str) -> Result<Self, ()>
         ensures { Answers (aarch64_of s.now) result }
     {

@@ -2,7 +2,8 @@
 ghost use Rattle.std.specs.Prelude.{◌≡◌, Some};
 ghost use Rattle.std.specs.Cow.{cow_str_bytes, IsBorrowedStr};
 ghost use Rattle.lexicon_fields.specs.Names.{Answers};
-ghost use Rattle.lexicon_fields.specs.SubArchitecture.{arm_name, arm_of};
+ghost use Rattle.lexicon_fields.specs.Architecture.{arm_of};
+ghost use Rattle.lexicon_fields.specs.SubArchitecture.{arm_name};
 ghost use Rattle.lexicon_fields.specs.ArchitectureQueries.{is_thumb, arm_endianness};
 
 use crate::architecture::Architecture;
@@ -108,7 +109,6 @@ impl ArmArchitecture {
     }
 
     /// The value whose name the text is; every other text is refused.
-    #[tactic(auto, using(crate::proofs::SubArchitectures::arm_is_part))]
     pub fn from_str(s: &str) -> Result<Self, ()>
         ensures { Answers (arm_of s.now) result }
     {

@@ -2,7 +2,8 @@
 ghost use Rattle.std.specs.Prelude.{◌≡◌, Some};
 ghost use Rattle.std.specs.Cow.{cow_str_bytes, IsBorrowedStr};
 ghost use Rattle.lexicon_fields.specs.Names.{Answers};
-ghost use Rattle.lexicon_fields.specs.SubArchitecture.{clever_name, clever_of};
+ghost use Rattle.lexicon_fields.specs.Architecture.{clever_of};
+ghost use Rattle.lexicon_fields.specs.SubArchitecture.{clever_name};
 
 use crate::architecture::Architecture;
 use std::borrow::CowStr;
@@ -19,7 +20,6 @@ pub enum CleverArchitecture {
 
 impl CleverArchitecture {
     /// The value whose name the text is; every other text is refused.
-    #[tactic(auto, using(crate::proofs::SubArchitectures::clever_is_part))]
     pub fn from_str(s: &str) -> Result<Self, ()>
         ensures { Answers (clever_of s.now) result }
     {

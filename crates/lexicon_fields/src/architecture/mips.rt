@@ -2,7 +2,8 @@
 ghost use Rattle.std.specs.Prelude.{◌≡◌, Some};
 ghost use Rattle.std.specs.Cow.{cow_str_bytes, IsBorrowedStr};
 ghost use Rattle.lexicon_fields.specs.Names.{Answers};
-ghost use Rattle.lexicon_fields.specs.SubArchitecture.{mips32_name, mips32_of, mips64_name, mips64_of};
+ghost use Rattle.lexicon_fields.specs.Architecture.{mips32_of, mips64_of};
+ghost use Rattle.lexicon_fields.specs.SubArchitecture.{mips32_name, mips64_name};
 
 use crate::architecture::Architecture;
 use std::borrow::CowStr;
@@ -24,7 +25,6 @@ pub enum Mips32Architecture {
 
 impl Mips32Architecture {
     /// The value whose name the text is; every other text is refused.
-    #[tactic(auto, using(crate::proofs::SubArchitectures::mips32_is_part))]
     pub fn from_str(s: &str) -> Result<Self, ()>
         ensures { Answers (mips32_of s.now) result }
     {
@@ -89,7 +89,6 @@ pub enum Mips64Architecture {
 
 impl Mips64Architecture {
     /// The value whose name the text is; every other text is refused.
-    #[tactic(auto, using(crate::proofs::SubArchitectures::mips64_is_part))]
     pub fn from_str(s: &str) -> Result<Self, ()>
         ensures { Answers (mips64_of s.now) result }
     {

@@ -2,7 +2,8 @@
 ghost use Rattle.std.specs.Prelude.{◌≡◌, Some};
 ghost use Rattle.std.specs.Cow.{cow_str_bytes, IsBorrowedStr};
 ghost use Rattle.lexicon_fields.specs.Names.{Answers};
-ghost use Rattle.lexicon_fields.specs.SubArchitecture.{riscv32_name, riscv32_of, riscv64_name, riscv64_of};
+ghost use Rattle.lexicon_fields.specs.Architecture.{riscv32_of, riscv64_of};
+ghost use Rattle.lexicon_fields.specs.SubArchitecture.{riscv32_name, riscv64_name};
 
 use crate::architecture::Architecture;
 use std::borrow::CowStr;
@@ -26,7 +27,6 @@ pub enum Riscv32Architecture {
 
 impl Riscv32Architecture {
     /// The value whose name the text is; every other text is refused.
-    #[tactic(auto, using(crate::proofs::SubArchitectures::riscv32_is_part))]
     pub fn from_str(s: &str) -> Result<Self, ()>
         ensures { Answers (riscv32_of s.now) result }
     {
@@ -94,7 +94,6 @@ pub enum Riscv64Architecture {
 
 impl Riscv64Architecture {
     /// The value whose name the text is; every other text is refused.
-    #[tactic(auto, using(crate::proofs::SubArchitectures::riscv64_is_part))]
     pub fn from_str(s: &str) -> Result<Self, ()>
         ensures { Answers (riscv64_of s.now) result }
     {

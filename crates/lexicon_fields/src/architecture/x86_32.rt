@@ -2,7 +2,8 @@
 ghost use Rattle.std.specs.Prelude.{◌≡◌, Some};
 ghost use Rattle.std.specs.Cow.{cow_str_bytes, IsBorrowedStr};
 ghost use Rattle.lexicon_fields.specs.Names.{Answers};
-ghost use Rattle.lexicon_fields.specs.SubArchitecture.{x86_32_name, x86_32_of};
+ghost use Rattle.lexicon_fields.specs.Architecture.{x86_32_of};
+ghost use Rattle.lexicon_fields.specs.SubArchitecture.{x86_32_name};
 
 use crate::architecture::Architecture;
 use std::borrow::CowStr;
@@ -19,7 +20,6 @@ pub enum X86_32Architecture {
 
 impl X86_32Architecture {
     /// The value whose name the text is; every other text is refused.
-    #[tactic(auto, using(crate::proofs::SubArchitectures::x86_32_is_part))]
     pub fn from_str(s: &str) -> Result<Self, ()>
         ensures { Answers (x86_32_of s.now) result }
     {

@@ -2,7 +2,8 @@
 ghost use Rattle.std.specs.Prelude.{◌≡◌, Some};
 ghost use Rattle.std.specs.Cow.{cow_str_bytes, IsBorrowedStr};
 ghost use Rattle.lexicon_fields.specs.Names.{Answers};
-ghost use Rattle.lexicon_fields.specs.SubArchitecture.{z80_name, z80_of};
+ghost use Rattle.lexicon_fields.specs.Architecture.{z80_of};
+ghost use Rattle.lexicon_fields.specs.SubArchitecture.{z80_name};
 
 use crate::architecture::Architecture;
 use std::borrow::CowStr;
@@ -29,7 +30,6 @@ pub enum Z80Architecture {
 
 impl Z80Architecture {
     /// The value whose name the text is; every other text is refused.
-    #[tactic(auto, using(crate::proofs::SubArchitectures::z80_is_part))]
     pub fn from_str(s: &str) -> Result<Self, ()>
         ensures { Answers (z80_of s.now) result }
     {

@@ -33,13 +33,18 @@ fn front(text: &str) -> u64
     ensures { result ≡ front_of 8 text.now }
 {
     let bytes = text.as_bytes();
-    let mut number: u64 = 0;
-    let mut weight: u64 = 0x0100_0000_0000_0000;
-    let mut at = 0;
-    while at < bytes.len() && at < 8 {
-        number += bytes[at] as u64 * weight;
-        weight /= 256;
-        at += 1;
+    if let Some(eight) = bytes.first_chunk::<8>() {
+        return u64::from_be_bytes(*eight);
     }
-    number
+    if let (Some(head), Some(tail)) = (bytes.first_chunk::<4>(), bytes.last_chunk::<4>()) {
+        let head = u64::from(u32::from_be_bytes(*head));
+        let tail = u64::from(u32::from_be_bytes(*tail));
+        return head * 0x1_0000_0000 + (tail << (64 - 8 * bytes.len())) % 0x1_0000_0000;
+    }
+    match bytes {
+        [a, b, c] => u64::from_be_bytes([*a, *b, *c, 0, 0, 0, 0, 0]),
+        [a, b] => u64::from_be_bytes([*a, *b, 0, 0, 0, 0, 0, 0]),
+        [a] => u64::from_be_bytes([*a, 0, 0, 0, 0, 0, 0, 0]),
+        _ => 0,
+    }
 }

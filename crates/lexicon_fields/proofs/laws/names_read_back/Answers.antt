@@ -1,4 +1,7 @@
-use Rattle.lexicon_fields.proofs.NamesReadBack.{architecture_names, arm_names, aarch64_names, x86_32_names, mips32_names, mips64_names, riscv32_names, riscv64_names, clever_names, z80_names, environment_names, binary_format_names}
+use Rattle.std.proofs.Common.{refl}
+use Rattle.lexicon_fields.specs.declared.architecture.Architecture.TheVariants as architecture
+use Rattle.lexicon_fields.specs.Architecture.{as_arm, as_aarch64, as_x86_32, as_mips32, as_mips64, as_riscv32, as_riscv64, as_clever, as_z80}
+use Rattle.lexicon_fields.proofs.NamesReadBack.{architecture_names, part-read_back, environment_names, binary_format_names}
 use Rattle.lexicon_fields.proofs.OperatingSystemsDashFree.{operating_system_names}
 use Rattle.lexicon_fields.proofs.VendorsReadBack.{vendor_names_read_back}
 use Rattle.lexicon_fields.proofs.laws.names_read_back.Goals as goal
@@ -6,15 +9,15 @@ use Rattle.lexicon_fields.proofs.laws.names_read_back.Goals as goal
 pub returns : goal.returns
 returns c = record {
   architecture = architecture_names;
-  arm = arm_names;
-  aarch64 = aarch64_names;
-  x86_32 = x86_32_names;
-  mips32 = mips32_names;
-  mips64 = mips64_names;
-  riscv32 = riscv32_names;
-  riscv64 = riscv64_names;
-  clever = clever_names;
-  z80 = z80_names;
+  arm = part-read_back architecture.Arm as_arm (λ _. refl);
+  aarch64 = part-read_back architecture.Aarch64 as_aarch64 (λ _. refl);
+  x86_32 = part-read_back architecture.X86_32 as_x86_32 (λ _. refl);
+  mips32 = part-read_back architecture.Mips32 as_mips32 (λ _. refl);
+  mips64 = part-read_back architecture.Mips64 as_mips64 (λ _. refl);
+  riscv32 = part-read_back architecture.Riscv32 as_riscv32 (λ _. refl);
+  riscv64 = part-read_back architecture.Riscv64 as_riscv64 (λ _. refl);
+  clever = part-read_back architecture.Clever as_clever (λ _. refl);
+  z80 = part-read_back architecture.Z80 as_z80 (λ _. refl);
   operating_system = operating_system_names;
   environment = environment_names;
   binary_format = binary_format_names;

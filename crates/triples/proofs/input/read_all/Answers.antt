@@ -1,6 +1,6 @@
 use Rattle.std.proofs.Common.{◌<◌, ◌++◌, length, take, arith, length-append}
 use Rattle.std.proofs.lemmas.List.{length-take}
-use Rattle.triples.proofs.KnownBytes.{Consumes-then}
+use Rattle.std.proofs.KnownBytes.{Consumes-trans}
 use Rattle.triples.proofs.input.read_all.Goals as goal
 
 pub returns-then-is_err-clause-memory : goal.returns-then-is_err-clause-memory
@@ -8,4 +8,4 @@ returns-then-is_err-clause-memory g c = λ is.
     let old = c.loop-taken.bytes.items in
     let piece = take c.in-Ok.taken c.read.new.buf in
     let some : 0 < length (old ++ piece) = simp (length-append, length-take) (omega arith) in
-    (old ++ piece, some, Consumes-then _ _ _ old piece c.loop-taken.invariant.taken c.in-Ok.ensures.bytes.0)
+    (old ++ piece, some, Consumes-trans _ _ _ old piece c.loop-taken.invariant.taken c.in-Ok.ensures.bytes.0)

@@ -1,7 +1,8 @@
 use Rattle.std.proofs.Common.{◌++◌, take, arith}
 use Rattle.std.proofs.lemmas.Grind.{common_steps}
 use Rattle.std.proofs.lemmas.List.{take-append-drop}
-use Rattle.triples.proofs.KnownBytes.{Appends-then, Appends-kept, Appends-none, AppendsFront-of}
+use Rattle.std.proofs.KnownBytes.{Appends-trans, Appends-kept}
+use Rattle.triples.proofs.KnownBytes.{Appends-none, AppendsFront-of}
 use Rattle.triples.proofs.input.write_all.Goals as goal
 
 pub loop-rest-preserved : goal.loop-rest-preserved
@@ -9,7 +10,7 @@ loop-rest-preserved g c =
     let inv = c.loop-rest.invariant.written in
     let piece = take c.in-Ok.taken c.loop-rest.rest.now in
     record {
-      written = (inv.0 ++ piece, grind (arith, common_steps, take-append-drop, inv.1), Appends-then _ _ _ inv.0 piece inv.2 c.in-Ok.ensures.bytes);
+      written = (inv.0 ++ piece, grind (arith, common_steps, take-append-drop, inv.1), Appends-trans _ _ _ inv.0 piece inv.2 c.in-Ok.ensures.bytes);
       unfailed = grind arith;
     }
 

@@ -8,5 +8,7 @@ returns-in_err-output-clause-err c =
     let fault = input_fault c.args.input.now (view c.in-Ok.value) c.in_err-output.field-0.0 c.in-Ok.ensures.ok c.in_err-output.ensures.err in
     search (rules, fault)
 
-pub returns-in-Err-push-clause-err : goal.returns-in-Err-push-clause-err
-returns-in-Err-push-clause-err c = read-some c.args.input.now (view c.in-Ok.value) c.in-Ok.ensures.ok
+pub returns-in_err-push-clause-err : goal.returns-in_err-push-clause-err
+returns-in_err-push-clause-err c =
+    let some = read-some c.args.input.now (view c.in-Ok.value) c.in-Ok.ensures.ok in
+    search (rules, some)

@@ -1,7 +1,7 @@
 -- A set that gets a text has it beside its others.
 use Rattle.std.proofs.Common.{string_bytes, arith}
 use Rattle.std.proofs.lemmas.Grind.{common_steps}
-use Rattle.triples.proofs.MatrixLemmas.{inserted}
+use Rattle.triples.proofs.AnswerLemmas.{inserted}
 use Rattle.triples.proofs.matrix.push_unseen.Goals as goal
 
 pub returns-clause-seen : goal.returns-clause-seen

@@ -4,15 +4,11 @@ use Rattle.lexicon_fields.specs.Vendor.{known_vendor_of}
 use Rattle.lexicon_fields.specs.OperatingSystem.{fixed_operating_system_of}
 use Rattle.lexicon_fields.specs.Environment.{environment_of}
 use Rattle.lexicon_fields.specs.BinaryFormat.{binary_format_of}
-use Rattle.lexicon_fields.specs.Private.{front_of}
-use Rattle.lexicon_fields.proofs.RowReads.{rows-length, columns-agree, column-is}
+use Rattle.lexicon_fields.proofs.RowReads.{rows-length, column-is}
 use Rattle.lexicon_fields.proofs.table.rows.row.Goals as goal
 
 pub bounds-rows-i : goal.bounds-rows-i
 bounds-rows-i c = omega (arith, rows-length _ _ c.rows.ensures.texts)
-
-pub returns-clause-front : goal.returns-clause-front
-returns-clause-front c = columns-agree _ (λ r. front_of 8 r.1.now) _ _ _ c.requires (rows-length _ _ c.rows.ensures.texts) c.rows.ensures.fronts
 
 pub returns-clause-architecture : goal.returns-clause-architecture
 returns-clause-architecture c = column-is _ architecture_of _ _ _ c.requires (rows-length _ _ c.rows.ensures.texts) c.rows.ensures.architectures

@@ -1,6 +1,5 @@
 use Rattle.std.proofs.Common.{refl}
 use Rattle.lexicon_fields.specs.FixedRow.{row_texts}
-use Rattle.lexicon_fields.specs.SubArchitecture.{arm_of, aarch64_of, x86_32_of, mips32_of, mips64_of, riscv32_of, riscv64_of, clever_of, z80_of}
 use Rattle.lexicon_fields.specs.Architecture.{architecture_of}
 use Rattle.lexicon_fields.specs.Vendor.{known_vendor_of}
 use Rattle.lexicon_fields.specs.OperatingSystem.{fixed_operating_system_of}
@@ -8,15 +7,12 @@ use Rattle.lexicon_fields.specs.Environment.{environment_of}
 use Rattle.lexicon_fields.specs.BinaryFormat.{binary_format_of}
 use Rattle.lexicon_fields.proofs.table.rows.rows.Goals as goal
 
-pub returns-clause-fronts : goal.returns-clause-fronts
-returns-clause-fronts c = refl
-
 pub returns-clause-texts : goal.returns-clause-texts
 unfolding row_texts
 returns-clause-texts c = refl
 
 pub returns-clause-architectures : goal.returns-clause-architectures
-unfolding row_texts architecture_of arm_of aarch64_of x86_32_of mips32_of mips64_of riscv32_of riscv64_of clever_of z80_of
+unfolding row_texts architecture_of
 returns-clause-architectures c = refl
 
 pub returns-clause-vendors : goal.returns-clause-vendors

@@ -1,11 +1,6 @@
-use Rattle.std.proofs.Common.{rules, sym, ap, ◌∙◌, not, Some}
-use Rattle.lexicon_fields.specs.Vendor.{Custom}
-use Rattle.lexicon_fields.proofs.RowsHold.{nowhere}
-use Rattle.lexicon_fields.proofs.VendorsReadBack.{admitted_without_row, row_not_admitted, known_read, known_owns_nothing, custom_read, none_read, formless_read}
+use Rattle.std.proofs.Common.{sym, ◌∙◌}
+use Rattle.lexicon_fields.proofs.VendorsReadBack.{row_not_admitted, known_read, known_owns_nothing, none_read}
 use Rattle.lexicon_fields.proofs.vendor.Vendor.from_str.Goals as goal
-
-pub returns-then-not-has_vendor_form-clause-err : goal.returns-then-not-has_vendor_form-clause-err
-returns-then-not-has_vendor_form-clause-err c = formless_read c.args.s.now (search rules)
 
 pub returns-in-Some-vendor-clause-ok : goal.returns-in-Some-vendor-clause-ok
 returns-in-Some-vendor-clause-ok c = known_read c.args.s.now _ _ c.to_vendor.ensures (sym c.in-Some-vendor.is ∙ c.in-Some.ensures.row.vendor)
@@ -13,23 +8,5 @@ returns-in-Some-vendor-clause-ok c = known_read c.args.s.now _ _ c.to_vendor.ens
 pub returns-in-Some-vendor-clause-owned : goal.returns-in-Some-vendor-clause-owned
 returns-in-Some-vendor-clause-owned c = known_owns_nothing _ _ c.to_vendor.ensures ∙ sym (row_not_admitted c.args.s.now c.in-Some.ensures.row.stands)
 
-pub returns-in-None-clause-err : goal.returns-in-None-clause-err
-returns-in-None-clause-err c = none_read c.args.s.now (sym c.in-Some.ensures.row.vendor ∙ c.in-None.is) (row_not_admitted c.args.s.now c.in-Some.ensures.row.stands)
-
-pub returns-then-is_some-clause-err : goal.returns-then-is_some-clause-err
-returns-then-is_some-clause-err c =
-    let admitted = admitted_without_row c.args.s.now _ c.in_default.ensures.row (search rules) c.like_darwin.ensures in
-    none_read c.args.s.now (nowhere c.args.s.now c.in_default.ensures.row).1 (admitted ∙ ap not (sym c.is_some.ensures ∙ c.if-is_some.true))
-
-pub returns-in-Ok-clause-ok : goal.returns-in-Ok-clause-ok
-returns-in-Ok-clause-ok c =
-    let admitted = admitted_without_row c.args.s.now _ c.in_default.ensures.row (search rules) c.like_darwin.ensures ∙ ap not (sym c.is_some.ensures ∙ c.if-is_some.false) in
-    custom_read c.args.s.now (nowhere c.args.s.now c.in_default.ensures.row).1 admitted ∙ ap (λ text. Some (Custom text)) (sym c.in-Ok.ensures.text)
-
-pub returns-in-Ok-clause-owned : goal.returns-in-Ok-clause-owned
-returns-in-Ok-clause-owned c =
-    let admitted = admitted_without_row c.args.s.now _ c.in_default.ensures.row (search rules) c.like_darwin.ensures ∙ ap not (sym c.is_some.ensures ∙ c.if-is_some.false) in
-    c.in-Ok.ensures.owned ∙ sym admitted
-
-pub returns-in-Err-clause-err : goal.returns-in-Err-clause-err
-returns-in-Err-clause-err c = admitted_without_row c.args.s.now _ c.in_default.ensures.row (search rules) c.like_darwin.ensures ∙ ap not (sym c.is_some.ensures ∙ c.if-is_some.false)
+pub returns-in-None-vendor-clause-err : goal.returns-in-None-vendor-clause-err
+returns-in-None-vendor-clause-err c = none_read c.args.s.now (sym c.in-Some.ensures.row.vendor ∙ c.in-None-vendor.is) (row_not_admitted c.args.s.now c.in-Some.ensures.row.stands)

@@ -1,6 +1,6 @@
 use Rattle.std.proofs.Common.{◌∙◌, Some, ap, sym, option_map}
 use Rattle.lexicon_fields.specs.Vendor.{Known}
-use Rattle.target_lexicon.proofs.LookedUp.{row-vendor}
+use Rattle.target_lexicon.proofs.LookedUp.{row-vendor, rowless}
 use Rattle.target_lexicon.proofs.Vendors.{owns_custom_text}
 use Rattle.target_lexicon.proofs.part.Part.vendor.Goals as goal
 
@@ -15,3 +15,6 @@ returns-in-None-vendor-clause-ok c =
 
 pub returns-in-Ok-clause-owned : goal.returns-in-Ok-clause-owned
 returns-in-Ok-clause-owned c = owns_custom_text c.args.self.now.text.now c.in-Ok.vendor c.in-Ok.ensures.ok c.in-Ok.ensures.owned
+
+pub of_rowless-requires : goal.of_rowless-requires
+of_rowless-requires c = rowless c.args.self.now.text.now _ c.args.self.now.looked_up c.in-None.is

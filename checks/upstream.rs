@@ -1,0 +1,102 @@
+//! Upstream's crate behind the modes of the program `triples`; `checks/compare_upstream` builds and runs it.
+//!
+//! usage: upstream MODE [own]
+//!
+//! With `own`, triples print by upstream's rules alone. Without, an unknown environment and an unknown format are both shown
+//! where another format is implied. Besides the program's line modes: `hex` is `print` with texts and answers in hexadecimal,
+//! and `fields` tells for each line the fields that read it, by their first letters, or `-`.
+use std::collections::HashSet;
+use std::io::{self, Read, Write};
+use target_lexicon::{Architecture, BinaryFormat, Environment, OperatingSystem, Triple, Vendor};
+
+fn print(triple: &Triple, own: bool) -> String {
+    let text = triple.to_string();
+    let are_unknown = triple.environment == Environment::Unknown && triple.binary_format == BinaryFormat::Unknown;
+    // (a special text has no unknown part at its end)
+    let is_other = are_unknown && triple.implied_format() != BinaryFormat::Unknown && text.ends_with("-unknown");
+    if own || !is_other {
+        return text;
+    }
+    let is_system_left_out = triple.architecture.is_clever() && triple.operating_system == OperatingSystem::Unknown;
+    text + if is_system_left_out { "-unknown-unknown" } else { "-unknown" }
+}
+
+/// The triple that is left once printing and reading change nothing; none where a printed text doesn't read, or that never ends.
+fn settled(mut triple: Triple, own: bool) -> Option<Triple> {
+    for _ in 0..10 {
+        let next = print(&triple, own).parse().ok()?;
+        if next == triple {
+            return Some(triple);
+        }
+        triple = next;
+    }
+    None
+}
+
+fn word<T: std::fmt::Debug>(answer: Result<T, ()>) -> String {
+    answer.map_or("-".to_string(), |it| format!("{it:?}"))
+}
+
+fn show(triple: &Triple, own: bool) -> String {
+    let order = word(triple.endianness()).to_lowercase();
+    let width = word(triple.pointer_width().map(|it| it.bits()));
+    let convention = word(triple.default_calling_convention());
+    format!("{} {order} {width} {convention} {}", print(triple, own), word(triple.data_model()))
+}
+
+fn fields(text: &str) -> String {
+    let reads = [
+        ('a', text.parse::<Architecture>().is_ok()),
+        ('v', matches!(text.parse::<Vendor>(), Ok(it) if !matches!(it, Vendor::Custom(_)))),
+        ('o', text.parse::<OperatingSystem>().is_ok()),
+        ('e', text.parse::<Environment>().is_ok()),
+        ('b', text.parse::<BinaryFormat>().is_ok()),
+    ];
+    let letters: String = reads.iter().filter(|it| it.1).map(|it| it.0).collect();
+    if letters.is_empty() { "-".to_string() } else { letters }
+}
+
+fn of_hex(digits: &str) -> String {
+    let pairs = (0..digits.len()).step_by(2);
+    let bytes = pairs.map(|at| u8::from_str_radix(&digits[at..at + 2], 16).expect("hexadecimal digits"));
+    String::from_utf8(bytes.collect()).expect("UTF-8")
+}
+
+fn to_hex(text: &str) -> String {
+    text.bytes().map(|it| format!("{it:02x}")).collect()
+}
+
+fn main() -> io::Result<()> {
+    let words: Vec<String> = std::env::args().skip(1).collect();
+    let (mode, own) = (words[0].as_str(), words.len() > 1);
+    let mut input = String::new();
+    io::stdin().read_to_string(&mut input)?;
+    let mut output = String::new();
+    let mut seen = HashSet::new();
+    let lines = (!input.is_empty()).then(|| input.strip_suffix('\n').unwrap_or(&input).split('\n'));
+    for line in lines.into_iter().flatten() {
+        let text = if mode == "hex" { of_hex(line) } else { line.to_string() };
+        let answer = match (mode, text.parse::<Triple>()) {
+            ("fields", _) => fields(line),
+            ("hex", Ok(triple)) => to_hex(&print(&triple, own)),
+            ("hex", Err(error)) => to_hex(&format!("error: {error}")),
+            (_, Err(error)) => format!("error: {error}"),
+            ("print", Ok(triple)) => print(&triple, own),
+            ("show", Ok(triple)) => show(&triple, own),
+            ("settle" | "matrix", Ok(triple)) => match settled(triple, own) {
+                None => "does not settle".to_string(),
+                Some(triple) => {
+                    let text = print(&triple, own);
+                    if mode == "matrix" && !seen.insert(triple) {
+                        continue;
+                    }
+                    text
+                }
+            },
+            _ => panic!("no mode {mode}"),
+        };
+        output += &answer;
+        output.push('\n');
+    }
+    io::stdout().write_all(output.as_bytes())
+}

@@ -1,0 +1,46 @@
+-- What fields that are fed one behind another tell.
+use Rattle.std.proofs.Common.{◌≡◌, ◌++◌, [], ◌∙◌, sym, ap, append_assoc}
+use Rattle.std.specs.Hash.{HashWrites}
+use Rattle.lexicon_fields.specs.Hashing.{FeedsOfTell}
+
+-- a kind of values feeds the same exactly where it is the same, if what is fed tells so whatever is behind it
+pub feeds_of_tell : {V W : Type 0} {IsOfKind : V → Type 0} {value : V → W} {feed : V → HashWrites}
+    → ((x y : V) (a b : HashWrites) → IsOfKind x → IsOfKind y → feed x ++ a ≡ feed y ++ b → (value x ≡ value y) × (a ≡ b))
+    → ((x y : V) → value x ≡ value y → feed x ≡ feed y)
+    → FeedsOfTell IsOfKind value feed
+feeds_of_tell tells respects = record {
+  exactly = λ x y hx hy. (λ same. (tells x y [] [] hx hy (ap (λ fed. fed ++ []) same)).0, respects x y);
+  with_more = tells;
+}
+
+module _ {T V W X Y : Type 0} {IsFirst : V → Type 0} {IsSecond : X → Type 0} {first : V → W} {second : X → Y}
+    {feed_first : V → HashWrites} {feed_second : X → HashWrites} (p : T → V) (q : T → X)
+    (one : FeedsOfTell IsFirst first feed_first) (other : FeedsOfTell IsSecond second feed_second) where
+  abbrev AreBoth : T → Type 0
+  AreBoth t = IsFirst (p t) × IsSecond (q t)
+
+  abbrev both : T → W × Y
+  both t = (first (p t), second (q t))
+
+  abbrev feed_both : T → HashWrites
+  feed_both t = feed_first (p t) ++ feed_second (q t)
+
+  both_told : (t u : T) (a b : HashWrites) → AreBoth t → AreBoth u → feed_both t ++ a ≡ feed_both u ++ b → (both t ≡ both u) × (a ≡ b)
+  both_told t u a b ht hu same =
+      let regrouped = sym (append_assoc (feed_first (p t)) (feed_second (q t)) a) ∙ same ∙ append_assoc (feed_first (p u)) (feed_second (q u)) b in
+      let firsts = one.with_more (p t) (p u) (feed_second (q t) ++ a) (feed_second (q u) ++ b) ht.0 hu.0 regrouped in
+      let seconds = other.with_more (q t) (q u) a b ht.1 hu.1 firsts.1 in
+      ((λ i. (firsts.0 i, seconds.0 i)), seconds.1)
+
+  both_fed : (t u : T) → AreBoth t → AreBoth u → both t ≡ both u → feed_both t ≡ feed_both u
+  both_fed t u ht hu same =
+      let firsts = (one.exactly (p t) (p u) ht.0 hu.0).1 (ap (λ w. w.0) same) in
+      let seconds = (other.exactly (q t) (q u) ht.1 hu.1).1 (ap (λ w. w.1) same) in
+      λ i. firsts i ++ seconds i
+
+  -- of a value two parts are fed, one behind the other
+  pub both_tell : FeedsOfTell AreBoth both feed_both
+  both_tell = record {
+    exactly = λ t u ht hu. (λ same. (both_told t u [] [] ht hu (ap (λ fed. fed ++ []) same)).0, both_fed t u ht hu);
+    with_more = both_told;
+  }

@@ -1,0 +1,179 @@
+//! What printing and reading again keep of a triple: the five families that don't come back, and the normal step.
+ghost use Rattle.std.specs.Prelude.{◌≡◌, ◌↔◌, ◌⊎◌, true};
+ghost use Rattle.lexicon_fields.specs.Laws.{HasVersionInRange};
+ghost use Rattle.lexicon_fields.specs.Vendor.{is_plain, vendor_value};
+ghost use Rattle.lexicon_fields.specs.declared.vendor.Vendor.TheVariants.{Espressif};
+ghost use Rattle.target_lexicon.specs.FixedPoints.{settled};
+ghost use Rattle.target_lexicon.specs.Laws.{ComesBack};
+ghost use Rattle.target_lexicon.specs.NormalStep.{normal_step, prints_as_special, hides_newlib, prints_the_esp_idf_text, shows_none_alone, elf_if_unknown, is_in_no_family};
+ghost use Rattle.target_lexicon.specs.Printing.{text_of};
+ghost use Rattle.target_lexicon.specs.Reading.{ReadsAs};
+ghost use Rattle.target_lexicon.specs.Values.{values_of};
+
+use crate::triple::Triple;
+use lexicon_fields::{
+    Architecture, ArmArchitecture, BinaryFormat, Environment, OperatingSystem, Riscv32Architecture,
+    Vendor,
+};
+
+impl Triple {
+    /// Whether the triple comes back: printed and read again, it is itself. No text is made, and no memory asked for.
+    ///
+    /// A triple comes back unless it is in one of five families:
+    /// - The first three fields are those of `armv6k-nintendo-3ds` or `riscv32imc-esp-espidf`, and environment and format
+    ///   aren't `Newlib` and `Elf`.
+    /// - Vendor and system are those of one of these two, and the environment is `Newlib`, but the architecture is another.
+    /// - The text is `riscv32imc-esp-espidf`, but the vendor is the custom `esp`.
+    /// - On Clever with an unknown system, the environment is `None`, which reads as the system.
+    /// - The vendor isn't plain.
+    #[tactic(auto, using(crate::proofs::Fixed::back_by_tests, crate::proofs::Fixed::tests_by_back))]
+    pub fn comes_back(&self) -> bool
+        ensures { (result ≡ true) ↔ ComesBack (values_of self.now) }
+    {
+        version_fits(self.operating_system);
+        self.is_in_no_family()
+    }
+
+    /// The triple that this one's text reads as; the vendor must be plain, as that of every triple is that was read.
+    /// Nothing is copied, and no memory asked for.
+    ///
+    /// A triple that comes back stays as it is. Of the families of `comes_back`, the first of these cases holds:
+    /// - First: environment and format become `Newlib` and `Elf`.
+    /// - Second: the environment becomes `Unknown`, and an `Unknown` format becomes `Elf`.
+    /// - Third: the vendor becomes `Espressif`, environment and format become `Newlib` and `Elf`.
+    /// - Fourth: the system becomes `None_`, and the environment `Unknown`.
+    #[tactic(auto, using(crate::proofs::TextRounds::round_by_step))]
+    pub fn normal(self) -> Triple
+        requires { is_plain (vendor_value self.vendor) ≡ true }
+        ensures step { values_of result ≡ normal_step (values_of self) }
+        ensures round { ReadsAs (text_of (values_of self)) (values_of result) }
+        ensures vendor { (result.vendor ≡ self.vendor) ⊎ (result.vendor ≡ Espressif) }
+    {
+        version_fits(self.operating_system);
+        self.step()
+    }
+
+    /// The triple that comes back after normal steps; one is enough. The vendor must be plain, as for `normal`.
+    /// Its text is its own among all such triples, so that it serves as a key. A triple that comes back stays as it is.
+    /// No memory is asked for.
+    #[tactic(auto, using(crate::proofs::Settled::settled_by_one, crate::proofs::Settled::back_by_one, crate::proofs::Stays::step_stays))]
+    pub fn settle(self) -> Triple
+        requires { is_plain (vendor_value self.vendor) ≡ true }
+        ensures steps { values_of result ≡ settled (values_of self) }
+        ensures back { ComesBack (values_of result) }
+        ensures stays { ComesBack (values_of self) → values_of result ≡ values_of self }
+        ensures vendor { (result.vendor ≡ self.vendor) ⊎ (result.vendor ≡ Espressif) }
+    {
+        version_fits(self.operating_system);
+        self.normal()
+    }
+
+    /// The normal step.
+    #[tactic(auto, unfolding(crate::specs::NormalStep::normal_step))]
+    fn step(mut self) -> Triple
+        ensures step { values_of result ≡ normal_step (values_of self) }
+        ensures vendor { (result.vendor ≡ self.vendor) ⊎ (result.vendor ≡ Espressif) }
+    {
+        if self.prints_as_special() {
+            self.environment = Environment::Newlib;
+            self.binary_format = BinaryFormat::Elf;
+        } else if self.hides_newlib() {
+            self.environment = Environment::Unknown;
+            self.binary_format = elf_if_unknown(self.binary_format);
+        } else if self.prints_the_esp_idf_text() {
+            self.vendor = Vendor::Espressif;
+            self.environment = Environment::Newlib;
+            self.binary_format = BinaryFormat::Elf;
+        } else if self.shows_none_alone() {
+            self.operating_system = OperatingSystem::None_;
+            self.environment = Environment::Unknown;
+        }
+        self
+    }
+
+    /// Whether the triple is in none of the five families.
+    #[tactic(auto, unfolding(crate::specs::NormalStep::is_in_no_family))]
+    fn is_in_no_family(&self) -> bool
+        ensures { result ≡ is_in_no_family (values_of self.now) }
+    {
+        !self.prints_as_special()
+            && !self.hides_newlib()
+            && !self.prints_the_esp_idf_text()
+            && !self.shows_none_alone()
+            && self.vendor.is_plain()
+    }
+
+    /// Whether a special text is printed, and environment and format aren't `Newlib` and `Elf`.
+    #[tactic(auto, unfolding(crate::specs::SpecialTexts::special_text))]
+    pub(crate) fn prints_as_special(&self) -> bool
+        ensures { result ≡ prints_as_special self.now.operating_system (vendor_value self.now.vendor) self.now.architecture
+            self.now.environment self.now.binary_format }
+    {
+        match (self.environment, self.binary_format) {
+            (Environment::Newlib, BinaryFormat::Elf) => false,
+            _ => self.special_text().is_some(),
+        }
+    }
+
+    /// Whether `Newlib` isn't shown, and the text isn't special.
+    #[tactic(auto, unfolding(crate::specs::SpecialTexts::special_text, crate::specs::Printing::shows_environment))]
+    pub(crate) fn hides_newlib(&self) -> bool
+        ensures { result ≡ hides_newlib self.now.environment self.now.operating_system (vendor_value self.now.vendor) self.now.architecture }
+    {
+        match self.environment {
+            Environment::Newlib => {
+                self.special_text().is_none() && !self.shows_environment(false)
+            }
+            _ => false,
+        }
+    }
+
+    /// Whether the vendor is the custom `esp`, and the text the special one.
+    pub(crate) fn prints_the_esp_idf_text(&self) -> bool
+        ensures { result ≡ prints_the_esp_idf_text self.now.environment self.now.binary_format self.now.operating_system
+            self.now.architecture (vendor_value self.now.vendor) }
+    {
+        match (
+            self.environment,
+            self.binary_format,
+            self.operating_system,
+            self.architecture,
+            &self.vendor,
+        ) {
+            (
+                Environment::Unknown,
+                BinaryFormat::Elf,
+                OperatingSystem::Espidf,
+                Architecture::Riscv32(Riscv32Architecture::Riscv32imc),
+                Vendor::Custom(custom),
+            ) => custom.as_str() == "esp",
+            _ => false,
+        }
+    }
+
+    /// Whether the environment `none` is shown alone, on Clever without a system.
+    #[tactic(auto, unfolding(crate::specs::Printing::shows_operating_system))]
+    pub(crate) fn shows_none_alone(&self) -> bool
+        ensures { result ≡ shows_none_alone self.now.environment self.now.operating_system self.now.architecture }
+    {
+        match self.environment {
+            Environment::None => !self.shows_operating_system(false),
+            _ => false,
+        }
+    }
+}
+
+/// The format, or `Elf` for an unknown one.
+pub(crate) fn elf_if_unknown(binary_format: BinaryFormat) -> BinaryFormat
+    ensures { result ≡ elf_if_unknown binary_format }
+{
+    match binary_format {
+        BinaryFormat::Unknown => BinaryFormat::Elf,
+        _ => binary_format,
+    }
+}
+
+/// A version that a system holds is in range, by its types.
+fn version_fits(operating_system: OperatingSystem)
+    ensures { HasVersionInRange operating_system }
+{}
