@@ -1,11 +1,15 @@
 -- The first line of a text.
-use Rattle.std.proofs.Common.{◌≡◌, ◌∙◌, ap, ℕ, ◌<◌, ◌==◌, Bool, List, [], ◌∷◌, length, refl, arith}
-use Rattle.std.specs.List.{slice_split, position_or_len, before_first, after_first}
-use Rattle.std.proofs.lemmas.List.Sums.{fails_before_first}
+use Rattle.std.proofs.Common.{◌≡◌, ◌∙◌, ap, sym, ℕ, ◌+◌, ◌-◌, ◌%◌, ◌^◌, ◌<◌, ◌≤◌, ◌==◌, Bool, false, not, cond, eqb, List, [], ◌∷◌, map, take, drop, get_or, replicate, length, w8, refl, arith, inl, inr}
+use Rattle.std.specs.List.{slice_split, slice_range, position_or_len, before_first, after_first}
+use Rattle.std.proofs.lemmas.Bool.{cases_lt, eqb-true, not-false}
+use Rattle.std.proofs.lemmas.List.Sums.{fails_before_first, position_or_len_is, prefix_len-le-length, prefix_len_stops}
 use Rattle.std.proofs.lemmas.List.Splits.{slice_split_first, slice_split_none, length-slice_split}
+use Rattle.std.proofs.lemmas.Simd.{bitmask_splat, first_set_mask_l, length-chunk, run_in_chunk_fails, run_in_chunk_le, run_in_chunk_stops}
+use lib.Count.{count_trailing_zeros}
+use lib.Lanes.{chunk, mask_l, top, zip2}
 use Rattle.triples.specs.Lines.{without_empty_last, lines_of}
 
-abbrev is_line_feed : ℕ → Bool
+abbrev pub is_line_feed : ℕ → Bool
 is_line_feed b = b == 10
 
 without_empty_last-more : (part : List ℕ) (parts : List (List ℕ)) → 0 < length parts → without_empty_last (part ∷ parts) ≡ part ∷ without_empty_last parts
@@ -25,8 +29,43 @@ lines_of-first text line behind is =
     rw (is.0, is.1) (ap without_empty_last (slice_split_first is_line_feed text 0 is.2)
     ∙ without_empty_last-more _ parts (omega (arith, length-slice_split is_line_feed (after_first is_line_feed text))))
 
+-- where a text is cut at its first line feed
+module _ (text : List ℕ) (end : ℕ) (is : end ≡ position_or_len is_line_feed text) (below : end < length text) where
+  pub line_feed_at : get_or text end 0 ≡ 10
+  line_feed_at = ap (λ k. get_or text k 0) is ∙ eqb-true _ 10 (not-false _ (prefix_len_stops (λ b. not (is_line_feed b)) text 0 (omega (arith, is, below))))
+
+  pub lines_of-cut : (line behind : List ℕ) → line ≡ slice_range text 0 end → behind ≡ drop (end + 1) text → lines_of text ≡ line ∷ lines_of behind
+  lines_of-cut line behind front back =
+      let whole : end - 0 ≡ end = omega arith in
+      lines_of-first text line behind (front ∙ ap (λ n. take n text) (whole ∙ is), back ∙ ap (λ n. drop (n + 1) text) is, omega (arith, is, below))
+
 -- a text without one is a line
 pub lines_of-last : (text : List ℕ) → 0 < length text → position_or_len is_line_feed text ≡ length text → lines_of text ≡ text ∷ []
 lines_of-last text some whole =
     rw (slice_split_none is_line_feed text (λ k d h. fails_before_first is_line_feed text k d (omega (arith, whole, h))))
     (without_empty_last-one text some)
+
+pub lines_of-whole : (text : List ℕ) (end : ℕ) → 0 < length text → end ≡ position_or_len is_line_feed text → length text ≤ end → lines_of text ≡ text ∷ []
+lines_of-whole text end some is past = lines_of-last text some (omega (arith, is, past, prefix_len-le-length (λ b. not (is_line_feed b)) text))
+
+-- the mask of sixteen bytes tells how many come before a line feed
+pub feed_from_mask : (bytes : List ℕ) (at mask : ℕ) → at + 16 ≤ length bytes
+    → mask ≡ mask_l (map (top 7) (zip2 (λ a b. cond (eqb a b) 255 0) (chunk at 16 bytes) (replicate 16 10))) % 2 ^ 64
+    → cond (eqb mask 0) 16 (count_trailing_zeros 64 mask) ≡ position_or_len is_line_feed (take 16 (drop at bytes))
+feed_from_mask bytes at mask room is =
+    let long = length-chunk at 16 bytes room in
+    ap (λ m. cond (eqb m 0) 16 (count_trailing_zeros 64 m)) (is ∙ bitmask_splat w8 eqb (chunk at 16 bytes) 16 10 long (omega arith))
+    ∙ first_set_mask_l is_line_feed (chunk at 16 bytes) 16 long (omega arith)
+
+-- of a text of which some bytes were seen to hold no line feed: what the next sixteen tell
+module _ (bytes : List ℕ) (at before : ℕ) (room : at + 16 ≤ length bytes) (none : (k : ℕ) → k < at → is_line_feed (get_or bytes k 0) ≡ false)
+    (is : before ≡ position_or_len is_line_feed (take 16 (drop at bytes))) where
+  pub none_in_load : (k : ℕ) → k < at + before → is_line_feed (get_or bytes k 0) ≡ false
+  none_in_load k lt = elim (cases_lt k at) [ inl early ↦ none k early | inr late ↦ run_in_chunk_fails is_line_feed bytes at 16 before 0 room is k late lt ]
+
+  pub load_is_left : at + before ≤ length bytes
+  load_is_left = omega (arith, run_in_chunk_le is_line_feed bytes at 16 before 0 room is)
+
+  pub ends_in_load : before < 16 → at + before ≡ position_or_len is_line_feed bytes
+  ends_in_load short =
+      sym (position_or_len_is is_line_feed bytes (at + before) 0 load_is_left none_in_load (λ _. run_in_chunk_stops is_line_feed bytes at 16 before 0 room is short))

@@ -2,7 +2,7 @@
 use Rattle.std.proofs.Common.{◌≡◌, Bool, true, false, ◌||◌, not, List, [], ◌∷◌, ◌++◌, cond, refl, ap, ◌∙◌}
 use Rattle.std.proofs.lemmas.List.{append-nil}
 use Rattle.std.specs.List.{filter, list_any}
-use Rattle.triples.specs.MatrixLaws.{entries_of, StaysAtItsFirst, FirstEntriesStayInOrder}
+use Rattle.triples.specs.MatrixLaws.{FirstEntriesStayInOrder}
 use Rattle.triples.specs.Output.{Answer, Shown, Refused, shows, matrix_of}
 use Rattle.triples.proofs.AnswerLemmas.{if_stays, staying-push}
 

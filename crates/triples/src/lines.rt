@@ -1,6 +1,43 @@
 //! The lines of a text.
-ghost use Rattle.std.specs.Prelude.{◌≡◌, ◌<◌, ◌∷◌, length};
+ghost use Rattle.std.specs.Prelude.{◌≡◌, ◌<◌, ◌≤◌, ◌+◌, ◌==◌, ◌∷◌, length, take, drop};
+ghost use Rattle.std.specs.List.{position_or_len};
 ghost use Rattle.triples.specs.Lines.{lines_of};
+
+use std::simd::prelude::*;
+
+/// How many of the sixteen bytes from `at` on stand before the first line feed among them.
+#[inline(always)]
+fn before_line_feed(bytes: &[u8], at: usize) -> usize
+    requires { at + 16 ≤ length bytes.now }
+    ensures { result ≡ position_or_len (λ b. b == 10) (take 16 (drop at bytes.now)) }
+{
+    let feeds = u8x16::from_slice(&bytes[at..])
+        .simd_eq(u8x16::splat(b'\n'))
+        .to_bitmask();
+    if feeds == 0 {
+        16
+    } else {
+        feeds.trailing_zeros() as usize
+    }
+}
+
+/// Where the first line feed is, or the length where there is none. Sixteen bytes are looked at in one step.
+fn line_end(bytes: &[u8]) -> usize
+    ensures { result ≡ position_or_len (λ b. b == 10) bytes.now }
+{
+    let mut at = 0;
+    while 16 <= bytes.len() - at {
+        let before = before_line_feed(bytes, at);
+        at += before;
+        if before < 16 {
+            return at;
+        }
+    }
+    while at < bytes.len() && bytes[at] != b'\n' {
+        at += 1;
+    }
+    at
+}
 
 /// The first line, and what follows its line feed.
 pub(crate) fn first_line(text: &str) -> (&str, &str)
@@ -8,8 +45,10 @@ pub(crate) fn first_line(text: &str) -> (&str, &str)
     ensures lines { lines_of text.now ≡ result.0.now ∷ lines_of result.1.now }
     ensures shorter { length result.1.now < length text.now }
 {
-    match text.split_once('\n') {
-        Some(parts) => parts,
-        None => (text, ""),
+    let end = line_end(text.as_bytes());
+    if end < text.len() {
+        (&text[..end], &text[end + 1..])
+    } else {
+        (text, "")
     }
 }

@@ -1,12 +1,27 @@
 -- The text is cut at its first line feed, if it has one.
-use Rattle.std.proofs.Common.{arith, length-drop}
-use Rattle.triples.proofs.LineLemmas.{lines_of-first, lines_of-last}
+use Rattle.std.proofs.Common.{ℕ, List, ap, arith, ◌∙◌}
+use Rattle.std.proofs.lemmas.Str.{IsCharBoundary-before_ascii, lead_after_ascii}
+use Rattle.std.specs.List.{position_or_len}
+use Rattle.triples.proofs.LineLemmas.{is_line_feed, line_feed_at, lines_of-cut, lines_of-whole}
 use Rattle.triples.proofs.lines.first_line.Goals as goal
 
-pub returns-in-Some : goal.returns-in-Some
-returns-in-Some c =
-    let is = c.in-Some.ensures.byte (omega arith) (λ w o found. found) in
-    record { lines = lines_of-first c.args.text.now _ _ is; shorter = rw is.1 (grind (arith, length-drop)) }
+pub range-requires-clause-end_boundary : goal.range-requires-clause-end_boundary
+range-requires-clause-end_boundary c =
+    let is = c.line_end-end.ensures ∙ ap (λ (bytes : List ℕ). position_or_len is_line_feed bytes) c.as_bytes.ensures.value in
+    IsCharBoundary-before_ascii c.args.text.now c.line_end-end.result (omega (arith, c.if-end-text.true)) (omega (arith, line_feed_at c.args.text.now _ is (omega (arith, c.if-end-text.true))))
 
-pub returns-in-None-clause-lines : goal.returns-in-None-clause-lines
-returns-in-None-clause-lines c = lines_of-last c.args.text.now c.requires (c.in-None.ensures.byte (omega arith) (λ w o found. found))
+pub range_from-requires : goal.range_from-requires
+range_from-requires c =
+    let is = c.line_end-end.ensures ∙ ap (λ (bytes : List ℕ). position_or_len is_line_feed bytes) c.as_bytes.ensures.value in
+    let feed = line_feed_at c.args.text.now _ is (omega (arith, c.if-end-text.true)) in
+    λ _. (omega (arith, c.if-end-text.true), λ more high. lead_after_ascii c.args.text.now c.line_end-end.result c.utf8.text (omega (arith, feed)) more high)
+
+pub returns-then-end-text-clause-lines : goal.returns-then-end-text-clause-lines
+returns-then-end-text-clause-lines c =
+    let is = c.line_end-end.ensures ∙ ap (λ (bytes : List ℕ). position_or_len is_line_feed bytes) c.as_bytes.ensures.value in
+    lines_of-cut c.args.text.now _ is (omega (arith, c.if-end-text.true)) _ _ c.range.ensures.value c.range_from.ensures.value
+
+pub returns-else-end-text-clause-lines : goal.returns-else-end-text-clause-lines
+returns-else-end-text-clause-lines c =
+    let is = c.line_end-end.ensures ∙ ap (λ (bytes : List ℕ). position_or_len is_line_feed bytes) c.as_bytes.ensures.value in
+    lines_of-whole c.args.text.now _ c.requires is (omega (arith, c.if-end-text.false))
