@@ -1,5 +1,5 @@
 -- What a text reads as, and how it is refused.
-use Rattle.std.specs.Prelude.{◌≡◌, ℕ, ◌<◌, suc, List, [], ◌∷◌, Option, Some, None, take, slice_get, if◌then◌else◌, ◌==◌, MatchOption, ◌⊎◌}
+use Rattle.std.specs.Prelude.{◌≡◌, ℕ, ◌<◌, suc, List, [], ◌∷◌, Option, Some, None, take, slice_get, if◌then◌else◌, ◌==◌, IfSome, MatchOption, ◌⊎◌}
 use Rattle.lexicon_fields.specs.declared.architecture.Architecture.TheVariants as architecture
 use Rattle.lexicon_fields.specs.declared.operating_system.OperatingSystem.TheVariants as operating_system
 use Rattle.lexicon_fields.specs.declared.environment.Environment.TheVariants as environment
@@ -94,3 +94,7 @@ MayWantMemory text = IsRefused text ⊎ ((t : Values) × ReadsAs text t × IsCus
 -- the error names the refusal of the text, or tells of memory where memory may be wanted
 abbrev pub IsFaultOf : List ℕ → ParseError → Type 0
 IsFaultOf text error = MatchOption (refusal_of error) (MayWantMemory text) (λ refusal. IsRefusedAs text refusal)
+
+-- the error names the refusal of the text, or tells of memory, whatever the text: so of a call that asks for more than the reading does
+abbrev pub IsRefusalOrMemory : List ℕ → ParseError → Type 0
+IsRefusalOrMemory text error = IfSome (refusal_of error) (λ refusal. IsRefusedAs text refusal)

@@ -105,7 +105,7 @@ impl Triple {
 
     /// Whether a special text is printed, and environment and format aren't `Newlib` and `Elf`.
     #[tactic(auto, unfolding(crate::specs::SpecialTexts::special_text))]
-    fn prints_as_special(&self) -> bool
+    pub(crate) fn prints_as_special(&self) -> bool
         ensures { result ≡ prints_as_special self.now.operating_system (vendor_value self.now.vendor) self.now.architecture
             self.now.environment self.now.binary_format }
     {
@@ -117,7 +117,7 @@ impl Triple {
 
     /// Whether `Newlib` isn't shown, and the text isn't special.
     #[tactic(auto, unfolding(crate::specs::SpecialTexts::special_text, crate::specs::Printing::shows_environment))]
-    fn hides_newlib(&self) -> bool
+    pub(crate) fn hides_newlib(&self) -> bool
         ensures { result ≡ hides_newlib self.now.environment self.now.operating_system (vendor_value self.now.vendor) self.now.architecture }
     {
         match self.environment {
@@ -129,7 +129,7 @@ impl Triple {
     }
 
     /// Whether the vendor is the custom `esp`, and the text the special one.
-    fn prints_the_esp_idf_text(&self) -> bool
+    pub(crate) fn prints_the_esp_idf_text(&self) -> bool
         ensures { result ≡ prints_the_esp_idf_text self.now.environment self.now.binary_format self.now.operating_system
             self.now.architecture (vendor_value self.now.vendor) }
     {
@@ -153,7 +153,7 @@ impl Triple {
 
     /// Whether the environment `none` is shown alone, on Clever without a system.
     #[tactic(auto, unfolding(crate::specs::Printing::shows_operating_system))]
-    fn shows_none_alone(&self) -> bool
+    pub(crate) fn shows_none_alone(&self) -> bool
         ensures { result ≡ shows_none_alone self.now.environment self.now.operating_system self.now.architecture }
     {
         match self.environment {
@@ -164,7 +164,7 @@ impl Triple {
 }
 
 /// The format, or `Elf` for an unknown one.
-fn elf_if_unknown(binary_format: BinaryFormat) -> BinaryFormat
+pub(crate) fn elf_if_unknown(binary_format: BinaryFormat) -> BinaryFormat
     ensures { result ≡ elf_if_unknown binary_format }
 {
     match binary_format {

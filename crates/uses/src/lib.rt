@@ -6,6 +6,10 @@ mod key;
 mod layout;
 mod literals;
 mod matrix;
+mod same_target;
+mod spelling;
+#[cfg(test)]
+mod spelling_tests;
 mod target_file;
 #[cfg(test)]
 mod tests;
@@ -15,4 +19,6 @@ pub use key::{CacheKey, share_key};
 pub use layout::{CLayout, TypeLayout, c_layout};
 pub use literals::{host_by_text, refused_text, wasi_text};
 pub use matrix::{MatrixError, release_matrix};
+pub use same_target::names_target;
+pub use spelling::settled_text;
 pub use target_file::{TargetFileError, llvm_target};

@@ -1,0 +1,18 @@
+//! The commonest job: a text is read, settled and printed.
+ghost use Rattle.std.specs.Prelude.{◌≡◌, IfOk, IfErr, string_bytes};
+ghost use Rattle.target_lexicon.specs.FixedPoints.{settled};
+ghost use Rattle.target_lexicon.specs.Printing.{text_of};
+ghost use Rattle.target_lexicon.specs.Reading.{ReadsAs, IsRefusalOrMemory};
+ghost use Rattle.target_lexicon.specs.Values.{Values};
+
+use std::alloc::Global;
+use target_lexicon::{ParseError, Triple};
+
+/// The one text of the target that a text names, however that is spelled.
+pub fn settled_text(alloc: Global, text: &str) -> Result<String, ParseError>
+    ensures ok { IfOk result (λ out. (t : Values) × ReadsAs text.now t × (string_bytes out ≡ text_of (settled t))) }
+    ensures err { IfErr result (λ error. IsRefusalOrMemory text.now error) }
+{
+    let triple = Triple::from_str(alloc, text)?;
+    Ok(triple.settle().to_text(alloc)?)
+}
