@@ -1,28 +1,23 @@
 //! The two wrappers with a default.
 
-use crate::fixtures::{custom_vendor, fed};
-use std::alloc::{AllocError, Global};
+use crate::fixtures::{check_print, custom_vendor, fed, read};
 use std::process::Abort;
-use target_lexicon::{CustomVendor, DefaultToHost, DefaultToUnknown, ParseError, Triple, Vendor};
+use target_lexicon::{CustomVendor, DefaultToHost, DefaultToUnknown, Triple, Vendor};
 
 #[test]
-fn defaults_are_the_host_and_the_unknown_triple(rt: HostRuntime) -> Result<(), AllocError> {
-    let host = DefaultToHost::default();
-    assert_eq!(rt;
-        host.0.to_text(rt.alloc())?.as_str(),
-        "x86_64-unknown-linux-gnu"
+fn defaults_are_the_host_and_the_unknown_triple(rt: HostRuntime) {
+    check_print(
+        &rt,
+        rt.alloc(),
+        &DefaultToHost::default().0,
+        "x86_64-unknown-linux-gnu",
     );
-    let unknown = DefaultToUnknown::default();
-    assert_eq!(rt;
-        unknown.0.to_text(rt.alloc())?.as_str(),
-        "unknown-unknown-unknown"
+    check_print(
+        &rt,
+        rt.alloc(),
+        &DefaultToUnknown::default().0,
+        "unknown-unknown-unknown",
     );
-    Ok(())
-}
-
-/// A triple whose vendor owns its text.
-fn owner(alloc: Global) -> Result<Triple, ParseError> {
-    Triple::from_str(alloc, "x86_64-customvendor-linux")
 }
 
 /// The vendor owns its text.
@@ -33,30 +28,35 @@ fn check_vendor(rt: &impl Abort, vendor: &Vendor) {
 }
 
 #[test]
-fn a_clone_of_the_default_host_keeps_a_custom_vendor(rt: HostRuntime) -> Result<(), ParseError> {
-    let host = DefaultToHost(owner(rt.alloc())?);
-    let copy = host.clone(rt.alloc())?;
-    check_vendor(&rt, &copy.0.vendor);
-    assert!(rt; copy == host);
-    Ok(())
+fn a_clone_of_the_default_host_keeps_a_custom_vendor(rt: HostRuntime) {
+    let host = DefaultToHost(read(&rt, rt.alloc(), "x86_64-customvendor-linux"));
+    match host.clone(rt.alloc()) {
+        Ok(copy) => {
+            check_vendor(&rt, &copy.0.vendor);
+            assert!(rt; copy == host);
+        }
+        Err(_) => panic!(rt; "no memory"),
+    }
 }
 
 #[test]
-fn a_clone_of_the_default_unknown_keeps_a_custom_vendor(rt: HostRuntime) -> Result<(), ParseError> {
-    let unknown = DefaultToUnknown(owner(rt.alloc())?);
-    let copy = unknown.clone(rt.alloc())?;
-    check_vendor(&rt, &copy.0.vendor);
-    assert!(rt; copy == unknown);
-    Ok(())
+fn a_clone_of_the_default_unknown_keeps_a_custom_vendor(rt: HostRuntime) {
+    let unknown = DefaultToUnknown(read(&rt, rt.alloc(), "x86_64-customvendor-linux"));
+    match unknown.clone(rt.alloc()) {
+        Ok(copy) => {
+            check_vendor(&rt, &copy.0.vendor);
+            assert!(rt; copy == unknown);
+        }
+        Err(_) => panic!(rt; "no memory"),
+    }
 }
 
 #[test]
-fn equal_triples_feed_a_hasher_alike(rt: HostRuntime) -> Result<(), ParseError> {
-    let read = owner(rt.alloc())?;
+fn equal_triples_feed_a_hasher_alike(rt: HostRuntime) {
+    let owner = read(&rt, rt.alloc(), "x86_64-customvendor-linux");
     let mut fixed = Triple::host();
     fixed.vendor = custom_vendor("customvendor");
-    fixed.environment = read.environment;
-    assert!(rt; fixed == read);
-    assert!(rt; fed(&fixed) == fed(&read));
-    Ok(())
+    fixed.environment = owner.environment;
+    assert!(rt; fixed == owner);
+    assert!(rt; fed(&fixed) == fed(&owner));
 }

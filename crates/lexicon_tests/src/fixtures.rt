@@ -4,6 +4,7 @@ use std::alloc::Global;
 use std::fmt;
 use std::fmt::{Display, Write as _};
 use std::hash::{DefaultHasher, Hash, Hasher};
+use std::process::Abort;
 use target_lexicon::{
     Architecture, BinaryFormat, CDataModel, CallingConvention, CustomVendor, Endianness,
     Environment, OperatingSystem, ParseError, PointerWidth, Triple, Vendor,
@@ -81,10 +82,36 @@ pub(crate) fn built(alloc: Global, names: &'static str) -> Option<Triple> {
     })
 }
 
-/// What the triple's text reads as.
-pub(crate) fn round(alloc: Global, triple: &Triple) -> Result<Triple, ParseError> {
-    let text = triple.to_text(alloc)?;
-    Triple::from_str(alloc, text.as_str())
+/// The triple that the text reads as.
+pub(crate) fn read(rt: &impl Abort, alloc: Global, text: &str) -> Triple {
+    match Triple::from_str(alloc, text) {
+        Ok(triple) => triple,
+        Err(error) => panic!(rt; "{text}"),
+    }
+}
+
+/// Why the text is refused.
+pub(crate) fn refused(rt: &impl Abort, alloc: Global, text: &str) -> ParseError {
+    match Triple::from_str(alloc, text) {
+        Ok(_) => panic!(rt; "{text}"),
+        Err(error) => error,
+    }
+}
+
+/// The value prints this text, whatever the width that is asked for.
+pub(crate) fn check_print<T: Display>(rt: &impl Abort, alloc: Global, value: &T, text: &str) {
+    match format!(in alloc; "{value:*>60}") {
+        Ok(printed) => assert_eq!(rt; printed.as_str(), text),
+        Err(_) => panic!(rt; "no memory"),
+    }
+}
+
+/// The text of the triple.
+pub(crate) fn text_of(rt: &impl Abort, alloc: Global, triple: &Triple) -> String {
+    match triple.to_text(alloc) {
+        Ok(text) => text,
+        Err(_) => panic!(rt; "no memory"),
+    }
 }
 
 pub(crate) fn order_word(answer: Result<Endianness, ()>) -> &'static str {

@@ -1,8 +1,8 @@
 //! Texts that were made to mislead a reader, to be long, or to hold what no name holds.
 
+use crate::fixtures::{check_print, read, refused};
 use std::alloc::{AllocError, Global};
 use std::process::Abort;
-use target_lexicon::{ParseError, Triple};
 
 /// A text, and behind `=` the line that tells why it is refused.
 const REFUSED: &str = "\
@@ -26,43 +26,36 @@ x86_64-apple-ios1\u{2024}2=Unrecognized operating system: ios1\u{2024}2
 x86_64-apple-ios1\0=Unrecognized operating system: ios1\0
 armv6k-nintendo-3ds\0=Unrecognized operating system: 3ds\0";
 
-/// The text is refused by this line.
-fn check_refused(rt: &impl Abort, alloc: Global, text: &str, line: &str) -> Result<(), AllocError> {
-    match Triple::from_str(alloc, text) {
-        Ok(_) => assert!(rt; false, "{text}"),
-        Err(error) => assert_eq!(rt; format!(in alloc; "{error}")?.as_str(), line),
-    }
-    Ok(())
-}
-
 #[test]
-fn misleading_texts_are_refused(rt: HostRuntime) -> Result<(), AllocError> {
+fn misleading_texts_are_refused(rt: HostRuntime) {
     for row in REFUSED.lines() {
         let (text, line) = row.split_once('=').unwrap_or((row, ""));
-        check_refused(&rt, rt.alloc(), text, line)?;
+        check_print(&rt, rt.alloc(), &refused(&rt, rt.alloc(), text), line);
     }
+}
+
+/// An Apple system with these characters behind its front is refused.
+fn check_long(rt: &impl Abort, alloc: Global, front: &str, many: &str) -> Result<(), AllocError> {
+    let text = format!(in alloc; "x86_64-apple-{front}{many}")?;
+    let line = format!(in alloc; "Unrecognized operating system: {front}{many}")?;
+    check_print(rt, alloc, &refused(rt, alloc, text.as_str()), line.as_str());
     Ok(())
 }
 
 #[test]
 fn a_number_may_be_too_long(rt: HostRuntime) -> Result<(), AllocError> {
     let nines = "9".repeat(rt.alloc(), 1000)?;
-    for front in ["ios", "ios1.", "ios1.0.", "ios1.2.3."] {
-        let text = format!(in rt.alloc(); "x86_64-apple-{front}{nines}")?;
-        let line = format!(in rt.alloc(); "Unrecognized operating system: {front}{nines}")?;
-        check_refused(&rt, rt.alloc(), text.as_str(), line.as_str())?;
-    }
-    Ok(())
+    check_long(&rt, rt.alloc(), "ios", nines.as_str())?;
+    check_long(&rt, rt.alloc(), "ios1.", nines.as_str())?;
+    check_long(&rt, rt.alloc(), "ios1.0.", nines.as_str())?;
+    check_long(&rt, rt.alloc(), "ios1.2.3.", nines.as_str())
 }
 
 #[test]
-fn zeros_may_stand_in_front(rt: HostRuntime) -> Result<(), ParseError> {
+fn zeros_may_stand_in_front(rt: HostRuntime) -> Result<(), AllocError> {
     let zeros = "0".repeat(rt.alloc(), 1000)?;
     let text = format!(in rt.alloc(); "x86_64-apple-darwin{zeros}23.{zeros}")?;
-    let read = Triple::from_str(rt.alloc(), text.as_str())?;
-    assert_eq!(rt;
-        read.to_text(rt.alloc())?.as_str(),
-        "x86_64-apple-darwin23.0.0"
-    );
+    let triple = read(&rt, rt.alloc(), text.as_str());
+    check_print(&rt, rt.alloc(), &triple, "x86_64-apple-darwin23.0.0");
     Ok(())
 }

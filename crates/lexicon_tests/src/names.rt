@@ -2,7 +2,7 @@
 //! target-lexicon 0.13.5 for each of its values.
 
 use crate::fixtures::{order_word, width_word};
-use std::alloc::{AllocError, Global};
+use std::alloc::Global;
 use std::borrow::CowStr;
 use std::fmt::{Debug, Display};
 use std::process::Abort;
@@ -210,28 +210,33 @@ macho Macho
 wasm Wasm
 xcoff Xcoff";
 
-/// Each name reads as the value behind it, which prints it, whatever the width that is asked for.
-fn check_names<T: Debug + Display + Drop + FromStr<Err = ()>>(
+/// The name at the front of the row reads as the value behind it, which prints it, whatever the width that is asked for.
+fn check_name<T: Debug + Display + Drop + FromStr<Err = ()>>(
     rt: &impl Abort,
     alloc: Global,
-    rows: &str,
-) -> Result<(), AllocError> {
-    for row in rows.lines() {
-        let (name, _) = row.split_once(' ').unwrap_or((row, ""));
-        let Ok(value) = name.parse::<T>() else {
-            panic!(rt; "{name}");
-        };
-        let told = format!(in alloc; "{value:*>40} {value:?}")?;
-        assert_eq!(rt; told.as_str(), row);
+    row: &str,
+) {
+    let (name, _) = row.split_once(' ').unwrap_or((row, ""));
+    let Ok(value) = name.parse::<T>() else {
+        panic!(rt; "{name}");
+    };
+    match format!(in alloc; "{value:*>40} {value:?}") {
+        Ok(told) => assert_eq!(rt; told.as_str(), row),
+        Err(_) => panic!(rt; "no memory"),
     }
-    Ok(())
 }
 
 #[test]
-fn every_value_has_its_name(rt: HostRuntime) -> Result<(), AllocError> {
-    check_names::<OperatingSystem>(&rt, rt.alloc(), OPERATING_SYSTEMS)?;
-    check_names::<Environment>(&rt, rt.alloc(), ENVIRONMENTS)?;
-    check_names::<BinaryFormat>(&rt, rt.alloc(), BINARY_FORMATS)
+fn every_value_has_its_name(rt: HostRuntime) {
+    for row in OPERATING_SYSTEMS.lines() {
+        check_name::<OperatingSystem>(&rt, rt.alloc(), row);
+    }
+    for row in ENVIRONMENTS.lines() {
+        check_name::<Environment>(&rt, rt.alloc(), row);
+    }
+    for row in BINARY_FORMATS.lines() {
+        check_name::<BinaryFormat>(&rt, rt.alloc(), row);
+    }
 }
 
 /// What an architecture is besides its byte order and width.
@@ -244,24 +249,26 @@ fn kind(value: Architecture) -> &'static str {
     }
 }
 
-/// The name, the value and its answers, as a row has them.
-fn answers(alloc: Global, value: Architecture) -> Result<String, AllocError> {
+/// The name at the front of the row reads as the value behind it, which answers so.
+fn check_architecture(rt: &impl Abort, alloc: Global, row: &str) {
+    let (name, _) = row.split_once(' ').unwrap_or((row, ""));
+    let Ok(value) = name.parse::<Architecture>() else {
+        panic!(rt; "{name}");
+    };
     let order = order_word(value.endianness());
     let width = width_word(value.pointer_width());
     let kind = kind(value);
-    format!(in alloc; "{value:*>40} {value:?} {order} {width}{kind}")
+    match format!(in alloc; "{value:*>40} {value:?} {order} {width}{kind}") {
+        Ok(told) => assert_eq!(rt; told.as_str(), row),
+        Err(_) => panic!(rt; "no memory"),
+    }
 }
 
 #[test]
-fn every_architecture_has_its_name_and_answers(rt: HostRuntime) -> Result<(), AllocError> {
+fn every_architecture_has_its_name_and_answers(rt: HostRuntime) {
     for row in ARCHITECTURES.lines() {
-        let (name, _) = row.split_once(' ').unwrap_or((row, ""));
-        let Ok(value) = name.parse::<Architecture>() else {
-            panic!(rt; "{name}");
-        };
-        assert_eq!(rt; answers(rt.alloc(), value)?.as_str(), row);
+        check_architecture(&rt, rt.alloc(), row);
     }
-    Ok(())
 }
 
 /// The name of the value that a text reads as, by the calls of each type.
@@ -280,6 +287,13 @@ fn name_of(family: &str, text: &str) -> Result<CowStr<'static>, ()> {
         "format" => BinaryFormat::from_str(text)?.into_str(),
         _ => Architecture::from_str(text)?.into_str(),
     })
+}
+
+fn check_name_of(rt: &impl Abort, family: &str, text: &str, want: &str) {
+    match name_of(family, text) {
+        Ok(name) => assert_eq!(rt; name.as_str(), want),
+        Err(()) => assert_eq!(rt; "-", want),
+    }
 }
 
 /// A type, a text, and the name of the value that it reads as, or `-`.
@@ -321,10 +335,7 @@ fn texts_read_in_each_type(rt: HostRuntime) {
         let family = words.next().unwrap_or("");
         let text = words.next().unwrap_or("");
         let want = words.next().unwrap_or("");
-        match name_of(family, text) {
-            Ok(name) => assert_eq!(rt; name.as_str(), want),
-            Err(()) => assert_eq!(rt; want, "-"),
-        }
+        check_name_of(&rt, family, text, want);
     }
 }
 

@@ -1,6 +1,6 @@
 //! What triples print, read or built, and the lines of errors.
 
-use crate::fixtures::built;
+use crate::fixtures::{built, check_print, read, text_of};
 use std::alloc::{AllocError, Global};
 use std::process::Abort;
 use target_lexicon::{
@@ -8,16 +8,10 @@ use target_lexicon::{
     default_binary_format,
 };
 
-/// The triple prints so, whatever the width that is asked for.
-fn check_print(
-    rt: &impl Abort,
-    alloc: Global,
-    triple: &Triple,
-    print: &str,
-) -> Result<(), AllocError> {
-    assert_eq!(rt; triple.to_text(alloc)?.as_str(), print);
-    assert_eq!(rt; format!(in alloc; "{triple:*>60}")?.as_str(), print);
-    Ok(())
+/// The triple's text is this, and it prints so.
+fn check_text(rt: &impl Abort, alloc: Global, triple: &Triple, text: &str) {
+    assert_eq!(rt; text_of(rt, alloc, triple).as_str(), text);
+    check_print(rt, alloc, triple, text);
 }
 
 /// A text, and behind `=` what the triple that it reads as prints.
@@ -56,13 +50,11 @@ clever-unknown-unknown=clever-unknown-elf
 x86_64-unknown-linux-unknown=x86_64-unknown-linux";
 
 #[test]
-fn read_triples_print(rt: HostRuntime) -> Result<(), ParseError> {
+fn read_triples_print(rt: HostRuntime) {
     for row in READ.lines() {
         let (text, print) = row.split_once('=').unwrap_or((row, ""));
-        let triple = Triple::from_str(rt.alloc(), text)?;
-        check_print(&rt, rt.alloc(), &triple, print)?;
+        check_text(&rt, rt.alloc(), &read(&rt, rt.alloc(), text), print);
     }
-    Ok(())
 }
 
 /// The five names of a triple, and behind ` = ` what it prints. A custom vendor stands behind a quote.
@@ -78,25 +70,24 @@ clever unknown unknown none elf = clever-unknown-none-elf
 x86_64 apple ios gnu elf = x86_64-apple-ios-gnu-elf";
 
 #[test]
-fn built_triples_print(rt: HostRuntime) -> Result<(), AllocError> {
+fn built_triples_print(rt: HostRuntime) {
     for row in BUILT.lines() {
         let (names, print) = row.split_once(" = ").unwrap_or((row, ""));
-        let Some(triple) = built(rt.alloc(), names) else {
-            panic!(rt; "{names}");
-        };
-        check_print(&rt, rt.alloc(), &triple, print)?;
+        match built(rt.alloc(), names) {
+            Some(triple) => check_text(&rt, rt.alloc(), &triple, print),
+            None => panic!(rt; "{names}"),
+        }
     }
-    Ok(())
 }
 
 #[test]
 fn an_owned_custom_vendor_prints(rt: HostRuntime) -> Result<(), AllocError> {
-    let owned = String::from_str(rt.alloc(), "owned")?;
-    let mut triple = Triple::host();
-    triple.vendor = Vendor::Custom(CustomVendor::Owned(Box::new(rt.alloc(), owned)?));
-    assert_eq!(rt;
-        triple.to_text(rt.alloc())?.as_str(),
-        "x86_64-owned-linux-gnu"
+    let owned = Box::new(rt.alloc(), String::from_str(rt.alloc(), "owned")?)?;
+    check_print(
+        &rt,
+        rt.alloc(),
+        &Vendor::Custom(CustomVendor::Owned(owned)),
+        "owned",
     );
     Ok(())
 }
@@ -106,23 +97,18 @@ fn an_owned_custom_vendor_prints(rt: HostRuntime) -> Result<(), AllocError> {
 fn the_implied_format_is_of_the_other_fields(rt: HostRuntime) {
     let mut triple = Triple::host();
     triple.binary_format = BinaryFormat::Coff;
-    assert_eq!(rt; default_binary_format(&triple), BinaryFormat::Elf);
+    assert!(rt; default_binary_format(&triple) == BinaryFormat::Elf);
     triple.operating_system = OperatingSystem::XROS(None);
-    assert_eq!(rt; default_binary_format(&triple), BinaryFormat::Macho);
+    assert!(rt; default_binary_format(&triple) == BinaryFormat::Macho);
     triple.operating_system = OperatingSystem::None_;
-    assert_eq!(rt; default_binary_format(&triple), BinaryFormat::Unknown);
+    assert!(rt; default_binary_format(&triple) == BinaryFormat::Unknown);
     triple.environment = Environment::Eabi;
-    assert_eq!(rt; default_binary_format(&triple), BinaryFormat::Elf);
+    assert!(rt; default_binary_format(&triple) == BinaryFormat::Elf);
 }
 
 #[test]
-fn want_of_memory_has_its_line(rt: HostRuntime) -> Result<(), AllocError> {
-    let error = ParseError::OutOfMemory.clone(rt.alloc())?;
-    assert_eq!(rt;
-        format!(in rt.alloc(); "{error:*>40}")?.as_str(),
-        "Out of memory"
-    );
-    Ok(())
+fn want_of_memory_has_its_line(rt: HostRuntime) {
+    check_print(&rt, rt.alloc(), &ParseError::OutOfMemory, "Out of memory");
 }
 
 /// Built triples whose vendor isn't plain; what each prints; and what that reads as or why it is refused.
@@ -134,20 +120,26 @@ x86_64 'pc windows msvc coff = x86_64-pc-windows-msvc = x86_64 pc windows msvc c
 x86_64 'unknown-linux unknown unknown elf = x86_64-unknown-linux-unknown-elf = x86_64 unknown linux unknown elf
 x86_64 'none linux unknown elf = x86_64-none-linux = Unrecognized environment: linux";
 
+/// What the text reads as, or the line that tells why it is refused.
+fn check_answer(rt: &impl Abort, alloc: Global, text: &str, want: &'static str) {
+    match Triple::from_str(alloc, text) {
+        Ok(read) => assert!(rt; built(alloc, want) == Some(read), "{text}"),
+        Err(error) => check_print(rt, alloc, &error, want),
+    }
+}
+
 #[test]
-fn no_triple_comes_back_whose_vendor_is_not_plain(rt: HostRuntime) -> Result<(), AllocError> {
+fn no_triple_comes_back_whose_vendor_is_not_plain(rt: HostRuntime) {
     for row in NOT_PLAIN.lines() {
         let (names, rest) = row.split_once(" = ").unwrap_or((row, ""));
         let (print, want) = rest.split_once(" = ").unwrap_or((rest, ""));
-        let Some(triple) = built(rt.alloc(), names) else {
-            panic!(rt; "{names}");
-        };
-        assert!(rt; !triple.comes_back(), "{row}");
-        check_print(&rt, rt.alloc(), &triple, print)?;
-        match Triple::from_str(rt.alloc(), print) {
-            Ok(read) => assert!(rt; built(rt.alloc(), want) == Some(read), "{row}"),
-            Err(error) => assert_eq!(rt; format!(in rt.alloc(); "{error}")?.as_str(), want),
+        match built(rt.alloc(), names) {
+            Some(triple) => {
+                assert!(rt; !triple.comes_back());
+                check_text(&rt, rt.alloc(), &triple, print);
+            }
+            None => panic!(rt; "{names}"),
         }
+        check_answer(&rt, rt.alloc(), print, want);
     }
-    Ok(())
 }

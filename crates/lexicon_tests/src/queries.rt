@@ -1,8 +1,9 @@
 //! What triples and data models answer.
 
-use crate::fixtures::{convention_word, model_word, order_word, width_word};
-use std::alloc::{AllocError, Global};
-use target_lexicon::{Architecture, CDataModel, OperatingSystem, ParseError, Size, Triple};
+use crate::fixtures::{convention_word, model_word, order_word, read, width_word};
+use std::alloc::Global;
+use std::process::Abort;
+use target_lexicon::{Architecture, CDataModel, OperatingSystem, Size, Triple};
 
 /// A text, and the byte order, pointer width, calling convention and data model of its triple; `-` for a refusal.
 const ANSWERS: &str = "\
@@ -54,42 +55,35 @@ unknown-apple-darwin - - SystemV -
 unknown-pc-windows-gnu_ilp32 - 32 WindowsFastcall ILP32
 x86_64-customvendor-linux little 64 SystemV LP64";
 
-/// The four answers of the triple.
-fn answers(alloc: Global, triple: &Triple) -> Result<String, AllocError> {
+/// The triple answers so.
+fn check_answers(rt: &impl Abort, alloc: Global, triple: &Triple, want: &str) {
     let order = order_word(triple.endianness());
     let width = width_word(triple.pointer_width());
     let convention = convention_word(triple.default_calling_convention());
     let model = model_word(triple.data_model());
-    format!(in alloc; "{order} {width} {convention} {model}")
-}
-
-fn answers_of(alloc: Global, text: &str) -> Result<String, ParseError> {
-    let triple = Triple::from_str(alloc, text)?;
-    Ok(answers(alloc, &triple)?)
+    match format!(in alloc; "{order} {width} {convention} {model}") {
+        Ok(answers) => assert_eq!(rt; answers.as_str(), want),
+        Err(_) => panic!(rt; "no memory"),
+    }
 }
 
 #[test]
-fn triples_answer(rt: HostRuntime) -> Result<(), ParseError> {
+fn triples_answer(rt: HostRuntime) {
     for row in ANSWERS.lines() {
         let (text, want) = row.split_once(' ').unwrap_or((row, ""));
-        let answers = answers_of(rt.alloc(), text)?;
-        assert_eq!(rt; answers.as_str(), want);
+        check_answers(&rt, rt.alloc(), &read(&rt, rt.alloc(), text), want);
     }
-    assert_eq!(rt;
-        answers(rt.alloc(), &Triple::unknown())?.as_str(),
-        "- - - -"
-    );
-    Ok(())
+    check_answers(&rt, rt.alloc(), &Triple::unknown(), "- - - -");
 }
 
 #[test]
 fn hosts_are_fixed(rt: HostRuntime) {
     assert!(rt; matches!(OperatingSystem::host(), OperatingSystem::Linux));
-    assert_eq!(rt; width_word(Architecture::host().pointer_width()), "64");
+    assert!(rt; width_word(Architecture::host().pointer_width()) == "64");
 }
 
 /// The bits of short, int, long, long long, pointer, float and double.
-fn sizes(alloc: Global, model: CDataModel) -> Result<String, AllocError> {
+fn check_sizes(rt: &impl Abort, alloc: Global, model: CDataModel, want: &str) {
     let short = model.short_size().bits();
     let int = model.int_size().bits();
     let long = model.long_size().bits();
@@ -97,21 +91,19 @@ fn sizes(alloc: Global, model: CDataModel) -> Result<String, AllocError> {
     let pointer = model.pointer_width().bits();
     let float = model.float_size().bits();
     let double = model.double_size().bits();
-    format!(in alloc; "{short} {int} {long} {long_long} {pointer} {float} {double}")
+    match format!(in alloc; "{short} {int} {long} {long_long} {pointer} {float} {double}") {
+        Ok(sizes) => assert_eq!(rt; sizes.as_str(), want),
+        Err(_) => panic!(rt; "no memory"),
+    }
 }
 
 #[test]
-fn models_have_sizes(rt: HostRuntime) -> Result<(), AllocError> {
-    for (model, bits) in [
-        (CDataModel::LP32, "16 16 32 64 32 32 64"),
-        (CDataModel::ILP32, "16 32 32 64 32 32 64"),
-        (CDataModel::LLP64, "16 32 32 64 64 32 64"),
-        (CDataModel::LP64, "16 32 64 64 64 32 64"),
-        (CDataModel::ILP64, "16 64 64 64 64 32 64"),
-    ] {
-        assert_eq!(rt; sizes(rt.alloc(), model)?.as_str(), bits);
-    }
-    Ok(())
+fn models_have_sizes(rt: HostRuntime) {
+    check_sizes(&rt, rt.alloc(), CDataModel::LP32, "16 16 32 64 32 32 64");
+    check_sizes(&rt, rt.alloc(), CDataModel::ILP32, "16 32 32 64 32 32 64");
+    check_sizes(&rt, rt.alloc(), CDataModel::LLP64, "16 32 32 64 64 32 64");
+    check_sizes(&rt, rt.alloc(), CDataModel::LP64, "16 32 64 64 64 32 64");
+    check_sizes(&rt, rt.alloc(), CDataModel::ILP64, "16 64 64 64 64 32 64");
 }
 
 #[test]

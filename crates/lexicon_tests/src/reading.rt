@@ -1,18 +1,21 @@
 //! Texts that read as a triple, and texts that are refused.
 
-use crate::fixtures::custom_vendor;
+use crate::fixtures::{check_print, custom_vendor, read, refused};
 use std::alloc::{AllocError, Global};
 use std::process::Abort;
 use target_lexicon::{CustomVendor, ParseError, Triple, Vendor, triple};
 
-/// The five values of the triple, as `{:?}` writes each.
-fn values(alloc: Global, triple: &Triple) -> Result<String, AllocError> {
+/// The five values of the triple are these, as `{:?}` writes each.
+fn check_values(rt: &impl Abort, alloc: Global, triple: &Triple, want: &str) {
     let architecture = triple.architecture;
     let vendor = &triple.vendor;
     let system = triple.operating_system;
     let environment = triple.environment;
     let format = triple.binary_format;
-    format!(in alloc; "{architecture:?} {vendor:?} {system:?} {environment:?} {format:?}")
+    match format!(in alloc; "{architecture:?} {vendor:?} {system:?} {environment:?} {format:?}") {
+        Ok(values) => assert_eq!(rt; values.as_str(), want),
+        Err(_) => panic!(rt; "no memory"),
+    }
 }
 
 /// A text, and behind ` = ` the five values of the triple that it reads as.
@@ -58,26 +61,23 @@ wasm32-wasip1 = Wasm32 Unknown WasiP1 Unknown Elf
 wasm32-wasi = Wasm32 Unknown Wasi Unknown Wasm";
 
 #[test]
-fn texts_read_as_triples(rt: HostRuntime) -> Result<(), ParseError> {
+fn texts_read_as_triples(rt: HostRuntime) {
     for row in READ.lines() {
         let (text, want) = row.split_once(" = ").unwrap_or((row, ""));
-        let triple = Triple::from_str(rt.alloc(), text)?;
-        assert_eq!(rt; values(rt.alloc(), &triple)?.as_str(), want);
+        check_values(&rt, rt.alloc(), &read(&rt, rt.alloc(), text), want);
     }
-    Ok(())
 }
 
-/// The line that tells why the text is refused, and a clone of the refusal tells it too.
-fn check_refused(rt: &impl Abort, alloc: Global, text: &str, line: &str) -> Result<(), AllocError> {
-    match Triple::from_str(alloc, text) {
-        Ok(_) => assert!(rt; false, "{text}"),
-        Err(error) => {
-            let copy = error.clone(alloc)?;
-            assert!(rt; copy == error, "{text}");
-            assert_eq!(rt; format!(in alloc; "{copy:*<90}")?.as_str(), line);
+/// The line tells why the text is refused, and a clone of the refusal tells it too.
+fn check_refused(rt: &impl Abort, alloc: Global, text: &str, line: &str) {
+    let error = refused(rt, alloc, text);
+    match error.clone(alloc) {
+        Ok(copy) => {
+            assert!(rt; copy == error);
+            check_print(rt, alloc, &copy, line);
         }
+        Err(_) => panic!(rt; "no memory"),
     }
-    Ok(())
 }
 
 /// A text, and behind `=` the line that tells why it is refused. Some letters only look like those of a vendor.
@@ -122,12 +122,11 @@ x86_64-elf-linux=Unrecognized field: linux
 x86_64-unknown-linux-gnu-elf-=Unrecognized field: ";
 
 #[test]
-fn other_texts_are_refused(rt: HostRuntime) -> Result<(), AllocError> {
+fn other_texts_are_refused(rt: HostRuntime) {
     for row in REFUSED.lines() {
         let (text, line) = row.split_once('=').unwrap_or((row, ""));
-        check_refused(&rt, rt.alloc(), text, line)?;
+        check_refused(&rt, rt.alloc(), text, line);
     }
-    Ok(())
 }
 
 /// Five thousand dashes, behind nothing, behind an architecture, and behind all five fields.
@@ -140,19 +139,20 @@ fn dashes_may_be_many(rt: HostRuntime) -> Result<(), AllocError> {
         ("x86_64-unknown-linux-gnu-elf", "Unrecognized field: "),
     ] {
         let text = format!(in rt.alloc(); "{front}{dashes}")?;
-        check_refused(&rt, rt.alloc(), text.as_str(), line)?;
+        check_refused(&rt, rt.alloc(), text.as_str(), line);
     }
     Ok(())
 }
 
 #[test]
-fn a_custom_vendor_that_is_read_owns_its_text(rt: HostRuntime) -> Result<(), ParseError> {
-    let read = Triple::from_str(rt.alloc(), "x86_64-customvendor-linux")?;
+fn a_custom_vendor_that_is_read_owns_its_text(rt: HostRuntime) {
+    let read = read(&rt, rt.alloc(), "x86_64-customvendor-linux");
     assert!(rt; matches!(&read.vendor, Vendor::Custom(CustomVendor::Owned(_))));
     assert!(rt; read.vendor == custom_vendor("customvendor"));
-    let copy = read.clone(rt.alloc())?;
-    assert!(rt; copy == read);
-    Ok(())
+    match read.clone(rt.alloc()) {
+        Ok(copy) => assert!(rt; copy == read),
+        Err(_) => panic!(rt; "no memory"),
+    }
 }
 
 #[test]

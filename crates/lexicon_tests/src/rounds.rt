@@ -1,9 +1,9 @@
 //! Rounds: what a triple prints, read again; its normal step; and the triple that it settles as.
 
-use crate::fixtures::{custom_vendor, round};
+use crate::fixtures::{custom_vendor, read, text_of};
 use std::alloc::Global;
 use std::process::Abort;
-use target_lexicon::{CustomVendor, ParseError, Triple, Vendor};
+use target_lexicon::{CustomVendor, Triple, Vendor};
 
 /// A text, and behind it the prints of the triple that it reads as, of its normal step, and so on.
 const ROUNDS: &str = "\
@@ -39,47 +39,36 @@ fn settle(triple: Triple) -> Option<Triple> {
 }
 
 /// The triple prints so, and its normal step is its round, which is the answer.
-fn check_step(
-    rt: &impl Abort,
-    alloc: Global,
-    triple: Triple,
-    print: &str,
-) -> Result<Triple, ParseError> {
-    assert_eq!(rt; triple.to_text(alloc)?.as_str(), print);
-    let round = round(alloc, &triple)?;
-    assert!(rt; triple.comes_back() == (triple == round), "{print}");
-    assert!(rt;
-        matches!(normal(triple), Some(step) if step == round),
-        "{print}"
-    );
-    Ok(round)
+fn check_step(rt: &impl Abort, alloc: Global, triple: Triple, print: &str) -> Triple {
+    assert_eq!(rt; text_of(rt, alloc, &triple).as_str(), print);
+    let round = read(rt, alloc, print);
+    assert!(rt; triple.comes_back() == (triple == round));
+    assert!(rt; matches!(normal(triple), Some(step) if step == round));
+    round
 }
 
-fn check_rounds(rt: &impl Abort, alloc: Global, row: &str) -> Result<(), ParseError> {
+fn check_rounds(rt: &impl Abort, alloc: Global, row: &str) {
     let mut words = row.split_whitespace();
     let text = words.next().unwrap_or("");
-    let mut triple = Triple::from_str(alloc, text)?;
+    let mut triple = read(rt, alloc, text);
     for print in words {
-        triple = check_step(rt, alloc, triple, print)?;
+        triple = check_step(rt, alloc, triple, print);
     }
-    assert!(rt; triple.comes_back(), "{row}");
-    let settled = settle(Triple::from_str(alloc, text)?);
-    assert!(rt; settled == Some(triple), "{row}");
-    Ok(())
+    assert!(rt; triple.comes_back());
+    assert!(rt; matches!(settle(read(rt, alloc, text)), Some(settled) if settled == triple));
 }
 
 #[test]
-fn each_step_is_a_round(rt: HostRuntime) -> Result<(), ParseError> {
+fn each_step_is_a_round(rt: HostRuntime) {
     for row in ROUNDS.lines() {
-        check_rounds(&rt, rt.alloc(), row)?;
+        check_rounds(&rt, rt.alloc(), row);
     }
-    Ok(())
 }
 
 /// The vendor that is kept is owned or fixed, as it was.
 #[test]
-fn a_vendor_that_is_kept_stays_owned(rt: HostRuntime) -> Result<(), ParseError> {
-    let settled = settle(Triple::from_str(rt.alloc(), "x86_64-foo-linux")?);
+fn a_vendor_that_is_kept_stays_owned(rt: HostRuntime) {
+    let settled = settle(read(&rt, rt.alloc(), "x86_64-foo-linux"));
     assert!(rt;
         matches!(&settled, Some(triple) if matches!(&triple.vendor, Vendor::Custom(CustomVendor::Owned(_))))
     );
@@ -89,5 +78,4 @@ fn a_vendor_that_is_kept_stays_owned(rt: HostRuntime) -> Result<(), ParseError> 
     assert!(rt;
         matches!(&settled, Some(triple) if matches!(&triple.vendor, Vendor::Custom(CustomVendor::Static("foo"))))
     );
-    Ok(())
 }
