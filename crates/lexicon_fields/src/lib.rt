@@ -24,6 +24,6 @@ pub use environment::Environment;
 pub use known_vendor::KnownVendor;
 pub use operating_system::OperatingSystem;
 pub use steps::Steps;
-pub use table::{FixedRow, fixed_row, row_order};
+pub use table::{FixedRow, ROW_COUNT, fixed_row, row_order};
 pub use vendor::{CustomVendor, Vendor, VendorError};
 pub use width::{Endianness, PointerWidth};

@@ -2,7 +2,7 @@
 ghost use Rattle.std.specs.Prelude.{◌≡◌, ◌+◌, ◌<◌, ◌≤◌, false, Some, MatchOption};
 ghost use Rattle.std.specs.Cmp.Lexicographic.{slice_cmp};
 ghost use Rattle.std.specs.Ordering.{nat_cmp};
-ghost use Rattle.lexicon_fields.specs.FixedRow.{has_row, IsRowOf, row_text};
+ghost use Rattle.lexicon_fields.specs.FixedRow.{has_row, IsRowOf, row_count, row_text};
 
 mod front;
 mod rows;
@@ -15,6 +15,12 @@ use crate::operating_system::OperatingSystem;
 use crate::steps::Steps;
 use rows::{row, row_front};
 use std::cmp::Ordering;
+
+/// How many texts have a row.
+pub const ROW_COUNT: usize = 192;
+
+/// Among how many rows seven comparisons find a text, each leaving half of the others: 1 + 2 + 4 + .. + 64.
+const FOUND_BY_SEVEN: usize = 127;
 
 /// What a text reads as in each field, by the fixed names and the alias: no version, and no custom vendor.
 #[derive(Clone, Copy, Debug, PartialEq, Eq)]
@@ -44,7 +50,7 @@ pub fn fixed_row(text: &str, steps: &mut Steps) -> Option<FixedRow>
 /// The order by bytes of the text of row `i`, counted from 0, against `text`.
 #[inline(always)]
 pub fn row_order(i: usize, text: &str, steps: &mut Steps) -> Ordering
-    requires { i < 192 }
+    requires { i < row_count }
     ensures order { result ≡ slice_cmp nat_cmp (row_text i) text.now }
     ensures count { steps.new.count ≡ steps.old.count + 1 }
 {
@@ -55,17 +61,17 @@ pub fn row_order(i: usize, text: &str, steps: &mut Steps) -> Ordering
 /// The number of the row that has the text.
 #[inline(never)]
 fn row_number(text: &str, steps: &mut Steps) -> Option<usize>
-    ensures row { MatchOption result (has_row text.now ≡ false) (λ i. (i < 192) × (row_text i ≡ text.now)) }
+    ensures row { MatchOption result (has_row text.now ≡ false) (λ i. (i < row_count) × (row_text i ≡ text.now)) }
     ensures counted { steps.old.count ≤ steps.new.count }
     ensures few { steps.new.count ≤ steps.old.count + 8 }
 {
-    let mut low = 65;
-    match row_order(127, text, steps) {
+    let mut low = ROW_COUNT - FOUND_BY_SEVEN;
+    match row_order(FOUND_BY_SEVEN, text, steps) {
         Ordering::Less => {}
         Ordering::Greater => low = 0,
-        Ordering::Equal => return Some(127),
+        Ordering::Equal => return Some(FOUND_BY_SEVEN),
     }
-    let mut left = 127;
+    let mut left = FOUND_BY_SEVEN;
     while left > 0 {
         let middle = low + left / 2;
         left /= 2;
@@ -81,7 +87,7 @@ fn row_number(text: &str, steps: &mut Steps) -> Option<usize>
 /// Row `i`, counted from 0.
 #[inline(always)]
 fn row_at(i: usize) -> FixedRow
-    requires { i < 192 }
+    requires { i < row_count }
     ensures { IsRowOf (row_text i) result }
 {
     let row = row(i);

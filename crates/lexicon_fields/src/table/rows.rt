@@ -5,7 +5,7 @@ ghost use Rattle.lexicon_fields.specs.Vendor.{known_vendor_of};
 ghost use Rattle.lexicon_fields.specs.OperatingSystem.{fixed_operating_system_of};
 ghost use Rattle.lexicon_fields.specs.Environment.{environment_of};
 ghost use Rattle.lexicon_fields.specs.BinaryFormat.{binary_format_of};
-ghost use Rattle.lexicon_fields.specs.FixedRow.{row_text, row_texts};
+ghost use Rattle.lexicon_fields.specs.FixedRow.{row_count, row_text, row_texts};
 ghost use Rattle.lexicon_fields.specs.Private.{front_of};
 
 use crate::architecture::{
@@ -17,6 +17,7 @@ use crate::binary_format::BinaryFormat;
 use crate::environment::Environment;
 use crate::known_vendor::KnownVendor;
 use crate::operating_system::OperatingSystem;
+use crate::table::ROW_COUNT;
 
 /// A text, and what it reads as in each field.
 pub(crate) type Row = (
@@ -31,7 +32,7 @@ pub(crate) type Row = (
 /// Row `i`, counted from 0.
 #[inline(always)]
 pub(crate) fn row(i: usize) -> Row
-    requires { i < 192 }
+    requires { i < row_count }
     ensures text { result.0.now ≡ row_text i }
     ensures architecture { result.1 ≡ architecture_of (row_text i) }
     ensures vendor { result.2 ≡ known_vendor_of (row_text i) }
@@ -45,7 +46,7 @@ pub(crate) fn row(i: usize) -> Row
 /// The first eight bytes of the text of row `i` as a number.
 #[inline(always)]
 pub(crate) fn row_front(i: usize) -> u64
-    requires { i < 192 }
+    requires { i < row_count }
     ensures { result ≡ front_of 8 (row_text i) }
 {
     fronts()[i]
@@ -73,7 +74,7 @@ fn fronts() -> &'static [u64]
 }
 
 #[rattlefmt::skip]
-static ROWS: [Row; 192] = [
+static ROWS: [Row; ROW_COUNT] = [
     ("aarch64", Some(Architecture::Aarch64(Aarch64Architecture::Aarch64)), None, None, None, None),
     ("aarch64_be", Some(Architecture::Aarch64(Aarch64Architecture::Aarch64be)), None, None, None, None),
     ("aix", None, None, Some(OperatingSystem::Aix), None, None),
@@ -269,7 +270,7 @@ static ROWS: [Row; 192] = [
 ];
 
 #[rattlefmt::skip]
-static FRONTS: [u64; 192] = [
+static FRONTS: [u64; ROW_COUNT] = [
     0x6161726368363400, 0x616172636836345f, 0x6169780000000000, 0x616d640000000000, 0x616d6467636e0000, 0x616d6467697a0000,
     0x616d646873610000, 0x616e64726f696400, 0x616e64726f696465, 0x6170706c65000000, 0x61726d0000000000, 0x61726d3634000000,
     0x61726d6562000000, 0x61726d6562763772, 0x61726d7634000000, 0x61726d7634740000, 0x61726d7635740000, 0x61726d7635746500,
