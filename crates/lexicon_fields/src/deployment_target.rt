@@ -4,6 +4,7 @@ ghost use Rattle.std.specs.Fmt.{WritesStyledOnOk, decimal};
 ghost use Rattle.lexicon_fields.specs.Version.{version_of, version_name, pieces_of};
 ghost use Rattle.lexicon_fields.specs.Private.{pieces_left};
 
+use crate::decimal::write_decimal;
 use std::fmt;
 
 /// The oldest version of a system like Darwin that a target supports, within the limits of a Mach-O file.
@@ -53,7 +54,7 @@ impl DeploymentTarget {
     pub(crate) fn write<W: fmt::Write>(self, f: &mut fmt::Formatter<W>) -> fmt::Result
         ensures { WritesStyledOnOk W.write_str_gives f.old result (version_name self) f.new }
     {
-        write_number(f, self.major)?;
+        write_decimal(f, usize::from(self.major))?;
         write_dotted(f, self.minor)?;
         write_dotted(f, self.patch)
     }
@@ -73,23 +74,5 @@ fn write_dotted<W: fmt::Write>(f: &mut fmt::Formatter<W>, n: u8) -> fmt::Result
     ensures { WritesStyledOnOk W.write_str_gives f.old result (46 ∷ decimal n) f.new }
 {
     f.write_str(".")?;
-    write_number(f, u16::from(n))
-}
-
-/// Writes a number in decimal, whatever the options of the formatter.
-fn write_number<W: fmt::Write>(f: &mut fmt::Formatter<W>, n: u16) -> fmt::Result
-    ensures { WritesStyledOnOk W.write_str_gives f.old result (decimal n) f.new }
-{
-    if n < 10 {
-        return write_digit(f, n);
-    }
-    write_number(f, n / 10)?;
-    write_digit(f, n % 10)
-}
-
-fn write_digit<W: fmt::Write>(f: &mut fmt::Formatter<W>, digit: u16) -> fmt::Result
-    requires { digit < 10 }
-    ensures { WritesStyledOnOk W.write_str_gives f.old result ((48 + digit) ∷ []) f.new }
-{
-    f.write_char(char::from(b'0' + digit as u8))
+    write_decimal(f, usize::from(n))
 }

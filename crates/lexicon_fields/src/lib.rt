@@ -3,6 +3,7 @@
 
 mod architecture;
 mod binary_format;
+mod decimal;
 mod deployment_target;
 mod environment;
 mod known_vendor;
@@ -19,6 +20,7 @@ pub use architecture::{
     Z80Architecture,
 };
 pub use binary_format::BinaryFormat;
+pub use decimal::write_decimal;
 pub use deployment_target::DeploymentTarget;
 pub use environment::Environment;
 pub use known_vendor::KnownVendor;

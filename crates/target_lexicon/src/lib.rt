@@ -35,9 +35,9 @@ pub use json_error::JsonError;
 pub use lexicon_fields::{
     Aarch64Architecture, Architecture, ArmArchitecture, BinaryFormat, CleverArchitecture,
     CustomVendor, DeploymentTarget, Endianness, Environment, FixedRow, KnownVendor,
-    Mips32Architecture, Mips64Architecture, OperatingSystem, PointerWidth, Riscv32Architecture,
-    Riscv64Architecture, Steps, Vendor, VendorError, X86_32Architecture, Z80Architecture,
-    fixed_row, row_order,
+    Mips32Architecture, Mips64Architecture, OperatingSystem, PointerWidth, ROW_COUNT,
+    Riscv32Architecture, Riscv64Architecture, Steps, Vendor, VendorError, X86_32Architecture,
+    Z80Architecture, fixed_row, row_order,
 };
 pub use list_error::ListError;
 pub use parse_error::ParseError;

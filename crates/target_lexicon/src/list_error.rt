@@ -1,9 +1,10 @@
 //! Why a JSON value is refused as a list of triples.
-ghost use Rattle.std.specs.Prelude.{◌+◌, ◌<◌, ◌++◌, [], ◌∷◌, Some, codes};
+ghost use Rattle.std.specs.Prelude.{◌++◌, Some, codes};
 ghost use Rattle.std.specs.Fmt.{WritesStyledOnOk, decimal};
 ghost use Rattle.target_lexicon.specs.Json.{json_fault_of, json_fault_line};
 
 use crate::json_error::JsonError;
+use lexicon_fields::write_decimal;
 use std::fmt;
 
 /// What is wrong with a JSON value that reads as no list of triples.
@@ -43,25 +44,7 @@ fn write_element<W: fmt::Write>(
         (codes "Element " ++ (decimal i ++ (codes ": " ++ json_fault_line (json_fault_of error.now)))) f.new }
 {
     f.write_str("Element ")?;
-    write_number(f, i)?;
+    write_decimal(f, i)?;
     f.write_str(": ")?;
     fmt::Display::fmt(error, f)
-}
-
-/// Writes a number in decimal, whatever the options of the formatter.
-fn write_number<W: fmt::Write>(f: &mut fmt::Formatter<W>, n: usize) -> fmt::Result
-    ensures { WritesStyledOnOk W.write_str_gives f.old result (decimal n) f.new }
-{
-    if n < 10 {
-        return write_digit(f, n);
-    }
-    write_number(f, n / 10)?;
-    write_digit(f, n % 10)
-}
-
-fn write_digit<W: fmt::Write>(f: &mut fmt::Formatter<W>, digit: usize) -> fmt::Result
-    requires { digit < 10 }
-    ensures { WritesStyledOnOk W.write_str_gives f.old result ((48 + digit) ∷ []) f.new }
-{
-    f.write_char(char::from(b'0' + digit as u8))
 }

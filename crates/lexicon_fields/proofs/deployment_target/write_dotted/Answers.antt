@@ -6,4 +6,4 @@ use Rattle.lexicon_fields.proofs.deployment_target.write_dotted.Goals as goal
 pub returns : goal.returns
 returns g c = λ flush ok.
     let dot = c.write_str.ensures.styled flush (search rules) in
-    has_written_styled_of_eq _ _ _ _ _ (ap (λ (n : ℕ). 46 ∷ decimal n) c.from.ensures) (has_written_styled_append _ _ _ _ _ _ dot (c.write_number.ensures dot.flush ok))
+    has_written_styled_of_eq _ _ _ _ _ (ap (λ (n : ℕ). 46 ∷ decimal n) c.from.ensures) (has_written_styled_append _ _ _ _ _ _ dot (c.write_decimal.ensures dot.flush ok))

@@ -7,7 +7,7 @@ use Rattle.target_lexicon.proofs.list_error.write_element.Goals as goal
 pub returns : goal.returns
 returns g c = λ flush ok.
     let front = c.write_str.ensures.styled flush (search rules) in
-    let i = c.write_number.ensures front.flush (search rules) in
+    let i = c.write_decimal.ensures front.flush (search rules) in
     let colon = c.write_str-2.ensures.styled i.flush (search rules) in
     let line = c.fmt.ensures.styled colon.flush ok in
     has_written_styled_of_eq _ _ _ _ _

@@ -1,13 +1,13 @@
 use Rattle.std.proofs.Common.{rules, arith, sym}
 use Rattle.std.proofs.Output.{has_written_styled_append, has_written_styled_of_eq}
 use Rattle.std.proofs.lemmas.Fmt.{decimal_step, decimal_digit}
-use Rattle.lexicon_fields.proofs.deployment_target.+write_number.Goals as goal
+use Rattle.lexicon_fields.proofs.decimal.+write_decimal.Goals as goal
 
 pub returns-then-n-lt10 : goal.returns-then-n-lt10
 returns-then-n-lt10 g t c = λ flush ok. has_written_styled_of_eq _ _ _ _ _ (sym (decimal_digit c.args.n (omega arith))) (c.write_digit.ensures flush ok)
 
 pub returns : goal.returns
 returns g t c = λ flush ok.
-    let front = c.write_number.ensures flush (search rules) in
+    let front = c.write_decimal.ensures flush (search rules) in
     let last = c.write_digit-2.ensures front.flush ok in
     has_written_styled_of_eq _ _ _ _ _ (sym (decimal_step c.args.n (omega arith) (omega arith))) (has_written_styled_append _ _ _ _ _ _ front last)
