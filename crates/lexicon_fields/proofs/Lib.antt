@@ -1,7 +1,7 @@
 -- RowTexts, FrontLemmas, Halving, RowsHold, RowReads: the table of names is in order, its search finds each row, and a row
 -- holds what the lists of names say. LookUps: what a look-up in a list tells, and how names are shown to read back.
--- NamesReadBack, VersionsReadBack, OperatingSystemsReadBack, OperatingSystemsDashFree, VendorsReadBack: that the names of
--- each type read back as the values that bear them, and hold no dash.
+-- NamesReadBack, VersionsReadBack, OperatingSystemsReadBack, SystemsRead, VendorsReadBack: that the names of each type read
+-- back as the values that bear them, and hold no dash, and that a version that is read is in range.
 -- Feeds: that what values feed a hasher tells them apart. EqualByValue: that `==` tells exactly which values are the same.
 pub mod EqualByValue
 pub mod Feeds
@@ -9,10 +9,10 @@ pub mod FrontLemmas
 pub mod Halving
 pub mod LookUps
 pub mod NamesReadBack
-pub mod OperatingSystemsDashFree
 pub mod OperatingSystemsReadBack
 pub mod RowReads
 pub mod RowTexts
 pub mod RowsHold
+pub mod SystemsRead
 pub mod VendorsReadBack
 pub mod VersionsReadBack

@@ -1,5 +1,5 @@
 -- What a look-up tells of the text, and how names are shown to read back.
-use Rattle.std.proofs.Common.{◌≡◌, ◌∙◌, ℕ, List, [], ◌∷◌, Bool, true, false, Option, Some, None, is_none, option_map, refl, ap, sym, subst, cond}
+use Rattle.std.proofs.Common.{◌≡◌, ◌∙◌, ℕ, List, [], ◌∷◌, Bool, true, false, Option, Some, None, IfSome, is_none, option_map, option_and_then, refl, ap, sym, subst, cond}
 use Rattle.std.specs.Option.{option_or}
 use Rattle.std.specs.Str.{bytes_eq}
 use Rattle.std.specs.List.{list_all}
@@ -23,25 +23,27 @@ value_of-all {V} test (pair ∷ pairs) text v all found =
       | false ↦ λ _ is. value_of-all test pairs text v parts.1 is
     ]) refl found
 
--- a text passes a test if it is read to a value
-unfoldable pub PassesIfRead : {V : Type 0} → (List ℕ → Bool) → List ℕ → Option V → Type 0
-PassesIfRead {V} test text reading = (v : V) → reading ≡ Some v → test text ≡ true
-
 -- a text that a table holds passes what each text of the table passes
 pub value_of-passes : {V : Type 0} (test : List ℕ → Bool) (pairs : List (Pair V)) (text : List ℕ) (v : V) → list_all (λ pair. test pair.0) pairs ≡ true → value_of pairs text ≡ Some v → test text ≡ true
 value_of-passes test pairs text v all found = value_of-all (λ pair. test pair.0) pairs text v all found
 
--- as it is for a part, so it is for the whole that holds it
-pub option_map-passes : {V U : Type 0} (test : List ℕ → Bool) (whole : V → U) (part : Option V) (text : List ℕ) → PassesIfRead test text part → PassesIfRead test text (option_map whole part)
-unfolding PassesIfRead
-option_map-passes test whole (Some v) text of_part u found = of_part v refl
-option_map-passes test whole None text of_part u found = cc
+-- what holds of whatever is read: of a part and so of the whole that holds it, of what comes next, and of the first of two readings that reads
 
--- as it is for two readings, so it is for the first of them that reads
-pub option_or-passes : {V : Type 0} (test : List ℕ → Bool) (first next : Option V) (text : List ℕ) → PassesIfRead test text first → PassesIfRead test text next → PassesIfRead test text (option_or first next)
-unfolding PassesIfRead
-option_or-passes test (Some _) next text of_first of_next v found = of_first v found
-option_or-passes test None next text of_first of_next v found = of_next v found
+pub holds-if_read : {V : Type 0} (P : V → Type 0) (reading : Option V) → ((v : V) → reading ≡ Some v → P v) → IfSome reading P
+holds-if_read P (Some v) holds = holds v refl
+holds-if_read P None holds = tt
+
+pub option_map-holds : {V U : Type 0} (P : V → Type 0) (Q : U → Type 0) (whole : V → U) (part : Option V) → IfSome part P → ((v : V) → P v → Q (whole v)) → IfSome (option_map whole part) Q
+option_map-holds P Q whole (Some v) of_part of_whole = of_whole v of_part
+option_map-holds P Q whole None of_part of_whole = tt
+
+pub option_and_then-holds : {V U : Type 0} (P : V → Type 0) (Q : U → Type 0) (next : V → Option U) (first : Option V) → IfSome first P → ((v : V) → P v → IfSome (next v) Q) → IfSome (option_and_then next first) Q
+option_and_then-holds P Q next (Some v) of_first of_next = of_next v of_first
+option_and_then-holds P Q next None of_first of_next = tt
+
+pub option_or-holds : {V : Type 0} (P : V → Type 0) (first next : Option V) → IfSome first P → IfSome next P → IfSome (option_or first next) P
+option_or-holds P (Some _) next of_first of_next = of_first
+option_or-holds P None next of_first of_next = of_next
 
 pub none_is : {V : Type 0} (o : Option V) → is_none o ≡ true → o ≡ None
 none_is None none = refl

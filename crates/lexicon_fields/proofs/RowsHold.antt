@@ -130,3 +130,8 @@ row_reads_by_name s stands =
     without None None h = refl
     without None (Some v) h = refl
     without (Some v) fixed h = cc
+
+-- and one without a row as a system like Darwin alone
+pub rowless_is_like_darwin : (s : List ℕ) (like : Option OperatingSystem) → like ≡ darwin_like_by darwin_prefixes s → has_row s ≡ false → like ≡ operating_system_of s
+unfolding operating_system_of
+rowless_is_like_darwin s like is none = rw (nowhere s none).2 is

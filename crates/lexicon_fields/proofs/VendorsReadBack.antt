@@ -1,16 +1,16 @@
 -- How vendors are read: every plain one reads back from its name, and no text that reads as one holds a dash.
-use Rattle.std.proofs.Common.{[], ◌∷◌, nat_eq, Bool, not, ◌&&◌, ◌||◌, ap, ◌≡◌, ◌∙◌, ℕ, List, true, false, Option, Some, None, is_some, is_none, refl, sym}
+use Rattle.std.proofs.Common.{[], ◌∷◌, nat_eq, Bool, not, ◌&&◌, ◌||◌, ap, ◌≡◌, ◌∙◌, ℕ, List, true, false, Option, Some, None, is_some, is_none, option_map, refl, sym}
 use Rattle.std.specs.List.{list_all}
 use Rattle.std.specs.Option.{option_or}
 use Rattle.std.proofs.lemmas.Bool.{and_parts, ne_eqb}
-use Rattle.std.proofs.lemmas.Option.{cond_some}
+use Rattle.std.proofs.lemmas.Option.{MatchOption-at_some, cond_some}
 use Rattle.lexicon_fields.specs.declared.vendor.Vendor.{Vendor}
 use Rattle.lexicon_fields.specs.declared.vendor.Vendor.TheVariants as vendor
 use Rattle.lexicon_fields.specs.declared.known_vendor.KnownVendor.{KnownVendor}
 use Rattle.lexicon_fields.specs.declared.known_vendor.KnownVendor.TheVariants.{Unknown}
 use Rattle.lexicon_fields.specs.Vendor.{VendorValue, Known, Custom, known_name, known_vendors, custom_of, vendor_name, is_plain, is_free, is_lowercase_letter, is_vendor_character, has_vendor_form, vendor_of, vendor_value, owns_text, known_vendor_of, is_admitted}
 use Rattle.lexicon_fields.specs.Names.{named, is_dash_free}
-use Rattle.lexicon_fields.proofs.LookUps.{PassesIfRead, value_of-passes, option_map-passes, option_or-passes, none_is, of_kind-read_back}
+use Rattle.lexicon_fields.proofs.LookUps.{value_of-passes, holds-if_read, option_map-holds, option_or-holds, none_is, of_kind-read_back}
 use Rattle.lexicon_fields.proofs.RowTexts.{row_text-dash_free}
 use Rattle.lexicon_fields.proofs.RowsHold.{known_vendor_of-row}
 use Rattle.lexicon_fields.specs.Architecture.{architecture_of}
@@ -56,6 +56,15 @@ pub row_not_admitted : (text : List ℕ) → has_row text ≡ true → is_admitt
 row_not_admitted text stands = admitted_is text ∙ ap (λ row. not row && is_none (darwin_like_by darwin_prefixes text) && has_vendor_form text) stands
 
 -- how a text reads as a vendor
+
+-- one that has a row, as the known vendor of that name alone
+pub row_read : (text : List ℕ) → has_row text ≡ true → option_map Known (known_vendor_of text) ≡ vendor_of text
+unfolding vendor_of
+row_read text stands = rw (row_not_admitted text stands) (by_known (option_map Known (known_vendor_of text)))
+  where
+    by_known : (known : Option VendorValue) → known ≡ option_or known None
+    by_known None = refl
+    by_known (Some v) = refl
 
 -- a known vendor's name, as that vendor, which owns no text
 pub known_read : (text : List ℕ) (v : Vendor) (known : KnownVendor) → vendor_value v ≡ Known known → Some known ≡ known_vendor_of text → vendor_of text ≡ Some (vendor_value v)
@@ -125,18 +134,12 @@ form-dash_free (c ∷ cs) form =
     let apart : nat_eq c 45 ≡ false = ne_eqb c 45 (λ dash. let bad = rw dash at parts.0 in cc) in
     rw apart (characters-dash_free cs parts.1)
 
-known-dash_free : (text : List ℕ) → PassesIfRead is_dash_free text (known_vendor_of text)
-unfolding PassesIfRead
-known-dash_free text v found = row_text-dash_free text (known_vendor_of-row text v found)
-
-custom-dash_free : (text : List ℕ) → PassesIfRead is_dash_free text (custom_of text)
-unfolding PassesIfRead
-custom-dash_free text v found = form-dash_free text (admitted_parts text (cond_some (is_admitted text) (Custom text) v found).0).1
-
 vendor_of-dash_free : (text : List ℕ) (v : VendorValue) → vendor_of text ≡ Some v → is_dash_free text ≡ true
-unfolding vendor_of PassesIfRead
-vendor_of-dash_free text =
-    option_or-passes is_dash_free _ _ text (option_map-passes is_dash_free Known (known_vendor_of text) text (known-dash_free text)) (custom-dash_free text)
+unfolding vendor_of
+vendor_of-dash_free text v is =
+    MatchOption-at_some _ (λ _. is_dash_free text ≡ true) v is (option_or-holds _ _ (custom_of text)
+    (option_map-holds _ _ Known (known_vendor_of text) (holds-if_read _ _ (λ known found. row_text-dash_free text (known_vendor_of-row text known found))) (λ _ free. free))
+    (holds-if_read _ _ (λ custom found. form-dash_free text (admitted_parts text (cond_some (is_admitted text) (Custom text) custom found).0).1)))
 
 -- every plain vendor reads back from its name, and no text that reads as a vendor holds a dash
 pub vendor_names_read_back : NamesOfReadBack (λ (v : VendorValue). is_plain v ≡ true) vendor_name vendor_of

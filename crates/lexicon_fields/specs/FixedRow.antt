@@ -1,9 +1,9 @@
 -- The rows of the fixed names and of the alias `arm64`: what a text reads as in each of the five fields.
-use Rattle.std.specs.Prelude.{◌≡◌, ℕ, Bool, true, ◌||◌, List, [], ◌∷◌, codes, is_some, slice_index_or}
+use Rattle.std.specs.Prelude.{◌≡◌, ℕ, Bool, true, ◌||◌, List, [], ◌∷◌, codes, is_some, option_map, slice_index_or}
 use Rattle.lexicon_fields.specs.declared.table.FixedRow.{FixedRow}
 use Rattle.lexicon_fields.specs.Architecture.{architecture_of}
-use Rattle.lexicon_fields.specs.Vendor.{known_vendor_of}
-use Rattle.lexicon_fields.specs.OperatingSystem.{fixed_operating_system_of}
+use Rattle.lexicon_fields.specs.Vendor.{Known, known_vendor_of, vendor_of}
+use Rattle.lexicon_fields.specs.OperatingSystem.{fixed_operating_system_of, operating_system_of}
 use Rattle.lexicon_fields.specs.Environment.{environment_of}
 use Rattle.lexicon_fields.specs.BinaryFormat.{binary_format_of}
 
@@ -13,7 +13,8 @@ has_row text =
     is_some (architecture_of text) || is_some (known_vendor_of text) || is_some (fixed_operating_system_of text)
     || is_some (environment_of text) || is_some (binary_format_of text)
 
--- the row of a text that has one: the text, and what it reads as in each field
+-- the row of a text that has one: the text, and what it reads as in each field; it reads as no other vendor or system, since
+-- custom vendors and versions have no row
 pub record IsRowOf (name : List ℕ) (row : FixedRow) : Type 0 where
   pub stands : has_row name ≡ true
   pub text : row.text.now ≡ name
@@ -22,6 +23,8 @@ pub record IsRowOf (name : List ℕ) (row : FixedRow) : Type 0 where
   pub operating_system : row.operating_system ≡ fixed_operating_system_of name
   pub environment : row.environment ≡ environment_of name
   pub binary_format : row.binary_format ≡ binary_format_of name
+  pub no_other_vendor : option_map Known row.vendor ≡ vendor_of name
+  pub no_other_operating_system : row.operating_system ≡ operating_system_of name
 
 -- two rows hold the same text, by its bytes, and the same value in each field
 pub record HoldSameValues (x y : FixedRow) : Type 0 where

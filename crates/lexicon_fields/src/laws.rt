@@ -1,5 +1,5 @@
 //! Laws of names, queries and equality: a call does nothing, and its contract is the law.
-ghost use Rattle.std.specs.Prelude.{◌≡◌, ◌↔◌, true, ℕ, List, length, Contains, Decides};
+ghost use Rattle.std.specs.Prelude.{◌≡◌, ◌↔◌, true, ℕ, List, Some, length, Contains, Decides};
 ghost use Rattle.std.specs.Cmp.Lexicographic.{slice_cmp};
 ghost use Rattle.std.specs.List.Sorted.{IsStrictlySortedBy};
 ghost use Rattle.std.specs.Ordering.{nat_cmp};
@@ -47,6 +47,11 @@ pub fn names_read_back()
     ensures environment { NamesReadBack environment_name environment_of }
     ensures binary_format { NamesReadBack binary_format_name binary_format_of }
     ensures vendor { NamesOfReadBack (λ v. is_plain v ≡ true) vendor_name vendor_of }
+{}
+
+/// The version of a system that a text reads as is in range.
+pub fn read_versions_are_in_range()
+    ensures { (text : List ℕ) (s : OperatingSystem) → operating_system_of text ≡ Some s → HasVersionInRange s }
 {}
 
 /// Versions are ordered by major, then by minor, then by patch.

@@ -1,6 +1,7 @@
 //! The operating systems.
-ghost use Rattle.std.specs.Prelude.{◌≡◌, ◌++◌, Some, None, IfOk, IsNone, IsOkAnd};
+ghost use Rattle.std.specs.Prelude.{◌≡◌, ◌++◌, false, Some, None, IfOk, IsNone, IsOkAnd};
 ghost use Rattle.std.specs.Cow.{cow_str_bytes, IsBorrowedStr};
+ghost use Rattle.lexicon_fields.specs.FixedRow.{has_row};
 ghost use Rattle.lexicon_fields.specs.Names.{Answers};
 ghost use Rattle.lexicon_fields.specs.Version.{version_name};
 ghost use Rattle.lexicon_fields.specs.OperatingSystem.{operating_system_name, operating_system_of, version_held, version_suffix, optional_version_of, darwin_like_by, darwin_prefixes, is_like_darwin};
@@ -86,8 +87,10 @@ impl OperatingSystem {
 
     /// The system like Darwin that the text reads as, which is all that a text without a row in the table of names reads
     /// as. A text with another first letter is told at once.
+    #[tactic(auto, using(crate::proofs::RowsHold::rowless_is_like_darwin))]
     pub fn like_darwin(s: &str) -> Option<Self>
-        ensures { result ≡ darwin_like_by darwin_prefixes s.now }
+        ensures like { result ≡ darwin_like_by darwin_prefixes s.now }
+        ensures rowless { has_row s.now ≡ false → result ≡ operating_system_of s.now }
     {
         match s.as_bytes().first() {
             Some(b'd' | b'i' | b'm' | b't' | b'v' | b'w' | b'x') => OperatingSystem::by_prefix(s),

@@ -5,7 +5,7 @@ use Rattle.std.proofs.lemmas.Bool.Decides.{Decides-not, Decides-and, Decides-lik
 use Rattle.lexicon_fields.specs.Vendor.{is_plain}
 use Rattle.lexicon_fields.specs.Laws.{HasVersionInRange}
 use Rattle.target_lexicon.specs.Families.{IsInSomeFamily}
-use Rattle.target_lexicon.specs.FixedPoints.{FixedExactlyOutsideFamilies}
+use Rattle.target_lexicon.specs.FixedPoints.{FixedExactlyOutsideFamilies, RoundIsNormalStep}
 use Rattle.target_lexicon.specs.Laws.{ComesBack}
 use Rattle.target_lexicon.specs.NormalStep.{normal_step, is_in_no_family}
 use Rattle.target_lexicon.specs.Printing.{text_of}
@@ -13,7 +13,6 @@ use Rattle.target_lexicon.specs.Reading.{ReadsAs}
 use Rattle.target_lexicon.specs.Values.{Values}
 use Rattle.target_lexicon.proofs.FamilyTests.{prints_as_special-tells, hides_newlib-tells, prints_the_esp_idf_text-tells, shows_none_alone-tells}
 use Rattle.target_lexicon.proofs.StepCases.{IsOutside, step_cases}
-use Rattle.target_lexicon.proofs.TextRounds.{round}
 use Rattle.target_lexicon.proofs.Unique.{read-plain, values-unique}
 
 pub outside-fixed : (t : Values) → IsOutside t → normal_step t ≡ t
@@ -43,35 +42,11 @@ not_both t plain outside (inr (inr (inl is))) = outside.esp is
 not_both t plain outside (inr (inr (inr (inl is)))) = outside.none is
 not_both t plain outside (inr (inr (inr (inr is)))) = let bad : true ≡ false = sym plain ∙ is in cc
 
--- with the placements
-
-back-outside : (t : Values) → HasVersionInRange t.operating_system → ComesBack t → (is_plain t.vendor ≡ true) × IsOutside t
-back-outside t range back =
-    let plain = read-plain (text_of t) t back in
-    (plain, fixed-outside t (values-unique (text_of t) (normal_step t) t (round t (record { vendor = plain; version = range })) back))
-
-outside-back : (t : Values) → HasVersionInRange t.operating_system → is_plain t.vendor ≡ true → IsOutside t → ComesBack t
-outside-back t range plain outside = subst (λ (u : Values). ReadsAs (text_of t) u) (outside-fixed t outside) (round t (record { vendor = plain; version = range }))
-
-either : (t : Values) → HasVersionInRange t.operating_system → ComesBack t ⊎ IsInSomeFamily t
-either t range = elim (family_or_fixed t (is_plain t.vendor) refl) [
-  | inl is ↦ inr is
-  | inr is ↦ inl (outside-back t range is.0 is.1)
-]
-
 back_by : (t : Values) → ComesBack t ⊎ IsInSomeFamily t → ¬ IsInSomeFamily t → ComesBack t
 back_by t (inl back) none = back
 back_by t (inr is) none = absurd (none is)
 
--- a triple comes back exactly outside the families
-pub fixed_exactly_outside : FixedExactlyOutsideFamilies
-fixed_exactly_outside t range = record {
-  exactly = (λ back. let is = back-outside t range back in not_both t is.0 is.1, back_by t (either t range));
-  either = either t range;
-}
-
--- and so the tests tell
-
+-- what the tests of the families tell
 no_family-tells : (t : Values) → Decides (is_in_no_family t) (IsOutside t × (is_plain t.vendor ≡ true))
 unfolding is_in_no_family
 no_family-tells t =
@@ -85,8 +60,32 @@ no_family-tells t =
     (Decides-not _ (shows_none_alone-tells t)))
     (λ h. h, λ h. h))
 
-pub back_by_tests : (t : Values) → HasVersionInRange t.operating_system → is_in_no_family t ≡ true → ComesBack t
-back_by_tests t range none = let is = (no_family-tells t).0 none in outside-back t range is.1 is.0
+-- with the placements
 
-pub tests_by_back : (t : Values) → HasVersionInRange t.operating_system → ComesBack t → is_in_no_family t ≡ true
-tests_by_back t range back = let is = back-outside t range back in (no_family-tells t).1 (is.1, is.0)
+module _ (round : RoundIsNormalStep) where
+  back-outside : (t : Values) → HasVersionInRange t.operating_system → ComesBack t → (is_plain t.vendor ≡ true) × IsOutside t
+  back-outside t range back =
+      let plain = read-plain (text_of t) t back in
+      (plain, fixed-outside t (values-unique (text_of t) (normal_step t) t (round t (record { vendor = plain; version = range })) back))
+
+  outside-back : (t : Values) → HasVersionInRange t.operating_system → is_plain t.vendor ≡ true → IsOutside t → ComesBack t
+  outside-back t range plain outside = subst (λ (u : Values). ReadsAs (text_of t) u) (outside-fixed t outside) (round t (record { vendor = plain; version = range }))
+
+  either : (t : Values) → HasVersionInRange t.operating_system → ComesBack t ⊎ IsInSomeFamily t
+  either t range = elim (family_or_fixed t (is_plain t.vendor) refl) [
+    | inl is ↦ inr is
+    | inr is ↦ inl (outside-back t range is.0 is.1)
+  ]
+
+  -- a triple comes back exactly outside the families
+  pub fixed_exactly_outside : FixedExactlyOutsideFamilies
+  fixed_exactly_outside t range = record {
+    exactly = (λ back. let is = back-outside t range back in not_both t is.0 is.1, back_by t (either t range));
+    either = either t range;
+  }
+
+  pub back_by_tests : (t : Values) → HasVersionInRange t.operating_system → is_in_no_family t ≡ true → ComesBack t
+  back_by_tests t range none = let is = (no_family-tells t).0 none in outside-back t range is.1 is.0
+
+  pub tests_by_back : (t : Values) → HasVersionInRange t.operating_system → ComesBack t → is_in_no_family t ≡ true
+  tests_by_back t range back = let is = back-outside t range back in (no_family-tells t).1 (is.1, is.0)

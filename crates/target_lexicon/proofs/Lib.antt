@@ -2,7 +2,7 @@
 -- before it); Greedy, Held, Taken, Refused, Unique, Returned, Computed (from the steps of the code to the least placement); ReadVersions
 -- (a version that is read is in range).
 -- What printing is: Printed, Writes.
--- What comes back: Rounds, TextRounds (a text read again); FamilyTests, StepCases, Fixed, Settled, SettlesAs, Stays (families and the step).
+-- What comes back: Rounds, TextRounds (a text read again); FamilyTests, StepCases, Fixed, Settled, SettlesAs (families and the step).
 -- For callers: OnLiterals (what computes on a literal).
 -- Queries and JSON: ModelsKnown, QueriesKept; Elements. SameValues: equality of triples. FeedsTogether: what fields feed a hasher.
 pub mod Computed
@@ -25,7 +25,6 @@ pub mod Returned
 pub mod Rounds
 pub mod SameValues
 pub mod Settled
-pub mod Stays
 pub mod SettlesAs
 pub mod StepCases
 pub mod Taken

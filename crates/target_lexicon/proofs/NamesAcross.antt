@@ -7,12 +7,20 @@ use Rattle.lexicon_fields.specs.declared.environment.Environment.TheVariants as 
 use Rattle.lexicon_fields.specs.declared.binary_format.BinaryFormat.{BinaryFormat}
 use Rattle.lexicon_fields.specs.declared.binary_format.BinaryFormat.TheVariants as binary_format
 use Rattle.lexicon_fields.specs.declared.known_vendor.KnownVendor.TheVariants.{Unknown}
-use Rattle.lexicon_fields.specs.Vendor.{VendorValue, Known, known_vendor_of, is_admitted, vendor_of}
+use Rattle.lexicon_fields.specs.Architecture.{architecture_name, architecture_of}
+use Rattle.lexicon_fields.specs.Vendor.{VendorValue, Known, known_vendor_of, is_admitted, is_plain, vendor_name, vendor_of}
 use Rattle.lexicon_fields.specs.OperatingSystem.{operating_system_name, operating_system_of, fixed_operating_system_of}
 use Rattle.lexicon_fields.specs.Environment.{environment_name, environment_of}
-use Rattle.lexicon_fields.specs.BinaryFormat.{binary_format_name}
-use Rattle.lexicon_fields.specs.Laws.{HasVersionInRange}
-use Rattle.lexicon_fields.proofs.OperatingSystemsDashFree.{operating_system_names}
+use Rattle.lexicon_fields.specs.BinaryFormat.{binary_format_name, binary_format_of}
+use Rattle.lexicon_fields.specs.Laws.{HasVersionInRange, NamesOfReadBack, NamesReadBack}
+
+-- what the law of names says of the five fields
+pub record NamesAreRead : Type 0 where
+  pub architecture : NamesReadBack architecture_name architecture_of
+  pub vendor : NamesOfReadBack (λ v. is_plain v ≡ true) vendor_name vendor_of
+  pub operating_system : NamesOfReadBack HasVersionInRange operating_system_name operating_system_of
+  pub environment : NamesReadBack environment_name environment_of
+  pub binary_format : NamesReadBack binary_format_name binary_format_of
 
 -- of the formats' names only `unknown` is an environment's, and a system's
 abbrev pub format_as_environment : BinaryFormat → Option Environment
@@ -58,11 +66,12 @@ not_admitted : (text : List ℕ) (s : OperatingSystem) → operating_system_of t
 unfolding is_admitted
 not_admitted text s reads = rw reads (third_false _ _ _ _)
 
-by_system : (s : OperatingSystem) → HasVersionInRange s → known_vendor_of (operating_system_name s) ≡ None → vendor_of (operating_system_name s) ≡ None
-unfolding vendor_of
-by_system s range unknown = rw (unknown, not_admitted (operating_system_name s) s (operating_system_names.reads_back s range)) refl
+module _ (names : NamesAreRead) where
+  by_system : (s : OperatingSystem) → HasVersionInRange s → known_vendor_of (operating_system_name s) ≡ None → vendor_of (operating_system_name s) ≡ None
+  unfolding vendor_of
+  by_system s range unknown = rw (unknown, not_admitted (operating_system_name s) s (names.operating_system.reads_back s range)) refl
 
-pub vendor_of-operating_system : (s : OperatingSystem) → HasVersionInRange s → vendor_of (operating_system_name s) ≡ system_as_vendor s
-unfolding known_vendor_of vendor_of
-vendor_of-operating_system operating_system.Unknown range = refl
-vendor_of-operating_system s range = by_system s range refl
+  pub vendor_of-operating_system : (s : OperatingSystem) → HasVersionInRange s → vendor_of (operating_system_name s) ≡ system_as_vendor s
+  unfolding known_vendor_of vendor_of
+  vendor_of-operating_system operating_system.Unknown range = refl
+  vendor_of-operating_system s range = by_system s range refl

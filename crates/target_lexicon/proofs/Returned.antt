@@ -12,8 +12,7 @@ use Rattle.lexicon_fields.specs.declared.binary_format.BinaryFormat.{BinaryForma
 use Rattle.lexicon_fields.specs.Architecture.{architecture_of}
 use Rattle.lexicon_fields.specs.declared.known_vendor.KnownVendor.TheVariants as known_vendor
 use Rattle.lexicon_fields.specs.Vendor as vendor
-use Rattle.lexicon_fields.specs.Vendor.{Custom, vendor_of, vendor_value, is_admitted, IsCustom}
-use Rattle.lexicon_fields.proofs.VendorsReadBack.{vendor_names_read_back}
+use Rattle.lexicon_fields.specs.Vendor.{vendor_of, vendor_value, is_admitted, IsCustom}
 use Rattle.lexicon_fields.specs.OperatingSystem.{operating_system_of}
 use Rattle.lexicon_fields.specs.Environment.{environment_of}
 use Rattle.lexicon_fields.specs.BinaryFormat.{binary_format_of}
@@ -31,6 +30,7 @@ use Rattle.target_lexicon.specs.Values.{values_of}
 use Rattle.target_lexicon.proofs.Held.{held_some}
 use Rattle.target_lexicon.proofs.SameValues.{same_values}
 use Rattle.target_lexicon.proofs.Taken.{behind_vendor, behind_operating_system, behind_environment, behind_binary_format, taken_vendor, taken_operating_system, taken_environment, taken_values, lacked_behind, reads-vendor, reads-operating_system, reads-environment, reads-binary_format, first-text-refused, left-text-refused, text-reads}
+use Rattle.target_lexicon.proofs.Vendors.{admitted-reads}
 
 -- the parts of a text that is cut once, as the steps see them
 pub cut_parts : (text p : List ℕ) (behind ps : List (List ℕ)) → parts_of text ≡ p ∷ behind → ps ≡ behind → parts_of text ≡ p ∷ ps
@@ -106,7 +106,7 @@ custom-taken ps h = by_part (part_for Vendor ps) h
     by_part : (o : Option (List ℕ)) → MatchOption o ⊥ (λ q. is_admitted q ≡ true)
         → IsCustom (unwrap_or (option_and_then vendor_of o) (vendor.Known known_vendor.Unknown))
     by_part None h = absurd h
-    by_part (Some q) h = rw (vendor_names_read_back.reads_back (Custom q) h) tt
+    by_part (Some q) h = rw (admitted-reads q h) tt
 
 module _ (text p : List ℕ) (ps : List (List ℕ)) (ordinary : special_values text ≡ None) (are : parts_of text ≡ p ∷ ps) where
   pub refuses_first : (q : List ℕ) → q ≡ p → architecture_of p ≡ None → IsRefusedAs text (refused (Lacks Architecture) q)

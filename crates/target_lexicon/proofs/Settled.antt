@@ -13,7 +13,7 @@ use Rattle.lexicon_fields.specs.declared.known_vendor.KnownVendor.TheVariants.{N
 use Rattle.lexicon_fields.specs.Vendor.{VendorValue, Known, is_plain}
 use Rattle.lexicon_fields.specs.Laws.{HasVersionInRange}
 use Rattle.target_lexicon.specs.Families.{IsNintendo3ds, IsEspIdf, HidesNewlib}
-use Rattle.target_lexicon.specs.FixedPoints.{IsPlainTriple, settled, SecondStepChangesNone, SettledTextsAreKeys}
+use Rattle.target_lexicon.specs.FixedPoints.{IsPlainTriple, RoundIsNormalStep, settled, SecondStepChangesNone, SettledTextsAreKeys}
 use Rattle.target_lexicon.specs.ImpliedFormat.{implied_format}
 use Rattle.target_lexicon.specs.Laws.{ComesBack}
 use Rattle.target_lexicon.specs.NormalStep.{normal_step, elf_if_unknown}
@@ -23,7 +23,6 @@ use Rattle.target_lexicon.specs.SpecialTexts.{nintendo_3ds, esp_idf}
 use Rattle.target_lexicon.specs.Values.{Values, values}
 use Rattle.target_lexicon.proofs.Fixed.{outside-fixed}
 use Rattle.target_lexicon.proofs.StepCases.{step_cases}
-use Rattle.target_lexicon.proofs.TextRounds.{round}
 use Rattle.target_lexicon.proofs.Unique.{values-unique}
 
 nintendo_3ds-stays : normal_step nintendo_3ds ≡ nintendo_3ds
@@ -91,22 +90,15 @@ step-plain t plain = record { vendor = step-vendor_plain t plain.vendor; version
 
 -- what is settled comes back, so that its text is its own
 
-pub settled-comes_back : (t : Values) → IsPlainTriple t → ComesBack (settled t)
-settled-comes_back t plain =
-    subst (λ (u : Values). ReadsAs (text_of (settled t)) u) (step-stays (normal_step t)) (round (settled t) (step-plain (normal_step t) (step-plain t plain)))
+module _ (round : RoundIsNormalStep) where
+  pub settled-comes_back : (t : Values) → IsPlainTriple t → ComesBack (settled t)
+  settled-comes_back t plain =
+      subst (λ (u : Values). ReadsAs (text_of (settled t)) u) (step-stays (normal_step t)) (round (settled t) (step-plain (normal_step t) (step-plain t plain)))
 
-pub settled_are_keys : SettledTextsAreKeys
-settled_are_keys = record {
-  comes_back = settled-comes_back;
-  own = λ t u plain_t plain_u same.
-      values-unique (text_of (settled t)) (settled t) (settled u) (settled-comes_back t plain_t)
-      (subst (λ (text : List ℕ). ReadsAs text (settled u)) (sym same) (settled-comes_back u plain_u));
-}
-
--- how the one step that is taken settles
-
-pub settled_by_one : (t u : Values) → u ≡ normal_step t → u ≡ settled t
-settled_by_one t u is = is ∙ sym (step-stays t)
-
-pub back_by_one : (t u : Values) → u ≡ normal_step t → is_plain t.vendor ≡ true → HasVersionInRange t.operating_system → ComesBack u
-back_by_one t u is plain range = subst ComesBack (sym (settled_by_one t u is)) (settled-comes_back t (record { vendor = plain; version = range }))
+  pub settled_are_keys : SettledTextsAreKeys
+  settled_are_keys = record {
+    comes_back = settled-comes_back;
+    own = λ t u plain_t plain_u same.
+        values-unique (text_of (settled t)) (settled t) (settled u) (settled-comes_back t plain_t)
+        (subst (λ (text : List ℕ). ReadsAs text (settled u)) (sym same) (settled-comes_back u plain_u));
+  }

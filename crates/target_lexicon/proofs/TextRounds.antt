@@ -22,9 +22,6 @@ use Rattle.lexicon_fields.specs.OperatingSystem.{operating_system_name, operatin
 use Rattle.lexicon_fields.specs.Environment.{environment_name, environment_of}
 use Rattle.lexicon_fields.specs.BinaryFormat.{binary_format_name, binary_format_of}
 use Rattle.lexicon_fields.specs.Laws.{HasVersionInRange}
-use Rattle.lexicon_fields.proofs.NamesReadBack.{architecture_names, environment_names, binary_format_names}
-use Rattle.lexicon_fields.proofs.OperatingSystemsDashFree.{operating_system_names}
-use Rattle.lexicon_fields.proofs.VendorsReadBack.{vendor_names_read_back}
 use Rattle.target_lexicon.specs.FixedPoints.{RoundIsNormalStep}
 use Rattle.target_lexicon.specs.ImpliedFormat.{implied, implied_format}
 use Rattle.target_lexicon.specs.NormalStep.{normal_step, prints_the_esp_idf_text}
@@ -39,6 +36,7 @@ use Rattle.target_lexicon.specs.Values.{Values, values}
 use Rattle.target_lexicon.proofs.Computed.{reading-computed}
 use Rattle.target_lexicon.proofs.Cuts.{parts_of-joined}
 use Rattle.target_lexicon.proofs.FamilyTests.{prints_the_esp_idf_text-tells}
+use Rattle.target_lexicon.proofs.NamesAcross.{NamesAreRead}
 use Rattle.target_lexicon.proofs.Rounds.{parts-round}
 use Rattle.target_lexicon.proofs.StepCases.{step_cases, step-architecture}
 
@@ -128,11 +126,11 @@ step-vendor t apart = step_cases (λ u. u.vendor ≡ t.vendor) t (λ _. refl) (�
 step-operating_system : (t : Values) → is_clever t.architecture ≡ false → (normal_step t).operating_system ≡ t.operating_system
 step-operating_system t other = step_cases (λ u. u.operating_system ≡ t.operating_system) t (λ _. refl) (λ _. refl) (λ _. refl) (λ none. absurd (let is = none.architecture in cc)) (λ _. refl)
 
-module _ (a : Architecture) (v : VendorValue) (s : OperatingSystem) (e : Environment) (f : BinaryFormat) (plain : is_plain v ≡ true) (range : HasVersionInRange s)
+module _ (names : NamesAreRead) (a : Architecture) (v : VendorValue) (s : OperatingSystem) (e : Environment) (f : BinaryFormat) (plain : is_plain v ≡ true) (range : HasVersionInRange s)
     (none : special_text s v a ≡ None) (apart : prints_the_esp_idf_text e f s a v ≡ false) where
   parts-apart : parts (values a v s e f) ≢ parts_of esp_idf_text
   parts-apart same =
-      let reads : Ok (normal_step (values a v s e f)) ≡ Ok custom_esp = sym (parts-round a v s e f plain range none apart) ∙ ap read_parts same ∙ esp_idf-parts in
+      let reads : Ok (normal_step (values a v s e f)) ≡ Ok custom_esp = sym (parts-round names a v s e f plain range none apart) ∙ ap read_parts same ∙ esp_idf-parts in
       let step : normal_step (values a v s e f) ≡ custom_esp = cc in
       let is_a : a ≡ architecture.Riscv32 riscv32.Riscv32imc = sym (step-architecture (values a v s e f)) ∙ ap (λ t. t.architecture) step in
       let is_v : v ≡ Custom (codes "esp") = sym (step-vendor (values a v s e f) apart) ∙ ap (λ t. t.vendor) step in
@@ -145,29 +143,29 @@ module _ (a : Architecture) (v : VendorValue) (s : OperatingSystem) (e : Environ
   shown-round =
       let both = shows_unknowns e f (implied_format a s e) in
       by_tests (join_with_byte 45 (parts (values a v s e f))) (parts (values a v s e f)) (normal_step (values a v s e f)) _ _ refl refl
-      (parts_of-join (architecture_name a) _ (architecture_names.name_dash_free a tt)
-      (when-free (shows_vendor v s e a) _ _ (vendor_names_read_back.name_dash_free v plain)
-      (when-free (both || shows_operating_system s a) (operating_system_name s) _ (operating_system_names.name_dash_free s range)
-      (when-free (both || shows_environment e s v) (environment_name e) _ (environment_names.name_dash_free e tt)
-      (when-free (shows_binary_format (values a v s e f)) (binary_format_name f) [] (binary_format_names.name_dash_free f tt) refl)))))
-      (parts-round a v s e f plain range none apart) parts-apart
+      (parts_of-join (architecture_name a) _ (names.architecture.name_dash_free a tt)
+      (when-free (shows_vendor v s e a) _ _ (names.vendor.name_dash_free v plain)
+      (when-free (both || shows_operating_system s a) (operating_system_name s) _ (names.operating_system.name_dash_free s range)
+      (when-free (both || shows_environment e s v) (environment_name e) _ (names.environment.name_dash_free e tt)
+      (when-free (shows_binary_format (values a v s e f)) (binary_format_name f) [] (names.binary_format.name_dash_free f tt) refl)))))
+      (parts-round names a v s e f plain range none apart) parts-apart
 
   parts-text : reading (text_of (values a v s e f)) ≡ Ok (normal_step (values a v s e f))
   unfolding text_of
   parts-text = rw none shown-round
 
-round_by : (t : Values) (special : Option (List ℕ)) (b : Bool) → is_plain t.vendor ≡ true → HasVersionInRange t.operating_system → special_text t.operating_system t.vendor t.architecture ≡ special
+round_by : NamesAreRead → (t : Values) (special : Option (List ℕ)) (b : Bool) → is_plain t.vendor ≡ true → HasVersionInRange t.operating_system → special_text t.operating_system t.vendor t.architecture ≡ special
     → prints_the_esp_idf_text t.environment t.binary_format t.operating_system t.architecture t.vendor ≡ b → reading (text_of t) ≡ Ok (normal_step t)
-round_by t (Some text) b plain range is is_b = special-round t.operating_system t.vendor t.architecture t.environment t.binary_format text is
-round_by t None true plain range is is_b = rw ((prints_the_esp_idf_text-tells t).0 is_b) custom_esp-round
-round_by t None false plain range is is_b = parts-text t.architecture t.vendor t.operating_system t.environment t.binary_format plain range is is_b
+round_by names t (Some text) b plain range is is_b = special-round t.operating_system t.vendor t.architecture t.environment t.binary_format text is
+round_by names t None true plain range is is_b = rw ((prints_the_esp_idf_text-tells t).0 is_b) custom_esp-round
+round_by names t None false plain range is is_b = parts-text names t.architecture t.vendor t.operating_system t.environment t.binary_format plain range is is_b
 
-reading-text_of : (t : Values) → is_plain t.vendor ≡ true → HasVersionInRange t.operating_system → reading (text_of t) ≡ Ok (normal_step t)
-reading-text_of t plain range = round_by t _ _ plain range refl refl
+reading-text_of : NamesAreRead → (t : Values) → is_plain t.vendor ≡ true → HasVersionInRange t.operating_system → reading (text_of t) ≡ Ok (normal_step t)
+reading-text_of names t plain range = round_by names t _ _ plain range refl refl
 
 -- a round of a plain triple is its step
-pub round : RoundIsNormalStep
-round t plain = ((reading-computed (text_of t)).read (normal_step t)).1 (reading-text_of t plain.vendor plain.version)
+pub round : NamesAreRead → RoundIsNormalStep
+round names t plain = ((reading-computed (text_of t)).read (normal_step t)).1 (reading-text_of names t plain.vendor plain.version)
 
-pub round_by_step : (t u : Values) → is_plain t.vendor ≡ true → HasVersionInRange t.operating_system → u ≡ normal_step t → ReadsAs (text_of t) u
-round_by_step t u plain range is = subst (λ (x : Values). ReadsAs (text_of t) x) (sym is) (round t (record { vendor = plain; version = range }))
+pub round_by_step : RoundIsNormalStep → (t u : Values) → is_plain t.vendor ≡ true → HasVersionInRange t.operating_system → u ≡ normal_step t → ReadsAs (text_of t) u
+round_by_step round t u plain range is = subst (λ (x : Values). ReadsAs (text_of t) x) (sym is) (round t (record { vendor = plain; version = range }))

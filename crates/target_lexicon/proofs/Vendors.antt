@@ -1,5 +1,5 @@
 -- What reads as a vendor.
-use Rattle.std.proofs.Common.{◌≡◌, ℕ, List, true, refl, sym, ◌∙◌, subst, Option, Some, None}
+use Rattle.std.proofs.Common.{◌≡◌, ℕ, List, Bool, true, ◌&&◌, is_none, refl, sym, ◌∙◌, subst, Option, Some, None}
 use Rattle.std.specs.Prelude.{option_map}
 use Rattle.std.specs.Option.{option_or}
 use Rattle.lexicon_fields.specs.declared.known_vendor.KnownVendor.{KnownVendor}
@@ -36,3 +36,16 @@ custom-admitted text v h = by_known (known_vendor_of text) h
 -- a vendor that owns its text where that is admitted owns the text of a custom one
 pub owns_custom_text : (text : List ℕ) (v : Vendor) → vendor_of text ≡ Some (vendor_value v) → owns_text v ≡ is_admitted text → OwnsCustomText v
 owns_custom_text text v reads owns custom = owns ∙ custom-admitted text (vendor_value v) reads custom
+
+-- an admitted text is no known vendor's name, and so reads as the custom vendor of that text
+admitted-unknown : (text : List ℕ) → is_admitted text ≡ true → known_vendor_of text ≡ None
+unfolding is_admitted
+admitted-unknown text admitted = by_known (known_vendor_of text) _ _ _ _ _ admitted
+  where
+    by_known : (known : Option KnownVendor) (a s e f form : Bool) → (is_none known && a && s && e && f && form) ≡ true → known ≡ None
+    by_known None a s e f form admitted = refl
+    by_known (Some v) a s e f form admitted = absurd cc
+
+pub admitted-reads : (text : List ℕ) → is_admitted text ≡ true → vendor_of text ≡ Some (Custom text)
+unfolding vendor_of
+admitted-reads text admitted = rw (admitted-unknown text admitted, admitted) refl

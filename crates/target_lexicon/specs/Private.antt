@@ -1,11 +1,11 @@
 -- Words of the contracts of private functions, which no public contract cites.
-use Rattle.std.specs.Prelude.{◌≡◌, ℕ, ◌∷◌, List, [], Bool, Option, Some, None, is_some, option_and_then, if◌then◌else◌}
+use Rattle.std.specs.Prelude.{◌≡◌, ℕ, ◌∷◌, List, [], Bool, Option, Some, None, is_some, option_and_then, option_map, if◌then◌else◌}
 use Rattle.std.specs.Borrow.{Bor}
 use Rattle.lexicon_fields.specs.declared.table.FixedRow.{FixedRow}
 use Rattle.lexicon_fields.specs.FixedRow.{has_row}
 use Rattle.lexicon_fields.specs.Architecture.{architecture_of}
-use Rattle.lexicon_fields.specs.Vendor.{known_vendor_of}
-use Rattle.lexicon_fields.specs.OperatingSystem.{fixed_operating_system_of}
+use Rattle.lexicon_fields.specs.Vendor.{Known, vendor_of}
+use Rattle.lexicon_fields.specs.OperatingSystem.{operating_system_of}
 use Rattle.lexicon_fields.specs.Environment.{environment_of}
 use Rattle.lexicon_fields.specs.BinaryFormat.{binary_format_of}
 use Rattle.target_lexicon.specs.Field as field
@@ -19,12 +19,12 @@ abbrev pub parts_behind_dash : Option (Bor (List ℕ)) → List (List ℕ)
 parts_behind_dash None = []
 parts_behind_dash (Some text) = parts_of text.now
 
--- what the row of a text, or that it has none, tells: the values that the text reads as by the fixed names
+-- what the row of a text, or that it has none, tells: the values that the text reads as; where it has none, not the vendor and the system
 pub record IsLookedUp (text : List ℕ) (row : Option FixedRow) : Type 0 where
   pub known : is_some row ≡ has_row text
   pub architecture : option_and_then (λ (r : FixedRow). r.architecture) row ≡ architecture_of text
-  pub vendor : option_and_then (λ (r : FixedRow). r.vendor) row ≡ known_vendor_of text
-  pub operating_system : option_and_then (λ (r : FixedRow). r.operating_system) row ≡ fixed_operating_system_of text
+  pub vendor : (r : FixedRow) → row ≡ Some r → option_map Known r.vendor ≡ vendor_of text
+  pub operating_system : (r : FixedRow) → row ≡ Some r → r.operating_system ≡ operating_system_of text
   pub environment : option_and_then (λ (r : FixedRow). r.environment) row ≡ environment_of text
   pub binary_format : option_and_then (λ (r : FixedRow). r.binary_format) row ≡ binary_format_of text
 

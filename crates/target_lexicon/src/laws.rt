@@ -57,7 +57,9 @@ pub fn read_vendors_are_plain()
 /// What a text reads as has a plain vendor, and a version in range where its system holds one; so the laws of rounds speak of it.
 pub fn read_triples_are_plain()
     ensures { ReadTriplesArePlain }
-{}
+{
+    lexicon_fields::laws::read_versions_are_in_range();
+}
 
 /// Two triples that come back when they are printed and read are equal exactly where their texts are.
 pub fn equal_texts_equal_triples()
@@ -116,12 +118,16 @@ pub fn defaults_are_equal_by_value()
 /// triple comes back or is in a family.
 pub fn fixed_exactly_outside_families()
     ensures { FixedExactlyOutsideFamilies }
-{}
+{
+    round_is_normal_step();
+}
 
 /// The text of each triple with a plain vendor is read, as the triple's normal step.
 pub fn round_is_normal_step()
     ensures { RoundIsNormalStep }
-{}
+{
+    names_read_back();
+}
 
 /// A second normal step changes no triple, so that one round settles. (By upstream's rules it changes one, hence the name.)
 pub fn second_step_changes_one()
@@ -131,7 +137,9 @@ pub fn second_step_changes_one()
 /// The settled triple of one with a plain vendor comes back, and no other such triple has its text.
 pub fn settled_texts_are_keys()
     ensures { SettledTextsAreKeys }
-{}
+{
+    round_is_normal_step();
+}
 
 /// The headline, all of these laws in one: every text is read or refused, in one way. A triple that is printed and read
 /// again is itself exactly outside five families. From each triple with a plain vendor that succeeds, is the normal step,

@@ -10,6 +10,7 @@ ghost use Rattle.target_lexicon.specs.Printing.{text_of};
 ghost use Rattle.target_lexicon.specs.Reading.{ReadsAs};
 ghost use Rattle.target_lexicon.specs.Values.{values_of};
 
+use crate::laws::{round_is_normal_step, settled_texts_are_keys};
 use crate::triple::Triple;
 use lexicon_fields::{
     Architecture, ArmArchitecture, BinaryFormat, Environment, OperatingSystem, Riscv32Architecture,
@@ -30,6 +31,7 @@ impl Triple {
     pub fn comes_back(&self) -> bool
         ensures { (result ≡ true) ↔ ComesBack (values_of self.now) }
     {
+        round_is_normal_step();
         version_fits(self.operating_system);
         self.is_in_no_family()
     }
@@ -49,6 +51,7 @@ impl Triple {
         ensures round { ReadsAs (text_of (values_of self)) (values_of result) }
         ensures vendor { (result.vendor ≡ self.vendor) ⊎ (result.vendor ≡ Espressif) }
     {
+        round_is_normal_step();
         version_fits(self.operating_system);
         self.step()
     }
@@ -56,7 +59,6 @@ impl Triple {
     /// The triple that comes back after normal steps; one is enough. The vendor must be plain, as for `normal`.
     /// Its text is its own among all such triples, so that it serves as a key. A triple that comes back stays as it is.
     /// No memory is asked for.
-    #[tactic(auto, using(crate::proofs::Settled::settled_by_one, crate::proofs::Settled::back_by_one, crate::proofs::Stays::step_stays))]
     pub fn settle(self) -> Triple
         requires { is_plain (vendor_value self.vendor) ≡ true }
         ensures steps { values_of result ≡ settled (values_of self) }
@@ -64,6 +66,7 @@ impl Triple {
         ensures stays { ComesBack (values_of self) → values_of result ≡ values_of self }
         ensures vendor { (result.vendor ≡ self.vendor) ⊎ (result.vendor ≡ Espressif) }
     {
+        settled_texts_are_keys();
         version_fits(self.operating_system);
         self.normal()
     }

@@ -2,7 +2,7 @@ use Rattle.std.proofs.Common.{refl}
 use Rattle.lexicon_fields.specs.declared.architecture.Architecture.TheVariants as architecture
 use Rattle.lexicon_fields.specs.Architecture.{as_arm, as_aarch64, as_x86_32, as_mips32, as_mips64, as_riscv32, as_riscv64, as_clever, as_z80}
 use Rattle.lexicon_fields.proofs.NamesReadBack.{architecture_names, part-read_back, environment_names, binary_format_names}
-use Rattle.lexicon_fields.proofs.OperatingSystemsDashFree.{operating_system_names}
+use Rattle.lexicon_fields.proofs.SystemsRead.{operating_system_names}
 use Rattle.lexicon_fields.proofs.VendorsReadBack.{vendor_names_read_back}
 use Rattle.lexicon_fields.proofs.laws.names_read_back.Goals as goal
 

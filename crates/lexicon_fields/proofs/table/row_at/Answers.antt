@@ -1,13 +1,21 @@
-use Rattle.lexicon_fields.proofs.RowsHold.{row-stands}
+use Rattle.std.proofs.Common.{sym, ◌∙◌, ap, option_map}
+use Rattle.lexicon_fields.specs.Vendor.{Known}
+use Rattle.lexicon_fields.proofs.RowsHold.{row-stands, row_reads_by_name}
+use Rattle.lexicon_fields.proofs.VendorsReadBack.{row_read}
 use Rattle.lexicon_fields.proofs.table.row_at.Goals as goal
 
 pub returns : goal.returns
-returns c = record {
-  stands = row-stands _ c.requires;
-  text = c.row-row.ensures.text;
-  architecture = c.row-row.ensures.architecture;
-  vendor = c.row-row.ensures.vendor;
-  operating_system = c.row-row.ensures.operating_system;
-  environment = c.row-row.ensures.environment;
-  binary_format = c.row-row.ensures.binary_format;
-}
+returns c =
+    let stands = row-stands _ c.requires in
+    let row = c.row-row.ensures in
+    record {
+      stands = stands;
+      text = row.text;
+      architecture = row.architecture;
+      vendor = row.vendor;
+      operating_system = row.operating_system;
+      environment = row.environment;
+      binary_format = row.binary_format;
+      no_other_vendor = ap (option_map Known) row.vendor ∙ row_read _ stands;
+      no_other_operating_system = row.operating_system ∙ sym (row_reads_by_name _ stands);
+    }

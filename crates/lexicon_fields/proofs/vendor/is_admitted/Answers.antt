@@ -11,4 +11,4 @@ returns-in-Some c = sym (row_not_admitted c.args.s.now c.in-Some.ensures.row.sta
 pub returns-in-None : goal.returns-in-None
 returns-in-None c =
     let told : c.is_none.result ≡ is_none c.like_darwin.result = search rules in
-    told ∙ sym (admitted_without_row c.args.s.now _ c.in-None.ensures.row (search rules) c.like_darwin.ensures)
+    told ∙ sym (admitted_without_row c.args.s.now _ c.in-None.ensures.row (search rules) c.like_darwin.ensures.like)

@@ -1,17 +1,15 @@
 use Rattle.std.proofs.Common.{◌∙◌, Some, ap, sym, option_map}
 use Rattle.lexicon_fields.specs.Vendor.{Known}
-use Rattle.target_lexicon.proofs.LookedUp.{row-vendor, rowless}
+use Rattle.target_lexicon.proofs.LookedUp.{rowless}
 use Rattle.target_lexicon.proofs.Vendors.{owns_custom_text}
 use Rattle.target_lexicon.proofs.part.Part.vendor.Goals as goal
 
 pub returns-in-Some-vendor-clause-ok : goal.returns-in-Some-vendor-clause-ok
 returns-in-Some-vendor-clause-ok c =
-    ap Some c.to_vendor.ensures
-    ∙ sym (row-vendor c.args.self.now.text.now _ c.in-Some.row c.args.self.now.looked_up c.in-Some.is ∙ ap (option_map Known) c.in-Some-vendor.is)
+    ap Some c.to_vendor.ensures ∙ sym (ap (option_map Known) c.in-Some-vendor.is) ∙ c.args.self.now.looked_up.vendor _ c.in-Some.is
 
 pub returns-in-None-vendor-clause-ok : goal.returns-in-None-vendor-clause-ok
-returns-in-None-vendor-clause-ok c =
-    sym (row-vendor c.args.self.now.text.now _ c.in-Some.row c.args.self.now.looked_up c.in-Some.is ∙ ap (option_map Known) c.in-None-vendor.is)
+returns-in-None-vendor-clause-ok c = sym (ap (option_map Known) c.in-None-vendor.is) ∙ c.args.self.now.looked_up.vendor _ c.in-Some.is
 
 pub returns-in-Ok-clause-owned : goal.returns-in-Ok-clause-owned
 returns-in-Ok-clause-owned c = owns_custom_text c.args.self.now.text.now c.in-Ok.vendor c.in-Ok.ensures.ok c.in-Ok.ensures.owned
