@@ -45,6 +45,10 @@ pub option_or-holds : {V : Type 0} (P : V → Type 0) (first next : Option V) �
 option_or-holds P (Some _) next of_first of_next = of_first
 option_or-holds P None next of_first of_next = of_next
 
+pub option_or-none : {V : Type 0} (o : Option V) → option_or o None ≡ o
+option_or-none None = refl
+option_or-none (Some v) = refl
+
 pub none_is : {V : Type 0} (o : Option V) → is_none o ≡ true → o ≡ None
 none_is None none = refl
 none_is (Some v) none = absurd cc

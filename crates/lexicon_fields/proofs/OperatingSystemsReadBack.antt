@@ -1,17 +1,14 @@
 -- How the names of systems are read.
 use Rattle.std.proofs.Common.{is_none, [], ◌∷◌, Option, Some, IfSome, option_map, ◌≡◌, ◌≢◌, ◌∙◌, ℕ, List, ◌++◌, codes, take, drop, length, nat_eq, None, refl, sym, ap}
 use Rattle.std.specs.List.{starts_with}
-use Rattle.std.specs.Option.{option_or}
 use Rattle.std.proofs.lemmas.Bool.{false_from_ne_true, cond-false}
 use Rattle.std.proofs.lemmas.List.{take-append-drop}
 use Rattle.std.proofs.lemmas.Slice.Eq.{bytes_eq-Decides}
 use Rattle.lexicon_fields.specs.declared.deployment_target.DeploymentTarget.{DeploymentTarget}
 use Rattle.lexicon_fields.specs.declared.operating_system.OperatingSystem.{OperatingSystem}
 use Rattle.lexicon_fields.specs.declared.operating_system.OperatingSystem.TheVariants as operating_system
-use Rattle.lexicon_fields.specs.Names.{named}
 use Rattle.lexicon_fields.specs.Laws.{IsVersionInRange, HasVersionInRange}
 use Rattle.lexicon_fields.specs.Version.{version_of, version_name}
-use Rattle.lexicon_fields.proofs.LookUps.{value_of-all, none_is}
 use Rattle.lexicon_fields.proofs.VersionsReadBack.{version_of-name}
 use Rattle.lexicon_fields.specs.OperatingSystem.{operating_system_name, fixed_operating_systems, fixed_operating_system_of, operating_system_of, optional_version_of, version_suffix, behind_prefix, darwin_like_by, darwin_prefixes}
 
@@ -36,22 +33,6 @@ no_darwin_prefix text darwin ios macosx tvos visionos watchos xros =
       lacks_prefix (codes "watchos") text watchos,
       lacks_prefix (codes "xros") text xros,
     ) refl
-
--- no fixed name begins with such a prefix, so that it is one which of the two is asked first
-
-fixed_unlike_darwin : (text : List ℕ) (s : OperatingSystem) → fixed_operating_system_of text ≡ Some s → darwin_like_by darwin_prefixes text ≡ None
-unfolding fixed_operating_system_of
-fixed_unlike_darwin text s found = none_is _ (value_of-all (λ pair. is_none (darwin_like_by darwin_prefixes pair.0)) (named operating_system_name fixed_operating_systems) text s refl found)
-
-either_way : {V : Type 0} (fixed like : Option V) → ((v : V) → fixed ≡ Some v → like ≡ None) → option_or fixed like ≡ option_or like fixed
-either_way None None apart = refl
-either_way None (Some v) apart = refl
-either_way (Some v) None apart = refl
-either_way (Some v) (Some w) apart = absurd (let bad = apart v refl in cc)
-
-pub read_either_way : (text : List ℕ) → operating_system_of text ≡ option_or (darwin_like_by darwin_prefixes text) (fixed_operating_system_of text)
-unfolding operating_system_of
-read_either_way text = either_way (fixed_operating_system_of text) (darwin_like_by darwin_prefixes text) (λ s found. fixed_unlike_darwin text s found)
 
 -- every system reads back from its name
 

@@ -21,7 +21,7 @@ use Rattle.lexicon_fields.specs.OperatingSystem.{operating_system_name, operatin
 use Rattle.lexicon_fields.specs.Environment.{environment_of}
 use Rattle.lexicon_fields.specs.BinaryFormat.{binary_format_of}
 use Rattle.lexicon_fields.specs.FixedRow.{has_row, row_count, row_texts, row_text}
-use Rattle.lexicon_fields.proofs.LookUps.{value_of-passes}
+use Rattle.lexicon_fields.proofs.LookUps.{value_of-passes, option_or-none, none_is}
 use Rattle.lexicon_fields.proofs.RowTexts.{is_row_text, row_text-passes, length-row_texts}
 use Rattle.lexicon_fields.proofs.NamesReadBack.{architecture_of-row, environment_of-row, binary_format_of-row}
 
@@ -120,18 +120,24 @@ row_text-unlike_darwin s found = row_text-passes (λ text. is_none (darwin_like_
 -- so a text that has a row reads as a system by its fixed name alone
 pub row_reads_by_name : (s : List ℕ) → has_row s ≡ true → operating_system_of s ≡ fixed_operating_system_of s
 unfolding operating_system_of
-row_reads_by_name s stands =
-    elim (cases_Bool (is_row_text s)) [
-      | inl found ↦ without (darwin_like_by darwin_prefixes s) (fixed_operating_system_of s) (row_text-unlike_darwin s found)
-      | inr none ↦ absurd (let bad : true ≡ false = sym stands ∙ no_row s none in cc)
-    ]
-  where
-    without : {V : Type 0} (like fixed : Option V) → is_none like ≡ true → option_or fixed like ≡ fixed
-    without None None h = refl
-    without None (Some v) h = refl
-    without (Some v) fixed h = cc
+row_reads_by_name s stands = elim (cases_Bool (is_row_text s)) [
+  | inl found ↦ ap (option_or (fixed_operating_system_of s)) (none_is _ (row_text-unlike_darwin s found)) ∙ option_or-none _
+  | inr none ↦ absurd (let bad : true ≡ false = sym stands ∙ no_row s none in cc)
+]
 
 -- and one without a row as a system like Darwin alone
 pub rowless_is_like_darwin : (s : List ℕ) (like : Option OperatingSystem) → like ≡ darwin_like_by darwin_prefixes s → has_row s ≡ false → like ≡ operating_system_of s
 unfolding operating_system_of
 rowless_is_like_darwin s like is none = rw (nowhere s none).2 is
+
+-- no fixed name begins as a system like Darwin does, so that it is one which of the two is asked first
+
+either_way : {V : Type 0} (fixed like : Option V) → ((v : V) → fixed ≡ Some v → like ≡ None) → option_or fixed like ≡ option_or like fixed
+either_way None None apart = refl
+either_way None (Some v) apart = refl
+either_way (Some v) None apart = refl
+either_way (Some v) (Some w) apart = absurd (let bad = apart v refl in cc)
+
+pub read_either_way : (s : List ℕ) → operating_system_of s ≡ option_or (darwin_like_by darwin_prefixes s) (fixed_operating_system_of s)
+unfolding operating_system_of
+read_either_way s = either_way (fixed_operating_system_of s) (darwin_like_by darwin_prefixes s) (λ v found. none_is _ (row_text-unlike_darwin s (fixed_operating_system_of-row s v found)))

@@ -10,7 +10,7 @@ use Rattle.lexicon_fields.specs.declared.known_vendor.KnownVendor.{KnownVendor}
 use Rattle.lexicon_fields.specs.declared.known_vendor.KnownVendor.TheVariants.{Unknown}
 use Rattle.lexicon_fields.specs.Vendor.{VendorValue, Known, Custom, known_name, known_vendors, custom_of, vendor_name, is_plain, is_free, is_lowercase_letter, is_vendor_character, has_vendor_form, vendor_of, vendor_value, owns_text, known_vendor_of, is_admitted}
 use Rattle.lexicon_fields.specs.Names.{named, is_dash_free}
-use Rattle.lexicon_fields.proofs.LookUps.{value_of-passes, holds-if_read, option_map-holds, option_or-holds, none_is, of_kind-read_back}
+use Rattle.lexicon_fields.proofs.LookUps.{value_of-passes, holds-if_read, option_map-holds, option_or-holds, option_or-none, none_is, of_kind-read_back}
 use Rattle.lexicon_fields.proofs.RowTexts.{row_text-dash_free}
 use Rattle.lexicon_fields.proofs.RowsHold.{known_vendor_of-row}
 use Rattle.lexicon_fields.specs.Architecture.{architecture_of}
@@ -60,11 +60,7 @@ row_not_admitted text stands = admitted_is text ∙ ap (λ row. not row && is_no
 -- one that has a row, as the known vendor of that name alone
 pub row_read : (text : List ℕ) → has_row text ≡ true → option_map Known (known_vendor_of text) ≡ vendor_of text
 unfolding vendor_of
-row_read text stands = rw (row_not_admitted text stands) (by_known (option_map Known (known_vendor_of text)))
-  where
-    by_known : (known : Option VendorValue) → known ≡ option_or known None
-    by_known None = refl
-    by_known (Some v) = refl
+row_read text stands = rw (row_not_admitted text stands) (sym (option_or-none _))
 
 -- a known vendor's name, as that vendor, which owns no text
 pub known_read : (text : List ℕ) (v : Vendor) (known : KnownVendor) → vendor_value v ≡ Known known → Some known ≡ known_vendor_of text → vendor_of text ≡ Some (vendor_value v)

@@ -72,7 +72,7 @@ impl OperatingSystem {
     /// The value that the text reads as; every other text is refused. Behind the prefix of a system like Darwin stands
     /// nothing, or a version: one to three pieces between dots, each an optional plus and digits, the first up to 65535,
     /// the others up to 255.
-    #[tactic(auto, using(crate::proofs::RowsHold::nowhere, crate::proofs::OperatingSystemsReadBack::read_either_way))]
+    #[tactic(auto, using(crate::proofs::RowsHold::read_either_way))]
     pub fn from_str(s: &str) -> Result<Self, ()>
         ensures { Answers (operating_system_of s.now) result }
     {
