@@ -1,5 +1,5 @@
 -- How the names of systems are read.
-use Rattle.std.proofs.Common.{is_none, [], ◌∷◌, Option, Some, IfSome, option_map, ◌≡◌, ◌≢◌, ◌∙◌, ℕ, List, ◌++◌, codes, take, drop, length, nat_eq, None, refl, sym, ap}
+use Rattle.std.proofs.Common.{[], ◌∷◌, Option, Some, IfSome, option_map, ◌≡◌, ◌≢◌, ◌∙◌, ℕ, List, ◌++◌, codes, take, drop, length, nat_eq, None, refl, sym, ap}
 use Rattle.std.specs.List.{starts_with}
 use Rattle.std.proofs.lemmas.Bool.{false_from_ne_true, cond-false}
 use Rattle.std.proofs.lemmas.List.{take-append-drop}
@@ -10,7 +10,7 @@ use Rattle.lexicon_fields.specs.declared.operating_system.OperatingSystem.TheVar
 use Rattle.lexicon_fields.specs.Laws.{IsVersionInRange, HasVersionInRange}
 use Rattle.lexicon_fields.specs.Version.{version_of, version_name}
 use Rattle.lexicon_fields.proofs.VersionsReadBack.{version_of-name}
-use Rattle.lexicon_fields.specs.OperatingSystem.{operating_system_name, fixed_operating_systems, fixed_operating_system_of, operating_system_of, optional_version_of, version_suffix, behind_prefix, darwin_like_by, darwin_prefixes}
+use Rattle.lexicon_fields.specs.OperatingSystem.{operating_system_name, fixed_operating_system_of, operating_system_of, optional_version_of, version_suffix, behind_prefix, darwin_like_by, darwin_prefixes}
 
 -- a text that does not begin with a prefix has nothing behind it
 lacks_prefix : (prefix text : List ℕ) → ((rest : List ℕ) → text ≢ prefix ++ rest) → behind_prefix prefix text ≡ None

@@ -1,5 +1,5 @@
 -- A second step changes no triple.
-use Rattle.std.proofs.Common.{◌≡◌, ◌≢◌, ◌⊎◌, inl, inr, ◌∙◌, ℕ, List, true, refl, sym, ap, subst}
+use Rattle.std.proofs.Common.{◌≡◌, ◌≢◌, ◌⊎◌, inl, inr, ℕ, List, true, refl, sym, ap, subst}
 use Rattle.lexicon_fields.specs.declared.architecture.Architecture.{Architecture}
 use Rattle.lexicon_fields.specs.declared.architecture.Architecture.TheVariants as architecture
 use Rattle.lexicon_fields.specs.declared.architecture.arm.ArmArchitecture.TheVariants as arm
