@@ -105,7 +105,7 @@ unknown_is_implied : (i : BinaryFormat) → shows_unknowns environment.Unknown b
 unknown_is_implied binary_format.Unknown hidden = refl
 unknown_is_implied _ hidden = absurd cc
 
--- where a vendor or a system isn't shown
+-- vendor and system, where they are shown and where they aren't
 
 hidden_vendor : (v : VendorValue) (s : OperatingSystem) (e : Environment) (a : Architecture) → shows_vendor v s e a ≡ false → (v ≡ Known Unknown) × (goes_without_vendor s e a ≡ true)
 unfolding shows_vendor
@@ -134,7 +134,7 @@ abbrev both_unknown : Values → Bool
 both_unknown t = shows_unknowns t.environment t.binary_format (implied t)
 
 module _ (names : NamesAreRead) where
-  -- the format, behind an environment that is shown or not
+  -- the format, read back behind an environment that is shown or not
 
   shown-read : (a : Architecture) (v : VendorValue) (s : OperatingSystem) (e : Environment) (f : BinaryFormat) (b : Bool) (last : Field)
       → read_environment a v s last (environment_name e ∷ when b (binary_format_name f) []) ≡ Ok (values a v s e (cond b f (implied_format a s e)))

@@ -19,7 +19,7 @@ abbrev pub parts_behind_dash : Option (Bor (List ℕ)) → List (List ℕ)
 parts_behind_dash None = []
 parts_behind_dash (Some text) = parts_of text.now
 
--- what the row of a text, or that it has none, tells: the values that the text reads as; where it has none, not the vendor and the system
+-- what the row of a text, or that it has none, tells: what the text reads as in each field, but without a row not the vendor and the system
 pub record IsLookedUp (text : List ℕ) (row : Option FixedRow) : Type 0 where
   pub known : is_some row ≡ has_row text
   pub architecture : option_and_then (λ (r : FixedRow). r.architecture) row ≡ architecture_of text
