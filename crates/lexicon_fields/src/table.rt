@@ -3,6 +3,7 @@ ghost use Rattle.std.specs.Prelude.{◌≡◌, ◌+◌, ◌<◌, ◌≤◌, fals
 ghost use Rattle.std.specs.Cmp.Lexicographic.{slice_cmp};
 ghost use Rattle.std.specs.Ordering.{nat_cmp};
 ghost use Rattle.lexicon_fields.specs.FixedRow.{has_row, IsRowOf, row_count, row_text};
+ghost use Rattle.lexicon_fields.specs.Private.{front_of};
 
 mod front;
 mod rows;
@@ -54,8 +55,19 @@ pub fn row_order(i: usize, text: &str, steps: &mut Steps) -> Ordering
     ensures order { result ≡ slice_cmp nat_cmp (row_text i) text.now }
     ensures count { steps.new.count ≡ steps.old.count + 1 }
 {
+    order_by_front(i, front::front(text), text, steps)
+}
+
+/// The same, for a text with this front.
+#[inline(always)]
+fn order_by_front(i: usize, wanted: u64, text: &str, steps: &mut Steps) -> Ordering
+    requires row { i < row_count }
+    requires front { wanted ≡ front_of 8 text.now }
+    ensures order { result ≡ slice_cmp nat_cmp (row_text i) text.now }
+    ensures count { steps.new.count ≡ steps.old.count + 1 }
+{
     steps.tick();
-    front::order(row_front(i), row(i).0, text)
+    front::order(row_front(i), row(i).0, wanted, text)
 }
 
 /// The number of the row that has the text.
@@ -65,8 +77,9 @@ fn row_number(text: &str, steps: &mut Steps) -> Option<usize>
     ensures counted { steps.old.count ≤ steps.new.count }
     ensures few { steps.new.count ≤ steps.old.count + 8 }
 {
+    let wanted = front::front(text);
     let mut low = ROW_COUNT - FOUND_BY_SEVEN;
-    match row_order(FOUND_BY_SEVEN, text, steps) {
+    match order_by_front(FOUND_BY_SEVEN, wanted, text, steps) {
         Ordering::Less => {}
         Ordering::Greater => low = 0,
         Ordering::Equal => return Some(FOUND_BY_SEVEN),
@@ -75,7 +88,7 @@ fn row_number(text: &str, steps: &mut Steps) -> Option<usize>
     while left > 0 {
         let middle = low + left / 2;
         left /= 2;
-        match row_order(middle, text, steps) {
+        match order_by_front(middle, wanted, text, steps) {
             Ordering::Less => low = middle + 1,
             Ordering::Greater => {}
             Ordering::Equal => return Some(middle),

@@ -6,13 +6,13 @@ ghost use Rattle.lexicon_fields.specs.Private.{front_of};
 
 use std::cmp::Ordering;
 
-/// The order by bytes of a text with this front against `text`.
+/// The order by bytes of two texts with these fronts.
 #[inline(always)]
-pub(crate) fn order(own_front: u64, own: &str, text: &str) -> Ordering
-    requires { own_front ≡ front_of 8 own.now }
+pub(crate) fn order(own_front: u64, own: &str, wanted: u64, text: &str) -> Ordering
+    requires own { own_front ≡ front_of 8 own.now }
+    requires text { wanted ≡ front_of 8 text.now }
     ensures { result ≡ slice_cmp nat_cmp own.now text.now }
 {
-    let wanted = front(text);
     if own_front < wanted {
         return Ordering::Less;
     }
@@ -26,10 +26,8 @@ pub(crate) fn order(own_front: u64, own: &str, text: &str) -> Ordering
     }
 }
 
-/// The first eight bytes as a number, the first one foremost; a missing byte counts as zero. The call stands for itself
-/// in the machine code, so that a search makes it once.
-#[inline(never)]
-fn front(text: &str) -> u64
+/// The first eight bytes as a number, the first one foremost; a missing byte counts as zero.
+pub(crate) fn front(text: &str) -> u64
     ensures { result ≡ front_of 8 text.now }
 {
     let bytes = text.as_bytes();
