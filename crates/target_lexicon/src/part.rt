@@ -30,7 +30,15 @@ fn row_of(text: &str) -> Option<FixedRow>
 fn dash_in(text: &str) -> Option<usize>
     ensures { result ≡ position (λ b. b == 45) text.now }
 {
-    text.as_bytes().iter().position(|byte| *byte == b'-')
+    let bytes = text.as_bytes();
+    let mut at = 0;
+    while at < bytes.len() {
+        if bytes[at] == b'-' {
+            return Some(at);
+        }
+        at += 1;
+    }
+    None
 }
 
 /// Cuts a text at its first dash.

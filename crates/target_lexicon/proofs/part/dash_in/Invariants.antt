@@ -1,0 +1,12 @@
+-- No dash was found so far.
+use Rattle.std.proofs.Common.{◌≡◌, ◌<◌, ◌≤◌, ◌-◌, ◌==◌, ℕ, false, get_or, length}
+use Rattle.target_lexicon.proofs.part.dash_in.Given as goal
+
+abbrev pub invariant-loop-at : goal.invariant-loop-at
+invariant-loop-at l = record {
+  within : l.at ≤ length l.bytes;
+  none : (k : ℕ) → k < l.at → (get_or l.bytes k 0 == 45) ≡ false;
+}
+
+abbrev pub decreases-loop-at : goal.decreases-loop-at
+decreases-loop-at l = length l.bytes - l.at
