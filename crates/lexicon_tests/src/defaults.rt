@@ -1,62 +1,60 @@
 //! The two wrappers with a default.
 
-use crate::fixtures::{check_print, custom_vendor, fed, read};
+use crate::fixtures::{custom_vendor, fed, prints, writes};
+use std::alloc::Global;
 use std::process::Abort;
-use target_lexicon::{CustomVendor, DefaultToHost, DefaultToUnknown, Triple, Vendor};
+use target_lexicon::{DefaultToHost, DefaultToUnknown, Environment, Triple, Vendor};
 
 #[test]
 fn defaults_are_the_host_and_the_unknown_triple(rt: HostRuntime) {
-    check_print(
-        &rt,
-        rt.alloc(),
-        &DefaultToHost::default().0,
-        "x86_64-unknown-linux-gnu",
-    );
-    check_print(
-        &rt,
-        rt.alloc(),
-        &DefaultToUnknown::default().0,
-        "unknown-unknown-unknown",
-    );
+    assert!(rt; prints(&DefaultToHost::default().0, "x86_64-unknown-linux-gnu"));
+    assert!(rt; prints(&DefaultToUnknown::default().0, "unknown-unknown-unknown"));
 }
 
-/// The vendor owns its text.
-fn check_vendor(rt: &impl Abort, vendor: &Vendor) {
-    assert!(rt;
-        matches!(vendor, Vendor::Custom(CustomVendor::Owned(text)) if text.as_str() == "customvendor")
-    );
+/// The vendor is this one, and owns its text.
+fn owns(vendor: &Vendor, text: &str) -> bool {
+    writes(&format_args!("{vendor:?}"), text)
 }
 
-#[test]
-fn a_clone_of_the_default_host_keeps_a_custom_vendor(rt: HostRuntime) {
-    let host = DefaultToHost(read(&rt, rt.alloc(), "x86_64-customvendor-linux"));
-    match host.clone(rt.alloc()) {
-        Ok(copy) => {
-            check_vendor(&rt, &copy.0.vendor);
-            assert!(rt; copy == host);
-        }
-        Err(_) => panic!(rt; "no memory"),
+fn host_keeps(alloc: Global, host: &DefaultToHost, vendor: &str) -> bool {
+    match host.clone(alloc) {
+        Ok(copy) => copy == *host && owns(&copy.0.vendor, vendor),
+        Err(_) => false,
+    }
+}
+
+fn unknown_keeps(alloc: Global, unknown: &DefaultToUnknown, vendor: &str) -> bool {
+    match unknown.clone(alloc) {
+        Ok(copy) => copy == *unknown && owns(&copy.0.vendor, vendor),
+        Err(_) => false,
+    }
+}
+
+/// The triple of a text with a custom vendor.
+fn customized(rt: &impl Abort, alloc: Global) -> Triple {
+    match Triple::from_str(alloc, "x86_64-customvendor-linux") {
+        Ok(triple) => triple,
+        Err(_) => panic!(rt; "refused"),
     }
 }
 
 #[test]
-fn a_clone_of_the_default_unknown_keeps_a_custom_vendor(rt: HostRuntime) {
-    let unknown = DefaultToUnknown(read(&rt, rt.alloc(), "x86_64-customvendor-linux"));
-    match unknown.clone(rt.alloc()) {
-        Ok(copy) => {
-            check_vendor(&rt, &copy.0.vendor);
-            assert!(rt; copy == unknown);
-        }
-        Err(_) => panic!(rt; "no memory"),
-    }
+fn a_clone_keeps_a_custom_vendor(rt: HostRuntime) {
+    let vendor = "Custom(Owned(\"customvendor\"))";
+    let host = DefaultToHost(customized(&rt, rt.alloc()));
+    assert!(rt; host_keeps(rt.alloc(), &host, vendor));
+    let unknown = DefaultToUnknown(customized(&rt, rt.alloc()));
+    assert!(rt; unknown_keeps(rt.alloc(), &unknown, vendor));
+}
+
+fn feed_alike(first: &Triple, second: &Triple) -> bool {
+    first == second && fed(first) == fed(second)
 }
 
 #[test]
 fn equal_triples_feed_a_hasher_alike(rt: HostRuntime) {
-    let owner = read(&rt, rt.alloc(), "x86_64-customvendor-linux");
     let mut fixed = Triple::host();
     fixed.vendor = custom_vendor("customvendor");
-    fixed.environment = owner.environment;
-    assert!(rt; fixed == owner);
-    assert!(rt; fed(&fixed) == fed(&owner));
+    fixed.environment = Environment::Unknown;
+    assert!(rt; feed_alike(&fixed, &customized(&rt, rt.alloc())));
 }

@@ -1,20 +1,73 @@
-//! What the tests build triples from, and how they look at values.
+//! What the tests walk their rows by, build triples from, and look at values by.
 
-use std::alloc::Global;
+use std::alloc::{AllocError, Global};
 use std::fmt;
 use std::fmt::{Display, Write as _};
 use std::hash::{DefaultHasher, Hash, Hasher};
 use std::process::Abort;
 use target_lexicon::{
     Architecture, BinaryFormat, CDataModel, CallingConvention, CustomVendor, Endianness,
-    Environment, OperatingSystem, ParseError, PointerWidth, Triple, Vendor,
+    Environment, OperatingSystem, PointerWidth, Triple, Vendor,
 };
+
+/// What is asked of a text beside what stands behind it in its row.
+pub(crate) trait Question {
+    fn holds(alloc: Global, text: &str, want: &str) -> bool;
+}
+
+/// The question holds of each line of the rows: of what stands before its first `=`, and of what stands behind it.
+pub(crate) fn check_rows<Q: Question>(rt: &impl Abort, alloc: Global, rows: &str) {
+    for row in rows.lines() {
+        match row.split_once('=') {
+            Some((text, want)) => assert!(rt; Q::holds(alloc, text, want), "{row}"),
+            None => panic!(rt; "{row}"),
+        }
+    }
+}
+
+/// The question holds of each of the words, beside itself. The answer is how many they are.
+pub(crate) fn check_words<Q: Question>(rt: &impl Abort, alloc: Global, words: &str) -> u32 {
+    let mut count = 0u32;
+    for word in words.split_whitespace() {
+        assert!(rt; Q::holds(alloc, word, word), "{word}");
+        count = count.saturating_add(1);
+    }
+    count
+}
+
+/// The rows, with a thousand of this digit or dash for each star.
+pub(crate) fn lengthened(alloc: Global, rows: &str, mark: &str) -> Result<String, AllocError> {
+    let many = mark.repeat(alloc, 1000)?;
+    rows.replace(alloc, '*', many.as_str())
+}
 
 /// What the value feeds a hasher.
 pub(crate) fn fed<T: Hash>(value: &T) -> u64 {
     let mut hasher = DefaultHasher::new();
     value.hash(&mut hasher);
     hasher.finish()
+}
+
+/// What is left of a text that is to be written.
+#[derive(Drop)]
+struct Left<'a> {
+    text: &'a str,
+}
+
+impl fmt::Write for Left<'_> {
+    fn write_str(&mut self, s: &str) -> fmt::Result {
+        let Some(text) = self.text.strip_prefix(s) else {
+            return Err(fmt::Error);
+        };
+        self.text = text;
+        Ok(())
+    }
+}
+
+/// Whether the value is written as this text.
+pub(crate) fn writes<T: Display>(value: &T, text: &str) -> bool {
+    let mut left = Left { text };
+    write!(left, "{value}").is_ok() && left.text.is_empty()
 }
 
 /// Counts its pieces, and fails at its `fails_at`th one alone.
@@ -53,6 +106,11 @@ pub(crate) fn tells_each_fault<T: Display>(value: &T) -> bool {
     false
 }
 
+/// Whether the value prints this text, whatever the width that is asked for, and tells each fault of what it is printed to.
+pub(crate) fn prints<T: Display>(value: &T, text: &str) -> bool {
+    writes(&format_args!("{value:*>60}"), text) && tells_each_fault(value)
+}
+
 pub(crate) fn custom_vendor(text: &'static str) -> Vendor {
     Vendor::Custom(CustomVendor::Static(text))
 }
@@ -69,48 +127,24 @@ fn vendor(alloc: Global, text: &'static str) -> Option<Vendor> {
 pub(crate) fn built(alloc: Global, names: &'static str) -> Option<Triple> {
     let mut words = names.split_whitespace();
     let architecture = Architecture::from_str(words.next()?).ok()?;
-    let vendor = vendor(alloc, words.next()?)?;
+    let text = words.next()?;
     let operating_system = OperatingSystem::from_str(words.next()?).ok()?;
     let environment = Environment::from_str(words.next()?).ok()?;
     let binary_format = BinaryFormat::from_str(words.next()?).ok()?;
     Some(Triple {
         architecture,
-        vendor,
+        vendor: vendor(alloc, text)?,
         operating_system,
         environment,
         binary_format,
     })
 }
 
-/// The triple that the text reads as.
-pub(crate) fn read(rt: &impl Abort, alloc: Global, text: &str) -> Triple {
-    match Triple::from_str(alloc, text) {
-        Ok(triple) => triple,
-        Err(error) => panic!(rt; "{text}"),
-    }
-}
-
-/// Why the text is refused.
-pub(crate) fn refused(rt: &impl Abort, alloc: Global, text: &str) -> ParseError {
-    match Triple::from_str(alloc, text) {
-        Ok(_) => panic!(rt; "{text}"),
-        Err(error) => error,
-    }
-}
-
-/// The value prints this text, whatever the width that is asked for.
-pub(crate) fn check_print<T: Display>(rt: &impl Abort, alloc: Global, value: &T, text: &str) {
-    match format!(in alloc; "{value:*>60}") {
-        Ok(printed) => assert_eq!(rt; printed.as_str(), text),
-        Err(_) => panic!(rt; "no memory"),
-    }
-}
-
-/// The text of the triple.
-pub(crate) fn text_of(rt: &impl Abort, alloc: Global, triple: &Triple) -> String {
+/// The triple prints this text, and has it.
+pub(crate) fn is_printed(alloc: Global, triple: &Triple, text: &str) -> bool {
     match triple.to_text(alloc) {
-        Ok(text) => text,
-        Err(_) => panic!(rt; "no memory"),
+        Ok(printed) => printed.as_str() == text && prints(triple, text),
+        Err(_) => false,
     }
 }
 

@@ -1,7 +1,9 @@
 //! Texts that were made to mislead a reader, to be long, or to hold what no name holds.
 
-use crate::fixtures::{check_print, read, refused};
-use std::alloc::{AllocError, Global};
+use crate::fixtures::{check_rows, lengthened};
+use crate::printing::Prints;
+use crate::reading::IsRefused;
+use std::alloc::AllocError;
 use std::process::Abort;
 
 /// A text, and behind `=` the line that tells why it is refused.
@@ -28,34 +30,29 @@ armv6k-nintendo-3ds\0=Unrecognized operating system: 3ds\0";
 
 #[test]
 fn misleading_texts_are_refused(rt: HostRuntime) {
-    for row in REFUSED.lines() {
-        let (text, line) = row.split_once('=').unwrap_or((row, ""));
-        check_print(&rt, rt.alloc(), &refused(&rt, rt.alloc(), text), line);
-    }
+    check_rows::<IsRefused>(&rt, rt.alloc(), REFUSED);
 }
 
-/// An Apple system with these characters behind its front is refused.
-fn check_long(rt: &impl Abort, alloc: Global, front: &str, many: &str) -> Result<(), AllocError> {
-    let text = format!(in alloc; "x86_64-apple-{front}{many}")?;
-    let line = format!(in alloc; "Unrecognized operating system: {front}{many}")?;
-    check_print(rt, alloc, &refused(rt, alloc, text.as_str()), line.as_str());
-    Ok(())
-}
+/// Apple systems with a thousand nines for each star, and the lines that tell why they are refused.
+const NINES: &str = "\
+x86_64-apple-ios*=Unrecognized operating system: ios*
+x86_64-apple-ios1.*=Unrecognized operating system: ios1.*
+x86_64-apple-ios1.0.*=Unrecognized operating system: ios1.0.*
+x86_64-apple-ios1.2.3.*=Unrecognized operating system: ios1.2.3.*";
 
 #[test]
 fn a_number_may_be_too_long(rt: HostRuntime) -> Result<(), AllocError> {
-    let nines = "9".repeat(rt.alloc(), 1000)?;
-    check_long(&rt, rt.alloc(), "ios", nines.as_str())?;
-    check_long(&rt, rt.alloc(), "ios1.", nines.as_str())?;
-    check_long(&rt, rt.alloc(), "ios1.0.", nines.as_str())?;
-    check_long(&rt, rt.alloc(), "ios1.2.3.", nines.as_str())
+    let rows = lengthened(rt.alloc(), NINES, "9")?;
+    check_rows::<IsRefused>(&rt, rt.alloc(), rows.as_str());
+    Ok(())
 }
+
+/// An Apple system with a thousand zeros for each star, and what its triple prints.
+const ZEROS: &str = "x86_64-apple-darwin*23.*=x86_64-apple-darwin23.0.0";
 
 #[test]
 fn zeros_may_stand_in_front(rt: HostRuntime) -> Result<(), AllocError> {
-    let zeros = "0".repeat(rt.alloc(), 1000)?;
-    let text = format!(in rt.alloc(); "x86_64-apple-darwin{zeros}23.{zeros}")?;
-    let triple = read(&rt, rt.alloc(), text.as_str());
-    check_print(&rt, rt.alloc(), &triple, "x86_64-apple-darwin23.0.0");
+    let rows = lengthened(rt.alloc(), ZEROS, "0")?;
+    check_rows::<Prints>(&rt, rt.alloc(), rows.as_str());
     Ok(())
 }

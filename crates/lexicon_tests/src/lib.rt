@@ -5,8 +5,6 @@
 #[cfg(test)]
 mod defaults;
 #[cfg(test)]
-mod faults;
-#[cfg(test)]
 mod fixtures;
 #[cfg(test)]
 mod hostile;

@@ -1,17 +1,22 @@
 //! What triples print, read or built, and the lines of errors.
 
-use crate::fixtures::{built, check_print, read, text_of};
+use crate::fixtures::{Question, built, check_rows, is_printed, prints};
 use std::alloc::{AllocError, Global};
 use std::process::Abort;
 use target_lexicon::{
-    BinaryFormat, CustomVendor, Environment, OperatingSystem, ParseError, Triple, Vendor,
-    default_binary_format,
+    BinaryFormat, CustomVendor, Environment, OperatingSystem, Triple, Vendor, default_binary_format,
 };
 
-/// The triple's text is this, and it prints so.
-fn check_text(rt: &impl Abort, alloc: Global, triple: &Triple, text: &str) {
-    assert_eq!(rt; text_of(rt, alloc, triple).as_str(), text);
-    check_print(rt, alloc, triple, text);
+/// The triple that the text reads as prints this.
+pub(crate) struct Prints;
+
+impl Question for Prints {
+    fn holds(alloc: Global, text: &str, print: &str) -> bool {
+        match Triple::from_str(alloc, text) {
+            Ok(triple) => is_printed(alloc, &triple, print),
+            Err(_) => false,
+        }
+    }
 }
 
 /// A text, and behind `=` what the triple that it reads as prints.
@@ -51,44 +56,41 @@ x86_64-unknown-linux-unknown=x86_64-unknown-linux";
 
 #[test]
 fn read_triples_print(rt: HostRuntime) {
-    for row in READ.lines() {
-        let (text, print) = row.split_once('=').unwrap_or((row, ""));
-        check_text(&rt, rt.alloc(), &read(&rt, rt.alloc(), text), print);
+    check_rows::<Prints>(&rt, rt.alloc(), READ);
+}
+
+/// The triple of these names prints this.
+fn is_built(alloc: Global, names: &'static str, print: &str) -> bool {
+    match built(alloc, names) {
+        Some(triple) => is_printed(alloc, &triple, print),
+        None => false,
     }
 }
 
-/// The five names of a triple, and behind ` = ` what it prints. A custom vendor stands behind a quote.
+/// The five names of a triple, and behind `=` what it prints. A custom vendor stands behind a quote.
 const BUILT: &str = "\
-armv7a unknown none eabihf elf = armv7a-none-eabihf
-clever pc unknown gnu elf = clever-pc-gnu-elf
-wasm32 unknown wasi unknown unknown = wasm32-wasi-unknown-unknown
-x86_64 'customvendor linux unknown elf = x86_64-customvendor-linux
-armv6k nintendo horizon newlib elf = armv6k-nintendo-3ds
-riscv32imc espressif espidf gnu coff = riscv32imc-esp-espidf
-aarch64 nintendo horizon unknown elf = aarch64-nintendo-horizon
-clever unknown unknown none elf = clever-unknown-none-elf
-x86_64 apple ios gnu elf = x86_64-apple-ios-gnu-elf";
+armv7a unknown none eabihf elf=armv7a-none-eabihf
+clever pc unknown gnu elf=clever-pc-gnu-elf
+wasm32 unknown wasi unknown unknown=wasm32-wasi-unknown-unknown
+x86_64 'customvendor linux unknown elf=x86_64-customvendor-linux
+armv6k nintendo horizon newlib elf=armv6k-nintendo-3ds
+riscv32imc espressif espidf gnu coff=riscv32imc-esp-espidf
+aarch64 nintendo horizon unknown elf=aarch64-nintendo-horizon
+clever unknown unknown none elf=clever-unknown-none-elf
+x86_64 apple ios gnu elf=x86_64-apple-ios-gnu-elf";
 
 #[test]
 fn built_triples_print(rt: HostRuntime) {
     for row in BUILT.lines() {
-        let (names, print) = row.split_once(" = ").unwrap_or((row, ""));
-        match built(rt.alloc(), names) {
-            Some(triple) => check_text(&rt, rt.alloc(), &triple, print),
-            None => panic!(rt; "{names}"),
-        }
+        let (names, print) = row.split_once('=').unwrap_or((row, ""));
+        assert!(rt; is_built(rt.alloc(), names, print), "{row}");
     }
 }
 
 #[test]
 fn an_owned_custom_vendor_prints(rt: HostRuntime) -> Result<(), AllocError> {
     let owned = Box::new(rt.alloc(), String::from_str(rt.alloc(), "owned")?)?;
-    check_print(
-        &rt,
-        rt.alloc(),
-        &Vendor::Custom(CustomVendor::Owned(owned)),
-        "owned",
-    );
+    assert!(rt; prints(&Vendor::Custom(CustomVendor::Owned(owned)), "owned"));
     Ok(())
 }
 
@@ -106,40 +108,40 @@ fn the_implied_format_is_of_the_other_fields(rt: HostRuntime) {
     assert!(rt; default_binary_format(&triple) == BinaryFormat::Elf);
 }
 
-#[test]
-fn want_of_memory_has_its_line(rt: HostRuntime) {
-    check_print(&rt, rt.alloc(), &ParseError::OutOfMemory, "Out of memory");
-}
-
 /// Built triples whose vendor isn't plain; what each prints; and what that reads as or why it is refused.
 const NOT_PLAIN: &str = "\
-x86_64 'a-b linux unknown elf = x86_64-a-b-linux = Unrecognized operating system: b
-x86_64 ' linux unknown elf = x86_64--linux = Unrecognized vendor:\u{20}
-x86_64 'apple darwin unknown macho = x86_64-apple-darwin = x86_64 apple darwin unknown macho
-x86_64 'pc windows msvc coff = x86_64-pc-windows-msvc = x86_64 pc windows msvc coff
-x86_64 'unknown-linux unknown unknown elf = x86_64-unknown-linux-unknown-elf = x86_64 unknown linux unknown elf
-x86_64 'none linux unknown elf = x86_64-none-linux = Unrecognized environment: linux";
+x86_64 'a-b linux unknown elf=x86_64-a-b-linux=Unrecognized operating system: b
+x86_64 ' linux unknown elf=x86_64--linux=Unrecognized vendor:\u{20}
+x86_64 'apple darwin unknown macho=x86_64-apple-darwin=x86_64 apple darwin unknown macho
+x86_64 'pc windows msvc coff=x86_64-pc-windows-msvc=x86_64 pc windows msvc coff
+x86_64 'unknown-linux unknown unknown elf=x86_64-unknown-linux-unknown-elf=x86_64 unknown linux unknown elf
+x86_64 'none linux unknown elf=x86_64-none-linux=Unrecognized environment: linux";
+
+/// The triple of these names prints this, and doesn't come back.
+fn is_changed(alloc: Global, names: &'static str, print: &str) -> bool {
+    match built(alloc, names) {
+        Some(triple) => !triple.comes_back() && is_printed(alloc, &triple, print),
+        None => false,
+    }
+}
 
 /// What the text reads as, or the line that tells why it is refused.
-fn check_answer(rt: &impl Abort, alloc: Global, text: &str, want: &'static str) {
+fn is_answer(alloc: Global, text: &str, want: &'static str) -> bool {
     match Triple::from_str(alloc, text) {
-        Ok(read) => assert!(rt; built(alloc, want) == Some(read), "{text}"),
-        Err(error) => check_print(rt, alloc, &error, want),
+        Ok(read) => built(alloc, want) == Some(read),
+        Err(error) => prints(&error, want),
     }
+}
+
+fn is_not_plain(alloc: Global, names: &'static str, rest: &'static str) -> bool {
+    let (print, want) = rest.split_once('=').unwrap_or((rest, ""));
+    is_changed(alloc, names, print) && is_answer(alloc, print, want)
 }
 
 #[test]
 fn no_triple_comes_back_whose_vendor_is_not_plain(rt: HostRuntime) {
     for row in NOT_PLAIN.lines() {
-        let (names, rest) = row.split_once(" = ").unwrap_or((row, ""));
-        let (print, want) = rest.split_once(" = ").unwrap_or((rest, ""));
-        match built(rt.alloc(), names) {
-            Some(triple) => {
-                assert!(rt; !triple.comes_back());
-                check_text(&rt, rt.alloc(), &triple, print);
-            }
-            None => panic!(rt; "{names}"),
-        }
-        check_answer(&rt, rt.alloc(), print, want);
+        let (names, rest) = row.split_once('=').unwrap_or((row, ""));
+        assert!(rt; is_not_plain(rt.alloc(), names, rest), "{row}");
     }
 }

@@ -1,79 +1,87 @@
 //! What triples and data models answer.
 
-use crate::fixtures::{convention_word, model_word, order_word, read, width_word};
+use crate::fixtures::{
+    Question, check_rows, convention_word, model_word, order_word, width_word, writes,
+};
 use std::alloc::Global;
 use std::process::Abort;
 use target_lexicon::{Architecture, CDataModel, OperatingSystem, Size, Triple};
 
-/// A text, and the byte order, pointer width, calling convention and data model of its triple; `-` for a refusal.
+/// A text, and behind `=` the byte order, pointer width, calling convention and data model of its triple; `-` for a refusal.
 const ANSWERS: &str = "\
-wasm32-wasip1 little 32 - ILP32
-wasm32-wasi little 32 WasmBasicCAbi ILP32
-aarch64-apple-ios-gnu_ilp32 little 32 AppleAarch64 -
-aarch64-apple-ios-macabi little 64 AppleAarch64 LP64
-x86_64-unknown-linux-gnu little 64 SystemV LP64
-x86_64-pc-windows-msvc little 64 WindowsFastcall LLP64
-avr-unknown-unknown little 16 - -
-wasm64-unknown-unknown little 64 - LP64
-unknown-unknown-linux-gnux32 - 32 SystemV ILP32
-unknown - - - -
-x86_64-unknown-linux-gnux32 little 32 SystemV ILP32
-i686-pc-windows-gnu little 32 WindowsFastcall ILP32
-aarch64-apple-darwin little 64 AppleAarch64 LP64
-aarch64-apple-ios little 64 AppleAarch64 LP64
-aarch64-apple-tvos little 64 AppleAarch64 LP64
-aarch64-apple-watchos little 64 AppleAarch64 LP64
-aarch64-linux-android little 64 SystemV LP64
-x86_64-apple-ios little 64 SystemV LP64
-aarch64_be-unknown-linux-gnu_ilp32 big 32 SystemV ILP32
-aarch64-unknown-linux-gnu_ilp32 little 32 SystemV ILP32
-aarch64_be-unknown-linux-gnu big 64 SystemV LP64
-aarch64-unknown-linux-gnu little 64 SystemV LP64
-aarch64_be-apple-darwin big 64 AppleAarch64 LP64
-wasm64-wasi little 64 - LP64
-wasm64-unknown-linux little 64 SystemV LP64
-x86_64-unknown-illumos little 64 - -
-x86_64-pc-cygwin little 64 - -
-x86_64-unknown-uefi little 64 - -
-x86_64-pc-windows-gnux32 little 32 WindowsFastcall ILP32
-wasm64-pc-windows little 64 WindowsFastcall LLP64
-wasm32-pc-windows little 32 WindowsFastcall ILP32
-wasm32-unknown-none little 32 - ILP32
-wasm32-unknown-linux little 32 SystemV ILP32
-wasm64-unknown-unknown-gnux32 little 32 - -
-asmjs-unknown-emscripten little 32 - -
-thumbv7m-none-eabi little 32 - -
-armeb-unknown-linux-gnueabi big 32 SystemV ILP32
-i386-apple-ios little 32 SystemV ILP32
-avr-unknown-linux little 16 SystemV -
-msp430-pc-windows little 16 WindowsFastcall -
-z80-apple-darwin little 16 SystemV -
-avr-unknown-linux-gnu_ilp32 little 32 SystemV ILP32
-unknown-unknown-linux - - SystemV -
-unknown-pc-windows - - WindowsFastcall -
-unknown-apple-darwin - - SystemV -
-unknown-pc-windows-gnu_ilp32 - 32 WindowsFastcall ILP32
-x86_64-customvendor-linux little 64 SystemV LP64";
+wasm32-wasip1=little 32 - ILP32
+wasm32-wasi=little 32 WasmBasicCAbi ILP32
+aarch64-apple-ios-gnu_ilp32=little 32 AppleAarch64 -
+aarch64-apple-ios-macabi=little 64 AppleAarch64 LP64
+x86_64-unknown-linux-gnu=little 64 SystemV LP64
+x86_64-pc-windows-msvc=little 64 WindowsFastcall LLP64
+avr-unknown-unknown=little 16 - -
+wasm64-unknown-unknown=little 64 - LP64
+unknown-unknown-linux-gnux32=- 32 SystemV ILP32
+unknown=- - - -
+x86_64-unknown-linux-gnux32=little 32 SystemV ILP32
+i686-pc-windows-gnu=little 32 WindowsFastcall ILP32
+aarch64-apple-darwin=little 64 AppleAarch64 LP64
+aarch64-apple-ios=little 64 AppleAarch64 LP64
+aarch64-apple-tvos=little 64 AppleAarch64 LP64
+aarch64-apple-watchos=little 64 AppleAarch64 LP64
+aarch64-linux-android=little 64 SystemV LP64
+x86_64-apple-ios=little 64 SystemV LP64
+aarch64_be-unknown-linux-gnu_ilp32=big 32 SystemV ILP32
+aarch64-unknown-linux-gnu_ilp32=little 32 SystemV ILP32
+aarch64_be-unknown-linux-gnu=big 64 SystemV LP64
+aarch64-unknown-linux-gnu=little 64 SystemV LP64
+aarch64_be-apple-darwin=big 64 AppleAarch64 LP64
+wasm64-wasi=little 64 - LP64
+wasm64-unknown-linux=little 64 SystemV LP64
+x86_64-unknown-illumos=little 64 - -
+x86_64-pc-cygwin=little 64 - -
+x86_64-unknown-uefi=little 64 - -
+x86_64-pc-windows-gnux32=little 32 WindowsFastcall ILP32
+wasm64-pc-windows=little 64 WindowsFastcall LLP64
+wasm32-pc-windows=little 32 WindowsFastcall ILP32
+wasm32-unknown-none=little 32 - ILP32
+wasm32-unknown-linux=little 32 SystemV ILP32
+wasm64-unknown-unknown-gnux32=little 32 - -
+asmjs-unknown-emscripten=little 32 - -
+thumbv7m-none-eabi=little 32 - -
+armeb-unknown-linux-gnueabi=big 32 SystemV ILP32
+i386-apple-ios=little 32 SystemV ILP32
+avr-unknown-linux=little 16 SystemV -
+msp430-pc-windows=little 16 WindowsFastcall -
+z80-apple-darwin=little 16 SystemV -
+avr-unknown-linux-gnu_ilp32=little 32 SystemV ILP32
+unknown-unknown-linux=- - SystemV -
+unknown-pc-windows=- - WindowsFastcall -
+unknown-apple-darwin=- - SystemV -
+unknown-pc-windows-gnu_ilp32=- 32 WindowsFastcall ILP32
+x86_64-customvendor-linux=little 64 SystemV LP64";
 
 /// The triple answers so.
-fn check_answers(rt: &impl Abort, alloc: Global, triple: &Triple, want: &str) {
+fn has_answers(triple: &Triple, want: &str) -> bool {
     let order = order_word(triple.endianness());
     let width = width_word(triple.pointer_width());
     let convention = convention_word(triple.default_calling_convention());
     let model = model_word(triple.data_model());
-    match format!(in alloc; "{order} {width} {convention} {model}") {
-        Ok(answers) => assert_eq!(rt; answers.as_str(), want),
-        Err(_) => panic!(rt; "no memory"),
+    writes(&format_args!("{order} {width} {convention} {model}"), want)
+}
+
+/// The triple that the text reads as answers so.
+struct IsAnswered;
+
+impl Question for IsAnswered {
+    fn holds(alloc: Global, text: &str, want: &str) -> bool {
+        match Triple::from_str(alloc, text) {
+            Ok(triple) => has_answers(&triple, want),
+            Err(_) => false,
+        }
     }
 }
 
 #[test]
 fn triples_answer(rt: HostRuntime) {
-    for row in ANSWERS.lines() {
-        let (text, want) = row.split_once(' ').unwrap_or((row, ""));
-        check_answers(&rt, rt.alloc(), &read(&rt, rt.alloc(), text), want);
-    }
-    check_answers(&rt, rt.alloc(), &Triple::unknown(), "- - - -");
+    check_rows::<IsAnswered>(&rt, rt.alloc(), ANSWERS);
+    assert!(rt; has_answers(&Triple::unknown(), "- - - -"));
 }
 
 #[test]
@@ -83,27 +91,25 @@ fn hosts_are_fixed(rt: HostRuntime) {
 }
 
 /// The bits of short, int, long, long long, pointer, float and double.
-fn check_sizes(rt: &impl Abort, alloc: Global, model: CDataModel, want: &str) {
-    let short = model.short_size().bits();
-    let int = model.int_size().bits();
-    let long = model.long_size().bits();
-    let long_long = model.long_long_size().bits();
-    let pointer = model.pointer_width().bits();
-    let float = model.float_size().bits();
-    let double = model.double_size().bits();
-    match format!(in alloc; "{short} {int} {long} {long_long} {pointer} {float} {double}") {
-        Ok(sizes) => assert_eq!(rt; sizes.as_str(), want),
-        Err(_) => panic!(rt; "no memory"),
-    }
+fn sizes(model: CDataModel) -> [u8; 7] {
+    [
+        model.short_size().bits(),
+        model.int_size().bits(),
+        model.long_size().bits(),
+        model.long_long_size().bits(),
+        model.pointer_width().bits(),
+        model.float_size().bits(),
+        model.double_size().bits(),
+    ]
 }
 
 #[test]
 fn models_have_sizes(rt: HostRuntime) {
-    check_sizes(&rt, rt.alloc(), CDataModel::LP32, "16 16 32 64 32 32 64");
-    check_sizes(&rt, rt.alloc(), CDataModel::ILP32, "16 32 32 64 32 32 64");
-    check_sizes(&rt, rt.alloc(), CDataModel::LLP64, "16 32 32 64 64 32 64");
-    check_sizes(&rt, rt.alloc(), CDataModel::LP64, "16 32 64 64 64 32 64");
-    check_sizes(&rt, rt.alloc(), CDataModel::ILP64, "16 64 64 64 64 32 64");
+    assert!(rt; sizes(CDataModel::LP32) == [16, 16, 32, 64, 32, 32, 64]);
+    assert!(rt; sizes(CDataModel::ILP32) == [16, 32, 32, 64, 32, 32, 64]);
+    assert!(rt; sizes(CDataModel::LLP64) == [16, 32, 32, 64, 64, 32, 64]);
+    assert!(rt; sizes(CDataModel::LP64) == [16, 32, 64, 64, 64, 32, 64]);
+    assert!(rt; sizes(CDataModel::ILP64) == [16, 64, 64, 64, 64, 32, 64]);
 }
 
 #[test]

@@ -1,82 +1,114 @@
 //! Texts that read as a triple, and texts that are refused.
 
-use crate::fixtures::{check_print, custom_vendor, read, refused};
+use crate::fixtures::{Question, check_rows, lengthened, prints, tells_each_fault, writes};
 use std::alloc::{AllocError, Global};
 use std::process::Abort;
-use target_lexicon::{CustomVendor, ParseError, Triple, Vendor, triple};
+use target_lexicon::{JsonError, ListError, ParseError, Triple, triple};
 
 /// The five values of the triple are these, as `{:?}` writes each.
-fn check_values(rt: &impl Abort, alloc: Global, triple: &Triple, want: &str) {
+pub(crate) fn has_values(triple: &Triple, want: &str) -> bool {
     let architecture = triple.architecture;
     let vendor = &triple.vendor;
     let system = triple.operating_system;
     let environment = triple.environment;
     let format = triple.binary_format;
-    match format!(in alloc; "{architecture:?} {vendor:?} {system:?} {environment:?} {format:?}") {
-        Ok(values) => assert_eq!(rt; values.as_str(), want),
-        Err(_) => panic!(rt; "no memory"),
+    writes(
+        &format_args!("{architecture:?} {vendor:?} {system:?} {environment:?} {format:?}"),
+        want,
+    )
+}
+
+/// A clone of the triple is equal to it, and has these values.
+fn is_cloned(alloc: Global, triple: &Triple, want: &str) -> bool {
+    match triple.clone(alloc) {
+        Ok(copy) => copy == *triple && has_values(&copy, want),
+        Err(_) => false,
     }
 }
 
-/// A text, and behind ` = ` the five values of the triple that it reads as.
+/// The text reads as a triple of these values.
+struct ReadsAs;
+
+impl Question for ReadsAs {
+    fn holds(alloc: Global, text: &str, want: &str) -> bool {
+        match Triple::from_str(alloc, text) {
+            Ok(triple) => has_values(&triple, want) && is_cloned(alloc, &triple, want),
+            Err(_) => false,
+        }
+    }
+}
+
+/// A text, and behind `=` the five values of the triple that it reads as.
 const READ: &str = "\
-unknown-unknown-unknown = Unknown Unknown Unknown Unknown Unknown
-unknown-unknown-unknown-unknown = Unknown Unknown Unknown Unknown Unknown
-unknown-unknown-unknown-unknown-unknown = Unknown Unknown Unknown Unknown Unknown
-riscv64 = Riscv64(Riscv64) Unknown Unknown Unknown Elf
-aarch64-fuchsia = Aarch64(Aarch64) Unknown Fuchsia Unknown Elf
-aarch64-unknown-fuchsia = Aarch64(Aarch64) Unknown Fuchsia Unknown Elf
-x86_64-fuchsia = X86_64 Unknown Fuchsia Unknown Elf
-x86_64-unknown-fuchsia = X86_64 Unknown Fuchsia Unknown Elf
-thumbv7em-none-eabihf = Arm(Thumbv7em) Unknown None_ Eabihf Elf
-x86_64-unknown-linux-gnu = X86_64 Unknown Linux Gnu Elf
-x86_64-unknown-none = X86_64 Unknown None_ Unknown Unknown
-x86_64-none-none = X86_64 Unknown None_ None Unknown
-clever-unknown-unknown-none = Clever(Clever) Unknown Unknown None Elf
-clever-unknown-none-elf = Clever(Clever) Unknown None_ Unknown Elf
-clever-unknown-unknown-unknown-unknown = Clever(Clever) Unknown Unknown Unknown Unknown
-clever-unknown-unknown = Clever(Clever) Unknown Unknown Unknown Elf
-x86_64-unknown-linux-unknown-unknown = X86_64 Unknown Linux Unknown Unknown
-x86_64-unknown-linux-unknown = X86_64 Unknown Linux Unknown Elf
-arm64-apple-ios = Aarch64(Aarch64) Apple IOS(None) Unknown Macho
-aarch64-apple-macosx = Aarch64(Aarch64) Apple MacOSX(None) Unknown Macho
-aarch64-apple-macosx10.14.6 = Aarch64(Aarch64) Apple MacOSX(Some(DeploymentTarget { major: 10, minor: 14, patch: 6 })) Unknown Macho
-x86_64-apple-darwin23 = X86_64 Apple Darwin(Some(DeploymentTarget { major: 23, minor: 0, patch: 0 })) Unknown Macho
-x86_64-apple-darwin23.0 = X86_64 Apple Darwin(Some(DeploymentTarget { major: 23, minor: 0, patch: 0 })) Unknown Macho
-x86_64-apple-darwin23.0.0 = X86_64 Apple Darwin(Some(DeploymentTarget { major: 23, minor: 0, patch: 0 })) Unknown Macho
-x86_64-apple-darwin+023.6 = X86_64 Apple Darwin(Some(DeploymentTarget { major: 23, minor: 6, patch: 0 })) Unknown Macho
-x86_64-apple-ios65535.255.255 = X86_64 Apple IOS(Some(DeploymentTarget { major: 65535, minor: 255, patch: 255 })) Unknown Macho
-armv6k-nintendo-3ds = Arm(Armv6k) Nintendo Horizon Newlib Elf
-armv6k-nintendo-horizon-gnu-coff = Arm(Armv6k) Nintendo Horizon Gnu Coff
-aarch64-nintendo-horizon-newlib-unknown = Aarch64(Aarch64) Nintendo Horizon Newlib Unknown
-riscv32imc-esp-espidf = Riscv32(Riscv32imc) Espressif Espidf Newlib Elf
-riscv32imc-esp-espidf-unknown = Riscv32(Riscv32imc) Custom(Owned(\"esp\")) Espidf Unknown Elf
-riscv32imc-esp-espidf-unknown-unknown = Riscv32(Riscv32imc) Custom(Owned(\"esp\")) Espidf Unknown Unknown
-x86_64-customvendor-linux = X86_64 Custom(Owned(\"customvendor\")) Linux Unknown Elf
-x86_64-customvendor = X86_64 Custom(Owned(\"customvendor\")) Unknown Unknown Elf
-x86_64-ffi-linux = X86_64 Custom(Owned(\"ffi\")) Linux Unknown Elf
-x86_64-darwin23.0.0.0 = X86_64 Custom(Owned(\"darwin23.0.0.0\")) Unknown Unknown Elf
-unknown-foo = Unknown Custom(Owned(\"foo\")) Unknown Unknown Unknown
-wasm32-wasip1 = Wasm32 Unknown WasiP1 Unknown Elf
-wasm32-wasi = Wasm32 Unknown Wasi Unknown Wasm";
+unknown-unknown-unknown=Unknown Unknown Unknown Unknown Unknown
+unknown-unknown-unknown-unknown=Unknown Unknown Unknown Unknown Unknown
+unknown-unknown-unknown-unknown-unknown=Unknown Unknown Unknown Unknown Unknown
+riscv64=Riscv64(Riscv64) Unknown Unknown Unknown Elf
+aarch64-fuchsia=Aarch64(Aarch64) Unknown Fuchsia Unknown Elf
+aarch64-unknown-fuchsia=Aarch64(Aarch64) Unknown Fuchsia Unknown Elf
+x86_64-fuchsia=X86_64 Unknown Fuchsia Unknown Elf
+x86_64-unknown-fuchsia=X86_64 Unknown Fuchsia Unknown Elf
+thumbv7em-none-eabihf=Arm(Thumbv7em) Unknown None_ Eabihf Elf
+x86_64-unknown-linux-gnu=X86_64 Unknown Linux Gnu Elf
+x86_64-unknown-none=X86_64 Unknown None_ Unknown Unknown
+x86_64-none-none=X86_64 Unknown None_ None Unknown
+clever-unknown-unknown-none=Clever(Clever) Unknown Unknown None Elf
+clever-unknown-none-elf=Clever(Clever) Unknown None_ Unknown Elf
+clever-unknown-unknown-unknown-unknown=Clever(Clever) Unknown Unknown Unknown Unknown
+clever-unknown-unknown=Clever(Clever) Unknown Unknown Unknown Elf
+x86_64-unknown-linux-unknown-unknown=X86_64 Unknown Linux Unknown Unknown
+x86_64-unknown-linux-unknown=X86_64 Unknown Linux Unknown Elf
+arm64-apple-ios=Aarch64(Aarch64) Apple IOS(None) Unknown Macho
+aarch64-apple-macosx=Aarch64(Aarch64) Apple MacOSX(None) Unknown Macho
+aarch64-apple-macosx10.14.6=Aarch64(Aarch64) Apple MacOSX(Some(DeploymentTarget { major: 10, minor: 14, patch: 6 })) Unknown Macho
+x86_64-apple-darwin23=X86_64 Apple Darwin(Some(DeploymentTarget { major: 23, minor: 0, patch: 0 })) Unknown Macho
+x86_64-apple-darwin23.0=X86_64 Apple Darwin(Some(DeploymentTarget { major: 23, minor: 0, patch: 0 })) Unknown Macho
+x86_64-apple-darwin23.0.0=X86_64 Apple Darwin(Some(DeploymentTarget { major: 23, minor: 0, patch: 0 })) Unknown Macho
+x86_64-apple-darwin+023.6=X86_64 Apple Darwin(Some(DeploymentTarget { major: 23, minor: 6, patch: 0 })) Unknown Macho
+x86_64-apple-ios65535.255.255=X86_64 Apple IOS(Some(DeploymentTarget { major: 65535, minor: 255, patch: 255 })) Unknown Macho
+armv6k-nintendo-3ds=Arm(Armv6k) Nintendo Horizon Newlib Elf
+armv6k-nintendo-horizon-gnu-coff=Arm(Armv6k) Nintendo Horizon Gnu Coff
+aarch64-nintendo-horizon-newlib-unknown=Aarch64(Aarch64) Nintendo Horizon Newlib Unknown
+riscv32imc-esp-espidf=Riscv32(Riscv32imc) Espressif Espidf Newlib Elf
+riscv32imc-esp-espidf-unknown=Riscv32(Riscv32imc) Custom(Owned(\"esp\")) Espidf Unknown Elf
+riscv32imc-esp-espidf-unknown-unknown=Riscv32(Riscv32imc) Custom(Owned(\"esp\")) Espidf Unknown Unknown
+x86_64-customvendor-linux=X86_64 Custom(Owned(\"customvendor\")) Linux Unknown Elf
+x86_64-customvendor=X86_64 Custom(Owned(\"customvendor\")) Unknown Unknown Elf
+x86_64-ffi-linux=X86_64 Custom(Owned(\"ffi\")) Linux Unknown Elf
+x86_64-darwin23.0.0.0=X86_64 Custom(Owned(\"darwin23.0.0.0\")) Unknown Unknown Elf
+unknown-foo=Unknown Custom(Owned(\"foo\")) Unknown Unknown Unknown
+wasm32-wasip1=Wasm32 Unknown WasiP1 Unknown Elf
+wasm32-wasi=Wasm32 Unknown Wasi Unknown Wasm";
 
 #[test]
 fn texts_read_as_triples(rt: HostRuntime) {
-    for row in READ.lines() {
-        let (text, want) = row.split_once(" = ").unwrap_or((row, ""));
-        check_values(&rt, rt.alloc(), &read(&rt, rt.alloc(), text), want);
+    check_rows::<ReadsAs>(&rt, rt.alloc(), READ);
+}
+
+/// A clone of the error is equal to it, and prints this line.
+fn is_error_cloned(alloc: Global, error: &ParseError, line: &str) -> bool {
+    match error.clone(alloc) {
+        Ok(copy) => copy == *error && prints(&copy, line),
+        Err(_) => false,
     }
 }
 
-/// The line tells why the text is refused, and a clone of the refusal tells it too.
-fn check_refused(rt: &impl Abort, alloc: Global, text: &str, line: &str) {
-    let error = refused(rt, alloc, text);
-    match error.clone(alloc) {
-        Ok(copy) => {
-            assert!(rt; copy == error);
-            check_print(rt, alloc, &copy, line);
+/// Of an element of a list, the error tells each fault of what it is printed to.
+fn tells_in_list(error: ParseError) -> bool {
+    tells_each_fault(&ListError::Element(190, JsonError::Parse(error)))
+}
+
+/// The line tells why the text is refused.
+pub(crate) struct IsRefused;
+
+impl Question for IsRefused {
+    fn holds(alloc: Global, text: &str, line: &str) -> bool {
+        match Triple::from_str(alloc, text) {
+            Ok(_) => false,
+            Err(error) => {
+                prints(&error, line) && is_error_cloned(alloc, &error, line) && tells_in_list(error)
+            }
         }
-        Err(_) => panic!(rt; "no memory"),
     }
 }
 
@@ -119,48 +151,40 @@ unknown-unknown-unknown-unknown-foo=Unrecognized binary format: foo
 x86_64-gnu-linux=Unrecognized binary format: linux
 unknown-unknown-unknown-unknown-unknown-foo=Unrecognized field: foo
 x86_64-elf-linux=Unrecognized field: linux
-x86_64-unknown-linux-gnu-elf-=Unrecognized field: ";
+x86_64-unknown-linux-gnu-elf-=Unrecognized field: 
+x86_64-Foo=Unrecognized vendor: Foo
+x86_64-pc-foo=Unrecognized operating system: foo
+x86_64-pc-linux-foo=Unrecognized environment: foo
+x86_64-pc-linux-gnu-foo=Unrecognized binary format: foo
+x86_64-pc-linux-gnu-elf-foo=Unrecognized field: foo";
 
 #[test]
 fn other_texts_are_refused(rt: HostRuntime) {
-    for row in REFUSED.lines() {
-        let (text, line) = row.split_once('=').unwrap_or((row, ""));
-        check_refused(&rt, rt.alloc(), text, line);
-    }
+    check_rows::<IsRefused>(&rt, rt.alloc(), REFUSED);
 }
 
-/// Five thousand dashes, behind nothing, behind an architecture, and behind all five fields.
+/// Texts with a thousand dashes for each star: behind nothing, behind an architecture, and behind all five fields.
+const DASHES: &str = "\
+*****=Unrecognized architecture: 
+x86_64*****=Unrecognized vendor: 
+x86_64-unknown-linux-gnu-elf*****=Unrecognized field: ";
+
 #[test]
 fn dashes_may_be_many(rt: HostRuntime) -> Result<(), AllocError> {
-    let dashes = "-".repeat(rt.alloc(), 5000)?;
-    for (front, line) in [
-        ("", "Unrecognized architecture: "),
-        ("x86_64", "Unrecognized vendor: "),
-        ("x86_64-unknown-linux-gnu-elf", "Unrecognized field: "),
-    ] {
-        let text = format!(in rt.alloc(); "{front}{dashes}")?;
-        check_refused(&rt, rt.alloc(), text.as_str(), line);
-    }
+    let rows = lengthened(rt.alloc(), DASHES, "-")?;
+    check_rows::<IsRefused>(&rt, rt.alloc(), rows.as_str());
     Ok(())
 }
 
-#[test]
-fn a_custom_vendor_that_is_read_owns_its_text(rt: HostRuntime) {
-    let read = read(&rt, rt.alloc(), "x86_64-customvendor-linux");
-    assert!(rt; matches!(&read.vendor, Vendor::Custom(CustomVendor::Owned(_))));
-    assert!(rt; read.vendor == custom_vendor("customvendor"));
-    match read.clone(rt.alloc()) {
-        Ok(copy) => assert!(rt; copy == read),
-        Err(_) => panic!(rt; "no memory"),
-    }
+/// Whether the refused part of the text is this one, where it is to be its architecture.
+fn has_no_architecture(read: &Result<Triple, ParseError>, text: &str) -> bool {
+    matches!(read, Err(ParseError::UnrecognizedArchitecture(part)) if part.as_str() == text)
 }
 
 #[test]
 fn the_macro_reads_its_text(rt: HostRuntime) {
     let host = triple!(rt.alloc(), "x86_64-unknown-linux-gnu");
-    assert!(rt; matches!(&host, Ok(read) if *read == Triple::host()));
+    assert!(rt; host == Ok(Triple::host()));
     let refused = triple!(rt.alloc(), "foo",);
-    assert!(rt;
-        matches!(&refused, Err(ParseError::UnrecognizedArchitecture(part)) if part.as_str() == "foo")
-    );
+    assert!(rt; has_no_architecture(&refused, "foo"));
 }

@@ -1,6 +1,6 @@
 //! Operating systems: versions both ways.
 
-use crate::fixtures::check_print;
+use crate::fixtures::{Question, check_rows, lengthened, prints};
 use std::alloc::{AllocError, Global};
 use std::borrow::CowStr;
 use std::process::Abort;
@@ -39,6 +39,8 @@ xrosfoo=
 ios17=ios17.0.0
 darwin+023.6=darwin23.6.0
 xros65535.255.255=xros65535.255.255
+macosx10.14.6=macosx10.14.6
+tvos0.0.9=tvos0.0.9
 ios65536=
 ios1.256=
 ios1.0.256=
@@ -96,28 +98,31 @@ darwinios=
 xrosvisionos1=";
 
 /// The text reads as a system with this name, or is refused where the name is empty.
-fn check_name(rt: &impl Abort, alloc: Global, text: &str, want: &str) {
-    match OperatingSystem::from_str(text) {
-        Ok(system) => check_print(rt, alloc, &system, want),
-        Err(()) => assert_eq!(rt; "", want),
+struct IsSystem;
+
+impl Question for IsSystem {
+    fn holds(_alloc: Global, text: &str, want: &str) -> bool {
+        match OperatingSystem::from_str(text) {
+            Ok(system) => prints(&system, want),
+            Err(()) => want.is_empty(),
+        }
     }
 }
 
 #[test]
 fn versions_are_read_and_named(rt: HostRuntime) {
-    for row in VERSIONS.lines() {
-        let (text, want) = row.split_once('=').unwrap_or((row, "-"));
-        check_name(&rt, rt.alloc(), text, want);
-    }
+    check_rows::<IsSystem>(&rt, rt.alloc(), VERSIONS);
 }
+
+/// As above, with a thousand zeros for each star.
+const LONG_VERSIONS: &str = "\
+tvos*17.+*3.*=tvos17.3.0
+tvos1.2.*256=";
 
 #[test]
 fn numbers_may_be_of_any_length(rt: HostRuntime) -> Result<(), AllocError> {
-    let zeros = "0".repeat(rt.alloc(), 1000)?;
-    let text = format!(in rt.alloc(); "tvos{zeros}17.+{zeros}3.{zeros}")?;
-    check_name(&rt, rt.alloc(), text.as_str(), "tvos17.3.0");
-    let text = format!(in rt.alloc(); "tvos1.2.{zeros}256")?;
-    check_name(&rt, rt.alloc(), text.as_str(), "");
+    let rows = lengthened(rt.alloc(), LONG_VERSIONS, "0")?;
+    check_rows::<IsSystem>(&rt, rt.alloc(), rows.as_str());
     Ok(())
 }
 
@@ -137,34 +142,19 @@ fn versions_are_ordered(rt: HostRuntime) {
 }
 
 /// The name of the system, and whether it is lent.
-fn check_into_str(
-    rt: &impl Abort,
-    alloc: Global,
-    system: OperatingSystem,
-    name: &str,
-    is_lent: bool,
-) {
+fn is_called(alloc: Global, system: OperatingSystem, name: &str, is_lent: bool) -> bool {
     match system.into_str(alloc) {
-        Ok(text) => {
-            assert_eq!(rt; text.as_str(), name);
-            assert!(rt; matches!(text, CowStr::Borrowed(_)) == is_lent);
-        }
-        Err(_) => panic!(rt; "no memory"),
+        Ok(text) => text.as_str() == name && matches!(&text, CowStr::Borrowed(_)) == is_lent,
+        Err(_) => false,
     }
 }
 
 #[test]
 fn a_name_without_a_version_is_lent(rt: HostRuntime) {
     let darwin = OperatingSystem::Darwin(Some(version(23, 6, 0)));
-    check_into_str(&rt, rt.alloc(), darwin, "darwin23.6.0", false);
-    check_into_str(&rt, rt.alloc(), OperatingSystem::None_, "none", true);
-    check_into_str(
-        &rt,
-        rt.alloc(),
-        OperatingSystem::MacOSX(None),
-        "macosx",
-        true,
-    );
+    assert!(rt; is_called(rt.alloc(), darwin, "darwin23.6.0", false));
+    assert!(rt; is_called(rt.alloc(), OperatingSystem::None_, "none", true));
+    assert!(rt; is_called(rt.alloc(), OperatingSystem::MacOSX(None), "macosx", true));
     assert!(rt; darwin.is_like_darwin());
     assert!(rt; !OperatingSystem::host().is_like_darwin());
 }

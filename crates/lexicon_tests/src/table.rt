@@ -2,6 +2,8 @@
 
 ghost use Rattle.std.specs.Prelude.{◌<◌};
 
+use crate::fixtures::{Question, check_words};
+use std::alloc::Global;
 use std::cmp::Ordering;
 use std::process::Abort;
 use target_lexicon::{FixedRow, KnownVendor, Steps, fixed_row, row_order};
@@ -41,21 +43,6 @@ fn is_in(names: &str, text: &str) -> bool {
     names.split_whitespace().any(|name| name == text)
 }
 
-/// The fields of the row of the text are those of which a plain scan finds it.
-fn check(rt: &impl Abort, text: &str) {
-    let scanned = [
-        is_in(ARCHITECTURES, text),
-        is_in(VENDORS, text),
-        is_in(OPERATING_SYSTEMS, text),
-        is_in(ENVIRONMENTS, text),
-        is_in(BINARY_FORMATS, text),
-    ];
-    match fixed_row(text, &mut Steps::new()) {
-        Some(row) => assert!(rt; row.text == text && fields(&row) == scanned, "{text}"),
-        None => assert!(rt; scanned == [false; 5], "{text}"),
-    }
-}
-
 /// Which of the five fields the row has.
 fn fields(row: &FixedRow) -> [bool; 5] {
     [
@@ -67,26 +54,36 @@ fn fields(row: &FixedRow) -> [bool; 5] {
     ]
 }
 
-/// Each of the names has its row. The answer is how many they are.
-fn check_all(rt: &impl Abort, names: &str) -> u32 {
-    let mut count = 0u32;
-    for name in names.split_whitespace() {
-        check(rt, name);
-        count = count.saturating_add(1);
+/// The fields of the row of the text are those of which a plain scan finds it.
+struct IsAsScanned;
+
+impl Question for IsAsScanned {
+    fn holds(_alloc: Global, text: &str, _want: &str) -> bool {
+        let scanned = [
+            is_in(ARCHITECTURES, text),
+            is_in(VENDORS, text),
+            is_in(OPERATING_SYSTEMS, text),
+            is_in(ENVIRONMENTS, text),
+            is_in(BINARY_FORMATS, text),
+        ];
+        match fixed_row(text, &mut Steps::new()) {
+            Some(row) => row.text == text && fields(&row) == scanned,
+            None => scanned == [false; 5],
+        }
     }
-    count
 }
 
 #[test]
 fn holds_what_a_scan_finds(rt: HostRuntime) {
-    assert_eq!(rt; check_all(&rt, ARCHITECTURES), 108);
-    assert_eq!(rt; check_all(&rt, VENDORS), 15);
-    assert_eq!(rt; check_all(&rt, OPERATING_SYSTEMS), 33);
-    assert_eq!(rt; check_all(&rt, ENVIRONMENTS), 35);
-    assert_eq!(rt; check_all(&rt, BINARY_FORMATS), 6);
-    check(&rt, "");
-    check_all(
+    assert!(rt; check_words::<IsAsScanned>(&rt, rt.alloc(), ARCHITECTURES) == 108);
+    assert!(rt; check_words::<IsAsScanned>(&rt, rt.alloc(), VENDORS) == 15);
+    assert!(rt; check_words::<IsAsScanned>(&rt, rt.alloc(), OPERATING_SYSTEMS) == 33);
+    assert!(rt; check_words::<IsAsScanned>(&rt, rt.alloc(), ENVIRONMENTS) == 35);
+    assert!(rt; check_words::<IsAsScanned>(&rt, rt.alloc(), BINARY_FORMATS) == 6);
+    assert!(rt; IsAsScanned::holds(rt.alloc(), "", ""));
+    check_words::<IsAsScanned>(
         &rt,
+        rt.alloc(),
         "\0 a A zz é ios17 darwin AARCH64 aarch6 aarch64~ pc~ zkasm~ zkasn",
     );
 }
