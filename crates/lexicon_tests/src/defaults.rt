@@ -1,9 +1,9 @@
 //! The two wrappers with a default.
 
-use crate::fixtures::{custom_vendor, fed, prints, writes};
+use crate::fixtures::{custom_vendor, fed, prints, shows};
 use std::alloc::Global;
 use std::process::Abort;
-use target_lexicon::{DefaultToHost, DefaultToUnknown, Environment, Triple, Vendor};
+use target_lexicon::{DefaultToHost, DefaultToUnknown, Environment, Triple};
 
 #[test]
 fn defaults_are_the_host_and_the_unknown_triple(rt: HostRuntime) {
@@ -11,21 +11,18 @@ fn defaults_are_the_host_and_the_unknown_triple(rt: HostRuntime) {
     assert!(rt; prints(&DefaultToUnknown::default().0, "unknown-unknown-unknown"));
 }
 
-/// The vendor is this one, and owns its text.
-fn owns(vendor: &Vendor, text: &str) -> bool {
-    writes(&format_args!("{vendor:?}"), text)
-}
-
+/// A clone is equal, and has this vendor, as `{:?}` writes it.
 fn host_keeps(alloc: Global, host: &DefaultToHost, vendor: &str) -> bool {
     match host.clone(alloc) {
-        Ok(copy) => copy == *host && owns(&copy.0.vendor, vendor),
+        Ok(copy) => copy == *host && shows(&copy.0.vendor, vendor),
         Err(_) => false,
     }
 }
 
+/// A clone is equal, and has this vendor, as `{:?}` writes it.
 fn unknown_keeps(alloc: Global, unknown: &DefaultToUnknown, vendor: &str) -> bool {
     match unknown.clone(alloc) {
-        Ok(copy) => copy == *unknown && owns(&copy.0.vendor, vendor),
+        Ok(copy) => copy == *unknown && shows(&copy.0.vendor, vendor),
         Err(_) => false,
     }
 }

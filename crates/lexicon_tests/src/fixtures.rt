@@ -2,7 +2,7 @@
 
 use std::alloc::{AllocError, Global};
 use std::fmt;
-use std::fmt::{Display, Write as _};
+use std::fmt::{Debug, Display, Write as _};
 use std::hash::{DefaultHasher, Hash, Hasher};
 use std::process::Abort;
 use target_lexicon::{
@@ -18,7 +18,7 @@ pub(crate) trait Question {
 /// The question holds of each line of the rows: of what stands before its first `=`, and of what stands behind it.
 pub(crate) fn check_rows<Q: Question>(rt: &impl Abort, alloc: Global, rows: &str) {
     for row in rows.lines() {
-        match row.split_once('=') {
+        match row.split_once("=") {
             Some((text, want)) => assert!(rt; Q::holds(alloc, text, want), "{row}"),
             None => panic!(rt; "{row}"),
         }
@@ -38,7 +38,7 @@ pub(crate) fn check_words<Q: Question>(rt: &impl Abort, alloc: Global, words: &s
 /// The rows, with a thousand of this digit or dash for each star.
 pub(crate) fn lengthened(alloc: Global, rows: &str, mark: &str) -> Result<String, AllocError> {
     let many = mark.repeat(alloc, 1000)?;
-    rows.replace(alloc, '*', many.as_str())
+    rows.replace(alloc, "*", many.as_str())
 }
 
 /// What the value feeds a hasher.
@@ -50,8 +50,15 @@ pub(crate) fn fed<T: Hash>(value: &T) -> u64 {
 
 /// What is left of a text that is to be written.
 #[derive(Drop)]
-struct Left<'a> {
-    text: &'a str,
+pub(crate) struct Left<'a> {
+    pub(crate) text: &'a str,
+}
+
+impl Left<'_> {
+    /// Whether the value, as `{:?}` writes it, and this mark are what comes next.
+    pub(crate) fn goes_on<T: Debug>(&mut self, value: &T, mark: &str) -> bool {
+        write!(self, "{value:?}{mark}").is_ok()
+    }
 }
 
 impl fmt::Write for Left<'_> {
@@ -68,6 +75,11 @@ impl fmt::Write for Left<'_> {
 pub(crate) fn writes<T: Display>(value: &T, text: &str) -> bool {
     let mut left = Left { text };
     write!(left, "{value}").is_ok() && left.text.is_empty()
+}
+
+/// Whether `{:?}` writes the value as this text.
+pub(crate) fn shows<T: Debug>(value: &T, text: &str) -> bool {
+    writes(&format_args!("{value:?}"), text)
 }
 
 /// Counts its pieces, and fails at its `fails_at`th one alone.
@@ -117,7 +129,7 @@ pub(crate) fn custom_vendor(text: &'static str) -> Vendor {
 
 /// The vendor of a name, or behind a quote a custom vendor with this text, whatever it is.
 fn vendor(alloc: Global, text: &'static str) -> Option<Vendor> {
-    match text.strip_prefix('\'') {
+    match text.strip_prefix("'") {
         Some(text) => Some(custom_vendor(text)),
         None => Vendor::from_str(alloc, text).ok(),
     }

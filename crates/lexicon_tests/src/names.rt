@@ -1,7 +1,7 @@
 //! The names of all values without a version, and what architectures answer: as a Rust program printed them that asks
 //! target-lexicon 0.13.5 for each of its values.
 
-use crate::fixtures::{Question, check_rows, order_word, prints, width_word, writes};
+use crate::fixtures::{Question, check_rows, order_word, prints, shows, width_word, writes};
 use std::alloc::Global;
 use std::borrow::CowStr;
 use std::fmt::{Debug, Display};
@@ -215,7 +215,7 @@ xcoff=Xcoff";
 /// The name reads as this value, which prints it.
 fn is_named<T: Debug + Display + Drop + FromStr<Err = ()>>(name: &str, want: &str) -> bool {
     match name.parse::<T>() {
-        Ok(value) => prints(&value, name) && writes(&format_args!("{value:?}"), want),
+        Ok(value) => prints(&value, name) && shows(&value, want),
         Err(()) => false,
     }
 }
@@ -344,7 +344,7 @@ struct ReadsInType;
 
 impl Question for ReadsInType {
     fn holds(_alloc: Global, question: &str, want: &str) -> bool {
-        let (family, text) = question.split_once(' ').unwrap_or((question, ""));
+        let (family, text) = question.split_once(" ").unwrap_or((question, ""));
         name_of(family, text).as_str() == want
     }
 }

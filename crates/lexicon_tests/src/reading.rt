@@ -1,21 +1,19 @@
 //! Texts that read as a triple, and texts that are refused.
 
-use crate::fixtures::{Question, check_rows, lengthened, prints, tells_each_fault, writes};
+use crate::fixtures::{Left, Question, check_rows, lengthened, prints, tells_each_fault};
 use std::alloc::{AllocError, Global};
 use std::process::Abort;
 use target_lexicon::{JsonError, ListError, ParseError, Triple, triple};
 
 /// The five values of the triple are these, as `{:?}` writes each.
 pub(crate) fn has_values(triple: &Triple, want: &str) -> bool {
-    let architecture = triple.architecture;
-    let vendor = &triple.vendor;
-    let system = triple.operating_system;
-    let environment = triple.environment;
-    let format = triple.binary_format;
-    writes(
-        &format_args!("{architecture:?} {vendor:?} {system:?} {environment:?} {format:?}"),
-        want,
-    )
+    let mut left = Left { text: want };
+    left.goes_on(&triple.architecture, " ")
+        && left.goes_on(&triple.vendor, " ")
+        && left.goes_on(&triple.operating_system, " ")
+        && left.goes_on(&triple.environment, " ")
+        && left.goes_on(&triple.binary_format, "")
+        && left.text.is_empty()
 }
 
 /// A clone of the triple is equal to it, and has these values.
@@ -176,7 +174,11 @@ fn dashes_may_be_many(rt: HostRuntime) -> Result<(), AllocError> {
     Ok(())
 }
 
-/// Whether the refused part of the text is this one, where it is to be its architecture.
+fn is_host(read: &Result<Triple, ParseError>) -> bool {
+    matches!(read, Ok(triple) if *triple == Triple::host())
+}
+
+/// The text is refused as no architecture.
 fn has_no_architecture(read: &Result<Triple, ParseError>, text: &str) -> bool {
     matches!(read, Err(ParseError::UnrecognizedArchitecture(part)) if part.as_str() == text)
 }
@@ -184,7 +186,7 @@ fn has_no_architecture(read: &Result<Triple, ParseError>, text: &str) -> bool {
 #[test]
 fn the_macro_reads_its_text(rt: HostRuntime) {
     let host = triple!(rt.alloc(), "x86_64-unknown-linux-gnu");
-    assert!(rt; host == Ok(Triple::host()));
+    assert!(rt; is_host(&host));
     let refused = triple!(rt.alloc(), "foo",);
     assert!(rt; has_no_architecture(&refused, "foo"));
 }

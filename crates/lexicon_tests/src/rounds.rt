@@ -1,6 +1,6 @@
 //! Rounds: what a triple prints, read again; its normal step; and the triple that it settles as.
 
-use crate::fixtures::{Question, check_rows, custom_vendor, is_printed, writes};
+use crate::fixtures::{Question, check_rows, custom_vendor, is_printed, shows};
 use std::alloc::Global;
 use std::process::Abort;
 use target_lexicon::Triple;
@@ -41,11 +41,19 @@ fn is_step(alloc: Global, text: &str, print: &str) -> bool {
     }
 }
 
+/// The text's triple settles as this one.
+fn settles_as(alloc: Global, text: &str, settled: &Triple) -> bool {
+    match Triple::from_str(alloc, text) {
+        Ok(triple) => triple.settle() == *settled,
+        Err(_) => false,
+    }
+}
+
 /// The text's triple settles as that of the last print, which comes back.
-fn settles_as(alloc: Global, text: &str, last: &str) -> bool {
-    match (Triple::from_str(alloc, text), Triple::from_str(alloc, last)) {
-        (Ok(triple), Ok(settled)) => settled.comes_back() && triple.settle() == settled,
-        _ => false,
+fn ends_at(alloc: Global, text: &str, last: &str) -> bool {
+    match Triple::from_str(alloc, last) {
+        Ok(settled) => settled.comes_back() && settles_as(alloc, text, &settled),
+        Err(_) => false,
     }
 }
 
@@ -54,13 +62,13 @@ struct HasRounds;
 
 impl Question for HasRounds {
     fn holds(alloc: Global, text: &str, prints: &str) -> bool {
-        match prints.split_once(' ') {
+        match prints.split_once(" ") {
             Some((print, last)) => {
                 is_step(alloc, text, print)
                     && is_step(alloc, print, last)
-                    && settles_as(alloc, text, last)
+                    && ends_at(alloc, text, last)
             }
-            None => is_step(alloc, text, prints) && settles_as(alloc, text, prints),
+            None => is_step(alloc, text, prints) && ends_at(alloc, text, prints),
         }
     }
 }
@@ -75,9 +83,7 @@ fn settles_with(triple: Triple, vendor: &str) -> bool {
     if !triple.vendor.is_plain() {
         return false;
     }
-    let settled = triple.settle();
-    let kept = &settled.vendor;
-    writes(&format_args!("{kept:?}"), vendor)
+    shows(&triple.settle().vendor, vendor)
 }
 
 /// The vendor that is kept is owned or fixed, as it was.

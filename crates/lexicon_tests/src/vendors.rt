@@ -1,6 +1,6 @@
 //! Vendors: known, custom and none.
 
-use crate::fixtures::{Question, check_rows, fed, prints, writes};
+use crate::fixtures::{Question, check_rows, fed, prints, shows};
 use std::alloc::Global;
 use std::process::Abort;
 use target_lexicon::{CustomVendor, Vendor, VendorError};
@@ -32,10 +32,10 @@ z=Custom(Owned(\"z\"))
 customvendor=Custom(Owned(\"customvendor\"))
 foo=Custom(Owned(\"foo\"))";
 
-/// A clone of the vendor is equal to it, and is this one, as `{:?}` writes it.
+/// A clone of the vendor is this one, as `{:?}` writes it.
 fn is_cloned(alloc: Global, vendor: &Vendor, want: &str) -> bool {
     match vendor.clone(alloc) {
-        Ok(copy) => copy == *vendor && writes(&format_args!("{copy:?}"), want),
+        Ok(copy) => shows(&copy, want),
         Err(_) => false,
     }
 }
@@ -50,7 +50,7 @@ impl Question for ReadsAs {
                 vendor.is_plain()
                     && vendor.as_str() == text
                     && prints(&vendor, text)
-                    && writes(&format_args!("{vendor:?}"), want)
+                    && shows(&vendor, want)
                     && is_cloned(alloc, &vendor, want)
             }
             Err(_) => false,
@@ -105,7 +105,7 @@ fn custom_vendors_are_compared_by_text(rt: HostRuntime) {
 /// A clone of the vendor has this text, and is this one, as `{:?}` writes it.
 fn is_custom_cloned(alloc: Global, custom: &CustomVendor, text: &str, want: &str) -> bool {
     match custom.clone(alloc) {
-        Ok(copy) => copy.as_str() == text && writes(&format_args!("{copy:?}"), want),
+        Ok(copy) => copy.as_str() == text && shows(&copy, want),
         Err(_) => false,
     }
 }
