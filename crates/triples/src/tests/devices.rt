@@ -98,6 +98,28 @@ impl Gate {
     }
 }
 
+/// What a writer was asked for and took.
+#[derive(PartialEq, Drop)]
+pub(super) struct Taken {
+    pub writes: usize,
+    pub flushed: u32,
+    pub kept: usize,
+    /// Whether what was kept is a beginning of the whole.
+    pub is_front: bool,
+}
+
+impl Gate {
+    /// What was taken of `whole`.
+    pub(super) fn taken(self, whole: &[u8]) -> Taken {
+        Taken {
+            writes: self.writes,
+            flushed: self.flushed,
+            kept: self.kept.len(),
+            is_front: whole.starts_with(&self.kept),
+        }
+    }
+}
+
 impl Write for Gate {
     fn write(&mut self, buf: &[u8]) -> io::Result<usize> {
         let at = self.writes;

@@ -1,7 +1,7 @@
 //! Each read, each write and each flush of a run fails in turn, in every mode; and so do those of its conclusion, and each
 //! piece of what a fault prints.
 
-use super::devices::{Drip, Gate, Oddity, Pieces};
+use super::devices::{Drip, Gate, Oddity, Pieces, Taken};
 use crate::conclude::conclude;
 use crate::counted::Counted;
 use crate::mode::Mode;
@@ -11,7 +11,6 @@ use std::alloc::Global;
 use std::fmt::Write as _;
 use std::io;
 use std::io::ErrorKind;
-use std::process::Abort;
 
 /// A mode, an input, and the output for it.
 type Row = (Mode, &'static [u8], &'static [u8]);
@@ -59,125 +58,183 @@ fn refused_inputs() -> [(Mode, &'static [u8], RunError); 6] {
 
 const ERRORS: [ErrorKind; 2] = [ErrorKind::Interrupted, ErrorKind::BrokenPipe];
 
-/// How a run over these devices ends, how often it reads, and the writer behind it.
-fn trial(
-    alloc: Global,
-    mode: Mode,
-    reader: Drip,
-    writer: Gate,
-) -> (Result<(), RunError>, usize, Gate) {
+/// How a run ended, how often it read, and what it wrote.
+#[derive(PartialEq, Drop)]
+struct Trace {
+    end: Result<(), RunError>,
+    reads: usize,
+    taken: Taken,
+}
+
+/// A run over these devices.
+fn trial(alloc: Global, row: Row, reader: Drip, writer: Gate) -> Trace {
+    let (mode, _input, output) = row;
     let mut reader = Counted::new(reader);
     let mut writer = Counted::new(writer);
     let end = run(alloc, mode, &mut reader, &mut writer);
-    (end, reader.into_inner().reads, writer.into_inner())
-}
-
-/// Lets each read of a run fail in turn. Nothing is read behind the failed one, and nothing is written.
-fn check_reads(rt: &impl Abort, alloc: Global, row: Row, kind: ErrorKind) {
-    let (mode, input, _output) = row;
-    for odd_at in 0..100 {
-        let drip = Drip::new(input, odd_at, Oddity::Error(kind));
-        let (end, reads, gate) = trial(alloc, mode, drip, Gate::new(alloc));
-        if reads <= odd_at {
-            assert_eq!(rt; (end, reads), (Ok(()), input.len() + 1));
-            return;
-        }
-        assert_eq!(rt; (end, reads), (Err(RunError::Read), odd_at + 1));
-        assert_eq!(rt; (gate.writes, gate.flushed), (0, 0));
+    Trace {
+        end,
+        reads: reader.into_inner().reads,
+        taken: writer.into_inner().taken(output),
     }
-    assert!(rt; false, "no run made fewer reads");
 }
 
-/// Lets each write of a run fail in turn, where each takes one byte. Nothing is written behind the failed one.
-fn check_writes(rt: &impl Abort, alloc: Global, row: Row, failure: Oddity) {
-    let (mode, input, output) = row;
-    for fails_at in 0..100 {
-        let drip = Drip::new(input, usize::MAX, Oddity::Nothing);
-        let gate = Gate::narrow(alloc, fails_at, failure);
-        let (end, reads, gate) = trial(alloc, mode, drip, gate);
-        assert_eq!(rt; reads, input.len() + 1);
-        assert!(rt; output.starts_with(gate.kept.as_slice()));
-        if gate.writes <= fails_at {
-            assert_eq!(rt; (end, gate.flushed), (Ok(()), 1));
-            assert_eq!(rt;
-                (gate.kept.len(), gate.writes),
-                (output.len(), output.len())
-            );
-            return;
+/// What is taken where nothing is written.
+const NOTHING: Taken = Taken {
+    writes: 0,
+    flushed: 0,
+    kept: 0,
+    is_front: true,
+};
+
+/// Whether a run is well but for its `odd_at`th read, behind which nothing is read and nothing is written.
+fn ends_at_read(alloc: Global, row: Row, odd_at: usize, kind: ErrorKind) -> bool {
+    let drip = Drip::new(row.1, odd_at, Oddity::Error(kind));
+    trial(alloc, row, drip, Gate::new(alloc))
+        == Trace {
+            end: Err(RunError::Read),
+            reads: odd_at.saturating_add(1),
+            taken: NOTHING,
         }
-        assert_eq!(rt; (end, gate.flushed), (Err(RunError::Write), 0));
-        assert_eq!(rt; (gate.kept.len(), gate.writes), (fails_at, fails_at + 1));
-    }
-    assert!(rt; false, "no run made fewer writes");
 }
 
-/// Runs with a writer that takes all that it is given, and flushes or fails to. There is one write and one flush.
-fn check_flush(
-    rt: &impl Abort,
-    alloc: Global,
-    row: Row,
-    flushes: Result<(), ErrorKind>,
-    wanted: Result<(), RunError>,
-) {
-    let (mode, input, output) = row;
-    let drip = Drip::new(input, usize::MAX, Oddity::Nothing);
-    let mut gate = Gate::new(alloc);
-    gate.flushes = flushes;
-    let (end, _reads, gate) = trial(alloc, mode, drip, gate);
-    assert_eq!(rt; (end, gate.flushed), (wanted, 1));
-    assert_eq!(rt; gate.kept.as_slice(), output);
-    assert_eq!(rt; gate.writes, output.len().min(1));
+/// Whether a run ends so at each of its reads, and at the one that finds the end.
+fn ends_at_each_read(alloc: Global, row: Row, kind: ErrorKind) -> bool {
+    for odd_at in 0..row.1.len() + 1 {
+        if !ends_at_read(alloc, row, odd_at, kind) {
+            return false;
+        }
+    }
+    true
 }
 
 #[test]
 fn each_read_fails_in_turn(rt: HostRuntime) {
     for row in rows() {
         for kind in ERRORS {
-            check_reads(&rt, rt.alloc(), row, kind);
+            assert!(rt; ends_at_each_read(rt.alloc(), row, kind), "{:?}", row.0);
         }
     }
+}
+
+/// Whether a run whose writes take a byte each is well but for its `fails_at`th write, behind which nothing is written.
+fn ends_at_write(alloc: Global, row: Row, fails_at: usize, failure: Oddity) -> bool {
+    let (_mode, input, output) = row;
+    let drip = Drip::new(input, usize::MAX, Oddity::Nothing);
+    let trace = trial(alloc, row, drip, Gate::narrow(alloc, fails_at, failure));
+    let is_whole = fails_at == output.len();
+    trace
+        == Trace {
+            end: if is_whole {
+                Ok(())
+            } else {
+                Err(RunError::Write)
+            },
+            reads: input.len() + 1,
+            taken: Taken {
+                writes: fails_at.saturating_add(usize::from(!is_whole)),
+                flushed: u32::from(is_whole),
+                kept: fails_at,
+                is_front: true,
+            },
+        }
+}
+
+/// Whether a run ends so at each of its writes, and is well where none fails.
+fn ends_at_each_write(alloc: Global, row: Row, failure: Oddity) -> bool {
+    for fails_at in 0..row.2.len() + 1 {
+        if !ends_at_write(alloc, row, fails_at, failure) {
+            return false;
+        }
+    }
+    true
 }
 
 #[test]
 fn each_write_fails_in_turn(rt: HostRuntime) {
     for row in rows() {
         for kind in ERRORS {
-            check_writes(&rt, rt.alloc(), row, Oddity::Error(kind));
+            let failure = Oddity::Error(kind);
+            assert!(rt; ends_at_each_write(rt.alloc(), row, failure), "{:?}", row.0);
         }
-        check_writes(&rt, rt.alloc(), row, Oddity::Nothing);
+        assert!(rt;
+            ends_at_each_write(rt.alloc(), row, Oddity::Nothing),
+            "{:?}",
+            row.0
+        );
     }
+}
+
+/// Whether a run ends so where a write takes all that it is given, and the flush is so answered. There is one write and
+/// one flush.
+fn flushes_once(
+    alloc: Global,
+    row: Row,
+    flushes: Result<(), ErrorKind>,
+    end: Result<(), RunError>,
+) -> bool {
+    let (_mode, input, output) = row;
+    let mut gate = Gate::new(alloc);
+    gate.flushes = flushes;
+    let drip = Drip::new(input, usize::MAX, Oddity::Nothing);
+    trial(alloc, row, drip, gate)
+        == Trace {
+            end,
+            reads: input.len() + 1,
+            taken: Taken {
+                writes: output.len().min(1),
+                flushed: 1,
+                kept: output.len(),
+                is_front: true,
+            },
+        }
 }
 
 #[test]
 fn each_run_flushes_once(rt: HostRuntime) {
     for row in rows() {
-        check_flush(&rt, rt.alloc(), row, Ok(()), Ok(()));
+        assert!(rt;
+            flushes_once(rt.alloc(), row, Ok(()), Ok(())),
+            "{:?}",
+            row.0
+        );
         for kind in ERRORS {
-            check_flush(&rt, rt.alloc(), row, Err(kind), Err(RunError::Write));
+            let end = Err(RunError::Write);
+            assert!(rt;
+                flushes_once(rt.alloc(), row, Err(kind), end),
+                "{:?}",
+                row.0
+            );
         }
     }
 }
 
-/// Runs over an input that has no output. It is read to its first end, and nothing is written.
-fn check_refused(rt: &impl Abort, alloc: Global, mode: Mode, input: &[u8], error: RunError) {
+/// Whether a run over an input that has no output ends so. It is read to its first end, and nothing is written.
+fn is_refused(alloc: Global, mode: Mode, input: &'static [u8], error: RunError) -> bool {
     let drip = Drip::new(input, usize::MAX, Oddity::Nothing);
-    let (end, reads, gate) = trial(alloc, mode, drip, Gate::new(alloc));
-    assert_eq!(rt; (end, reads), (Err(error), input.len() + 1));
-    assert_eq!(rt; (gate.writes, gate.flushed), (0, 0));
+    trial(alloc, (mode, input, b""), drip, Gate::new(alloc))
+        == Trace {
+            end: Err(error),
+            reads: input.len() + 1,
+            taken: NOTHING,
+        }
 }
 
 #[test]
 fn a_refused_input_is_read_whole(rt: HostRuntime) {
     for (mode, input, error) in refused_inputs() {
-        check_refused(&rt, rt.alloc(), mode, input, error);
+        assert!(rt;
+            is_refused(rt.alloc(), mode, input, error),
+            "{mode:?} {error}"
+        );
     }
 }
 
-/// The kind of the error, where there is one.
-fn kind_of<T: Drop>(answer: io::Result<T>) -> Option<ErrorKind> {
-    match answer {
-        Ok(_) => None,
-        Err(error) => Some(error.kind()),
+/// Whether there is an error, and of this kind.
+fn is_of_kind(error: Option<io::Error>, kind: ErrorKind) -> bool {
+    match error {
+        Some(error) => error.kind() == kind,
+        None => false,
     }
 }
 
@@ -185,48 +242,60 @@ fn kind_of<T: Drop>(answer: io::Result<T>) -> Option<ErrorKind> {
 fn counted_devices_answer_as_their_devices(rt: HostRuntime) {
     for kind in ERRORS {
         let mut reader = Counted::new(Drip::new(b"a", 0, Oddity::Error(kind)));
-        assert_eq!(rt; kind_of(reader.read(&mut [0u8; 4])), Some(kind));
-        assert_eq!(rt; reader.into_inner().reads, 1);
+        assert!(rt; is_of_kind(reader.read(&mut [0u8; 4]).err(), kind));
+        assert!(rt; reader.into_inner().reads == 1);
         let mut gate = Gate::narrow(rt.alloc(), 0, Oddity::Error(kind));
         gate.flushes = Err(kind);
         let mut writer = Counted::new(gate);
-        assert_eq!(rt; kind_of(writer.write(b"a")), Some(kind));
-        assert_eq!(rt; kind_of(writer.flush()), Some(kind));
+        assert!(rt; is_of_kind(writer.write(b"a").err(), kind));
+        assert!(rt; is_of_kind(writer.flush().err(), kind));
         let gate = writer.into_inner();
-        assert_eq!(rt; (gate.writes, gate.flushed), (1, 1));
+        assert!(rt; gate.writes == 1 && gate.flushed == 1);
     }
 }
 
-/// The status of an end, and the writer behind it.
-fn conclusion(end: Option<Result<(), RunError>>, writer: Gate) -> (u8, Gate) {
+/// What was taken of a conclusion, where its status is this one.
+fn conclusion(
+    end: Option<Result<(), RunError>>,
+    status: u8,
+    said: &str,
+    writer: Gate,
+) -> Option<Taken> {
     let mut writer = Counted::new(writer);
-    let status = conclude(end, &mut writer);
-    (status, writer.into_inner())
+    let is_told = conclude(end, &mut writer) == status;
+    let taken = writer.into_inner().taken(said.as_bytes());
+    if is_told { Some(taken) } else { None }
 }
 
-/// Lets each write of a conclusion fail in turn, and then its flush. The status stays.
-fn check_conclusion(
-    rt: &impl Abort,
+/// Whether a conclusion has this status and ends at its `fails_at`th write, where a write takes a byte, or at its
+/// flush, which fails. There is no flush where there is nothing to say.
+fn concludes_at(
     alloc: Global,
     end: Option<Result<(), RunError>>,
     status: u8,
     said: &str,
-) {
-    for fails_at in 0..100 {
-        let mut gate = Gate::narrow(alloc, fails_at, Oddity::Nothing);
-        gate.flushes = Err(ErrorKind::BrokenPipe);
-        let (told, gate) = conclusion(end, gate);
-        assert_eq!(rt; told, status);
-        assert!(rt; said.as_bytes().starts_with(gate.kept.as_slice()));
-        if gate.writes <= fails_at {
-            assert_eq!(rt; (gate.kept.len(), gate.writes), (said.len(), said.len()));
-            assert_eq!(rt; gate.flushed, u32::from(!said.is_empty()));
-            return;
+    fails_at: usize,
+) -> bool {
+    let mut gate = Gate::narrow(alloc, fails_at, Oddity::Nothing);
+    gate.flushes = Err(ErrorKind::BrokenPipe);
+    let is_whole = fails_at == said.len();
+    conclusion(end, status, said, gate)
+        == Some(Taken {
+            writes: fails_at.saturating_add(usize::from(!is_whole)),
+            flushed: u32::from(is_whole && !said.is_empty()),
+            kept: fails_at,
+            is_front: true,
+        })
+}
+
+/// Whether a conclusion has this status, where each write fails in turn and where none does.
+fn is_concluded(alloc: Global, end: Option<Result<(), RunError>>, status: u8, said: &str) -> bool {
+    for fails_at in 0..said.len() + 1 {
+        if !concludes_at(alloc, end, status, said, fails_at) {
+            return false;
         }
-        assert_eq!(rt; (gate.kept.len(), gate.writes), (fails_at, fails_at + 1));
-        assert_eq!(rt; gate.flushed, 0);
     }
-    assert!(rt; false, "no conclusion made fewer writes");
+    true
 }
 
 /// Each fault, and what is said of it at the end.
@@ -241,15 +310,42 @@ fn faults() -> [(RunError, &'static str); 6] {
     ]
 }
 
+/// Whether a fault is said whole by a writer that takes all that it is given.
+fn is_said_whole(alloc: Global, error: RunError, said: &str) -> bool {
+    match conclusion(Some(Err(error)), 1, said, Gate::new(alloc)) {
+        Some(taken) => taken.kept == said.len() && taken.is_front && taken.flushed == 1,
+        None => false,
+    }
+}
+
 #[test]
 fn concludes(rt: HostRuntime) {
-    check_conclusion(&rt, rt.alloc(), None, 2, "usage: triples [MODE]\n");
-    check_conclusion(&rt, rt.alloc(), Some(Ok(())), 0, "");
+    assert!(rt; is_concluded(rt.alloc(), None, 2, "usage: triples [MODE]\n"));
+    assert!(rt; is_concluded(rt.alloc(), Some(Ok(())), 0, ""));
     for (error, said) in faults() {
-        check_conclusion(&rt, rt.alloc(), Some(Err(error)), 1, said);
-        let (_status, gate) = conclusion(Some(Err(error)), Gate::new(rt.alloc()));
-        assert_eq!(rt; gate.kept.as_slice(), said.as_bytes());
-        assert_eq!(rt; gate.flushed, 1);
+        assert!(rt;
+            is_concluded(rt.alloc(), Some(Err(error)), 1, said),
+            "{said}"
+        );
+        assert!(rt; is_said_whole(rt.alloc(), error, said), "{said}");
+    }
+}
+
+/// Whether a fault prints as it is said, at a width and with a fill too.
+fn prints_as(alloc: Global, error: RunError, said: &str) -> bool {
+    let mut text = String::new(alloc);
+    writeln!(text, "fault: {error}").is_ok()
+        && text.as_str() == said
+        && {
+            text.clear();
+            writeln!(text, "fault: {error:*>40}").is_ok() && text.as_str() == said
+        }
+}
+
+#[test]
+fn prints_faults(rt: HostRuntime) {
+    for (error, said) in faults() {
+        assert!(rt; prints_as(rt.alloc(), error, said), "{said}");
     }
 }
 

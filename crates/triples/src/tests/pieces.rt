@@ -1,41 +1,40 @@
 //! Pieces that are handed to `Counted`, of no bytes and of many.
 
-use super::devices::Gate;
+use super::devices::{Gate, Taken};
 use crate::counted::Counted;
 use std::alloc::{AllocError, Global};
 use std::io::Write;
-use std::process::Abort;
-use std::test::Fail;
 
-/// Hands a device one piece. The device is called once, is given all of the piece, and its answer is handed on.
-fn check_piece(rt: &impl Abort, alloc: Global, piece: &[u8]) {
+/// Whether a device that is handed a piece is called once, is given all of the piece, and its answer is handed on.
+fn is_handed_on(alloc: Global, piece: &[u8]) -> bool {
     let mut writer = Counted::new(Gate::new(alloc));
-    let taken = writer.write(piece).unwrap_or(usize::MAX);
-    let gate = writer.into_inner();
-    assert_eq!(rt; (taken, gate.writes, gate.flushed), (piece.len(), 1, 0));
-    assert_eq!(rt; gate.kept.as_slice(), piece);
+    let answer = writer.write(piece).unwrap_or(usize::MAX);
+    answer == piece.len()
+        && writer.into_inner().taken(piece)
+            == Taken {
+                writes: 1,
+                flushed: 0,
+                kept: piece.len(),
+                is_front: true,
+            }
 }
 
 #[test]
 fn a_piece_of_no_bytes_is_handed_on(rt: HostRuntime) {
-    check_piece(&rt, rt.alloc(), b"");
+    assert!(rt; is_handed_on(rt.alloc(), b""));
 }
 
-/// A piece of so many bytes, of which neighbours differ.
-fn piece(alloc: Global, length: usize) -> Result<Vec<u8>, AllocError> {
-    let mut bytes = Vec::new(alloc);
-    for i in 0..length {
-        bytes.push((i % 251) as u8)?;
-    }
-    Ok(bytes)
-}
+/// A prime number of bytes, of which neighbours differ.
+const LETTERS: &str = "abcdefghijklmnopqrstuvwxyzABCDEFGHIJKLMNOPQRSTUVWXYZ.";
 
 #[test]
-fn a_long_piece_is_handed_on_whole(rt: HostRuntime) -> Result<(), Fail> {
+fn a_long_piece_is_handed_on_whole(rt: HostRuntime) -> Result<(), AllocError> {
+    let letters = LETTERS.repeat(rt.alloc(), 6000)?;
     for length in [53, 4097, 65537, 300_000] {
-        let bytes = piece(rt.alloc(), length)?;
-        assert_eq!(rt; bytes.len(), length);
-        check_piece(&rt, rt.alloc(), &bytes);
+        match letters.as_bytes().get(..length) {
+            Some(piece) => assert!(rt; is_handed_on(rt.alloc(), piece), "{length}"),
+            None => assert!(rt; false, "no piece of {length}"),
+        }
     }
     Ok(())
 }
