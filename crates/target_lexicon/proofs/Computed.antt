@@ -1,100 +1,144 @@
 -- The function that reads field by field gives what a text reads as by placements, and how it is refused.
-use Rattle.std.proofs.Common.{◌≡◌, ℕ, List, [], ◌∷◌, true, false, refl, sym, ◌∙◌, ap, subst, Option, Some, None, Result, Ok, Err, inl, inr, ◌↔◌, ◌⊎◌}
-use Rattle.std.specs.Prelude.{MatchResult, unwrap_or, is_some}
-use Rattle.std.proofs.lemmas.Bool.{cases_Bool}
+use Rattle.std.proofs.Common.{◌≡◌, ℕ, ◌≤◌, List, [], ◌∷◌, true, false, nat_eq, refl, sym, ◌∙◌, ap, subst, Option, Some, None, Result, Ok, Err, arith, inl, inr, ◌↔◌, ◌⊎◌}
+use Rattle.std.specs.Prelude.{MatchResult, is_some}
 use Rattle.lexicon_fields.specs.declared.architecture.Architecture.{Architecture as AnyArchitecture}
+use Rattle.lexicon_fields.specs.declared.operating_system.OperatingSystem.{OperatingSystem as AnySystem}
 use Rattle.lexicon_fields.specs.declared.operating_system.OperatingSystem.TheVariants as operating_system
+use Rattle.lexicon_fields.specs.declared.environment.Environment.{Environment as AnyEnvironment}
 use Rattle.lexicon_fields.specs.declared.environment.Environment.TheVariants as environment
 use Rattle.lexicon_fields.specs.Architecture.{architecture_of}
 use Rattle.lexicon_fields.specs.declared.known_vendor.KnownVendor.TheVariants.{Unknown}
-use Rattle.lexicon_fields.specs.Vendor.{Known, vendor_of}
+use Rattle.lexicon_fields.specs.Vendor.{VendorValue, Known, vendor_of}
 use Rattle.lexicon_fields.specs.OperatingSystem.{operating_system_of}
 use Rattle.lexicon_fields.specs.Environment.{environment_of}
 use Rattle.lexicon_fields.specs.BinaryFormat.{binary_format_of}
-use Rattle.target_lexicon.specs.Field.{Field, Architecture, Vendor, OperatingSystem, Environment, BinaryFormat, reads}
+use Rattle.target_lexicon.specs.Field.{Field, Architecture, Vendor, OperatingSystem, Environment, BinaryFormat, place, reads}
+use Rattle.target_lexicon.specs.ImpliedFormat.{implied_format}
 use Rattle.target_lexicon.specs.Laws.{OneOutcomeEach, ReadingIsComputed}
 use Rattle.target_lexicon.specs.Parts.{parts_of}
-use Rattle.target_lexicon.specs.Private.{part_for, parts_behind, last_filled}
-use Rattle.target_lexicon.specs.Reading.{ReadsAs, IsRefusedAs, IsRefused, lack_behind}
-use Rattle.target_lexicon.specs.ReadingByFields.{Taken, taken, take_part, finish, read_vendor, read_behind, read_parts, read_unless_special, reading}
-use Rattle.target_lexicon.specs.Refusal.{Refusal}
+use Rattle.target_lexicon.specs.Placement.{IsPlacedBehind}
+use Rattle.target_lexicon.specs.Reading.{part_at, IsValueOf, HoldsParts, ReadsAs, IsRefusal, IsRefusedAs, IsRefused, lack_behind, last_of}
+use Rattle.target_lexicon.specs.ReadingByFields.{taken, take_part, finish, read_binary_format, read_environment, read_operating_system, read_vendor, read_behind, read_parts, read_unless_special, reading}
+use Rattle.target_lexicon.specs.Refusal.{Refusal, refused}
 use Rattle.target_lexicon.specs.SpecialTexts.{special_values}
-use Rattle.target_lexicon.specs.Values.{Values}
-use Rattle.target_lexicon.proofs.Cuts.{parts_of-some}
-use Rattle.target_lexicon.proofs.Held.{value_for}
+use Rattle.target_lexicon.specs.Values.{Values, values}
+use Rattle.target_lexicon.proofs.Cuts.{parts_of-are, parts_of-some}
+use Rattle.target_lexicon.proofs.Greedy.{Follows, filled, unread, unread-nil, filled-nil, filled-placed, behind_architecture, greedy-least}
+use Rattle.target_lexicon.proofs.Refused.{first-refused, left-refused}
 use Rattle.target_lexicon.proofs.Unique.{values-unique, refusal-unique, read-not_refused}
-use Rattle.target_lexicon.proofs.Taken.{behind_vendor, behind_operating_system, behind_environment, behind_binary_format, taken_values, lacked_behind, reads-vendor, reads-operating_system, reads-environment, reads-binary_format, first-text-refused, left-text-refused, text-reads}
 
--- the last field that took a part, where a field may have taken this one
-abbrev last_with : Field → Field → Option (List ℕ) → Field
-last_with f last None = last
-last_with f last (Some p) = f
+-- what stands of the values, where these parts stand for these fields
+abbrev Claim : Type 1
+Claim = List (List ℕ) → List Field → Values → Type 0
 
--- one step of it gives the field's value, and what is left behind it
-module _ {A : Type 0} (f : Field) (find : List ℕ → Option A) (is_read : (p : List ℕ) → reads f p ≡ is_some (find p)) where
-  taken-some : (o : Option A) (d : A) (last : Field) (p : List ℕ) (ps : List (List ℕ)) → is_some o ≡ true → ◌≡◌ {A = Taken A} (taken f o d last p ps) (unwrap_or o d, f, ps)
-  taken-some None d last p ps h = cc
-  taken-some (Some x) d last p ps h = refl
+-- what reading these fields gives behind `last`: values of which this stands, where they take every part, or the refusal of the first part that they leave
+abbrev Gives : List Field → Field → List (List ℕ) → Claim → Result Values Refusal → Type 0
+Gives fs last ps P (Ok t) = (unread fs ps ≡ []) × P ps (filled fs ps) t
+Gives fs last ps P (Err x) = (q : List ℕ) × (rest : List (List ℕ)) × (unread fs ps ≡ q ∷ rest) × (x ≡ refused (lack_behind (last_of last (filled fs ps))) q)
 
-  taken-none : (o : Option A) (d : A) (last : Field) (p : List ℕ) (ps : List (List ℕ)) → is_some o ≡ false → ◌≡◌ {A = Taken A} (taken f o d last p ps) (d, last, p ∷ ps)
-  taken-none None d last p ps h = refl
-  taken-none (Some x) d last p ps h = cc
+-- the field has the value of its part, of which the rest stands
+abbrev HasValue : {A : Type 0} → Field → (List ℕ → Option A) → A → (A → Claim) → Claim
+HasValue {A} f find d P ps gs t = (x : A) × IsValueOf find d (part_at f ps gs) x × P x ps gs t
 
-  take_part-step : (d : A) (last : Field) (ps : List (List ℕ))
-      → ◌≡◌ {A = Taken A} (take_part f find d last ps) (value_for f find d ps, last_with f last (part_for f ps), parts_behind f ps)
-  take_part-step d last [] = refl
-  take_part-step d last (p ∷ ps) =
-      elim (cases_Bool (reads f p)) [
-        | inl takes ↦ rw takes (taken-some (find p) d last p ps (sym (is_read p) ∙ takes))
-        | inr skips ↦ rw skips (taken-none (find p) d last p ps (sym (is_read p) ∙ skips))
-      ]
+-- a field has no part in a placement behind it
+part_at-behind : (f l : Field) (ps : List (List ℕ)) (gs : List Field) → place f ≤ place l → IsPlacedBehind l ps gs → part_at f ps gs ≡ None
+part_at-behind f l [] gs h w = refl
+part_at-behind f l (p ∷ ps) [] h w = refl
+part_at-behind f l (p ∷ ps) (g ∷ gs) h w =
+    let other : nat_eq (place g) (place f) ≡ false = grind (arith, h, w.0) in
+    let before : place f ≤ place g = omega (arith, h, w.0) in
+    rw other (part_at-behind f g ps gs before w.2)
 
-last-cases : (v s e f : Option (List ℕ)) → last_with BinaryFormat (last_with Environment (last_with OperatingSystem (last_with Vendor Architecture v) s) e) f
-    ≡ last_filled (is_some v) (is_some s) (is_some e) (is_some f)
-last-cases None None None None = refl
-last-cases (Some a) None None None = refl
-last-cases v (Some b) None None = refl
-last-cases v s (Some c) None = refl
-last-cases v s e (Some d) = refl
+-- the step of a field, where `read` reads the fields behind it
+module _ {A : Type 0} (f : Field) (find : List ℕ → Option A) (is_read : (p : List ℕ) → reads f p ≡ is_some (find p)) (fs : List Field) (in_order : Follows f fs) (d : A)
+    (P : A → Claim) (others : (x : A) (p : List ℕ) (ps : List (List ℕ)) (gs : List Field) (t : Values) → P x ps gs t → P x (p ∷ ps) (f ∷ gs) t)
+    (read : A → Field → List (List ℕ) → Result Values Refusal) (gives : (x : A) (last : Field) (ps : List (List ℕ)) → Gives fs last ps (P x) (read x last ps)) where
+  leaves : (last : Field) (ps : List (List ℕ)) (found : Result Values Refusal) → unread (f ∷ fs) ps ≡ unread fs ps → filled (f ∷ fs) ps ≡ filled fs ps
+      → Gives fs last ps (P d) found → Gives (f ∷ fs) last ps (HasValue f find d P) found
+  leaves last ps (Ok t) u e (done, h) =
+      let absent : part_at f ps (filled fs ps) ≡ None = part_at-behind f f ps (filled fs ps) (omega arith) (filled-placed f fs ps in_order done) in
+      (u ∙ done, rw e (d, rw absent refl, h))
+  leaves last ps (Err x) u e (q, rest, left, same) = (q, rest, u ∙ left, rw e same)
 
-abbrev last_taken : List (List ℕ) → Field
-last_taken ps = last_with BinaryFormat (last_with Environment (last_with OperatingSystem (last_with Vendor Architecture
-    (part_for Vendor ps)) (part_for OperatingSystem (behind_vendor ps))) (part_for Environment (behind_operating_system ps))) (part_for BinaryFormat (behind_environment ps))
+  takes : (last : Field) (p : List ℕ) (ps : List (List ℕ)) (x : A) (found : Result Values Refusal) → find p ≡ Some x
+      → Gives fs f ps (P x) found → Gives (f ∷ fs) last (p ∷ ps) (HasValue f find d P) found
+  takes last p ps x (Ok t) is (done, h) =
+      let same : nat_eq (place f) (place f) ≡ true = grind arith in
+      rw (is_read p ∙ ap is_some is) (done, (x, rw same is, others x p ps (filled fs ps) t h))
+  takes last p ps x (Err y) is h = rw (is_read p ∙ ap is_some is) h
 
-read_vendor-steps : (a : AnyArchitecture) (ps : List (List ℕ)) → read_vendor a ps ≡ finish (taken_values a ps) (last_taken ps) (behind_binary_format ps)
-read_vendor-steps a ps =
-    rw (
-      take_part-step Vendor vendor_of reads-vendor (Known Unknown) Architecture ps,
-      take_part-step OperatingSystem operating_system_of reads-operating_system operating_system.Unknown _ (behind_vendor ps),
-      take_part-step Environment environment_of reads-environment environment.Unknown _ (behind_operating_system ps),
-      take_part-step BinaryFormat binary_format_of reads-binary_format _ _ (behind_environment ps),
-    ) refl
+  step : (last : Field) (ps : List (List ℕ)) → Gives (f ∷ fs) last ps (HasValue f find d P) (let v = take_part f find d last ps in read v.0 v.1 v.2)
+  step last [] = leaves last [] _ (sym (unread-nil fs)) (sym (filled-nil fs)) (gives d last [])
+  step last (p ∷ ps) = by_found (find p) refl
+    where
+      by_found : (o : Option A) → find p ≡ o → Gives (f ∷ fs) last (p ∷ ps) (HasValue f find d P) (let v = taken f o d last p ps in read v.0 v.1 v.2)
+      by_found (Some x) is = takes last p ps x _ is (gives x f ps)
+      by_found None is =
+          let skips : reads f p ≡ false = is_read p ∙ ap is_some is in
+          leaves last (p ∷ ps) _ (rw skips refl) (rw skips refl) (gives d last (p ∷ ps))
+
+-- the values of the fields behind the architecture, from the last field backwards
+abbrev HasFormat : AnyArchitecture → VendorValue → AnySystem → AnyEnvironment → Claim
+HasFormat a v s e = HasValue BinaryFormat binary_format_of (implied_format a s e) (λ f ps gs t. t ≡ values a v s e f)
+
+abbrev HasEnvironment : AnyArchitecture → VendorValue → AnySystem → Claim
+HasEnvironment a v s = HasValue Environment environment_of environment.Unknown (HasFormat a v s)
+
+abbrev HasSystem : AnyArchitecture → VendorValue → Claim
+HasSystem a v = HasValue OperatingSystem operating_system_of operating_system.Unknown (HasEnvironment a v)
+
+abbrev HasVendor : AnyArchitecture → Claim
+HasVendor a = HasValue Vendor vendor_of (Known Unknown) (HasSystem a)
+
+finish-gives : (t : Values) (last : Field) (ps : List (List ℕ)) → Gives [] last ps (λ ps gs u. u ≡ t) (finish t last ps)
+finish-gives t last [] = (refl, refl)
+finish-gives t last (p ∷ ps) = (p, ps, refl, refl)
+
+vendor-gives : (a : AnyArchitecture) (ps : List (List ℕ)) → Gives behind_architecture Architecture ps (HasVendor a) (read_vendor a ps)
+unfolding reads
+vendor-gives a =
+    step Vendor vendor_of (λ p. refl) (OperatingSystem ∷ Environment ∷ BinaryFormat ∷ []) (refl, (refl, (refl, refl))) _ (HasSystem a)
+    (λ x p ps gs t h. h) (read_operating_system a) (λ v.
+    step OperatingSystem operating_system_of (λ p. refl) (Environment ∷ BinaryFormat ∷ []) (refl, (refl, refl)) _ (HasEnvironment a v)
+    (λ x p ps gs t h. h) (read_environment a v) (λ s.
+    step Environment environment_of (λ p. refl) (BinaryFormat ∷ []) (refl, refl) _ (HasFormat a v s)
+    (λ x p ps gs t h. h) (read_binary_format a v s) (λ e.
+    step BinaryFormat binary_format_of (λ p. refl) [] refl _ (λ f ps gs t. t ≡ values a v s e f)
+    (λ x p ps gs t h. h) (λ f. finish (values a v s e f)) (λ f. finish-gives (values a v s e f))))) Architecture
 
 -- what stands of a text: the function gives what it reads as, or how it is refused
 abbrev pub Holds : List ℕ → Result Values Refusal → Type 0
 Holds text found = MatchResult found (λ t. ReadsAs text t) (λ refusal. IsRefusedAs text refusal)
 
 module _ (text p : List ℕ) (ps : List (List ℕ)) (ordinary : special_values text ≡ None) (are : parts_of text ≡ p ∷ ps) where
-  by_left : (a : AnyArchitecture) (left : List (List ℕ)) → architecture_of p ≡ Some a → behind_binary_format ps ≡ left
-      → Holds text (finish (taken_values a ps) (last_taken ps) left)
-  by_left a [] h left = text-reads text p ps ordinary are a h left
-  by_left a (q ∷ rest) h left =
-      let same : lack_behind (last_taken ps) ≡ lacked_behind ps = ap lack_behind (last-cases _ _ _ _) in
-      rw same (left-text-refused text p ps ordinary are a q rest h left)
+  is_refused : (x : Refusal) → IsRefusal (p ∷ ps) x → IsRefusedAs text x
+  is_refused x h = (ordinary, (parts_of text, parts_of-are text, rw are h))
+
+  by_given : (a : AnyArchitecture) (found : Result Values Refusal) → architecture_of p ≡ Some a → reads Architecture p ≡ true
+      → Gives behind_architecture Architecture ps (HasVendor a) found → Holds text found
+  by_given a (Ok t) first takes (done, (v, hv, (s, hs, (e, he, (f, hf, same))))) =
+      let holds : HoldsParts (p ∷ ps) (Architecture ∷ filled behind_architecture ps) t =
+      rw same (record { architecture = first; vendor = hv; operating_system = hs; environment = he; binary_format = hf }) in
+      rw ordinary (parts_of text, parts_of-are text, rw are (Architecture ∷ filled behind_architecture ps, greedy-least p ps takes done, holds))
+  by_given a (Err x) first takes (q, rest, left, same) = rw same (is_refused _ (left-refused p ps q rest takes left))
 
   by_architecture : (o : Option AnyArchitecture) → architecture_of p ≡ o → Holds text (read_behind o p ps)
-  by_architecture None h = first-text-refused text p ps ordinary are h
-  by_architecture (Some a) h = subst (Holds text) (sym (read_vendor-steps a ps)) (by_left a _ h refl)
+  unfolding reads
+  by_architecture None h = is_refused _ (first-refused p ps (ap is_some h))
+  by_architecture (Some a) h = by_given a (read_vendor a ps) h (ap is_some h) (vendor-gives a ps)
+
+  pub parts-hold : Holds text (read_parts (p ∷ ps))
+  parts-hold = by_architecture (architecture_of p) refl
 
 by_parts : (text : List ℕ) (parts : List (List ℕ)) → special_values text ≡ None → parts_of text ≡ parts → Holds text (read_parts parts)
 by_parts text [] ordinary are = absurd (parts_of-some text are)
-by_parts text (p ∷ ps) ordinary are = by_architecture text p ps ordinary are (architecture_of p) refl
+by_parts text (p ∷ ps) ordinary are = parts-hold text p ps ordinary are
 
 by_special : (text : List ℕ) (o : Option Values) → special_values text ≡ o → Holds text (read_unless_special o text)
 by_special text None ordinary = by_parts text (parts_of text) ordinary refl
 by_special text (Some t) special = rw special refl
 
-pub reading-holds : (text : List ℕ) → Holds text (reading text)
+reading-holds : (text : List ℕ) → Holds text (reading text)
 unfolding reading
 reading-holds text = by_special text (special_values text) refl
 

@@ -1,6 +1,6 @@
 -- What reading is: Cuts, LookedUp, Vendors (a text's parts, and what each reads as); NamesAcross (a name of one field in a field
--- before it); Greedy, Held, Taken, Refused, Unique, Returned, Computed (from the steps of the code to the least placement); ReadVersions
--- (a version that is read is in range).
+-- before it); Greedy, Refused, Unique, Computed (from reading as a function to the least placement); ReadVersions (a version that is read is
+-- in range).
 -- What printing is: Printed, Writes.
 -- What comes back: Rounds, TextRounds (a text read again); FamilyTests, StepCases, Fixed, Settled, SettlesAs (families and the step).
 -- For callers: OnLiterals (what computes on a literal).
@@ -12,7 +12,6 @@ pub mod FamilyTests
 pub mod FeedsTogether
 pub mod Fixed
 pub mod Greedy
-pub mod Held
 pub mod LookedUp
 pub mod ModelsKnown
 pub mod NamesAcross
@@ -21,13 +20,11 @@ pub mod Printed
 pub mod QueriesKept
 pub mod ReadVersions
 pub mod Refused
-pub mod Returned
 pub mod Rounds
 pub mod SameValues
 pub mod Settled
 pub mod SettlesAs
 pub mod StepCases
-pub mod Taken
 pub mod TextRounds
 pub mod Unique
 pub mod Upstream

@@ -1,9 +1,26 @@
--- The parts that are left of a text, for the contracts of private functions, which no public contract cites.
+-- What is left of a text while it is read, for the contracts of private functions, which no public contract cites.
 use Rattle.std.specs.Prelude.{ℕ, List, [], ◌∷◌, Option, Some, None}
 use Rattle.target_lexicon.specs.declared.part.Part.{Part}
+use Rattle.target_lexicon.specs.declared.read.Field.{Field as Taker}
+use Rattle.target_lexicon.specs.declared.read.Field.TheVariants as taker
+use Rattle.target_lexicon.specs.declared.read.Rest.{Rest}
+use Rattle.target_lexicon.specs.Field.{Field, Architecture, Vendor, OperatingSystem, Environment, BinaryFormat}
 use Rattle.target_lexicon.specs.Private.{parts_behind_dash}
+use Rattle.target_lexicon.specs.ReadingByFields.{Taken}
 
--- the first of them is cut off
+-- the parts that are left, of which the first is cut off
 abbrev pub parts_left : Option Part → List (List ℕ)
 parts_left None = []
 parts_left (Some part) = part.text.now ∷ parts_behind_dash part.behind
+
+-- the field that took a part, as the rules name it
+abbrev pub field_of : Taker → Field
+field_of taker.Architecture = Architecture
+field_of taker.Vendor = Vendor
+field_of taker.OperatingSystem = OperatingSystem
+field_of taker.Environment = Environment
+field_of taker.BinaryFormat = BinaryFormat
+
+-- the value of a field, and what is left then
+abbrev pub taken_of : {A : Type 0} → A → Rest → Taken A
+taken_of value rest = (value, field_of rest.last, parts_left rest.parts)

@@ -1,10 +1,14 @@
 //! Reading a triple.
-ghost use Rattle.std.specs.Prelude.{◌≡◌, Some, true, IfOk, IfErr, OnErr, IfSome, MatchOption, option_map, string_bytes};
-ghost use Rattle.lexicon_fields.specs.Vendor.{OwnsCustomText, vendor_of, vendor_value, is_admitted, is_plain};
+ghost use Rattle.std.specs.Prelude.{◌≡◌, Some, true, IfOk, IfErr, IfSome, OnErr, unwrap_or, string_bytes};
+ghost use Rattle.lexicon_fields.specs.declared.known_vendor.KnownVendor.TheVariants.{Unknown};
+ghost use Rattle.lexicon_fields.specs.declared.vendor.Vendor.TheVariants as any_vendor;
+ghost use Rattle.lexicon_fields.specs.Vendor.{IsCustom, Known, OwnsCustomText, vendor_of, vendor_value, is_plain};
+ghost use Rattle.target_lexicon.specs.ComputedAnswers.{IsAnswerOf};
 ghost use Rattle.target_lexicon.specs.Field as field;
-ghost use Rattle.target_lexicon.specs.PartsLeft.{parts_left};
-ghost use Rattle.target_lexicon.specs.Private.{parts_behind_dash, part_for, TakesBy, lack_of};
-ghost use Rattle.target_lexicon.specs.Reading.{ReadsAs, IsFaultOf};
+ghost use Rattle.target_lexicon.specs.PartsLeft.{field_of, parts_left, taken_of};
+ghost use Rattle.target_lexicon.specs.Private.{parts_behind_dash};
+ghost use Rattle.target_lexicon.specs.Reading.{ReadsAs, IsFaultOf, lack_behind};
+ghost use Rattle.target_lexicon.specs.ReadingByFields.{take_part, read_parts};
 ghost use Rattle.target_lexicon.specs.Refusal.{refused, refusal_of};
 ghost use Rattle.target_lexicon.specs.Values.{values_of};
 
@@ -14,34 +18,6 @@ use crate::part::Part;
 use crate::triple::Triple;
 use lexicon_fields::{BinaryFormat, Environment, OperatingSystem, Vendor};
 use std::alloc::{AllocError, Global};
-
-/// The parts behind a dash.
-fn parts_in<'a>(behind: Option<&'a str>) -> Option<Part<'a>>
-    ensures { parts_left result ≡ parts_behind_dash behind.entry }
-{
-    match behind {
-        Some(text) => Some(Part::first(text)),
-        None => None,
-    }
-}
-
-/// The first part as a vendor, and the parts that are left then.
-fn take_vendor<'a>(
-    alloc: Global,
-    parts: Option<Part<'a>>,
-) -> Result<(Option<Vendor>, Option<Part<'a>>), AllocError>
-    ensures ok { IfOk result (λ taken. TakesBy vendor_of (parts_left parts.entry) (option_map vendor_value taken.0) (parts_left taken.1)) }
-    ensures owned { IfOk result (λ taken. IfSome taken.0 OwnsCustomText) }
-    ensures memory { OnErr result (MatchOption (part_for field.Vendor (parts_left parts.entry)) ⊥ (λ part. is_admitted part ≡ true)) }
-{
-    let Some(part) = parts else {
-        return Ok((None, None));
-    };
-    match part.vendor(alloc)? {
-        Some(vendor) => Ok((Some(vendor), parts_in(part.behind))),
-        None => Ok((None, parts)),
-    }
-}
 
 /// A field that reads from a part without a wish for memory.
 trait ReadFrom: Sized {
@@ -84,39 +60,77 @@ impl ReadFrom for BinaryFormat {
     }
 }
 
-/// What the first part reads as, if it does, and the parts that are left then.
-fn take<'a, T: ReadFrom>(parts: Option<Part<'a>>) -> (Option<T>, Option<Part<'a>>)
-    ensures { TakesBy T.find (parts_left parts.entry) result.0 (parts_left result.1) }
+/// A field that may take a part.
+#[derive(Clone, Copy)]
+enum Field {
+    Architecture,
+    Vendor,
+    OperatingSystem,
+    Environment,
+    BinaryFormat,
+}
+
+/// The parts that are left, and the last field that took one.
+#[derive(Drop)]
+struct Rest<'a> {
+    last: Field,
+    parts: Option<Part<'a>>,
+}
+
+/// The parts behind a dash.
+fn parts_in<'a>(behind: Option<&'a str>) -> Option<Part<'a>>
+    ensures { parts_left result ≡ parts_behind_dash behind.entry }
 {
-    let Some(part) = parts else {
-        return (None, None);
-    };
-    match T::read_from(&part) {
-        Some(value) => (Some(value), parts_in(part.behind)),
-        None => (None, parts),
+    match behind {
+        Some(text) => Some(Part::first(text)),
+        None => None,
     }
 }
 
-/// The refusal of a part behind the architecture: it names the field behind the last that is filled.
-fn refusal(
-    part: String,
-    has_vendor: bool,
-    has_operating_system: bool,
-    has_environment: bool,
-    has_binary_format: bool,
-) -> ParseError
-    ensures { refusal_of result ≡ Some (refused (lack_of has_vendor has_operating_system has_environment has_binary_format) (string_bytes part)) }
+impl<'a> Rest<'a> {
+    /// Takes the first part for the vendor, if it reads as one. `Err` says that the memory for a custom
+    /// vendor was refused.
+    fn take_vendor(&mut self, alloc: Global) -> Result<Option<Vendor>, AllocError>
+        ensures ok { IfOk result (λ vendor. taken_of (vendor_value (unwrap_or vendor any_vendor.Unknown)) self.new
+            ≡ take_part field.Vendor vendor_of (Known Unknown) (field_of self.old.last) (parts_left self.old.parts)) }
+        ensures owned { IfOk result (λ vendor. IfSome vendor OwnsCustomText) }
+        ensures memory { OnErr result
+            (IsCustom (take_part field.Vendor vendor_of (Known Unknown) (field_of self.old.last) (parts_left self.old.parts)).0) }
+    {
+        let Some(part) = self.parts else {
+            return Ok(None);
+        };
+        let vendor = part.vendor(alloc)?;
+        if vendor.is_some() {
+            self.last = Field::Vendor;
+            self.parts = parts_in(part.behind);
+        }
+        Ok(vendor)
+    }
+
+    /// Takes the first part for this field, if it reads as a value of it.
+    fn take<T: ReadFrom>(&mut self, field: Field) -> Option<T>
+        ensures { (unfilled : T) → taken_of (unwrap_or result unfilled) self.new
+            ≡ take_part (field_of field) T.find unfilled (field_of self.old.last) (parts_left self.old.parts) }
+    {
+        let part = self.parts?;
+        let value = T::read_from(&part)?;
+        self.last = field;
+        self.parts = parts_in(part.behind);
+        Some(value)
+    }
+}
+
+/// The refusal of the part that is left behind this field.
+fn refusal(part: String, last: Field) -> ParseError
+    ensures { refusal_of result ≡ Some (refused (lack_behind (field_of last)) (string_bytes part)) }
 {
-    if has_binary_format {
-        ParseError::UnrecognizedField(part)
-    } else if has_environment {
-        ParseError::UnrecognizedBinaryFormat(part)
-    } else if has_operating_system {
-        ParseError::UnrecognizedEnvironment(part)
-    } else if has_vendor {
-        ParseError::UnrecognizedOperatingSystem(part)
-    } else {
-        ParseError::UnrecognizedVendor(part)
+    match last {
+        Field::Architecture => ParseError::UnrecognizedVendor(part),
+        Field::Vendor => ParseError::UnrecognizedOperatingSystem(part),
+        Field::OperatingSystem => ParseError::UnrecognizedEnvironment(part),
+        Field::Environment => ParseError::UnrecognizedBinaryFormat(part),
+        Field::BinaryFormat => ParseError::UnrecognizedField(part),
     }
 }
 
@@ -141,24 +155,29 @@ impl Triple {
         if let Some(triple) = Triple::of_special_text(text) {
             return Ok(triple);
         }
-        let first = Part::first(text);
+        Triple::from_parts(alloc, Part::first(text))
+    }
+
+    /// The triple that the parts give of which this is the first, or why one of them is refused.
+    fn from_parts(alloc: Global, first: Part<'_>) -> Result<Triple, ParseError>
+        ensures answer { IsAnswerOf (read_parts (parts_left (Some first.entry))) result }
+        ensures owned { IfOk result (λ triple. OwnsCustomText triple.vendor) }
+    {
         let Some(architecture) = first.architecture() else {
             let part = String::from_str(alloc, first.text)?;
             return Err(ParseError::UnrecognizedArchitecture(part));
         };
-        let (vendor, parts) = take_vendor(alloc, parts_in(first.behind))?;
-        let (operating_system, parts) = take::<OperatingSystem>(parts);
-        let (environment, parts) = take::<Environment>(parts);
-        let (binary_format, parts) = take::<BinaryFormat>(parts);
-        if let Some(left) = parts {
+        let mut rest = Rest {
+            last: Field::Architecture,
+            parts: parts_in(first.behind),
+        };
+        let vendor = rest.take_vendor(alloc)?;
+        let operating_system = rest.take::<OperatingSystem>(Field::OperatingSystem);
+        let environment = rest.take::<Environment>(Field::Environment);
+        let binary_format = rest.take::<BinaryFormat>(Field::BinaryFormat);
+        if let Some(left) = rest.parts {
             let part = String::from_str(alloc, left.text)?;
-            return Err(refusal(
-                part,
-                vendor.is_some(),
-                operating_system.is_some(),
-                environment.is_some(),
-                binary_format.is_some(),
-            ));
+            return Err(refusal(part, rest.last));
         }
         let operating_system = operating_system.unwrap_or(OperatingSystem::Unknown);
         let environment = environment.unwrap_or(Environment::Unknown);

@@ -1,0 +1,25 @@
+use Rattle.std.proofs.Common.{◌≡◌, ℕ, List, [], ◌∷◌, Result, Ok, Err, refl, sym, ◌∙◌, subst}
+use Rattle.std.specs.Prelude.{IsErrAnd}
+use Rattle.lexicon_fields.specs.declared.known_vendor.KnownVendor.TheVariants.{Unknown}
+use Rattle.lexicon_fields.specs.Vendor.{IsCustom, Known, vendor_of}
+use Rattle.target_lexicon.specs.ComputedAnswers.{IsAnswerOf}
+use Rattle.target_lexicon.specs.Field.{Field, Architecture, Vendor}
+use Rattle.target_lexicon.specs.ReadingByFields.{finish, take_part}
+use Rattle.target_lexicon.specs.Refusal.{Refusal}
+use Rattle.target_lexicon.specs.Values.{Values}
+use Rattle.target_lexicon.specs.declared.parse_error.ParseError.{ParseError}
+use Rattle.target_lexicon.specs.declared.parse_error.ParseError.TheVariants as error
+use Rattle.target_lexicon.specs.declared.triple.Triple.{Triple}
+use Rattle.target_lexicon.proofs.triple.Triple.from_parts.Goals as goal
+
+-- want of memory answers for a triple with a custom vendor, and for a refusal
+memory_answers : (t : Values) (last : Field) (parts : List (List ℕ)) (r : Result Triple ParseError) → IsErrAnd r (λ e. e ≡ error.OutOfMemory) → IsCustom t.vendor
+    → IsAnswerOf (finish t last parts) r
+memory_answers t last parts (Ok triple) is custom = absurd is
+memory_answers t last [] (Err e) is custom = subst (λ e. IsAnswerOf (Ok t) (Err e)) (sym is) (refl, custom)
+memory_answers t last (p ∷ ps) (Err e) is custom = subst (λ e. IsAnswerOf (finish t last (p ∷ ps)) (Err e)) (sym is) tt
+
+pub returns-in_err-vendor-clause-answer : goal.returns-in_err-vendor-clause-answer
+returns-in_err-vendor-clause-answer c =
+    let custom = subst (λ parts. IsCustom (take_part Vendor vendor_of (Known Unknown) Architecture parts).0) c.parts_in.ensures c.in_err-vendor.ensures.memory in
+    rw (sym c.architecture.ensures ∙ c.in-Some.is) (memory_answers _ _ _ _ c.from_residual-in_err-vendor.ensures.1 custom)
