@@ -3,8 +3,7 @@
 use crate::{names_target, settled_text};
 use std::alloc::Global;
 use std::process::Abort;
-use std::test::Fail;
-use target_lexicon::{ParseError, Triple};
+use target_lexicon::Triple;
 
 /// Two spellings of one target each: aliases, a custom vendor, and each family that doesn't come back.
 const SAME: &str = "\
@@ -27,25 +26,39 @@ x86_64-unknown-linux-gnu=x86_64-unknown-linux-musl
 x86_64-unknown-linux=x86_64-unknown-linux-unknown-coff
 x86_64-esp-espidf-elf=x86_64-espressif-espidf-elf";
 
-fn check(rt: &impl Abort, alloc: Global, rows: &str, is_same: bool) -> Result<(), ParseError> {
+/// Whether both texts have one settled text.
+fn have_one_text(alloc: Global, first: &str, second: &str) -> Option<bool> {
+    let text = settled_text(alloc, first).ok()?;
+    Some(text == settled_text(alloc, second).ok()?)
+}
+
+/// Whether the text names the triple's target.
+fn is_named(alloc: Global, text: &str, triple: &Triple) -> Option<bool> {
+    names_target(alloc, text, triple).ok()
+}
+
+/// Each call tells whether the two texts are spellings of one target.
+fn are_told(alloc: Global, first: &str, second: &str, is_same: bool) -> bool {
+    match (Triple::from_str(alloc, first), Triple::from_str(alloc, second)) {
+        (Ok(one), Ok(other)) => {
+            one.settles_as(&other) == is_same
+                && other.settles_as(&one) == is_same
+                && is_named(alloc, first, &other) == Some(is_same)
+        }
+        _ => false,
+    }
+}
+
+fn check(rt: &impl Abort, alloc: Global, rows: &str, is_same: bool) {
     for line in rows.lines() {
         let (first, second) = line.split_once('=').unwrap_or((line, ""));
-        let one = Triple::from_str(alloc, first)?;
-        let other = Triple::from_str(alloc, second)?;
-        assert!(rt; one.settles_as(&other) == is_same, "{line}");
-        assert!(rt; other.settles_as(&one) == is_same, "{line}");
-        assert!(rt; names_target(alloc, first, &other)? == is_same, "{line}");
-        assert!(rt;
-            (settled_text(alloc, first)? == settled_text(alloc, second)?) == is_same,
-            "{line}"
-        );
+        assert!(rt; are_told(alloc, first, second, is_same), "{line}");
+        assert!(rt; have_one_text(alloc, first, second) == Some(is_same), "{line}");
     }
-    Ok(())
 }
 
 #[test]
-fn spellings_of_one_target_settle_as_one(rt: HostRuntime) -> Result<(), Fail> {
-    check(&rt, rt.alloc(), SAME, true)?;
-    check(&rt, rt.alloc(), OTHER, false)?;
-    Ok(())
+fn spellings_of_one_target_settle_as_one(rt: HostRuntime) {
+    check(&rt, rt.alloc(), SAME, true);
+    check(&rt, rt.alloc(), OTHER, false);
 }
