@@ -13,33 +13,33 @@ use std::io;
 use std::io::ErrorKind;
 
 /// A mode, an input, and the output for it.
-type Row = (Mode, &'static [u8], &'static [u8]);
+type Row = (Mode, &'static str, &'static str);
 
 /// The runs that are tried: a new mode needs a row here.
 fn rows() -> [Row; 7] {
     [
-        (Mode::Print, b"", b""),
+        (Mode::Print, "", ""),
         (
             Mode::Print,
-            b"avr-pc-none\nfoo",
-            b"avr-pc-none\nerror: Unrecognized architecture: foo\n",
+            "avr-pc-none\nfoo",
+            "avr-pc-none\nerror: Unrecognized architecture: foo\n",
         ),
-        (Mode::Show, b"avr-pc-none", b"avr-pc-none little 16 - -\n"),
+        (Mode::Show, "avr-pc-none", "avr-pc-none little 16 - -\n"),
         (
             Mode::Settle,
-            b"armv6k-nintendo-horizon-gnu\n",
-            b"armv6k-nintendo-3ds\n",
+            "armv6k-nintendo-horizon-gnu\n",
+            "armv6k-nintendo-3ds\n",
         ),
         (
             Mode::Json,
-            b"[\"arm64-apple-ios\"]",
-            b"[\"aarch64-apple-ios\"]\n",
+            "[\"arm64-apple-ios\"]",
+            "[\"aarch64-apple-ios\"]\n",
         ),
-        (Mode::Json, b"[7]", b"error: Element 0: Not a text\n"),
+        (Mode::Json, "[7]", "error: Element 0: Not a text\n"),
         (
             Mode::Matrix,
-            b"wasm32-wasi\nfoo\nwasm32-unknown-wasi",
-            b"wasm32-wasi\nerror: Unrecognized architecture: foo\n",
+            "wasm32-wasi\nfoo\nwasm32-unknown-wasi",
+            "wasm32-wasi\nerror: Unrecognized architecture: foo\n",
         ),
     ]
 }
@@ -66,16 +66,15 @@ struct Trace {
     taken: Taken,
 }
 
-/// A run over these devices.
-fn trial(alloc: Global, row: Row, reader: Drip, writer: Gate) -> Trace {
-    let (mode, _input, output) = row;
+/// A run over these devices, of an output that is or would be this.
+fn trial(alloc: Global, mode: Mode, reader: Drip, writer: Gate, output: &str) -> Trace {
     let mut reader = Counted::new(reader);
     let mut writer = Counted::new(writer);
     let end = run(alloc, mode, &mut reader, &mut writer);
     Trace {
         end,
         reads: reader.into_inner().reads,
-        taken: writer.into_inner().taken(output),
+        taken: writer.into_inner().taken(output.as_bytes()),
     }
 }
 
@@ -87,10 +86,11 @@ const NOTHING: Taken = Taken {
     is_front: true,
 };
 
-/// Whether a run is well but for its `odd_at`th read, behind which nothing is read and nothing is written.
-fn ends_at_read(alloc: Global, row: Row, odd_at: usize, kind: ErrorKind) -> bool {
-    let drip = Drip::new(row.1, odd_at, Oddity::Error(kind));
-    trial(alloc, row, drip, Gate::new(alloc))
+/// Whether a run ends at its `odd_at`th read, which fails: nothing is read behind it, and nothing is written.
+fn ends_at_read(alloc: Global, row: Row, kind: ErrorKind, odd_at: usize) -> bool {
+    let (mode, input, output) = row;
+    let drip = Drip::new(input.as_bytes(), odd_at, Oddity::Error(kind));
+    trial(alloc, mode, drip, Gate::new(alloc), output)
         == Trace {
             end: Err(RunError::Read),
             reads: odd_at.saturating_add(1),
@@ -98,10 +98,10 @@ fn ends_at_read(alloc: Global, row: Row, odd_at: usize, kind: ErrorKind) -> bool
         }
 }
 
-/// Whether a run ends so at each of its reads, and at the one that finds the end.
+/// Whether a run ends at each of its reads that fails, up to the one that finds the end of the input.
 fn ends_at_each_read(alloc: Global, row: Row, kind: ErrorKind) -> bool {
     for odd_at in 0..row.1.len() + 1 {
-        if !ends_at_read(alloc, row, odd_at, kind) {
+        if !ends_at_read(alloc, row, kind, odd_at) {
             return false;
         }
     }
@@ -112,18 +112,19 @@ fn ends_at_each_read(alloc: Global, row: Row, kind: ErrorKind) -> bool {
 fn each_read_fails_in_turn(rt: HostRuntime) {
     for row in rows() {
         for kind in ERRORS {
-            assert!(rt; ends_at_each_read(rt.alloc(), row, kind), "{:?}", row.0);
+            assert!(rt; ends_at_each_read(rt.alloc(), row, kind), "{row:?}");
         }
     }
 }
 
-/// Whether a run whose writes take a byte each is well but for its `fails_at`th write, behind which nothing is written.
-fn ends_at_write(alloc: Global, row: Row, fails_at: usize, failure: Oddity) -> bool {
-    let (_mode, input, output) = row;
-    let drip = Drip::new(input, usize::MAX, Oddity::Nothing);
-    let trace = trial(alloc, row, drip, Gate::narrow(alloc, fails_at, failure));
+/// Whether a run whose writes take a byte each ends at its `fails_at`th one, which fails: nothing is written behind it.
+/// It is well where all is written by then.
+fn ends_at_write(alloc: Global, row: Row, failure: Oddity, fails_at: usize) -> bool {
+    let (mode, input, output) = row;
+    let drip = Drip::new(input.as_bytes(), usize::MAX, Oddity::Nothing);
+    let gate = Gate::narrow(alloc, fails_at, failure);
     let is_whole = fails_at == output.len();
-    trace
+    trial(alloc, mode, drip, gate, output)
         == Trace {
             end: if is_whole {
                 Ok(())
@@ -132,7 +133,7 @@ fn ends_at_write(alloc: Global, row: Row, fails_at: usize, failure: Oddity) -> b
             },
             reads: input.len() + 1,
             taken: Taken {
-                writes: fails_at.saturating_add(usize::from(!is_whole)),
+                writes: fails_at.saturating_add(1).min(output.len()),
                 flushed: u32::from(is_whole),
                 kept: fails_at,
                 is_front: true,
@@ -140,10 +141,10 @@ fn ends_at_write(alloc: Global, row: Row, fails_at: usize, failure: Oddity) -> b
         }
 }
 
-/// Whether a run ends so at each of its writes, and is well where none fails.
+/// Whether a run ends at each of its writes that fails, and is well where none does.
 fn ends_at_each_write(alloc: Global, row: Row, failure: Oddity) -> bool {
     for fails_at in 0..row.2.len() + 1 {
-        if !ends_at_write(alloc, row, fails_at, failure) {
+        if !ends_at_write(alloc, row, failure, fails_at) {
             return false;
         }
     }
@@ -155,13 +156,10 @@ fn each_write_fails_in_turn(rt: HostRuntime) {
     for row in rows() {
         for kind in ERRORS {
             let failure = Oddity::Error(kind);
-            assert!(rt; ends_at_each_write(rt.alloc(), row, failure), "{:?}", row.0);
+            assert!(rt; ends_at_each_write(rt.alloc(), row, failure), "{row:?}");
         }
-        assert!(rt;
-            ends_at_each_write(rt.alloc(), row, Oddity::Nothing),
-            "{:?}",
-            row.0
-        );
+        let failure = Oddity::Nothing;
+        assert!(rt; ends_at_each_write(rt.alloc(), row, failure), "{row:?}");
     }
 }
 
@@ -173,11 +171,11 @@ fn flushes_once(
     flushes: Result<(), ErrorKind>,
     end: Result<(), RunError>,
 ) -> bool {
-    let (_mode, input, output) = row;
+    let (mode, input, output) = row;
     let mut gate = Gate::new(alloc);
     gate.flushes = flushes;
-    let drip = Drip::new(input, usize::MAX, Oddity::Nothing);
-    trial(alloc, row, drip, gate)
+    let drip = Drip::new(input.as_bytes(), usize::MAX, Oddity::Nothing);
+    trial(alloc, mode, drip, gate, output)
         == Trace {
             end,
             reads: input.len() + 1,
@@ -193,26 +191,18 @@ fn flushes_once(
 #[test]
 fn each_run_flushes_once(rt: HostRuntime) {
     for row in rows() {
-        assert!(rt;
-            flushes_once(rt.alloc(), row, Ok(()), Ok(())),
-            "{:?}",
-            row.0
-        );
+        assert!(rt; flushes_once(rt.alloc(), row, Ok(()), Ok(())), "{row:?}");
         for kind in ERRORS {
             let end = Err(RunError::Write);
-            assert!(rt;
-                flushes_once(rt.alloc(), row, Err(kind), end),
-                "{:?}",
-                row.0
-            );
+            assert!(rt; flushes_once(rt.alloc(), row, Err(kind), end), "{row:?}");
         }
     }
 }
 
 /// Whether a run over an input that has no output ends so. It is read to its first end, and nothing is written.
-fn is_refused(alloc: Global, mode: Mode, input: &'static [u8], error: RunError) -> bool {
+fn is_refused(alloc: Global, mode: Mode, input: &[u8], error: RunError) -> bool {
     let drip = Drip::new(input, usize::MAX, Oddity::Nothing);
-    trial(alloc, (mode, input, b""), drip, Gate::new(alloc))
+    trial(alloc, mode, drip, Gate::new(alloc), "")
         == Trace {
             end: Err(error),
             reads: input.len() + 1,
@@ -223,10 +213,8 @@ fn is_refused(alloc: Global, mode: Mode, input: &'static [u8], error: RunError) 
 #[test]
 fn a_refused_input_is_read_whole(rt: HostRuntime) {
     for (mode, input, error) in refused_inputs() {
-        assert!(rt;
-            is_refused(rt.alloc(), mode, input, error),
-            "{mode:?} {error}"
-        );
+        let is_refused = is_refused(rt.alloc(), mode, input, error);
+        assert!(rt; is_refused, "{mode:?} {error}");
     }
 }
 
@@ -254,21 +242,15 @@ fn counted_devices_answer_as_their_devices(rt: HostRuntime) {
     }
 }
 
-/// What was taken of a conclusion, where its status is this one.
-fn conclusion(
-    end: Option<Result<(), RunError>>,
-    status: u8,
-    said: &str,
-    writer: Gate,
-) -> Option<Taken> {
+/// The status of an end, and what was taken of what there is to say of it.
+fn conclusion(end: Option<Result<(), RunError>>, writer: Gate, said: &str) -> (u8, Taken) {
     let mut writer = Counted::new(writer);
-    let is_told = conclude(end, &mut writer) == status;
-    let taken = writer.into_inner().taken(said.as_bytes());
-    if is_told { Some(taken) } else { None }
+    let status = conclude(end, &mut writer);
+    (status, writer.into_inner().taken(said.as_bytes()))
 }
 
-/// Whether a conclusion has this status and ends at its `fails_at`th write, where a write takes a byte, or at its
-/// flush, which fails. There is no flush where there is nothing to say.
+/// Whether a conclusion whose writes take a byte each has this status and ends at its `fails_at`th write, which fails, or
+/// at its flush, which fails too. There is no flush where there is nothing to say.
 fn concludes_at(
     alloc: Global,
     end: Option<Result<(), RunError>>,
@@ -278,14 +260,15 @@ fn concludes_at(
 ) -> bool {
     let mut gate = Gate::narrow(alloc, fails_at, Oddity::Nothing);
     gate.flushes = Err(ErrorKind::BrokenPipe);
-    let is_whole = fails_at == said.len();
-    conclusion(end, status, said, gate)
-        == Some(Taken {
-            writes: fails_at.saturating_add(usize::from(!is_whole)),
-            flushed: u32::from(is_whole && !said.is_empty()),
-            kept: fails_at,
-            is_front: true,
-        })
+    let (told, taken) = conclusion(end, gate, said);
+    told == status
+        && taken
+            == Taken {
+                writes: fails_at.saturating_add(1).min(said.len()),
+                flushed: u32::from(fails_at == said.len() && !said.is_empty()),
+                kept: fails_at,
+                is_front: true,
+            }
 }
 
 /// Whether a conclusion has this status, where each write fails in turn and where none does.
@@ -312,10 +295,8 @@ fn faults() -> [(RunError, &'static str); 6] {
 
 /// Whether a fault is said whole by a writer that takes all that it is given.
 fn is_said_whole(alloc: Global, error: RunError, said: &str) -> bool {
-    match conclusion(Some(Err(error)), 1, said, Gate::new(alloc)) {
-        Some(taken) => taken.kept == said.len() && taken.is_front && taken.flushed == 1,
-        None => false,
-    }
+    let (_status, taken) = conclusion(Some(Err(error)), Gate::new(alloc), said);
+    taken.kept == said.len() && taken.is_front && taken.flushed == 1
 }
 
 #[test]
@@ -331,15 +312,11 @@ fn concludes(rt: HostRuntime) {
     }
 }
 
-/// Whether a fault prints as it is said, at a width and with a fill too.
+/// Whether a fault prints as it is said, and so at a width and with a fill.
 fn prints_as(alloc: Global, error: RunError, said: &str) -> bool {
-    let mut text = String::new(alloc);
-    writeln!(text, "fault: {error}").is_ok()
-        && text.as_str() == said
-        && {
-            text.clear();
-            writeln!(text, "fault: {error:*>40}").is_ok() && text.as_str() == said
-        }
+    let mut lines = String::new(alloc);
+    write!(lines, "fault: {error}\nfault: {error:*>40}\n").is_ok()
+        && lines.strip_prefix(said) == Some(said)
 }
 
 #[test]

@@ -170,10 +170,10 @@ fn what_is_no_list_is_refused(rt: HostRuntime) {
         ("[", RunError::NotJson),
         ("", RunError::NotJson),
     ] {
-        let input = input.as_bytes();
+        let bytes = input.as_bytes();
         assert!(rt;
-            ends_with(rt.alloc(), Mode::Json, input, Err(error), ""),
-            "{error}"
+            ends_with(rt.alloc(), Mode::Json, bytes, Err(error), ""),
+            "{input}"
         );
     }
 }
