@@ -5,7 +5,7 @@ use Rattle.std.specs.Str.{bytes_eq}
 use Rattle.std.specs.List.{list_all}
 use Rattle.std.proofs.lemmas.Bool.{and_parts}
 use Rattle.std.proofs.lemmas.Slice.Eq.{bytes_eq-Decides}
-use Rattle.lexicon_fields.specs.Names.{Pair, value_of, is_dash_free}
+use Rattle.lexicon_fields.specs.Names.{Pair, value_of, named, is_dash_free}
 use Rattle.lexicon_fields.specs.Laws.{NamesOfReadBack}
 
 -- a test that every pair passes holds of each text with the value that it reads as
@@ -26,6 +26,12 @@ value_of-all {V} test (pair ∷ pairs) text v all found =
 -- a text that a table holds passes what each text of the table passes
 pub value_of-passes : {V : Type 0} (test : List ℕ → Bool) (pairs : List (Pair V)) (text : List ℕ) (v : V) → list_all (λ pair. test pair.0) pairs ≡ true → value_of pairs text ≡ Some v → test text ≡ true
 value_of-passes test pairs text v all found = value_of-all (λ pair. test pair.0) pairs text v all found
+
+-- a text that a table of names holds is the name of what it reads as
+pub value_of-named : {V : Type 0} (name : V → List ℕ) (values : List V) (text : List ℕ) (v : V)
+    → list_all (λ pair. bytes_eq pair.0 (name pair.1)) (named name values) ≡ true → value_of (named name values) text ≡ Some v → name v ≡ text
+value_of-named name values text v all found =
+    sym ((bytes_eq-Decides text (name v)).0 (value_of-all (λ pair. bytes_eq pair.0 (name pair.1)) (named name values) text v all found))
 
 -- what holds of whatever is read: of a part and so of the whole that holds it, of what comes next, and of the first of two readings that reads
 

@@ -1,22 +1,25 @@
--- What reads as a system: the text holds no dash, and a version that the system holds is in range.
-use Rattle.std.proofs.Common.{◌≡◌, ◌∙◌, ℕ, ◌≤◌, List, [], ◌∷◌, ◌++◌, length, take, drop, Bool, true, false, not, cond, nat_eq, nat_le, ◌&&◌, ◌||◌, Option, Some, None, IfSome, is_none, option_and_then, refl, sym, ap, subst, arith}
+-- What reads as a system: the text holds no dash, a version that the system holds is in range, and its name is little longer than the text.
+use Rattle.std.proofs.Common.{◌≡◌, ◌∙◌, ℕ, ◌+◌, ◌^◌, ◌<◌, ◌≤◌, List, [], ◌∷◌, ◌++◌, length, take, drop, Bool, true, false, not, cond, nat_eq, nat_le, ◌&&◌, ◌||◌, Option, Some, None, IfSome, is_none, option_and_then, refl, sym, ap, subst, arith}
 use Rattle.std.specs.Char.{is_ascii_digit}
 use Rattle.std.specs.List.{list_all, list_any, join_with_byte, starts_with}
+use Rattle.std.specs.Fmt.{decimal}
 use Rattle.std.specs.Str.Parse.{digits_value, without_leading_plus}
-use Rattle.std.proofs.lemmas.Bool.{and_parts, eqb-true, leb-true}
-use Rattle.std.proofs.lemmas.List.{take-append-drop}
+use Rattle.std.proofs.lemmas.Bool.{and_parts, eqb-true, ltb-true, leb-true}
+use Rattle.std.proofs.lemmas.Fmt.{length-decimal-le}
+use Rattle.std.proofs.lemmas.List.{length-append, length-drop, take-append-drop}
 use Rattle.std.proofs.lemmas.List.Splits.{join_with_byte-slice_split}
 use Rattle.std.proofs.lemmas.Option.{MatchOption-at_some, cond_some, same_Some}
 use Rattle.std.proofs.lemmas.Slice.Eq.{bytes_eq-Decides}
+use Rattle.std.proofs.lemmas.Str.Parse.{digits_value_short}
 use Rattle.lexicon_fields.specs.declared.deployment_target.DeploymentTarget.{DeploymentTarget}
 use Rattle.lexicon_fields.specs.declared.operating_system.OperatingSystem.{OperatingSystem}
 use Rattle.lexicon_fields.specs.Names.{Pair, named, is_dash_free}
-use Rattle.lexicon_fields.specs.Version.{piece_within, version_of_numbers, version_of_pieces, version_of, pieces_of}
-use Rattle.lexicon_fields.specs.OperatingSystem.{operating_system_name, fixed_operating_systems, fixed_operating_system_of, operating_system_of, darwin_prefixes, darwin_like_by, behind_prefix, with_version, optional_version_of, version_held}
+use Rattle.lexicon_fields.specs.Version.{piece_within, version_of_numbers, version_of_pieces, version_of, version_name, pieces_of}
+use Rattle.lexicon_fields.specs.OperatingSystem.{operating_system_name, fixed_operating_systems, fixed_operating_system_of, operating_system_of, darwin_prefixes, darwin_like_by, behind_prefix, with_version, optional_version_of, version_held, version_suffix}
 use Rattle.lexicon_fields.specs.Laws.{NamesOfReadBack, IsVersionInRange, HasVersionInRange}
 use Rattle.lexicon_fields.proofs.LookUps.{value_of-all, holds-if_read, option_map-holds, option_and_then-holds, option_or-holds, of_kind-read_back}
 use Rattle.lexicon_fields.proofs.OperatingSystemsReadBack.{operating_system_of-name}
-use Rattle.lexicon_fields.proofs.VersionsReadBack.{digit_apart}
+use Rattle.lexicon_fields.proofs.VersionsReadBack.{digit_apart, digits_model}
 
 is_dash_free-cons : (c : ℕ) (cs : List ℕ) → nat_eq c 45 ≡ false → is_dash_free cs ≡ true → is_dash_free (c ∷ cs) ≡ true
 is_dash_free-cons c cs other rest = rw other rest
@@ -44,12 +47,17 @@ signed_digits-dash_free : (piece : List ℕ) → list_all is_ascii_digit (withou
 signed_digits-dash_free [] digits = refl
 signed_digits-dash_free (c ∷ cs) digits = behind_plus (nat_eq c 43) c cs refl digits
 
--- a piece that gives a number, which is within the limit
-piece-read : (limit : ℕ) (piece : List ℕ) (n : ℕ) → piece_within limit piece ≡ Some n → (is_dash_free piece ≡ true) × (n ≤ limit)
-piece-read limit piece n is =
-    let found = cond_some _ (digits_value 10 (without_leading_plus piece)) n is in
-    let parts = and_parts _ (nat_le (digits_value 10 (without_leading_plus piece)) limit) found.0 in
-    (signed_digits-dash_free piece (and_parts _ _ parts.0).1, subst (λ m. m ≤ limit) found.1 (leb-true _ limit parts.1))
+-- a piece that gives a number, which is within the limit, and whose digits are no more than the piece has
+piece-read : (limit : ℕ) (piece : List ℕ) (n : ℕ) → limit ≤ 65535 → piece_within limit piece ≡ Some n → (is_dash_free piece ≡ true) × (n ≤ limit) × (length (decimal n) ≤ length piece)
+piece-read limit piece n small is =
+    let ds = without_leading_plus piece in
+    let found = cond_some _ (digits_value 10 ds) n is in
+    let parts = and_parts _ (nat_le (digits_value 10 ds) limit) found.0 in
+    let digits = and_parts _ (list_all is_ascii_digit ds) parts.0 in
+    let within : n ≤ limit = subst (λ m. m ≤ limit) found.1 (leb-true _ limit parts.1) in
+    let short : n < 10 ^ length ds = subst (λ m. m < 10 ^ length ds) found.1 (digits_value_short digits_model ds (length ds) digits.1 (omega arith)) in
+    let fewer : length (decimal n) ≤ length ds = length-decimal-le (length ds) n (ltb-true 0 _ digits.0) short (omega arith) in
+    (signed_digits-dash_free piece digits.1, within, omega (arith, fewer, length-drop {A = ℕ}))
 
 -- the numbers of a version are those that were found
 numbers-read : (major minor patch : Option ℕ) (v : DeploymentTarget) → version_of_numbers major minor patch ≡ Some v → (major ≡ Some v.major) × (minor ≡ Some v.minor) × (patch ≡ Some v.patch)
@@ -59,32 +67,41 @@ numbers-read None minor patch v is = absurd cc
 numbers-read (Some major) None patch v is = absurd cc
 numbers-read (Some major) (Some minor) None v is = absurd cc
 
-missing-read : (n : ℕ) → Some 0 ≡ Some n → n ≤ 255
-missing-read n is = let same : 0 ≡ n = cc in omega arith
+missing-read : (n : ℕ) → Some 0 ≡ Some n → (n ≤ 255) × (length (decimal n) ≤ 1)
+missing-read n is = let same : 0 ≡ n = cc in (omega arith, length-decimal-le 1 n (omega arith) (omega arith) (omega arith))
 
 in_range : (v : DeploymentTarget) → v.major ≤ 65535 → v.minor ≤ 255 → v.patch ≤ 255 → IsVersionInRange v
 in_range v major minor patch = (omega arith, omega arith, omega arith)
 
 abbrev IsVersionRead : List ℕ → DeploymentTarget → Type 0
-IsVersionRead text v = (is_dash_free text ≡ true) × IsVersionInRange v
+IsVersionRead text v = (is_dash_free text ≡ true) × IsVersionInRange v × (length (version_name v) ≤ length text + 4)
+
+length-version : (v : DeploymentTarget) → length (version_name v) ≡ length (decimal v.major) + length (decimal v.minor) + length (decimal v.patch) + 2
+length-version v = simp length-append (omega arith)
 
 pieces-read : (pieces : List (List ℕ)) (v : DeploymentTarget) → version_of_pieces pieces ≡ Some v → IsVersionRead (join_with_byte 46 pieces) v
 pieces-read [] v is = absurd cc
 pieces-read (major ∷ []) v is =
     let found = numbers-read (piece_within 65535 major) (Some 0) (Some 0) v is in
-    let first = piece-read 65535 major v.major found.0 in
-    (first.0, in_range v first.1 (missing-read v.minor found.1) (missing-read v.patch found.2))
+    let first = piece-read 65535 major v.major (omega arith) found.0 in
+    let second = missing-read v.minor found.1 in
+    let third = missing-read v.patch found.2 in
+    (first.0, in_range v first.1 second.0 third.0, omega (arith, length-version v))
 pieces-read (major ∷ minor ∷ []) v is =
     let found = numbers-read (piece_within 65535 major) (piece_within 255 minor) (Some 0) v is in
-    let first = piece-read 65535 major v.major found.0 in
-    let second = piece-read 255 minor v.minor found.1 in
-    (is_dash_free-append major (46 ∷ minor) first.0 second.0, in_range v first.1 second.1 (missing-read v.patch found.2))
+    let first = piece-read 65535 major v.major (omega arith) found.0 in
+    let second = piece-read 255 minor v.minor (omega arith) found.1 in
+    let third = missing-read v.patch found.2 in
+    (is_dash_free-append major (46 ∷ minor) first.0 second.0, in_range v first.1 second.1 third.0, omega (arith, length-version v, length-append major (46 ∷ minor)))
 pieces-read (major ∷ minor ∷ patch ∷ []) v is =
     let found = numbers-read (piece_within 65535 major) (piece_within 255 minor) (piece_within 255 patch) v is in
-    let first = piece-read 65535 major v.major found.0 in
-    let second = piece-read 255 minor v.minor found.1 in
-    let third = piece-read 255 patch v.patch found.2 in
-    (is_dash_free-append major (46 ∷ (minor ++ (46 ∷ patch))) first.0 (is_dash_free-append minor (46 ∷ patch) second.0 third.0), in_range v first.1 second.1 third.1)
+    let first = piece-read 65535 major v.major (omega arith) found.0 in
+    let second = piece-read 255 minor v.minor (omega arith) found.1 in
+    let third = piece-read 255 patch v.patch (omega arith) found.2 in (
+      is_dash_free-append major (46 ∷ (minor ++ (46 ∷ patch))) first.0 (is_dash_free-append minor (46 ∷ patch) second.0 third.0),
+      in_range v first.1 second.1 third.1,
+      omega (arith, length-version v, length-append major (46 ∷ (minor ++ (46 ∷ patch))), length-append minor (46 ∷ patch)),
+    )
 pieces-read (major ∷ minor ∷ patch ∷ more ∷ pieces) v is = absurd cc
 
 version-read : (text : List ℕ) → IfSome (version_of text) (IsVersionRead text)
@@ -92,8 +109,8 @@ unfolding version_of
 version-read text = holds-if_read _ (version_of text) (λ v is. subst (λ (t : List ℕ). IsVersionRead t v) (join_with_byte-slice_split 46 text) (pieces-read (pieces_of text) v is))
 
 -- what stands behind a prefix
-suffix-read : (text : List ℕ) → IfSome (optional_version_of text) (λ version. (is_dash_free text ≡ true) × IfSome version IsVersionInRange)
-suffix-read [] = (refl, tt)
+suffix-read : (text : List ℕ) → IfSome (optional_version_of text) (λ version. (is_dash_free text ≡ true) × IfSome version IsVersionInRange × (length (version_suffix version) ≤ length text + 4))
+suffix-read [] = (refl, tt, omega arith)
 suffix-read (c ∷ cs) = option_map-holds _ _ Some (version_of (c ∷ cs)) (version-read (c ∷ cs)) (λ v read. read)
 
 -- a text is its prefix and what stands behind it
@@ -104,17 +121,20 @@ behind_prefix-read prefix text = holds-if_read _ (behind_prefix prefix text) (λ
     sym (take-append-drop (length prefix) text) ∙ ap (λ xs. xs ++ drop (length prefix) text) (sym front) ∙ ap (λ xs. prefix ++ xs) begins.1)
 
 abbrev IsSystemRead : List ℕ → OperatingSystem → Type 0
-IsSystemRead text s = (is_dash_free text ≡ true) × HasVersionInRange s
+IsSystemRead text s = (is_dash_free text ≡ true) × HasVersionInRange s × (length (operating_system_name s) ≤ length text + 4)
 
--- a prefix holds no dash, and its systems hold the version behind it
+-- a prefix holds no dash, and its systems hold the version behind it, and are named by both
 abbrev IsPrefix : Pair (Option DeploymentTarget → OperatingSystem) → Type 0
-IsPrefix row = (is_dash_free row.0 ≡ true) × ((version : Option DeploymentTarget) → version_held (row.1 version) ≡ version)
+IsPrefix row =
+    (is_dash_free row.0 ≡ true)
+    × ((version : Option DeploymentTarget) → (version_held (row.1 version) ≡ version) × (operating_system_name (row.1 version) ≡ row.0 ++ version_suffix version))
 
 prefixed-read : (row : Pair (Option DeploymentTarget → OperatingSystem)) (text : List ℕ) → IsPrefix row → IfSome (option_and_then (with_version row.1) (behind_prefix row.0 text)) (IsSystemRead text)
 prefixed-read row text is = option_and_then-holds _ _ (with_version row.1) (behind_prefix row.0 text) (behind_prefix-read row.0 text) (λ rest whole.
     option_map-holds _ _ row.1 (optional_version_of rest) (suffix-read rest) (λ version read. (
       subst (λ (t : List ℕ). is_dash_free t ≡ true) (sym whole) (is_dash_free-append row.0 rest is.0 read.0),
-      subst (λ (o : Option DeploymentTarget). IfSome o IsVersionInRange) (sym (is.1 version)) read.1,
+      subst (λ (o : Option DeploymentTarget). IfSome o IsVersionInRange) (sym (is.1 version).0) read.1,
+      omega (arith, ap length (is.1 version).1, ap length whole, length-append row.0 rest, length-append row.0 (version_suffix version), read.2),
     )))
 
 abbrev ArePrefixes : List (Pair (Option DeploymentTarget → OperatingSystem)) → Type 0
@@ -133,18 +153,22 @@ none_held (Some v) none = absurd cc
 fixed-read : (text : List ℕ) → IfSome (fixed_operating_system_of text) (IsSystemRead text)
 unfolding fixed_operating_system_of
 fixed-read text = holds-if_read _ (fixed_operating_system_of text) (λ s is.
-    let test = value_of-all (λ pair. is_dash_free pair.0 && is_none (version_held pair.1)) (named operating_system_name fixed_operating_systems) text s refl is in
-    let parts = and_parts (is_dash_free text) (is_none (version_held s)) test in
-    (parts.0, none_held (version_held s) parts.1))
+    let test = value_of-all (λ pair. is_dash_free pair.0 && is_none (version_held pair.1) && nat_le (length (operating_system_name pair.1)) (length pair.0)) (named operating_system_name fixed_operating_systems) text s refl is in
+    let parts = and_parts _ (nat_le (length (operating_system_name s)) (length text)) test in
+    let front = and_parts (is_dash_free text) (is_none (version_held s)) parts.0 in
+    (front.0, none_held (version_held s) front.1, omega (arith, leb-true _ _ parts.1)))
 
 operating_system-read : (text : List ℕ) (s : OperatingSystem) → operating_system_of text ≡ Some s → IsSystemRead text s
 unfolding operating_system_of
 operating_system-read text s is =
     MatchOption-at_some _ (IsSystemRead text) s is (option_or-holds _ (fixed_operating_system_of text) (darwin_like_by darwin_prefixes text) (fixed-read text)
-    (darwin_like-read darwin_prefixes text ((refl, λ v. refl), ((refl, λ v. refl), ((refl, λ v. refl), ((refl, λ v. refl), ((refl, λ v. refl), ((refl, λ v. refl), ((refl, λ v. refl), tt)))))))))
+    (darwin_like-read darwin_prefixes text ((refl, λ _. (refl, refl)), ((refl, λ _. (refl, refl)), ((refl, λ _. (refl, refl)), ((refl, λ _. (refl, refl)), ((refl, λ _. (refl, refl)), ((refl, λ _. (refl, refl)), ((refl, λ _. (refl, refl)), tt)))))))))
 
 pub version-in_range : (text : List ℕ) (s : OperatingSystem) → operating_system_of text ≡ Some s → HasVersionInRange s
 version-in_range text s is = (operating_system-read text s is).1
+
+pub operating_system-longer : (text : List ℕ) (s : OperatingSystem) → operating_system_of text ≡ Some s → length (operating_system_name s) ≤ length text + 4
+operating_system-longer text s is = (operating_system-read text s is).2
 
 -- every system reads back from its name, with its version, and no text that reads as a system holds a dash
 pub operating_system_names : NamesOfReadBack HasVersionInRange operating_system_name operating_system_of

@@ -1,5 +1,5 @@
 -- Laws of names, queries, versions and equality.
-use Rattle.std.specs.Prelude.{◌≡◌, ℕ, ◌<◌, ◌^◌, Bool, true, List, Option, Some, IfSome, Decides}
+use Rattle.std.specs.Prelude.{◌≡◌, ℕ, ◌+◌, ◌<◌, ◌≤◌, ◌^◌, Bool, true, List, length, Option, Some, IfSome, Decides}
 use Rattle.std.specs.Ordering.{nat_cmp, on, then_cmp}
 use Rattle.std.specs.declared.cmp.Ordering.{Ordering}
 use Rattle.lexicon_fields.specs.declared.deployment_target.DeploymentTarget.{DeploymentTarget}
@@ -17,6 +17,14 @@ pub record NamesOfReadBack {V : Type 0} (IsOfKind : V → Type 0) (name : V → 
 -- so does each value of the type
 abbrev pub NamesReadBack : {V : Type 0} → (V → List ℕ) → (List ℕ → Option V) → Type 0
 NamesReadBack {V} name find = NamesOfReadBack (λ (v : V). Unit {0}) name find
+
+-- a text that reads as a value is its name
+abbrev pub TextsAreNames : {V : Type 0} → (V → List ℕ) → (List ℕ → Option V) → Type 0
+TextsAreNames {V} name find = (text : List ℕ) (v : V) → find text ≡ Some v → name v ≡ text
+
+-- the name of a value is at most so many bytes longer than a text that reads as it
+abbrev pub NamesAreLonger : ℕ → {V : Type 0} → (V → List ℕ) → (List ℕ → Option V) → Type 0
+NamesAreLonger bytes {V} name find = (text : List ℕ) (v : V) → find text ≡ Some v → length (name v) ≤ length text + bytes
 
 -- a version whose numbers fit their fields
 abbrev pub IsVersionInRange : DeploymentTarget → Type 0

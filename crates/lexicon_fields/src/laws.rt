@@ -4,7 +4,7 @@ ghost use Rattle.std.specs.Cmp.Lexicographic.{slice_cmp};
 ghost use Rattle.std.specs.List.Sorted.{IsStrictlySortedBy};
 ghost use Rattle.std.specs.Ordering.{nat_cmp};
 ghost use Rattle.lexicon_fields.specs.Hashing.{FeedsOfTell, FeedsTell};
-ghost use Rattle.lexicon_fields.specs.Laws.{CopiesAreTheirSources, IsVersionInRange, HasVersionInRange, NamesOfReadBack, NamesReadBack, ComparesByValue, version_cmp};
+ghost use Rattle.lexicon_fields.specs.Laws.{CopiesAreTheirSources, IsVersionInRange, HasVersionInRange, NamesOfReadBack, NamesReadBack, TextsAreNames, NamesAreLonger, ComparesByValue, version_cmp};
 ghost use Rattle.lexicon_fields.specs.SubArchitecture.{arm_name, aarch64_name, x86_32_name, mips32_name, mips64_name, riscv32_name, riscv64_name, clever_name, z80_name};
 ghost use Rattle.lexicon_fields.specs.Architecture.{architecture_name, architecture_of, arm_of, aarch64_of, x86_32_of, mips32_of, mips64_of, riscv32_of, riscv64_of, clever_of, z80_of};
 ghost use Rattle.lexicon_fields.specs.Environment.{environment_name, environment_of};
@@ -47,6 +47,16 @@ pub fn names_read_back()
     ensures environment { NamesReadBack environment_name environment_of }
     ensures binary_format { NamesReadBack binary_format_name binary_format_of }
     ensures vendor { NamesOfReadBack (λ v. is_plain v ≡ true) vendor_name vendor_of }
+{}
+
+/// A text that reads as a vendor, an environment or a binary format is its name. The name of an architecture or a system is
+/// little longer than a text that reads as it: `arm64` is `aarch64`, and `ios1` is `ios1.0.0`.
+pub fn names_are_little_longer()
+    ensures vendor { TextsAreNames vendor_name vendor_of }
+    ensures environment { TextsAreNames environment_name environment_of }
+    ensures binary_format { TextsAreNames binary_format_name binary_format_of }
+    ensures architecture { NamesAreLonger 2 architecture_name architecture_of }
+    ensures operating_system { NamesAreLonger 4 operating_system_name operating_system_of }
 {}
 
 /// The version of a system that a text reads as is in range.
