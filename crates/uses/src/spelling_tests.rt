@@ -39,7 +39,10 @@ fn is_named(alloc: Global, text: &str, triple: &Triple) -> Option<bool> {
 
 /// Each call tells whether the two texts are spellings of one target.
 fn are_told(alloc: Global, first: &str, second: &str, is_same: bool) -> bool {
-    match (Triple::from_str(alloc, first), Triple::from_str(alloc, second)) {
+    match (
+        Triple::from_str(alloc, first),
+        Triple::from_str(alloc, second),
+    ) {
         (Ok(one), Ok(other)) => {
             one.settles_as(&other) == is_same
                 && other.settles_as(&one) == is_same
@@ -53,7 +56,10 @@ fn check(rt: &impl Abort, alloc: Global, rows: &str, is_same: bool) {
     for line in rows.lines() {
         let (first, second) = line.split_once('=').unwrap_or((line, ""));
         assert!(rt; are_told(alloc, first, second, is_same), "{line}");
-        assert!(rt; have_one_text(alloc, first, second) == Some(is_same), "{line}");
+        assert!(rt;
+            have_one_text(alloc, first, second) == Some(is_same),
+            "{line}"
+        );
     }
 }
 

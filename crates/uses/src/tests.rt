@@ -133,7 +133,10 @@ fn is_refused_at(alloc: Global, texts: &[String], place: usize) -> bool {
 fn a_matrix_has_each_target_once(rt: HostRuntime) -> Result<(), AllocError> {
     let texts = texts_of(rt.alloc(), "x86_64-linux wasm32-wasi x86_64-unknown-linux")?;
     assert!(rt; has_two(rt.alloc(), &texts, "wasm32-wasi"));
-    let texts = texts_of(rt.alloc(), "x86_64-linux wasm32-wasi x86_64-unknown-linux foo")?;
+    let texts = texts_of(
+        rt.alloc(),
+        "x86_64-linux wasm32-wasi x86_64-unknown-linux foo",
+    )?;
     assert!(rt; is_refused_at(rt.alloc(), &texts, 3));
     Ok(())
 }
@@ -171,7 +174,10 @@ fn has_key_text(alloc: Global, text: &str, print: &str) -> bool {
 }
 
 fn have_one_key(alloc: Global, first: &str, second: &str) -> bool {
-    match (Triple::from_str(alloc, first), Triple::from_str(alloc, second)) {
+    match (
+        Triple::from_str(alloc, first),
+        Triple::from_str(alloc, second),
+    ) {
         (Ok(one), Ok(other)) => share_key(one, other),
         _ => false,
     }
