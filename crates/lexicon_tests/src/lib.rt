@@ -1,7 +1,9 @@
-//! Tests of the public calls of `lexicon_fields` and `target_lexicon`. They stand in a crate of their own, so that the libraries
+//! Tests of the public calls of `lexicon_fields`, `target_lexicon` and `uses`. They stand in a crate of their own, so that these
 //! aren't proved once more with them.
 #![tactic(auto)]
 
+#[cfg(test)]
+mod callers;
 #[cfg(test)]
 mod defaults;
 #[cfg(test)]
@@ -22,6 +24,8 @@ mod queries;
 mod reading;
 #[cfg(test)]
 mod rounds;
+#[cfg(test)]
+mod same_targets;
 #[cfg(test)]
 mod systems;
 #[cfg(test)]

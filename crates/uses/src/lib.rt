@@ -8,11 +8,7 @@ mod literals;
 mod matrix;
 mod same_target;
 mod spelling;
-#[cfg(test)]
-mod spelling_tests;
 mod target_file;
-#[cfg(test)]
-mod tests;
 
 pub use driver::{Linker, link_plan};
 pub use key::{CacheKey, share_key};

@@ -1,15 +1,15 @@
-//! Each use, run once.
+//! Each call of `uses`, run once.
 
-use crate::{
-    CacheKey, Linker, MatrixError, TargetFileError, TypeLayout, c_layout, host_by_text, link_plan,
-    llvm_target, refused_text, release_matrix, share_key, wasi_text,
-};
 use serde_json::Value;
 use std::alloc::{AllocError, Global};
 use std::collections::HashMap;
 use std::process::Abort;
 use std::test::Fail;
 use target_lexicon::{BinaryFormat, ParseError, Triple};
+use uses::{
+    CacheKey, Linker, MatrixError, TargetFileError, TypeLayout, c_layout, host_by_text, link_plan,
+    llvm_target, refused_text, release_matrix, share_key, wasi_text,
+};
 
 /// Targets whose objects LLVM 14 doesn't write in the format that the triple has, and behind `=` the format that it writes.
 const OTHER_FORMATS: &str = "\

@@ -1,9 +1,9 @@
 //! Texts that name one target, and texts that don't.
 
-use crate::{names_target, settled_text};
 use std::alloc::Global;
 use std::process::Abort;
 use target_lexicon::Triple;
+use uses::{names_target, settled_text};
 
 /// Two spellings of one target each: aliases, a custom vendor, and each family that doesn't come back.
 const SAME: &str = "\
