@@ -1,7 +1,7 @@
 -- What reading is: Cuts, LookedUp, Vendors (a text's parts, and what each reads as); NamesAcross (a name of one field in a field
 -- before it); Greedy, Refused, Unique, Computed (from reading as a function to the least placement); ReadVersions (a version that is read is
 -- in range).
--- What printing is: Printed, Writes.
+-- What printing is: Printed, Writes, Lengths (how much longer than its text).
 -- What comes back: Rounds, TextRounds (a text read again); FamilyTests, StepCases, Fixed, Settled, SettlesAs (families and the step).
 -- For callers: OnLiterals (what computes on a literal).
 -- Queries and JSON: ModelsKnown, QueriesKept; Elements. SameValues: equality of triples. FeedsTogether: what fields feed a hasher.
@@ -12,6 +12,7 @@ pub mod FamilyTests
 pub mod FeedsTogether
 pub mod Fixed
 pub mod Greedy
+pub mod Lengths
 pub mod LookedUp
 pub mod ModelsKnown
 pub mod NamesAcross

@@ -7,6 +7,7 @@ pub mod Host
 pub mod ImpliedFormat
 pub mod Json
 pub mod Laws
+pub mod Lengths
 pub mod NormalStep
 pub mod Parts
 pub mod PartsLeft

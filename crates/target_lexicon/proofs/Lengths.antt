@@ -1,0 +1,288 @@
+-- How much longer what is printed is than the text that was read, and that settling makes no text longer.
+use Rattle.std.proofs.Common.{◌≡◌, ℕ, suc, ◌+◌, ◌≤◌, List, [], ◌∷◌, length, codes, Bool, true, false, ◌&&◌, ◌||◌, cond, Option, Some, None, IfSome, Ok, ◌⊎◌, inl, inr, unwrap_or, refl, sym, ap, subst, arith}
+use Rattle.std.specs.List.{join_with_byte}
+use Rattle.std.specs.Str.{bytes_eq}
+use Rattle.std.proofs.lemmas.List.{length-append}
+use Rattle.std.proofs.lemmas.List.Splits.{join_with_byte-slice_split}
+use Rattle.std.proofs.lemmas.Option.{MatchOption-at_some}
+use Rattle.lexicon_fields.specs.declared.architecture.Architecture.{Architecture}
+use Rattle.lexicon_fields.specs.declared.architecture.Architecture.TheVariants as architecture
+use Rattle.lexicon_fields.specs.declared.architecture.arm.ArmArchitecture.TheVariants as arm
+use Rattle.lexicon_fields.specs.declared.architecture.riscv.Riscv32Architecture.TheVariants as riscv32
+use Rattle.lexicon_fields.specs.declared.operating_system.OperatingSystem.{OperatingSystem}
+use Rattle.lexicon_fields.specs.declared.operating_system.OperatingSystem.TheVariants as operating_system
+use Rattle.lexicon_fields.specs.declared.environment.Environment.{Environment}
+use Rattle.lexicon_fields.specs.declared.environment.Environment.TheVariants as environment
+use Rattle.lexicon_fields.specs.declared.binary_format.BinaryFormat.{BinaryFormat}
+use Rattle.lexicon_fields.specs.declared.binary_format.BinaryFormat.TheVariants as binary_format
+use Rattle.lexicon_fields.specs.declared.known_vendor.KnownVendor.TheVariants.{Unknown, Nintendo, Espressif}
+use Rattle.lexicon_fields.specs.Architecture.{architecture_name, architecture_of}
+use Rattle.lexicon_fields.specs.Vendor.{VendorValue, Known, vendor_name, vendor_of}
+use Rattle.lexicon_fields.specs.OperatingSystem.{operating_system_name, operating_system_of}
+use Rattle.lexicon_fields.specs.Environment.{environment_name, environment_of}
+use Rattle.lexicon_fields.specs.BinaryFormat.{binary_format_name, binary_format_of}
+use Rattle.lexicon_fields.specs.Laws.{TextsAreNames, NamesAreLonger}
+use Rattle.target_lexicon.specs.Field as field
+use Rattle.target_lexicon.specs.Field.{Field}
+use Rattle.target_lexicon.specs.ImpliedFormat.{bare_format, wasm_or_elf, implied_format, implied}
+use Rattle.target_lexicon.specs.Lengths.{PrintedTextsAreLittleLonger, SettledTextsAreLittleLonger}
+use Rattle.target_lexicon.specs.Families.{IsNintendo3ds, IsEspIdf, HidesNewlib, PrintsTheEspIdfText, ShowsNoneAlone}
+use Rattle.lexicon_fields.specs.ArchitectureQueries.{is_clever}
+use Rattle.target_lexicon.specs.Laws.{ReadingIsComputed}
+use Rattle.target_lexicon.specs.Parts.{parts_of}
+use Rattle.target_lexicon.specs.Printing.{same_format, shows_vendor, shows_operating_system, shows_environment, shows_implied_format, shows_binary_format, shows_unknowns, when, shown_parts, text_of}
+use Rattle.target_lexicon.specs.ReadingByFields.{Taken, taken, take_part, finish, read_behind, read_parts, read_unless_special, reading}
+use Rattle.target_lexicon.specs.NormalStep.{normal_step, elf_if_unknown}
+use Rattle.target_lexicon.specs.SpecialTexts.{special_text, special_values, nintendo_3ds, nintendo_3ds_text, esp_idf, esp_idf_text}
+use Rattle.target_lexicon.specs.Values.{Values, values}
+use Rattle.target_lexicon.proofs.NamesAcross.{environment_of-format}
+use Rattle.target_lexicon.proofs.StepCases.{step_cases}
+
+-- the bytes of parts, each with its dash
+abbrev weight : List (List ℕ) → ℕ
+weight [] = 0
+weight (part ∷ parts) = suc (length part) + weight parts
+
+weight-joined : (part : List ℕ) (parts : List (List ℕ)) → weight (part ∷ parts) ≡ suc (length (join_with_byte 45 (part ∷ parts)))
+weight-joined part [] = omega arith
+weight-joined part (next ∷ parts) = omega (arith, weight-joined next parts, length-append part (45 ∷ join_with_byte 45 (next ∷ parts)))
+
+weight-when : (b : Bool) (part : List ℕ) (parts : List (List ℕ)) → weight (when b part parts) ≤ suc (length part) + weight parts
+weight-when true part parts = omega arith
+weight-when false part parts = omega arith
+
+-- what a step of reading takes, by the name of its field, and leaves
+abbrev weight_with : {A : Type 0} → (A → List ℕ) → Taken A → ℕ
+weight_with name step = suc (length (name step.0)) + weight step.2
+
+take_part-longer : {A : Type 0} (f : Field) (name : A → List ℕ) (find : List ℕ → Option A) (unfilled : A) (bytes : ℕ) (last : Field) (parts : List (List ℕ))
+    → NamesAreLonger bytes name find → bytes ≤ 8 → length (name unfilled) ≤ 7
+    → weight_with name (take_part f find unfilled last parts) ≤ weight parts + 8
+take_part-longer f name find unfilled bytes last [] longer small short = omega arith
+take_part-longer {A} f name find unfilled bytes last (p ∷ ps) longer small short = by_reading (find p) refl
+  where
+    by_reading : (o : Option A) → find p ≡ o → weight_with name (taken f o unfilled last p ps) ≤ weight (p ∷ ps) + 8
+    by_reading None is = omega arith
+    by_reading (Some x) is = omega (arith, longer p x is)
+
+-- a format that is implied, and shown, is `elf`
+
+same_format-self : (f : BinaryFormat) → same_format f f ≡ true
+same_format-self binary_format.Unknown = refl
+same_format-self _ = refl
+
+never_shown : (b : Bool) (part : List ℕ) → weight (when (b && false) part []) ≤ 4
+never_shown true part = omega arith
+never_shown false part = omega arith
+
+abbrev implied_shown : BinaryFormat → OperatingSystem → Environment → Architecture → ℕ
+implied_shown f s e a = weight (when (shows_implied_format f s e a) (binary_format_name f) [])
+
+bare_shown : (e : Environment) (a : Architecture) → implied_shown (bare_format e) operating_system.None_ e a ≤ 4
+bare_shown environment.Eabi a = omega arith
+bare_shown _ a = omega arith
+
+wasm_or_elf-shown : (a : Architecture) (e : Environment) → implied_shown (wasm_or_elf a) operating_system.Unknown e a ≤ 4
+wasm_or_elf-shown architecture.Wasm32 e = never_shown _ (codes "wasm")
+wasm_or_elf-shown architecture.Wasm64 e = never_shown _ (codes "wasm")
+wasm_or_elf-shown architecture.Unknown e = omega arith
+wasm_or_elf-shown a e = weight-when _ (codes "elf") []
+
+implied_format-shown : (a : Architecture) (s : OperatingSystem) (e : Environment) → implied_shown (implied_format a s e) s e a ≤ 4
+unfolding implied_format
+implied_format-shown a operating_system.None_ e = bare_shown e a
+implied_format-shown a operating_system.Unknown e = wasm_or_elf-shown a e
+implied_format-shown a s e = omega arith
+
+shows_unknowns-implied : (f : BinaryFormat) → shows_unknowns environment.Unknown f f ≡ false
+shows_unknowns-implied binary_format.Unknown = refl
+shows_unknowns-implied _ = refl
+
+-- a special text is short
+
+special-short : (s : OperatingSystem) (v : VendorValue) (a : Architecture) (joined : List ℕ) (n : ℕ) → 21 ≤ n → length joined ≤ n
+    → length (unwrap_or (special_text s v a) joined) ≤ n
+unfolding special_text
+special-short operating_system.Horizon (Known Nintendo) (architecture.Arm arm.Armv6k) joined n room short = omega arith
+special-short operating_system.Espidf (Known Espressif) (architecture.Riscv32 riscv32.Riscv32imc) joined n room short = omega arith
+special-short s v a joined n room short = short
+
+special_values-short : (text : List ℕ) → IfSome (special_values text) (λ t. length (text_of t) ≤ 21)
+unfolding special_values text_of special_text
+special_values-short text = by_tests (bytes_eq text nintendo_3ds_text) (bytes_eq text esp_idf_text)
+  where
+    by_tests : (x y : Bool) → IfSome (cond x (Some nintendo_3ds) (cond y (Some esp_idf) None)) (λ t. length (text_of t) ≤ 21)
+    by_tests true y = omega arith
+    by_tests false true = omega arith
+    by_tests false false = tt
+
+finish-ok : (t : Values) (last : Field) (left : List (List ℕ)) (u : Values) → finish t last left ≡ Ok u → (left ≡ []) × (t ≡ u)
+finish-ok t last [] u is = (refl, cc)
+finish-ok t last (p ∷ ps) u is = absurd cc
+
+module _ (formats : TextsAreNames binary_format_name binary_format_of) (environments : TextsAreNames environment_name environment_of) where
+  module _ (a : Architecture) (v : VendorValue) (s : OperatingSystem) where
+    abbrev format_shown : Environment → BinaryFormat → List (List ℕ)
+    format_shown e f = when (shows_binary_format (values a v s e f)) (binary_format_name f) []
+
+    abbrev format_taken : Environment → Field → List (List ℕ) → Taken BinaryFormat
+    format_taken e last parts = take_part field.BinaryFormat binary_format_of (implied_format a s e) last parts
+
+    format-longer : (e : Environment) (last : Field) (parts : List (List ℕ)) → (format_taken e last parts).2 ≡ [] → weight (format_shown e (format_taken e last parts).0) ≤ weight parts + 4
+    unfolding shows_binary_format
+    format-longer e last [] none = rw (same_format-self (implied_format a s e)) (implied_format-shown a s e)
+    format-longer e last (p ∷ ps) none = by_reading (binary_format_of p) refl none
+      where
+        by_reading : (o : Option BinaryFormat) → binary_format_of p ≡ o → (taken field.BinaryFormat o (implied_format a s e) last p ps).2 ≡ []
+            → weight (format_shown e (taken field.BinaryFormat o (implied_format a s e) last p ps).0) ≤ weight (p ∷ ps) + 4
+        by_reading None is none = absurd cc
+        by_reading (Some f) is none = omega (arith, weight-when (shows_binary_format (values a v s e f)) (binary_format_name f) [], ap length (formats p f is))
+
+    -- an environment that no part fills is not shown, since a part that is an unknown format would be an unknown environment
+    unfilled-hidden : (last : Field) (p : List ℕ) (ps : List (List ℕ)) → environment_of p ≡ None → (format_taken environment.Unknown last (p ∷ ps)).2 ≡ []
+        → shows_unknowns environment.Unknown (format_taken environment.Unknown last (p ∷ ps)).0 (implied_format a s environment.Unknown) ≡ false
+    unfilled-hidden last p ps unfilled none = by_reading (binary_format_of p) refl none
+      where
+        by_reading : (o : Option BinaryFormat) → binary_format_of p ≡ o → (taken field.BinaryFormat o (implied_format a s environment.Unknown) last p ps).2 ≡ []
+            → shows_unknowns environment.Unknown (taken field.BinaryFormat o (implied_format a s environment.Unknown) last p ps).0 (implied_format a s environment.Unknown) ≡ false
+        by_reading None is none = absurd cc
+        by_reading (Some binary_format.Unknown) is none =
+            absurd (let same = formats p binary_format.Unknown is in let reads = environment_of-format binary_format.Unknown in let fails = rw (sym same) at unfilled in cc)
+        by_reading (Some _) is none = refl
+
+    abbrev behind_system : Environment → BinaryFormat → List (List ℕ)
+    behind_system e f = when (shows_unknowns e f (implied_format a s e) || shows_environment e s v) (environment_name e) (format_shown e f)
+
+    abbrev environment_longer : List (List ℕ) → Taken Environment → Type 0
+    environment_longer parts e = (format_taken e.0 e.1 e.2).2 ≡ [] → weight (behind_system e.0 (format_taken e.0 e.1 e.2).0) ≤ weight parts + 4
+
+    environment-longer : (last : Field) (parts : List (List ℕ)) → environment_longer parts (take_part field.Environment environment_of environment.Unknown last parts)
+    unfolding shows_environment
+    environment-longer last [] none = rw (shows_unknowns-implied (implied_format a s environment.Unknown)) (format-longer environment.Unknown last [] none)
+    environment-longer last (p ∷ ps) none = by_reading (environment_of p) refl none
+      where
+        by_reading : (o : Option Environment) → environment_of p ≡ o → environment_longer (p ∷ ps) (taken field.Environment o environment.Unknown last p ps)
+        by_reading None is none = rw (unfilled-hidden last p ps is none) (format-longer environment.Unknown last (p ∷ ps) none)
+        by_reading (Some e) is none =
+            let f = (format_taken e field.Environment ps).0 in
+            omega (arith, weight-when (shows_unknowns e f (implied_format a s e) || shows_environment e s v) (environment_name e) (format_shown e f), format-longer e field.Environment ps none, ap length (environments p e is))
+
+  module _ (architectures : NamesAreLonger 2 architecture_name architecture_of) (vendors : TextsAreNames vendor_name vendor_of) (systems : NamesAreLonger 4 operating_system_name operating_system_of) where
+    abbrev IsLonger : List ℕ → Values → Type 0
+    IsLonger text t = length (text_of t) ≤ length text + 22
+
+    by_architecture : (p : List ℕ) (ps : List (List ℕ)) (o : Option Architecture) (t : Values) → architecture_of p ≡ o → read_behind o p ps ≡ Ok t → IsLonger (join_with_byte 45 (p ∷ ps)) t
+    unfolding text_of shown_parts
+    by_architecture p ps None t is read = absurd cc
+    by_architecture p ps (Some a) t is read =
+        let v = take_part field.Vendor vendor_of (Known Unknown) field.Architecture ps in
+        let s = take_part field.OperatingSystem operating_system_of operating_system.Unknown v.1 v.2 in
+        let e = take_part field.Environment environment_of environment.Unknown s.1 s.2 in
+        let f = format_taken a v.0 s.0 e.0 e.1 e.2 in
+        let end = finish-ok (values a v.0 s.0 e.0 f.0) f.1 f.2 t read in
+        let last = environment-longer a v.0 s.0 s.1 s.2 end.0 in
+        let both = shows_unknowns e.0 f.0 (implied_format a s.0 e.0) in
+        let shown = behind_system a v.0 s.0 e.0 f.0 in
+        let names = when (both || shows_operating_system s.0 a) (operating_system_name s.0) shown in
+        subst (IsLonger (join_with_byte 45 (p ∷ ps))) end.1 (special-short s.0 v.0 a _ _ (omega arith) (omega (
+          arith,
+          architectures p a is,
+          take_part-longer field.Vendor vendor_name vendor_of (Known Unknown) 0 field.Architecture ps (λ text x found. omega (arith, ap length (vendors text x found))) (omega arith) (omega arith),
+          take_part-longer field.OperatingSystem operating_system_name operating_system_of operating_system.Unknown 4 v.1 v.2 systems (omega arith) (omega arith),
+          last,
+          weight-when (both || shows_operating_system s.0 a) (operating_system_name s.0) shown,
+          weight-when (shows_vendor v.0 s.0 e.0 a) (vendor_name v.0) names,
+          weight-joined (architecture_name a) (when (shows_vendor v.0 s.0 e.0 a) (vendor_name v.0) names),
+          weight-joined p ps,
+        )))
+
+    by_parts : (parts : List (List ℕ)) (t : Values) → read_parts parts ≡ Ok t → IsLonger (join_with_byte 45 parts) t
+    by_parts [] t read = absurd cc
+    by_parts (p ∷ ps) t read = by_architecture p ps (architecture_of p) t refl read
+
+    by_special : (text : List ℕ) (o : Option Values) (t : Values) → special_values text ≡ o → read_unless_special o text ≡ Ok t → IsLonger text t
+    by_special text None t is read = subst (λ (x : List ℕ). IsLonger x t) (join_with_byte-slice_split 45 text) (by_parts (parts_of text) t read)
+    by_special text (Some u) t is read =
+        let short : length (text_of u) ≤ 21 = MatchOption-at_some _ (λ x. length (text_of x) ≤ 21) u is (special_values-short text) in
+        let same : u ≡ t = cc in
+        subst (IsLonger text) same (omega arith)
+
+    pub printed-longer : ReadingIsComputed → PrintedTextsAreLittleLonger
+    unfolding reading
+    printed-longer computed text t reads = by_special text (special_values text) t refl (((computed text).read t).0 reads)
+
+-- no step of settling makes a text longer
+
+abbrev IsNoLonger : Values → Values → Type 0
+IsNoLonger u t = length (text_of u) ≤ length (text_of t)
+
+abbrev names_shown : Values → List (List ℕ)
+names_shown t = shown_parts (shows_unknowns t.environment t.binary_format (implied t)) t
+
+weight-shown : (t : Values) → weight (names_shown t) ≡ suc (length (join_with_byte 45 (names_shown t)))
+unfolding shown_parts
+weight-shown t = weight-joined _ _
+
+-- where the same special text is printed, if one is
+by_weight : (u t : Values) → special_text u.operating_system u.vendor u.architecture ≡ special_text t.operating_system t.vendor t.architecture
+    → weight (names_shown u) ≤ weight (names_shown t) → IsNoLonger u t
+unfolding text_of
+by_weight u t special lighter = rw special (by_option (special_text t.operating_system t.vendor t.architecture))
+  where
+    by_option : (o : Option (List ℕ)) → length (unwrap_or o (join_with_byte 45 (names_shown u))) ≤ length (unwrap_or o (join_with_byte 45 (names_shown t)))
+    by_option (Some text) = omega arith
+    by_option None = omega (arith, weight-shown u, weight-shown t)
+
+special-no_longer : (t : Values) → IsNintendo3ds t ⊎ IsEspIdf t → IsNoLonger (values t.architecture t.vendor t.operating_system environment.Newlib binary_format.Elf) t
+unfolding text_of special_text
+special-no_longer t (inl is) = rw (is.architecture, is.vendor, is.operating_system) (omega arith)
+special-no_longer t (inr is) = rw (is.architecture, is.vendor, is.operating_system) (omega arith)
+
+esp-no_longer : (t : Values) → PrintsTheEspIdfText t → IsNoLonger (values t.architecture (Known Espressif) t.operating_system environment.Newlib binary_format.Elf) t
+unfolding text_of shown_parts shows_vendor shows_operating_system shows_environment shows_binary_format implied_format special_text
+esp-no_longer t is = rw is (omega arith)
+
+nintendo-lighter : (a : Architecture) (f : BinaryFormat)
+    → weight (names_shown (values a (Known Nintendo) operating_system.Horizon environment.Unknown (elf_if_unknown f))) ≤ weight (names_shown (values a (Known Nintendo) operating_system.Horizon environment.Newlib f))
+unfolding shown_parts shows_vendor shows_operating_system shows_environment shows_binary_format implied_format
+nintendo-lighter a binary_format.Unknown = omega arith
+nintendo-lighter a _ = omega arith
+
+espressif-lighter : (a : Architecture) (f : BinaryFormat)
+    → weight (names_shown (values a (Known Espressif) operating_system.Espidf environment.Unknown (elf_if_unknown f))) ≤ weight (names_shown (values a (Known Espressif) operating_system.Espidf environment.Newlib f))
+unfolding shown_parts shows_vendor shows_operating_system shows_environment shows_binary_format implied_format
+espressif-lighter a binary_format.Unknown = omega arith
+espressif-lighter a _ = omega arith
+
+newlib-lighter : (t : Values) → HidesNewlib t → weight (names_shown (values t.architecture t.vendor t.operating_system environment.Unknown (elf_if_unknown t.binary_format))) ≤ weight (names_shown t)
+unfolding shown_parts shows_binary_format
+newlib-lighter t is = elim is.1 [
+  | inl on ↦ rw (is.0, on.0, on.1) (nintendo-lighter t.architecture t.binary_format)
+  | inr on ↦ rw (is.0, on.0, on.1) (espressif-lighter t.architecture t.binary_format)
+]
+
+clever-shows_vendor : (v : VendorValue) (a : Architecture) → is_clever a ≡ true
+    → (shows_vendor v operating_system.None_ environment.Unknown a ≡ true) × (shows_vendor v operating_system.Unknown environment.None a ≡ true)
+unfolding shows_vendor
+clever-shows_vendor (Known Unknown) (architecture.Clever sub) is = (refl, refl)
+clever-shows_vendor (Known Unknown) _ is = absurd cc
+clever-shows_vendor _ a is = (refl, refl)
+
+clever-lighter : (a : Architecture) (v : VendorValue) (f : BinaryFormat) → is_clever a ≡ true
+    → weight (names_shown (values a v operating_system.None_ environment.Unknown f)) ≤ weight (names_shown (values a v operating_system.Unknown environment.None f))
+unfolding shown_parts shows_operating_system shows_environment shows_binary_format implied_format
+clever-lighter (architecture.Clever sub) v binary_format.Unknown is = let shows = clever-shows_vendor v (architecture.Clever sub) refl in rw (shows.0, shows.1) (omega arith)
+clever-lighter (architecture.Clever sub) v _ is = let shows = clever-shows_vendor v (architecture.Clever sub) refl in rw (shows.0, shows.1) (omega arith)
+clever-lighter _ v f is = absurd cc
+
+none-no_longer : (t : Values) → ShowsNoneAlone t → IsNoLonger (values t.architecture t.vendor operating_system.None_ environment.Unknown t.binary_format) t
+unfolding special_text shown_parts shows_binary_format
+none-no_longer t is =
+    by_weight _ t (rw is.operating_system refl) (rw (is.operating_system, is.environment) (clever-lighter t.architecture t.vendor t.binary_format is.architecture))
+
+step-no_longer : (t : Values) → IsNoLonger (normal_step t) t
+step-no_longer t = step_cases (λ u. IsNoLonger u t) t
+    (λ is. special-no_longer t is.fields) (λ is. by_weight _ t refl (newlib-lighter t is)) (esp-no_longer t) (none-no_longer t) (λ _. omega arith)
+
+pub settled-longer : PrintedTextsAreLittleLonger → SettledTextsAreLittleLonger
+settled-longer printed text t reads = omega (arith, step-no_longer (normal_step t), step-no_longer t, printed text t reads)
