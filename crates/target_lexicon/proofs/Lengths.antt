@@ -1,7 +1,6 @@
 -- How much longer what is printed is than the text that was read, and that settling makes no text longer.
-use Rattle.std.proofs.Common.{◌≡◌, ℕ, suc, ◌+◌, ◌≤◌, List, [], ◌∷◌, length, codes, Bool, true, false, ◌&&◌, ◌||◌, cond, Option, Some, None, IfSome, Ok, ◌⊎◌, inl, inr, unwrap_or, refl, sym, ap, subst, arith}
-use Rattle.std.specs.List.{join_with_byte}
-use Rattle.std.specs.Str.{bytes_eq}
+use Rattle.std.proofs.Common.{◌≡◌, ℕ, zero, suc, ◌+◌, ◌≤◌, List, [], ◌∷◌, length, codes, Bool, true, false, ◌&&◌, ◌||◌, Option, Some, None, Ok, ◌⊎◌, inl, inr, unwrap_or, refl, sym, ap, subst, arith}
+use Rattle.std.specs.List.{join_with_byte, slice_get}
 use Rattle.std.proofs.lemmas.List.{length-append}
 use Rattle.std.proofs.lemmas.List.Splits.{join_with_byte-slice_split}
 use Rattle.std.proofs.lemmas.Option.{MatchOption-at_some}
@@ -24,8 +23,8 @@ use Rattle.lexicon_fields.specs.BinaryFormat.{binary_format_name, binary_format_
 use Rattle.lexicon_fields.specs.Laws.{TextsAreNames, NamesAreLonger}
 use Rattle.target_lexicon.specs.Field as field
 use Rattle.target_lexicon.specs.Field.{Field}
-use Rattle.target_lexicon.specs.ImpliedFormat.{bare_format, wasm_or_elf, implied_format, implied}
-use Rattle.target_lexicon.specs.Lengths.{PrintedTextsAreLittleLonger, SettledTextsAreLittleLonger}
+use Rattle.target_lexicon.specs.ImpliedFormat.{implied_format, implied}
+use Rattle.target_lexicon.specs.Lengths.{PrintedTextsAreLittleLonger, SettledTextsAreLittleLonger, RefusedPartsAreNoLonger}
 use Rattle.target_lexicon.specs.Families.{IsNintendo3ds, IsEspIdf, HidesNewlib, PrintsTheEspIdfText, ShowsNoneAlone}
 use Rattle.lexicon_fields.specs.ArchitectureQueries.{is_clever}
 use Rattle.target_lexicon.specs.Laws.{ReadingIsComputed}
@@ -33,9 +32,10 @@ use Rattle.target_lexicon.specs.Parts.{parts_of}
 use Rattle.target_lexicon.specs.Printing.{same_format, shows_vendor, shows_operating_system, shows_environment, shows_implied_format, shows_binary_format, shows_unknowns, when, shown_parts, text_of}
 use Rattle.target_lexicon.specs.ReadingByFields.{Taken, taken, take_part, finish, read_behind, read_parts, read_unless_special, reading}
 use Rattle.target_lexicon.specs.NormalStep.{normal_step, elf_if_unknown}
-use Rattle.target_lexicon.specs.SpecialTexts.{special_text, special_values, nintendo_3ds, nintendo_3ds_text, esp_idf, esp_idf_text}
+use Rattle.target_lexicon.specs.SpecialTexts.{special_text, special_values}
 use Rattle.target_lexicon.specs.Values.{Values, values}
 use Rattle.target_lexicon.proofs.NamesAcross.{environment_of-format}
+use Rattle.target_lexicon.proofs.ReadVersions.{special-holds}
 use Rattle.target_lexicon.proofs.StepCases.{step_cases}
 
 -- the bytes of parts, each with its dash
@@ -51,17 +51,14 @@ weight-when : (b : Bool) (part : List ℕ) (parts : List (List ℕ)) → weight 
 weight-when true part parts = omega arith
 weight-when false part parts = omega arith
 
--- what a step of reading takes, by the name of its field, and leaves
-abbrev weight_with : {A : Type 0} → (A → List ℕ) → Taken A → ℕ
-weight_with name step = suc (length (name step.0)) + weight step.2
-
+-- the name of what a field takes, and the parts that are left
 take_part-longer : {A : Type 0} (f : Field) (name : A → List ℕ) (find : List ℕ → Option A) (unfilled : A) (bytes : ℕ) (last : Field) (parts : List (List ℕ))
     → NamesAreLonger bytes name find → bytes ≤ 8 → length (name unfilled) ≤ 7
-    → weight_with name (take_part f find unfilled last parts) ≤ weight parts + 8
+    → let step = take_part f find unfilled last parts in weight (name step.0 ∷ step.2) ≤ weight parts + 8
 take_part-longer f name find unfilled bytes last [] longer small short = omega arith
 take_part-longer {A} f name find unfilled bytes last (p ∷ ps) longer small short = by_reading (find p) refl
   where
-    by_reading : (o : Option A) → find p ≡ o → weight_with name (taken f o unfilled last p ps) ≤ weight (p ∷ ps) + 8
+    by_reading : (o : Option A) → find p ≡ o → let step = taken f o unfilled last p ps in weight (name step.0 ∷ step.2) ≤ weight (p ∷ ps) + 8
     by_reading None is = omega arith
     by_reading (Some x) is = omega (arith, longer p x is)
 
@@ -75,24 +72,16 @@ never_shown : (b : Bool) (part : List ℕ) → weight (when (b && false) part []
 never_shown true part = omega arith
 never_shown false part = omega arith
 
-abbrev implied_shown : BinaryFormat → OperatingSystem → Environment → Architecture → ℕ
-implied_shown f s e a = weight (when (shows_implied_format f s e a) (binary_format_name f) [])
-
-bare_shown : (e : Environment) (a : Architecture) → implied_shown (bare_format e) operating_system.None_ e a ≤ 4
-bare_shown environment.Eabi a = omega arith
-bare_shown _ a = omega arith
-
-wasm_or_elf-shown : (a : Architecture) (e : Environment) → implied_shown (wasm_or_elf a) operating_system.Unknown e a ≤ 4
-wasm_or_elf-shown architecture.Wasm32 e = never_shown _ (codes "wasm")
-wasm_or_elf-shown architecture.Wasm64 e = never_shown _ (codes "wasm")
-wasm_or_elf-shown architecture.Unknown e = omega arith
-wasm_or_elf-shown a e = weight-when _ (codes "elf") []
-
-implied_format-shown : (a : Architecture) (s : OperatingSystem) (e : Environment) → implied_shown (implied_format a s e) s e a ≤ 4
+implied_format-shown : (s : OperatingSystem) (e : Environment) (a : Architecture)
+    → weight (when (shows_implied_format (implied_format a s e) s e a) (binary_format_name (implied_format a s e)) []) ≤ 4
 unfolding implied_format
-implied_format-shown a operating_system.None_ e = bare_shown e a
-implied_format-shown a operating_system.Unknown e = wasm_or_elf-shown a e
-implied_format-shown a s e = omega arith
+implied_format-shown operating_system.None_ environment.Eabi a = omega arith
+implied_format-shown operating_system.None_ e a = omega arith
+implied_format-shown operating_system.Unknown e architecture.Wasm32 = never_shown _ (codes "wasm")
+implied_format-shown operating_system.Unknown e architecture.Wasm64 = never_shown _ (codes "wasm")
+implied_format-shown operating_system.Unknown e architecture.Unknown = omega arith
+implied_format-shown operating_system.Unknown e a = weight-when _ (codes "elf") []
+implied_format-shown s e a = omega arith
 
 shows_unknowns-implied : (f : BinaryFormat) → shows_unknowns environment.Unknown f f ≡ false
 shows_unknowns-implied binary_format.Unknown = refl
@@ -106,15 +95,6 @@ unfolding special_text
 special-short operating_system.Horizon (Known Nintendo) (architecture.Arm arm.Armv6k) joined n room short = omega arith
 special-short operating_system.Espidf (Known Espressif) (architecture.Riscv32 riscv32.Riscv32imc) joined n room short = omega arith
 special-short s v a joined n room short = short
-
-special_values-short : (text : List ℕ) → IfSome (special_values text) (λ t. length (text_of t) ≤ 21)
-unfolding special_values text_of special_text
-special_values-short text = by_tests (bytes_eq text nintendo_3ds_text) (bytes_eq text esp_idf_text)
-  where
-    by_tests : (x y : Bool) → IfSome (cond x (Some nintendo_3ds) (cond y (Some esp_idf) None)) (λ t. length (text_of t) ≤ 21)
-    by_tests true y = omega arith
-    by_tests false true = omega arith
-    by_tests false false = tt
 
 finish-ok : (t : Values) (last : Field) (left : List (List ℕ)) (u : Values) → finish t last left ≡ Ok u → (left ≡ []) × (t ≡ u)
 finish-ok t last [] u is = (refl, cc)
@@ -130,7 +110,7 @@ module _ (formats : TextsAreNames binary_format_name binary_format_of) (environm
 
     format-longer : (e : Environment) (last : Field) (parts : List (List ℕ)) → (format_taken e last parts).2 ≡ [] → weight (format_shown e (format_taken e last parts).0) ≤ weight parts + 4
     unfolding shows_binary_format
-    format-longer e last [] none = rw (same_format-self (implied_format a s e)) (implied_format-shown a s e)
+    format-longer e last [] none = rw (same_format-self (implied_format a s e)) (implied_format-shown s e a)
     format-longer e last (p ∷ ps) none = by_reading (binary_format_of p) refl none
       where
         by_reading : (o : Option BinaryFormat) → binary_format_of p ≡ o → (taken field.BinaryFormat o (implied_format a s e) last p ps).2 ≡ []
@@ -201,15 +181,28 @@ module _ (formats : TextsAreNames binary_format_name binary_format_of) (environm
     by_parts (p ∷ ps) t read = by_architecture p ps (architecture_of p) t refl read
 
     by_special : (text : List ℕ) (o : Option Values) (t : Values) → special_values text ≡ o → read_unless_special o text ≡ Ok t → IsLonger text t
+    unfolding text_of special_text
     by_special text None t is read = subst (λ (x : List ℕ). IsLonger x t) (join_with_byte-slice_split 45 text) (by_parts (parts_of text) t read)
     by_special text (Some u) t is read =
-        let short : length (text_of u) ≤ 21 = MatchOption-at_some _ (λ x. length (text_of x) ≤ 21) u is (special_values-short text) in
+        let short = MatchOption-at_some _ (λ x. length (text_of x) ≤ 21) u is (special-holds _ text (omega arith) (omega arith)) in
         let same : u ≡ t = cc in
-        subst (IsLonger text) same (omega arith)
+        subst (IsLonger text) same (omega (arith, short))
 
     pub printed-longer : ReadingIsComputed → PrintedTextsAreLittleLonger
     unfolding reading
     printed-longer computed text t reads = by_special text (special_values text) t refl (((computed text).read t).0 reads)
+
+-- a refused part is one of the text's
+
+part-lighter : (parts : List (List ℕ)) (n : ℕ) (part : List ℕ) → slice_get parts n ≡ Some part → suc (length part) ≤ weight parts
+part-lighter [] n part is = absurd cc
+part-lighter (p ∷ ps) zero part is = let same : p ≡ part = cc in omega (arith, ap length same)
+part-lighter (p ∷ ps) (suc n) part is = omega (arith, part-lighter ps n part is)
+
+pub refused-no_longer : RefusedPartsAreNoLonger
+refused-no_longer text refusal (ordinary, ([], are, is)) = absurd (are.some refl)
+refused-no_longer text refusal (ordinary, (p ∷ ps, are, is)) =
+    omega (arith, part-lighter (p ∷ ps) is.count refusal.part is.refused, weight-joined p ps, ap length are.joined)
 
 -- no step of settling makes a text longer
 
@@ -242,24 +235,13 @@ esp-no_longer : (t : Values) → PrintsTheEspIdfText t → IsNoLonger (values t.
 unfolding text_of shown_parts shows_vendor shows_operating_system shows_environment shows_binary_format implied_format special_text
 esp-no_longer t is = rw is (omega arith)
 
-nintendo-lighter : (a : Architecture) (f : BinaryFormat)
-    → weight (names_shown (values a (Known Nintendo) operating_system.Horizon environment.Unknown (elf_if_unknown f))) ≤ weight (names_shown (values a (Known Nintendo) operating_system.Horizon environment.Newlib f))
+newlib-lighter : (t : Values) (f : BinaryFormat) → t.binary_format ≡ f → HidesNewlib t
+    → weight (names_shown (values t.architecture t.vendor t.operating_system environment.Unknown (elf_if_unknown t.binary_format))) ≤ weight (names_shown t)
 unfolding shown_parts shows_vendor shows_operating_system shows_environment shows_binary_format implied_format
-nintendo-lighter a binary_format.Unknown = omega arith
-nintendo-lighter a _ = omega arith
-
-espressif-lighter : (a : Architecture) (f : BinaryFormat)
-    → weight (names_shown (values a (Known Espressif) operating_system.Espidf environment.Unknown (elf_if_unknown f))) ≤ weight (names_shown (values a (Known Espressif) operating_system.Espidf environment.Newlib f))
-unfolding shown_parts shows_vendor shows_operating_system shows_environment shows_binary_format implied_format
-espressif-lighter a binary_format.Unknown = omega arith
-espressif-lighter a _ = omega arith
-
-newlib-lighter : (t : Values) → HidesNewlib t → weight (names_shown (values t.architecture t.vendor t.operating_system environment.Unknown (elf_if_unknown t.binary_format))) ≤ weight (names_shown t)
-unfolding shown_parts shows_binary_format
-newlib-lighter t is = elim is.1 [
-  | inl on ↦ rw (is.0, on.0, on.1) (nintendo-lighter t.architecture t.binary_format)
-  | inr on ↦ rw (is.0, on.0, on.1) (espressif-lighter t.architecture t.binary_format)
-]
+newlib-lighter t binary_format.Unknown format (newlib, inl on) = rw (format, newlib, on.0, on.1) (omega arith)
+newlib-lighter t binary_format.Unknown format (newlib, inr on) = rw (format, newlib, on.0, on.1) (omega arith)
+newlib-lighter t _ format (newlib, inl on) = rw (format, newlib, on.0, on.1) (omega arith)
+newlib-lighter t _ format (newlib, inr on) = rw (format, newlib, on.0, on.1) (omega arith)
 
 clever-shows_vendor : (v : VendorValue) (a : Architecture) → is_clever a ≡ true
     → (shows_vendor v operating_system.None_ environment.Unknown a ≡ true) × (shows_vendor v operating_system.Unknown environment.None a ≡ true)
@@ -282,7 +264,7 @@ none-no_longer t is =
 
 step-no_longer : (t : Values) → IsNoLonger (normal_step t) t
 step-no_longer t = step_cases (λ u. IsNoLonger u t) t
-    (λ is. special-no_longer t is.fields) (λ is. by_weight _ t refl (newlib-lighter t is)) (esp-no_longer t) (none-no_longer t) (λ _. omega arith)
+    (λ is. special-no_longer t is.fields) (λ is. by_weight _ t refl (newlib-lighter t t.binary_format refl is)) (esp-no_longer t) (none-no_longer t) (λ _. omega arith)
 
 pub settled-longer : PrintedTextsAreLittleLonger → SettledTextsAreLittleLonger
 settled-longer printed text t reads = omega (arith, step-no_longer (normal_step t), step-no_longer t, printed text t reads)

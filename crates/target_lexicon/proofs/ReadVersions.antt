@@ -14,14 +14,14 @@ use Rattle.target_lexicon.specs.Values.{Values}
 abbrev IsInRange : Values → Type 0
 IsInRange t = HasVersionInRange t.operating_system
 
--- a special text's system holds none
-special-in_range : (text : List ℕ) → IfSome (special_values text) IsInRange
+-- what holds of the two triples of special texts
+pub special-holds : (P : Values → Type 0) (text : List ℕ) → P nintendo_3ds → P esp_idf → IfSome (special_values text) P
 unfolding special_values
-special-in_range text = by_tests (bytes_eq text nintendo_3ds_text) (bytes_eq text esp_idf_text)
+special-holds P text nintendo esp = by_tests (bytes_eq text nintendo_3ds_text) (bytes_eq text esp_idf_text)
   where
-    by_tests : (x y : Bool) → IfSome (cond x (Some nintendo_3ds) (cond y (Some esp_idf) None)) IsInRange
-    by_tests true y = tt
-    by_tests false true = tt
+    by_tests : (x y : Bool) → IfSome (cond x (Some nintendo_3ds) (cond y (Some esp_idf) None)) P
+    by_tests true y = nintendo
+    by_tests false true = esp
     by_tests false false = tt
 
 module _ (version-in_range : (text : List ℕ) (s : OperatingSystem) → operating_system_of text ≡ Some s → HasVersionInRange s) where
@@ -36,4 +36,4 @@ module _ (version-in_range : (text : List ℕ) (s : OperatingSystem) → operati
 
   -- the version of a text that is read
   pub read-in_range : (text : List ℕ) (t : Values) → ReadsAs text t → IsInRange t
-  read-in_range text t reads = by_special text t (special_values text) (special-in_range text) reads
+  read-in_range text t reads = by_special text t (special_values text) (special-holds IsInRange text tt tt) reads

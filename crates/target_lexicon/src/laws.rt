@@ -6,7 +6,7 @@ ghost use Rattle.lexicon_fields.specs.Hashing.{FeedsOfTell, FeedsTell};
 ghost use Rattle.lexicon_fields.specs.Laws.{ComparesByValue, CopiesAreTheirSources, HasVersionInRange};
 ghost use Rattle.target_lexicon.specs.FixedPoints.{ReadTriplesArePlain, FixedExactlyOutsideFamilies, RoundIsNormalStep, SecondStepChangesNone, SettledTextsAreKeys, RoundsAreKnown};
 ghost use Rattle.target_lexicon.specs.Json.{ListsReadBack, json_fault_of, list_fault_of};
-ghost use Rattle.target_lexicon.specs.Lengths.{PrintedTextsAreLittleLonger, SettledTextsAreLittleLonger};
+ghost use Rattle.target_lexicon.specs.Lengths.{PrintedTextsAreLittleLonger, SettledTextsAreLittleLonger, RefusedPartsAreNoLonger};
 ghost use Rattle.target_lexicon.specs.QueryLaws.{ModelWidth, NoRareModel, IntegersGrowInEach, QueriesKept};
 ghost use Rattle.target_lexicon.specs.Refusal.{refusal_of};
 ghost use Rattle.target_lexicon.specs.Upstream.{OtherTextsThanUpstream};
@@ -63,9 +63,11 @@ pub fn read_triples_are_plain()
 }
 
 /// The text that a triple prints is at most 22 bytes longer than each text that reads as it, and so is that of the settled triple.
+/// A refused part is no longer than the text.
 pub fn printed_texts_are_little_longer()
     ensures printed { PrintedTextsAreLittleLonger }
     ensures settled { SettledTextsAreLittleLonger }
+    ensures refused { RefusedPartsAreNoLonger }
 {
     reading_is_computed();
     lexicon_fields::laws::names_are_little_longer();
