@@ -5,7 +5,6 @@ use Rattle.lexicon_fields.specs.Vendor.{IsCustom, Known, vendor_of}
 use Rattle.target_lexicon.specs.ComputedAnswers.{IsAnswerOf}
 use Rattle.target_lexicon.specs.Field.{Field, Architecture, Vendor}
 use Rattle.target_lexicon.specs.ReadingByFields.{finish, take_part}
-use Rattle.target_lexicon.specs.Refusal.{Refusal}
 use Rattle.target_lexicon.specs.Values.{Values}
 use Rattle.target_lexicon.specs.declared.parse_error.ParseError.{ParseError}
 use Rattle.target_lexicon.specs.declared.parse_error.ParseError.TheVariants as error
