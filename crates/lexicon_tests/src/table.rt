@@ -1,12 +1,13 @@
 //! The table of fixed names beside a plain scan of them.
 
 ghost use Rattle.std.specs.Prelude.{◌<◌};
+ghost use Rattle.lexicon_fields.specs.FixedRow.{row_count};
 
 use crate::fixtures::{Question, check_words};
 use std::alloc::Global;
 use std::cmp::Ordering;
 use std::process::Abort;
-use target_lexicon::{FixedRow, KnownVendor, Steps, fixed_row, row_order};
+use target_lexicon::{FixedRow, KnownVendor, ROW_COUNT, Steps, fixed_row, row_order};
 
 // The fixed names of each field, in the order in which target-lexicon 0.13.5 declares its values; behind those of the
 // architectures stands the alias `arm64`.
@@ -95,7 +96,7 @@ fn a_vendor_of_the_table_is_the_vendor_of_its_name(rt: HostRuntime) {
 }
 
 fn check_order(rt: &impl Abort, i: usize, text: &str, order: Ordering)
-    requires { i < 192 }
+    requires { i < row_count }
 {
     assert!(rt; row_order(i, text, &mut Steps::new()) == order, "{text}");
 }
@@ -105,6 +106,6 @@ fn rows_are_ordered_by_bytes(rt: HostRuntime) {
     check_order(&rt, 0, "aarch64", Ordering::Equal);
     check_order(&rt, 0, "aarch6", Ordering::Greater);
     check_order(&rt, 0, "aarch64\0", Ordering::Less);
-    check_order(&rt, 191, "zkasm", Ordering::Equal);
-    check_order(&rt, 191, "é", Ordering::Less);
+    check_order(&rt, ROW_COUNT - 1, "zkasm", Ordering::Equal);
+    check_order(&rt, ROW_COUNT - 1, "é", Ordering::Less);
 }
