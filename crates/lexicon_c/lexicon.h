@@ -89,6 +89,10 @@ struct lexicon_facts {
   uint32_t major, minor, patch;
 };
 
+/* A buffer of text_size + LEXICON_LONGER always has room for what lexicon_print and lexicon_settle tell, the refused part too, so that one
+   call is enough: arm64 prints aarch64-unknown-unknown-elf, and no text prints one that is longer by more. */
+#define LEXICON_LONGER 22
+
 /* The printed triple: wasm32-unknown-wasi gives wasm32-wasi. */
 uint32_t lexicon_print(const char *text, size_t text_size, char *out, size_t out_size, size_t *length);
 

@@ -15,7 +15,7 @@ ghost use Rattle.lexicon_c.specs.Answers.{IsRead, IsFixedTold, IsComparedTold, I
 ghost use Rattle.lexicon_c.specs.Facts.{AreFactsRead};
 ghost use Rattle.lexicon_c.specs.Names.{IsPrintedTold, IsSettledTold, IsNameTold, MayNameWantMemory, IsReadNameTold, IsUnreadTold, MayReadNameWantMemory};
 ghost use Rattle.lexicon_c.specs.Refused.{IsRefusedBy, IsRefusedTold, IsLineTold};
-ghost use Rattle.lexicon_c.specs.Told.{IsNothingTold};
+ghost use Rattle.lexicon_c.specs.Told.{IsNothingTold, IsLittleLonger};
 ghost use Rattle.target_lexicon.specs.Reading.{MayWantMemory};
 
 pub use facts::LexiconFacts;
@@ -27,9 +27,11 @@ use read::{are_equal, read};
 use status::{DONE, NO_SUCH_FIELD, NOT_UTF8, OUT_OF_MEMORY, tell_error, tell_line};
 use std::alloc::Global;
 use target_lexicon::Triple;
+use target_lexicon::laws::printed_texts_are_little_longer;
 use told::{tell, tell_system};
 
-/// Reads a text as a triple, and tells its printed text, or the refused part.
+/// Reads a text as a triple, and tells its printed text, or the refused part. A buffer that is `longer` bytes longer than the text
+/// has room for either.
 #[unsafe(no_mangle)]
 pub extern "C" fn lexicon_print(
     alloc: Global,
@@ -38,11 +40,13 @@ pub extern "C" fn lexicon_print(
     length: &mut usize,
 ) -> u32
     ensures done { result ≡ 0 → IsPrintedTold text.now out.old out.new length.new }
+    ensures room { IsLittleLonger text.now length.new }
     ensures refused { 1 ≤ result → result ≤ 6 → IsRefusedTold result text.now out.old out.new length.new }
     ensures utf8 { (result ≡ 7) ↔ ¬ (IsUtf8 text.now) }
     ensures nothing { 7 ≤ result → IsNothingTold out.old out.new length.new }
     ensures all { result ≤ 8 }
 {
+    printed_texts_are_little_longer();
     *length = 0;
     let Ok(text) = str::from_utf8(text) else {
         return NOT_UTF8;
@@ -57,7 +61,7 @@ pub extern "C" fn lexicon_print(
 }
 
 /// Reads a text as a triple, settles it, and tells its printed text, or the refused part. A settled text is the key of a target:
-/// it reads and settles as itself, and no other target has it.
+/// it reads and settles as itself, and no other target has it. A buffer has room as for [`lexicon_print`].
 #[unsafe(no_mangle)]
 pub extern "C" fn lexicon_settle(
     alloc: Global,
@@ -66,11 +70,13 @@ pub extern "C" fn lexicon_settle(
     length: &mut usize,
 ) -> u32
     ensures done { result ≡ 0 → IsSettledTold text.now out.old out.new length.new }
+    ensures room { IsLittleLonger text.now length.new }
     ensures refused { 1 ≤ result → result ≤ 6 → IsRefusedTold result text.now out.old out.new length.new }
     ensures utf8 { (result ≡ 7) ↔ ¬ (IsUtf8 text.now) }
     ensures nothing { 7 ≤ result → IsNothingTold out.old out.new length.new }
     ensures all { result ≤ 8 }
 {
+    printed_texts_are_little_longer();
     *length = 0;
     let Ok(text) = str::from_utf8(text) else {
         return NOT_UTF8;
