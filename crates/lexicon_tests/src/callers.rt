@@ -2,9 +2,6 @@
 
 use serde_json::Value;
 use std::alloc::{AllocError, Global};
-use std::collections::HashMap;
-use std::process::Abort;
-use std::test::Fail;
 use target_lexicon::{BinaryFormat, ParseError, Triple};
 use uses::{
     CacheKey, Linker, MatrixError, TargetFileError, TypeLayout, c_layout, host_by_text, link_plan,
@@ -157,18 +154,10 @@ fn a_target_file_names_its_triple(rt: HostRuntime) {
     assert!(rt; names_triple(rt.alloc(), "{\"cpu\": \"m4\"}") == Some(false));
 }
 
-/// The text names the target of this key.
-fn has_key(alloc: Global, text: &str, key: &CacheKey) -> bool {
-    match CacheKey::read(alloc, text) {
-        Ok(found) => found == *key,
-        Err(_) => false,
-    }
-}
-
-/// The key of the text prints so, which is a text of the same key.
+/// The key of the text prints so.
 fn has_key_text(alloc: Global, text: &str, print: &str) -> bool {
     match CacheKey::read(alloc, text) {
-        Ok(key) => is_text(key.to_text(alloc), print) && has_key(alloc, print, &key),
+        Ok(key) => is_text(key.to_text(alloc), print),
         Err(_) => false,
     }
 }
@@ -187,42 +176,9 @@ fn have_one_key(alloc: Global, first: &str, second: &str) -> bool {
 fn keys_are_settled_triples(rt: HostRuntime) {
     let print = "x86_64-apple-darwin23.6.0";
     assert!(rt; has_key_text(rt.alloc(), "x86_64-apple-darwin23.6", print));
+    assert!(rt; has_key_text(rt.alloc(), print, print));
     let other = "x86_64-unknown-linux-unknown-elf";
     assert!(rt; have_one_key(rt.alloc(), "x86_64-linux", other));
-}
-
-/// Texts of one key each, with a known vendor, a custom one and a version, and behind `=` another text that reads as the same.
-const KEYS: &str = "\
-x86_64-unknown-linux-gnu=x86_64-linux-gnu
-x86_64-customvendor-linux=x86_64-customvendor-linux-unknown-elf
-x86_64-apple-darwin23.6.0=x86_64-apple-darwin+023.6
-arm-linux=arm-unknown-linux
-x86_64-customvendos-linux=x86_64-customvendos-linux";
-
-/// The number that the map holds for the triple that a text reads as.
-fn found(alloc: Global, map: &HashMap<Triple, usize>, text: &str) -> Option<usize> {
-    let triple = Triple::from_str(alloc, text).ok()?;
-    map.get(&triple).copied()
-}
-
-fn check_found(rt: &impl Abort, alloc: Global, map: &HashMap<Triple, usize>) {
-    for (i, line) in KEYS.lines().enumerate() {
-        let (first, second) = line.split_once('=').unwrap_or((line, ""));
-        assert_eq!(rt; found(alloc, map, first), Some(i), "{line}");
-        assert_eq!(rt; found(alloc, map, second), Some(i), "{line}");
-    }
-    assert_eq!(rt; found(alloc, map, "x86_64-customvendor-linux-gnu"), None);
-}
-
-#[test]
-fn a_triple_that_is_read_anew_finds_its_value(rt: HostRuntime) -> Result<(), Fail> {
-    let mut map = HashMap::new(rt.alloc());
-    for (i, line) in KEYS.lines().enumerate() {
-        let (text, _) = line.split_once('=').unwrap_or((line, ""));
-        map.insert(Triple::from_str(rt.alloc(), text)?, i)?;
-    }
-    check_found(&rt, rt.alloc(), &map);
-    Ok(())
 }
 
 fn is_host(read: &Result<Triple, ParseError>) -> bool {
