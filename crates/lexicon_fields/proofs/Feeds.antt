@@ -1,15 +1,14 @@
 -- What values feed a hasher tells them apart.
-use Rattle.std.proofs.Common.{◌≡◌, ℕ, ◌<◌, ◌≤◌, ◌^◌, ◌%◌, List, [], ◌∷◌, ◌++◌, ◌∙◌, sym, ap, arith, length, inl, inr}
+use Rattle.std.proofs.Common.{◌≡◌, ℕ, ◌<◌, ◌≤◌, ◌^◌, List, [], ◌∷◌, ◌++◌, ◌∙◌, refl, sym, ap, arith, length}
 use Rattle.std.specs.Hash.{HashWrites, le_bytes, usize}
 use Rattle.std.specs.Int.{w16, from_le_bytes}
+use Rattle.std.proofs.lemmas.List.{append_cancel_left}
 use Rattle.std.proofs.lemmas.Nat.{from_le_bytes-to_le_bytes_2}
 use Rattle.lexicon_fields.specs.Hashing.{FeedsOfTell, FeedsTell}
-use lib.Dec.{T, eqb}
-use lib.Ieee.Fits.{eq→eqb}
-use denote.RattleType.{RattleType}
-use denote.Enum.Enum.{Sum, tag}
-use denote.Enum.Declared.{Declared, rowss, tag_of}
+use Rattle.lexicon_fields.proofs.Variants.{EachPair, variants_pair}
+use denote.Enum.Enum.{tag_below}
 use denote.Enum.Bare.{Bare, tag_one}
+use denote.Enum.Declared.{Record, declared, rowss, tag_of}
 
 -- the first byte that is fed
 abbrev pub first_byte : HashWrites → ℕ
@@ -27,39 +26,49 @@ abbrev pub behind_first : HashWrites → HashWrites
 behind_first [] = []
 behind_first (write ∷ writes) = writes
 
--- where the first bytes differ, as they do at two variants, other things are fed
-pub apart : {a b : HashWrites} → a ≡ b → T (eqb (first_byte a) (first_byte b))
-apart same = eq→eqb (ap first_byte same)
+-- what two values feed, with more behind it, tells what they stand for, and what is behind
+abbrev pub Tells : {V W : Type 0} → (V → Type 0) → (V → W) → (V → HashWrites) → V → V → Type 0
+Tells IsOfKind value feed x y = (a b : HashWrites) → IsOfKind x → IsOfKind y → feed x ++ a ≡ feed y ++ b → (value x ≡ value y) × (a ≡ b)
 
 -- a kind of values feeds the same exactly where it is the same, if what is fed tells so whatever is behind it
 pub feeds_of_tell : {V W : Type 0} {IsOfKind : V → Type 0} {value : V → W} {feed : V → HashWrites}
-    → ((x y : V) (a b : HashWrites) → IsOfKind x → IsOfKind y → feed x ++ a ≡ feed y ++ b → (value x ≡ value y) × (a ≡ b))
-    → ((x y : V) → value x ≡ value y → feed x ≡ feed y)
-    → FeedsOfTell IsOfKind value feed
+    → ((x y : V) → Tells IsOfKind value feed x y) → ((x y : V) → value x ≡ value y → feed x ≡ feed y) → FeedsOfTell IsOfKind value feed
 feeds_of_tell tells respects = record {
   exactly = λ x y hx hy. (λ same. (tells x y [] [] hx hy (ap (λ fed. fed ++ []) same)).0, respects x y);
   with_more = tells;
 }
 
-pub feeds_tell : {V : Type 0} {feed : V → HashWrites}
-    → ((x y : V) (a b : HashWrites) → feed x ++ a ≡ feed y ++ b → (x ≡ y) × (a ≡ b)) → FeedsTell feed
-feeds_tell {V} {feed} tells = feeds_of_tell (λ x y a b hx hy. tells x y a b) (λ x y. ap feed)
+-- an enum of at most 256 variants, which feeds the place of the variant and then the fields
+module _ (N : Record) (feed : N.D → HashWrites) (few : length (rowss N.parts) ≤ 256)
+    (placed : (x : N.D) → feed x ≡ usize (tag_of (declared N) x) ++ behind_first (feed x)) where
+  pub same_place : (x y : N.D) (a b : HashWrites) → feed x ++ a ≡ feed y ++ b → tag_of (declared N) x ≡ tag_of (declared N) y
+  unfolding le_bytes
+  same_place x y a b same =
+      let firsts = ap first_byte (ap (λ fed. fed ++ a) (sym (placed x)) ∙ same ∙ ap (λ fed. fed ++ b) (placed y)) in
+      let below_x = tag_below (rowss N.parts) ((declared N).to x) in
+      let below_y = tag_below (rowss N.parts) ((declared N).to y) in
+      omega arith
 
--- the place of a variant is below their number
-pub tag_below : (Tss : List (List RattleType)) (s : Sum Tss) → tag Tss s < length Tss
-tag_below [] s = absurd s
-tag_below (Ts ∷ Tss) (inl x) = omega arith
-tag_below (Ts ∷ Tss) (inr s) = let below = tag_below Tss s in omega arith
+  pub variants_tell : {W : Type 0} (IsOfKind : N.D → Type 0) (value : N.D → W)
+      → EachPair N.parts (λ c d. Tells IsOfKind value (λ x. behind_first (feed x)) (N.make c) (N.make d)) → (x y : N.D) → Tells IsOfKind value feed x y
+  variants_tell IsOfKind value pairs x y a b hx hy same =
+      variants_pair N (Tells IsOfKind value (λ z. behind_first (feed z))) (λ z s t _ _ more. (refl, append_cancel_left _ s t more)) pairs x y
+      (same_place x y a b same) a b hx hy
+      (ap behind_first (ap (λ fed. fed ++ a) (sym (placed x)) ∙ same ∙ ap (λ fed. fed ++ b) (placed y)))
 
--- variants without fields, of at most 256
-pub bare_feeds : (D : Declared) → Bare D.parts → length (rowss D.parts) ≤ 256
-    → (x y : D.D) (a b : HashWrites) → usize (tag_of D x) ++ a ≡ usize (tag_of D y) ++ b → (x ≡ y) × (a ≡ b)
-unfolding le_bytes
-bare_feeds D bare few x y a b same =
-    let first : tag_of D x % 256 ≡ tag_of D y % 256 = ap first_byte same in
-    let below_x = tag_below (rowss D.parts) (D.to x) in
-    let below_y = tag_below (rowss D.parts) (D.to y) in
-    (tag_one D bare x y (omega arith), ap behind_first same)
+  pub enum_feeds : EachPair N.parts (λ c d. Tells (λ (x : N.D). Unit {0}) (λ (x : N.D). x) (λ x. behind_first (feed x)) (N.make c) (N.make d)) → FeedsTell feed
+  enum_feeds pairs = feeds_of_tell (variants_tell _ _ pairs) (λ x y. ap feed)
+
+-- variants without fields
+pub bare_feeds : (N : Record) → Bare N.parts → length (rowss N.parts) ≤ 256 → FeedsTell (λ x. usize (tag_of (declared N) x))
+bare_feeds N bare few =
+    let feed : N.D → HashWrites = λ x. usize (tag_of (declared N) x) in
+    feeds_of_tell (λ x y a b _ _ same. (tag_one (declared N) bare x y (same_place N feed few (λ z. refl) x y a b same), ap behind_first same)) (λ x y. ap feed)
+
+-- a variant of one field
+pub one_field : {V W U : Type 0} {IsOfKind : V → Type 0} {value : V → W} {feed : V → HashWrites} (whole : W → U) → FeedsOfTell IsOfKind value feed
+    → (x y : V × Unit {0}) (a b : HashWrites) → IsOfKind x.0 → IsOfKind y.0 → feed x.0 ++ a ≡ feed y.0 ++ b → (whole (value x.0) ≡ whole (value y.0)) × (a ≡ b)
+one_field whole tells x y a b hx hy same = let field = tells.with_more x.0 y.0 a b hx hy same in (ap whole field.0, field.1)
 
 -- numbers of two bytes
 pub same_u16 : (m n : ℕ) → m < 2 ^ 16 → n < 2 ^ 16 → le_bytes 2 m ≡ le_bytes 2 n → m ≡ n

@@ -2,7 +2,8 @@
 -- holds what the lists of names say. LookUps: what a look-up in a list tells, and how names are shown to read back.
 -- NamesReadBack, VersionsReadBack, OperatingSystemsReadBack, SystemsRead, VendorsReadBack: that the names of each type read
 -- back as the values that bear them, and hold no dash, and that a version that is read is in range.
--- Feeds: that what values feed a hasher tells them apart. EqualByValue: that `==` tells exactly which values are the same.
+-- Variants: what holds of values of one variant. Feeds: that what values feed a hasher tells them apart. EqualByValue: that
+-- `==` tells exactly which values are the same.
 pub mod EqualByValue
 pub mod Feeds
 pub mod FrontLemmas
@@ -10,6 +11,7 @@ pub mod Halving
 pub mod LookUps
 pub mod NamesReadBack
 pub mod OperatingSystemsReadBack
+pub mod Variants
 pub mod RowReads
 pub mod RowTexts
 pub mod RowsHold
