@@ -95,53 +95,29 @@ held_feeds = feeds_of_tell held_tells (λ x y. ap (option version_hash.ghosts.ha
 
 pub returns-clause-architecture : goal.returns-clause-architecture
 returns-clause-architecture c =
-    enum_feeds architecture.enum _ (omega arith) (λ x. refl) (
+    enum_feeds architecture.enum _ (omega arith) (λ x. refl) (assumption (
       one_field Arm (returns-clause-arm c),
-      (
-        one_field Aarch64 (returns-clause-aarch64 c),
-        (
-          one_field X86_32 (returns-clause-x86_32 c),
-          (
-            one_field Mips32 (returns-clause-mips32 c),
-            (
-              one_field Mips64 (returns-clause-mips64 c),
-              (
-                one_field Riscv32 (returns-clause-riscv32 c),
-                (
-                  one_field Riscv64 (returns-clause-riscv64 c),
-                  (
-                    one_field Clever (returns-clause-clever c),
-                    (one_field Z80 (returns-clause-z80 c), tt),
-                  ),
-                ),
-              ),
-            ),
-          ),
-        ),
-      ),
-    )
+      one_field Aarch64 (returns-clause-aarch64 c),
+      one_field X86_32 (returns-clause-x86_32 c),
+      one_field Mips32 (returns-clause-mips32 c),
+      one_field Mips64 (returns-clause-mips64 c),
+      one_field Riscv32 (returns-clause-riscv32 c),
+      one_field Riscv64 (returns-clause-riscv64 c),
+      one_field Clever (returns-clause-clever c),
+      one_field Z80 (returns-clause-z80 c),
+    ))
 
 pub returns-clause-operating_system : goal.returns-clause-operating_system
 returns-clause-operating_system c =
-    feeds_of_tell (variants_tell operating_system.enum operating_system_hash.ghosts.hash_input (omega arith) (λ x. refl) _ _ (
+    feeds_of_tell (variants_tell operating_system.enum operating_system_hash.ghosts.hash_input (omega arith) (λ x. refl) _ _ (assumption (
       one_field Darwin held_feeds,
-      (
-        one_field IOS held_feeds,
-        (
-          one_field MacOSX held_feeds,
-          (
-            one_field TvOS held_feeds,
-            (
-              one_field VisionOS held_feeds,
-              (
-                one_field WatchOS held_feeds,
-                (one_field XROS held_feeds, tt),
-              ),
-            ),
-          ),
-        ),
-      ),
-    )) (λ x y. ap operating_system_hash.ghosts.hash_input)
+      one_field IOS held_feeds,
+      one_field MacOSX held_feeds,
+      one_field TvOS held_feeds,
+      one_field VisionOS held_feeds,
+      one_field WatchOS held_feeds,
+      one_field XROS held_feeds,
+    ))) (λ x y. ap operating_system_hash.ghosts.hash_input)
 
 custom_feeds : FeedsOfTell (λ (x : CustomVendor). Unit {0}) custom_text (λ x. str (custom_text x))
 custom_feeds = feeds_of_tell (λ x y a b _ _ same. (ap first_write same, ap behind_first (ap behind_first same))) (λ x y. ap str)
