@@ -1,9 +1,11 @@
 -- What a look-up tells of the text, and how names are shown to read back.
-use Rattle.std.proofs.Common.{◌≡◌, ◌∙◌, ℕ, List, [], ◌∷◌, Bool, true, false, Option, Some, None, IfSome, is_none, option_map, option_and_then, refl, ap, sym, subst, cond}
+use Rattle.std.proofs.Common.{◌≡◌, ◌∙◌, ℕ, List, [], ◌∷◌, Bool, true, false, Option, Some, None, IfSome, is_none, option_map, option_and_then, refl, ap, sym, subst, cond, not, nat_eq, All}
 use Rattle.std.specs.Option.{option_or}
 use Rattle.std.specs.Str.{bytes_eq}
 use Rattle.std.specs.List.{list_all}
-use Rattle.std.proofs.lemmas.Bool.{and_parts}
+use Rattle.std.proofs.lemmas.Bool.{and_parts, ne_eqb}
+use Rattle.std.proofs.lemmas.List.Folds.{list_any_none}
+use Rattle.std.proofs.lemmas.List.Sums.{AllPass-from_list_all}
 use Rattle.std.proofs.lemmas.Slice.Eq.{bytes_eq-Decides}
 use Rattle.lexicon_fields.specs.Names.{Pair, value_of, named, is_dash_free}
 use Rattle.lexicon_fields.specs.Laws.{NamesOfReadBack}
@@ -58,6 +60,17 @@ option_or-none (Some v) = refl
 pub none_is : {V : Type 0} (o : Option V) → is_none o ≡ true → o ≡ None
 none_is None none = refl
 none_is (Some v) none = absurd cc
+
+-- where every byte of a text passes a test, none is a byte that does not, such as a dash
+
+pub test_apart : (test : ℕ → Bool) (c x : ℕ) → test x ≡ false → test c ≡ true → nat_eq c x ≡ false
+test_apart test c x other passes = ne_eqb c x (λ same. let bad = rw same at passes in cc)
+
+pub all_apart : (test : ℕ → Bool) (x : ℕ) → test x ≡ false → (text : List ℕ) → list_all test text ≡ true → All (λ c. nat_eq c x ≡ false) text
+all_apart test x other text all = λ k d within. test_apart test _ x other (AllPass-from_list_all test text all k d within)
+
+pub all-dash_free : (test : ℕ → Bool) → test 45 ≡ false → (text : List ℕ) → list_all test text ≡ true → is_dash_free text ≡ true
+all-dash_free test other text all = ap not (list_any_none _ text (all_apart test 45 other text all))
 
 -- names that read back hold no dash where no text that reads does
 pub of_kind-read_back : {V : Type 0} (IsOfKind : V → Type 0) (name : V → List ℕ) (find : List ℕ → Option V)

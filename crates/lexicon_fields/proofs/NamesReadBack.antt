@@ -56,24 +56,14 @@ binary_format_names = each-read_back _ _ binary_format_of-name binary_format_of-
 architecture_of-name : (a : Architecture) → architecture_of (architecture_name a) ≡ Some a
 unfolding architecture_of
 architecture_of-name (architecture.Arm arm.Arm) = refl
-architecture_of-name (architecture.Arm _) = refl
 architecture_of-name (architecture.Aarch64 aarch64.Aarch64) = refl
-architecture_of-name (architecture.Aarch64 _) = refl
 architecture_of-name (architecture.X86_32 x86_32.I386) = refl
-architecture_of-name (architecture.X86_32 _) = refl
 architecture_of-name (architecture.Mips32 mips32.Mips) = refl
-architecture_of-name (architecture.Mips32 _) = refl
 architecture_of-name (architecture.Mips64 mips64.Mips64) = refl
-architecture_of-name (architecture.Mips64 _) = refl
 architecture_of-name (architecture.Riscv32 riscv32.Riscv32) = refl
-architecture_of-name (architecture.Riscv32 _) = refl
 architecture_of-name (architecture.Riscv64 riscv64.Riscv64) = refl
-architecture_of-name (architecture.Riscv64 _) = refl
 architecture_of-name (architecture.Clever clever.Clever) = refl
-architecture_of-name (architecture.Clever _) = refl
 architecture_of-name (architecture.Z80 z80.Z80) = refl
-architecture_of-name (architecture.Z80 _) = refl
-architecture_of-name architecture.Unknown = refl
 architecture_of-name _ = refl
 
 pub architecture_of-row : (text : List ℕ) (a : Architecture) → architecture_of text ≡ Some a → is_row_text text ≡ true

@@ -1,12 +1,13 @@
 -- What reads as a system: the text holds no dash, a version that the system holds is in range, and its name is little longer than the text.
-use Rattle.std.proofs.Common.{◌≡◌, ◌∙◌, ℕ, ◌+◌, ◌^◌, ◌<◌, ◌≤◌, List, [], ◌∷◌, ◌++◌, length, take, drop, Bool, true, false, not, cond, nat_eq, nat_le, ◌&&◌, ◌||◌, Option, Some, None, IfSome, is_none, option_and_then, refl, sym, ap, subst, arith}
+use Rattle.std.proofs.Common.{◌≡◌, ◌∙◌, ℕ, ◌+◌, ◌^◌, ◌<◌, ◌≤◌, List, [], ◌∷◌, ◌++◌, length, take, drop, Bool, true, false, cond, nat_eq, nat_le, ◌&&◌, Option, Some, None, IfSome, is_none, option_and_then, refl, sym, ap, subst, arith}
 use Rattle.std.specs.Char.{is_ascii_digit}
-use Rattle.std.specs.List.{list_all, list_any, join_with_byte, starts_with}
+use Rattle.std.specs.List.{list_all, join_with_byte, starts_with}
 use Rattle.std.specs.Fmt.{decimal}
 use Rattle.std.specs.Str.Parse.{digits_value, without_leading_plus}
-use Rattle.std.proofs.lemmas.Bool.{and_parts, eqb-true, ltb-true, leb-true}
+use Rattle.std.proofs.lemmas.Bool.{and_parts, eqb-true, ltb-true, leb-true, not-true}
 use Rattle.std.proofs.lemmas.Fmt.{length-decimal-le}
 use Rattle.std.proofs.lemmas.List.{length-append, length-drop, take-append-drop}
+use Rattle.std.proofs.lemmas.List.Folds.{list_any-append}
 use Rattle.std.proofs.lemmas.List.Splits.{join_with_byte-slice_split}
 use Rattle.std.proofs.lemmas.Option.{MatchOption-at_some, cond_some, same_Some}
 use Rattle.std.proofs.lemmas.Slice.Eq.{bytes_eq-Decides}
@@ -17,27 +18,16 @@ use Rattle.lexicon_fields.specs.Names.{Pair, named, is_dash_free}
 use Rattle.lexicon_fields.specs.Version.{piece_within, version_of_numbers, version_of_pieces, version_of, version_name, pieces_of}
 use Rattle.lexicon_fields.specs.OperatingSystem.{operating_system_name, fixed_operating_systems, fixed_operating_system_of, operating_system_of, darwin_prefixes, darwin_like_by, behind_prefix, with_version, optional_version_of, version_held, version_suffix}
 use Rattle.lexicon_fields.specs.Laws.{NamesOfReadBack, IsVersionInRange, HasVersionInRange}
-use Rattle.lexicon_fields.proofs.LookUps.{value_of-all, holds-if_read, option_map-holds, option_and_then-holds, option_or-holds, of_kind-read_back}
+use Rattle.lexicon_fields.proofs.LookUps.{value_of-all, holds-if_read, option_map-holds, option_and_then-holds, option_or-holds, of_kind-read_back, all-dash_free}
 use Rattle.lexicon_fields.proofs.OperatingSystemsReadBack.{operating_system_of-name}
-use Rattle.lexicon_fields.proofs.VersionsReadBack.{digit_apart, digits_model}
-
-is_dash_free-cons : (c : ℕ) (cs : List ℕ) → nat_eq c 45 ≡ false → is_dash_free cs ≡ true → is_dash_free (c ∷ cs) ≡ true
-is_dash_free-cons c cs other rest = rw other rest
+use Rattle.lexicon_fields.proofs.VersionsReadBack.{digits_model}
 
 is_dash_free-append : (s t : List ℕ) → is_dash_free s ≡ true → is_dash_free t ≡ true → is_dash_free (s ++ t) ≡ true
-is_dash_free-append [] t first second = second
-is_dash_free-append (c ∷ cs) t first second = by_head (nat_eq c 45) (list_any (λ b. nat_eq b 45) cs) (list_any (λ b. nat_eq b 45) (cs ++ t)) first (λ front. is_dash_free-append cs t front second)
-  where
-    by_head : (dash rest more : Bool) → not (dash || rest) ≡ true → (not rest ≡ true → not more ≡ true) → not (dash || more) ≡ true
-    by_head true rest more bad step = absurd cc
-    by_head false rest more front step = step front
+is_dash_free-append s t first second = rw (list_any-append (λ b. nat_eq b 45) s t, not-true _ first) second
 
 -- digits, with or without a plus in front
 digits-dash_free : (ds : List ℕ) → list_all is_ascii_digit ds ≡ true → is_dash_free ds ≡ true
-digits-dash_free [] digits = refl
-digits-dash_free (c ∷ cs) digits =
-    let parts = and_parts (is_ascii_digit c) (list_all is_ascii_digit cs) digits in
-    is_dash_free-cons c cs (digit_apart c 45 refl parts.0) (digits-dash_free cs parts.1)
+digits-dash_free = all-dash_free is_ascii_digit refl
 
 behind_plus : (plus : Bool) (c : ℕ) (cs : List ℕ) → nat_eq c 43 ≡ plus → list_all is_ascii_digit (drop (cond plus 1 0) (c ∷ cs)) ≡ true → is_dash_free (c ∷ cs) ≡ true
 behind_plus true c cs is digits = rw (eqb-true c 43 is) (digits-dash_free cs digits)
@@ -63,9 +53,7 @@ piece-read limit piece n small is =
 numbers-read : (major minor patch : Option ℕ) (v : DeploymentTarget) → version_of_numbers major minor patch ≡ Some v → (major ≡ Some v.major) × (minor ≡ Some v.minor) × (patch ≡ Some v.patch)
 numbers-read (Some major) (Some minor) (Some patch) v is =
     let same = same_Some _ v is in (ap (λ x. Some x.major) same, ap (λ x. Some x.minor) same, ap (λ x. Some x.patch) same)
-numbers-read None minor patch v is = absurd cc
-numbers-read (Some major) None patch v is = absurd cc
-numbers-read (Some major) (Some minor) None v is = absurd cc
+numbers-read _ _ _ v is = absurd cc
 
 missing-read : (n : ℕ) → Some 0 ≡ Some n → (n ≤ 255) × (length (decimal n) ≤ 1)
 missing-read n is = let same : 0 ≡ n = cc in (omega arith, length-decimal-le 1 n (omega arith) (omega arith) (omega arith))

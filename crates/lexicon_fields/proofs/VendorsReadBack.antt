@@ -1,8 +1,9 @@
 -- How vendors are read: every plain one reads back from its name, and no text that reads as one holds a dash.
-use Rattle.std.proofs.Common.{[], ◌∷◌, nat_eq, Bool, not, ◌&&◌, ◌||◌, ap, ◌≡◌, ◌∙◌, ℕ, List, true, false, Option, Some, None, is_some, is_none, option_map, refl, sym}
+use Rattle.std.proofs.Common.{arith, [], ◌∷◌, not, ◌&&◌, ◌||◌, ap, ◌≡◌, ◌∙◌, ℕ, List, true, false, Option, Some, None, is_some, is_none, option_map, refl, sym}
 use Rattle.std.specs.List.{list_all}
 use Rattle.std.specs.Option.{option_or}
-use Rattle.std.proofs.lemmas.Bool.{and_parts, ne_eqb}
+use Rattle.std.proofs.Math.Bool.{and-true, and-false}
+use Rattle.std.proofs.lemmas.Bool.{and_parts}
 use Rattle.std.proofs.lemmas.Option.{MatchOption-at_some, cond_some}
 use Rattle.lexicon_fields.specs.declared.vendor.Vendor.{Vendor}
 use Rattle.lexicon_fields.specs.declared.vendor.Vendor.TheVariants as vendor
@@ -10,7 +11,7 @@ use Rattle.lexicon_fields.specs.declared.known_vendor.KnownVendor.{KnownVendor}
 use Rattle.lexicon_fields.specs.declared.known_vendor.KnownVendor.TheVariants.{Unknown}
 use Rattle.lexicon_fields.specs.Vendor.{VendorValue, Known, Custom, known_name, known_vendors, custom_of, vendor_name, is_plain, is_free, is_lowercase_letter, is_vendor_character, has_vendor_form, vendor_of, vendor_value, owns_text, known_vendor_of, is_admitted}
 use Rattle.lexicon_fields.specs.Names.{named, is_dash_free}
-use Rattle.lexicon_fields.proofs.LookUps.{value_of-passes, holds-if_read, option_map-holds, option_or-holds, option_or-none, none_is, of_kind-read_back}
+use Rattle.lexicon_fields.proofs.LookUps.{value_of-passes, holds-if_read, option_map-holds, option_or-holds, option_or-none, none_is, of_kind-read_back, test_apart, all-dash_free}
 use Rattle.lexicon_fields.proofs.RowTexts.{row_text-dash_free}
 use Rattle.lexicon_fields.proofs.RowsHold.{known_vendor_of-row}
 use Rattle.lexicon_fields.specs.Architecture.{architecture_of}
@@ -26,16 +27,7 @@ use Rattle.lexicon_fields.specs.Laws.{NamesOfReadBack}
 free_is : {K A O E B : Type 0} (known : Option K) (architecture : Option A) (fixed like : Option O) (environment : Option E) (format : Option B)
     → (is_none known && is_none architecture && is_none (option_or fixed like) && is_none environment && is_none format)
     ≡ (not (is_some architecture || is_some known || is_some fixed || is_some environment || is_some format) && is_none like)
-free_is (Some _) (Some _) _ _ _ _ = refl
-free_is (Some _) None _ _ _ _ = refl
-free_is None (Some _) _ _ _ _ = refl
-free_is None None (Some _) _ _ _ = refl
-free_is None None None None (Some _) _ = refl
-free_is None None None (Some _) (Some _) _ = refl
-free_is None None None (Some _) None None = refl
-free_is None None None (Some _) None (Some _) = refl
-free_is None None None None None None = refl
-free_is None None None None None (Some _) = refl
+free_is known architecture fixed like environment format = grind (arith)
 
 admitted_is : (text : List ℕ) → is_admitted text ≡ (not (has_row text) && is_none (darwin_like_by darwin_prefixes text) && has_vendor_form text)
 unfolding is_admitted operating_system_of
@@ -44,16 +36,10 @@ admitted_is text =
     (free_is (known_vendor_of text) (architecture_of text) (fixed_operating_system_of text) (darwin_like_by darwin_prefixes text) (environment_of text) (binary_format_of text))
 
 pub admitted_without_row : (text : List ℕ) (like : Option OperatingSystem) → has_row text ≡ false → has_vendor_form text ≡ true → like ≡ darwin_like_by darwin_prefixes text → is_admitted text ≡ is_none like
-admitted_without_row text like none form is =
-    admitted_is text ∙ ap (λ row. not row && is_none (darwin_like_by darwin_prefixes text) && has_vendor_form text) none
-    ∙ ap (λ o. is_none o && has_vendor_form text) (sym is) ∙ in_form like
-  where
-    in_form : (o : Option OperatingSystem) → (is_none o && has_vendor_form text) ≡ is_none o
-    in_form None = form
-    in_form (Some s) = refl
+admitted_without_row text like none form is = rw (admitted_is text, none, form, ← is) (and-true (is_none like))
 
 pub row_not_admitted : (text : List ℕ) → has_row text ≡ true → is_admitted text ≡ false
-row_not_admitted text stands = admitted_is text ∙ ap (λ row. not row && is_none (darwin_like_by darwin_prefixes text) && has_vendor_form text) stands
+row_not_admitted text stands = rw (admitted_is text, stands) refl
 
 -- how a text reads as a vendor
 
@@ -82,11 +68,7 @@ none_read text none refused = rw (none, refused) refl
 
 pub formless_not_admitted : (text : List ℕ) → has_vendor_form text ≡ false → is_admitted text ≡ false
 unfolding is_admitted
-formless_not_admitted text formless = by_freedom (is_free text)
-  where
-    by_freedom : (free : Bool) → (free && has_vendor_form text) ≡ false
-    by_freedom true = formless
-    by_freedom false = refl
+formless_not_admitted text formless = rw formless (and-false (is_free text))
 
 -- a known vendor's name has the form of a vendor
 known_form : (text : List ℕ) (known : Option KnownVendor) → known_vendor_of text ≡ known → has_vendor_form text ≡ false → known_vendor_of text ≡ None
@@ -114,21 +96,11 @@ vendor_of-name (Known _) plain = refl
 
 -- no plain vendor's name holds a dash
 
-character_apart : (c : ℕ) → is_vendor_character c ≡ true → nat_eq c 45 ≡ false
-character_apart c character = ne_eqb c 45 (λ dash. let bad = rw dash at character in cc)
-
-characters-dash_free : (text : List ℕ) → list_all is_vendor_character text ≡ true → is_dash_free text ≡ true
-characters-dash_free [] all = refl
-characters-dash_free (c ∷ cs) all =
-    let parts = and_parts (is_vendor_character c) (list_all is_vendor_character cs) all in
-    rw (character_apart c parts.0) (characters-dash_free cs parts.1)
-
 form-dash_free : (text : List ℕ) → has_vendor_form text ≡ true → is_dash_free text ≡ true
 form-dash_free [] form = absurd cc
 form-dash_free (c ∷ cs) form =
     let parts = and_parts (is_lowercase_letter c) (list_all is_vendor_character cs) form in
-    let apart : nat_eq c 45 ≡ false = ne_eqb c 45 (λ dash. let bad = rw dash at parts.0 in cc) in
-    rw apart (characters-dash_free cs parts.1)
+    rw (test_apart is_lowercase_letter c 45 refl parts.0) (all-dash_free is_vendor_character refl cs parts.1)
 
 vendor_of-dash_free : (text : List ℕ) (v : VendorValue) → vendor_of text ≡ Some v → is_dash_free text ≡ true
 unfolding vendor_of

@@ -5,7 +5,7 @@ use Rattle.std.specs.List.{list_all, before_first, after_first, position_or_len}
 use Rattle.std.specs.Result.{OkIff, result_ok}
 use Rattle.std.specs.Fmt.{decimal}
 use Rattle.std.specs.Str.Parse.{IsNumeral, ParsesUnsigned, digits_value, without_leading_plus}
-use Rattle.std.proofs.lemmas.Bool.{and_parts, and_from, ltb-true, lt-ltb, leb-true, le-leb, ne_eqb}
+use Rattle.std.proofs.lemmas.Bool.{and_parts, and_from, ltb-true, lt-ltb, leb-true, le-leb}
 use Rattle.std.proofs.lemmas.Fmt.{decimal_is_IsNumeral}
 use Rattle.std.proofs.lemmas.List.Splits.{slice_split_first, slice_split_none, length-slice_split}
 use Rattle.std.proofs.lemmas.List.Sums.{fails_before_first}
@@ -13,6 +13,7 @@ use Rattle.std.proofs.lemmas.Str.Parse.{IsNumeralModel, numerals_by_value}
 use Rattle.lexicon_fields.specs.declared.deployment_target.DeploymentTarget.{DeploymentTarget}
 use Rattle.lexicon_fields.specs.Version.{number_within, piece_within, version_of_numbers, version_of_pieces, version_of, version_name, pieces_of}
 use Rattle.lexicon_fields.specs.Private.{pieces_left}
+use Rattle.lexicon_fields.proofs.LookUps.{test_apart, all_apart}
 
 -- the test by which a version's digits are told is that of `parse`
 pub digits_model : IsNumeralModel (λ ds. list_all is_ascii_digit ds ≡ true) (digits_value 10)
@@ -73,34 +74,22 @@ no_third None minor = refl
 no_third (Some major) None = refl
 no_third (Some major) (Some minor) = refl
 
-no_first_piece : (p : List ℕ) (ps : List (List ℕ)) → piece_within 65535 p ≡ None → version_of_pieces (p ∷ ps) ≡ None
-no_first_piece p [] missing = rw missing refl
-no_first_piece p (q ∷ []) missing = rw missing refl
-no_first_piece p (q ∷ r ∷ []) missing = rw missing refl
-no_first_piece p (q ∷ r ∷ s ∷ ps) missing = refl
-
-no_second_piece : (p q : List ℕ) (ps : List (List ℕ)) → piece_within 255 q ≡ None → version_of_pieces (p ∷ q ∷ ps) ≡ None
-no_second_piece p q [] missing = rw missing (no_second (piece_within 65535 p) (Some 0))
-no_second_piece p q (r ∷ []) missing = rw missing (no_second (piece_within 65535 p) (piece_within 255 r))
-no_second_piece p q (r ∷ s ∷ ps) missing = refl
-
-no_third_piece : (p q r : List ℕ) (ps : List (List ℕ)) → piece_within 255 r ≡ None → version_of_pieces (p ∷ q ∷ r ∷ ps) ≡ None
-no_third_piece p q r [] missing = rw missing (no_third (piece_within 65535 p) (piece_within 255 q))
-no_third_piece p q r (s ∷ ps) missing = refl
-
 -- what a text reads as by its pieces
 
 pub no_major : (text p : List ℕ) (ps : List (List ℕ)) → pieces_of text ≡ p ∷ ps → piece_within 65535 p ≡ None → version_of text ≡ None
 unfolding version_of
-no_major text p ps pieces missing = ap version_of_pieces pieces ∙ no_first_piece p ps missing
+no_major text p (_ ∷ _ ∷ _ ∷ _) pieces missing = ap version_of_pieces pieces
+no_major text p _ pieces missing = ap version_of_pieces pieces ∙ rw missing refl
 
 pub no_minor : (text p q : List ℕ) (ps : List (List ℕ)) → pieces_of text ≡ p ∷ q ∷ ps → piece_within 255 q ≡ None → version_of text ≡ None
 unfolding version_of
-no_minor text p q ps pieces missing = ap version_of_pieces pieces ∙ no_second_piece p q ps missing
+no_minor text p q (_ ∷ _ ∷ _) pieces missing = ap version_of_pieces pieces
+no_minor text p q _ pieces missing = ap version_of_pieces pieces ∙ rw missing (no_second (piece_within 65535 p) _)
 
 pub no_patch : (text p q r : List ℕ) (ps : List (List ℕ)) → pieces_of text ≡ p ∷ q ∷ r ∷ ps → piece_within 255 r ≡ None → version_of text ≡ None
 unfolding version_of
-no_patch text p q r ps pieces missing = ap version_of_pieces pieces ∙ no_third_piece p q r ps missing
+no_patch text p q r (_ ∷ _) pieces missing = ap version_of_pieces pieces
+no_patch text p q r [] pieces missing = ap version_of_pieces pieces ∙ rw missing (no_third (piece_within 65535 p) (piece_within 255 q))
 
 pub too_many_pieces : (text p q r : List ℕ) (ps : List (List ℕ)) → pieces_of text ≡ p ∷ q ∷ r ∷ ps → ps ≢ [] → version_of text ≡ None
 unfolding version_of
@@ -121,35 +110,30 @@ three_pieces text p q r major minor patch pieces first second third = ap version
 
 -- the name of a version reads as that version
 
--- a byte of digits is neither a plus, a dash nor a dot
-pub digit_apart : (c x : ℕ) → is_ascii_digit x ≡ false → is_ascii_digit c ≡ true → nat_eq c x ≡ false
-digit_apart c x other digit = ne_eqb c x (λ same. let bad = rw same at digit in cc)
-
 decimal_digits : (n : ℕ) → n < 2 ^ 64 → list_all is_ascii_digit (decimal n) ≡ true
 decimal_digits n small = digits_model.from (decimal n) (decimal_is_IsNumeral n small).0.1
-
-number_within-decimal : (limit n : ℕ) → n ≤ limit → n < 2 ^ 64 → number_within limit (decimal n) ≡ Some n
-number_within-decimal limit n within small =
-    let numeral = decimal_is_IsNumeral n small in
-    let some : nat_lt 0 (length (decimal n)) ≡ true = lt-ltb 0 (length (decimal n)) numeral.0.0 in
-    let fits : nat_le n limit ≡ true = le-leb n limit within in
-    rw (numeral.1, some, decimal_digits n small, fits) refl
 
 -- digits have no plus in front
 without_plus : (ds : List ℕ) → list_all is_ascii_digit ds ≡ true → without_leading_plus ds ≡ ds
 without_plus [] digits = refl
-without_plus (c ∷ cs) digits = let parts = and_parts (is_ascii_digit c) (list_all is_ascii_digit cs) digits in rw (digit_apart c 43 refl parts.0) refl
+without_plus (c ∷ cs) digits = rw (test_apart is_ascii_digit c 43 refl (and_parts _ (list_all is_ascii_digit cs) digits).0) refl
 
 piece_within-decimal : (limit n : ℕ) → n ≤ limit → n < 2 ^ 64 → piece_within limit (decimal n) ≡ Some n
-piece_within-decimal limit n within small = ap (number_within limit) (without_plus (decimal n) (decimal_digits n small)) ∙ number_within-decimal limit n within small
+piece_within-decimal limit n within small =
+    let numeral = decimal_is_IsNumeral n small in
+    let digits = decimal_digits n small in
+    let some : nat_lt 0 (length (decimal n)) ≡ true = lt-ltb 0 (length (decimal n)) numeral.0.0 in
+    let fits : nat_le n limit ≡ true = le-leb n limit within in
+    ap (number_within limit) (without_plus (decimal n) digits) ∙ rw (numeral.1, some, digits, fits) refl
 
 pieces_of-digits : (ds : List ℕ) → list_all is_ascii_digit ds ≡ true → pieces_of ds ≡ ds ∷ []
-pieces_of-digits [] digits = refl
-pieces_of-digits (c ∷ cs) digits = let parts = and_parts (is_ascii_digit c) (list_all is_ascii_digit cs) digits in rw (digit_apart c 46 refl parts.0, pieces_of-digits cs parts.1) refl
+pieces_of-digits ds digits = slice_split_none _ ds (all_apart is_ascii_digit 46 refl ds digits)
 
 pieces_of-dot : (ds rest : List ℕ) → list_all is_ascii_digit ds ≡ true → pieces_of (ds ++ (46 ∷ rest)) ≡ ds ∷ pieces_of rest
 pieces_of-dot [] rest digits = refl
-pieces_of-dot (c ∷ cs) rest digits = let parts = and_parts (is_ascii_digit c) (list_all is_ascii_digit cs) digits in rw (digit_apart c 46 refl parts.0, pieces_of-dot cs rest parts.1) refl
+pieces_of-dot (c ∷ cs) rest digits =
+    let parts = and_parts (is_ascii_digit c) (list_all is_ascii_digit cs) digits in
+    rw (test_apart is_ascii_digit c 46 refl parts.0, pieces_of-dot cs rest parts.1) refl
 
 pub version_of-name : (v : DeploymentTarget) → v.major < 2 ^ 16 → v.minor < 2 ^ 8 → v.patch < 2 ^ 8 → version_of (version_name v) ≡ Some v
 version_of-name v major minor patch =
