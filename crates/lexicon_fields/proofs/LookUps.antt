@@ -1,5 +1,5 @@
 -- What a look-up tells of the text, and how names are shown to read back.
-use Rattle.std.proofs.Common.{◌≡◌, ◌∙◌, ℕ, List, [], ◌∷◌, Bool, true, false, Option, Some, None, IfSome, is_none, option_map, option_and_then, refl, ap, sym, subst, cond, not, nat_eq, All}
+use Rattle.std.proofs.Common.{◌≡◌, ℕ, List, [], ◌∷◌, Bool, true, false, Option, Some, None, IfSome, is_none, option_map, option_and_then, refl, ap, sym, cond, not, nat_eq, All}
 use Rattle.std.specs.Option.{option_or}
 use Rattle.std.specs.Str.{bytes_eq}
 use Rattle.std.specs.List.{list_all}
@@ -19,9 +19,8 @@ value_of-all {V} test (pair ∷ pairs) text v all found =
     (elim (bytes_eq text pair.0) as P [
       | true ↦ λ same is.
           (let the_text : text ≡ pair.0 = (bytes_eq-Decides text pair.0).0 same in
-          let the_value : pair.1 ≡ v = cc in
-          let whole : ◌≡◌ {A = Pair V} pair (text, v) = ap (λ (t : List ℕ). (t, pair.1)) (sym the_text) ∙ ap (λ (x : V). (text, x)) the_value in
-          subst (λ (r : Pair V). test r ≡ true) whole parts.0)
+          let held : test (pair.0, pair.1) ≡ true = parts.0 in
+          cc)
       | false ↦ λ _ is. value_of-all test pairs text v parts.1 is
     ]) refl found
 

@@ -25,11 +25,11 @@ use Rattle.lexicon_fields.proofs.LookUps.{value_of-passes, of_kind-read_back}
 use Rattle.lexicon_fields.proofs.RowTexts.{is_row_text, row_text-dash_free}
 
 -- names read back where each reads as its value, and each text that reads is a row's
-each-read_back : {V : Type 0} (name : V → List ℕ) (find : List ℕ → Option V) → ((v : V) → find (name v) ≡ Some v)
+pub each-read_back : {V : Type 0} (name : V → List ℕ) (find : List ℕ → Option V) → ((v : V) → find (name v) ≡ Some v)
     → ((text : List ℕ) (v : V) → find text ≡ Some v → is_row_text text ≡ true) → NamesReadBack name find
 each-read_back {V} name find reads row = of_kind-read_back (λ (v : V). Unit {0}) name find (λ v _. reads v) (λ text v found. row_text-dash_free text (row text v found))
 
-environment_of-name : (v : Environment) → environment_of (environment_name v) ≡ Some v
+pub environment_of-name : (v : Environment) → environment_of (environment_name v) ≡ Some v
 unfolding environment_of
 environment_of-name environment.Unknown = refl
 environment_of-name _ = refl
@@ -38,10 +38,7 @@ pub environment_of-row : (text : List ℕ) (v : Environment) → environment_of 
 unfolding environment_of is_row_text row_texts
 environment_of-row text v found = value_of-passes is_row_text (named environment_name environment_values) text v refl found
 
-pub environment_names : NamesReadBack environment_name environment_of
-environment_names = each-read_back _ _ environment_of-name environment_of-row
-
-binary_format_of-name : (v : BinaryFormat) → binary_format_of (binary_format_name v) ≡ Some v
+pub binary_format_of-name : (v : BinaryFormat) → binary_format_of (binary_format_name v) ≡ Some v
 unfolding binary_format_of
 binary_format_of-name binary_format.Unknown = refl
 binary_format_of-name _ = refl
@@ -50,10 +47,7 @@ pub binary_format_of-row : (text : List ℕ) (v : BinaryFormat) → binary_forma
 unfolding binary_format_of is_row_text row_texts
 binary_format_of-row text v found = value_of-passes is_row_text (named binary_format_name binary_format_values) text v refl found
 
-pub binary_format_names : NamesReadBack binary_format_name binary_format_of
-binary_format_names = each-read_back _ _ binary_format_of-name binary_format_of-row
-
-architecture_of-name : (a : Architecture) → architecture_of (architecture_name a) ≡ Some a
+pub architecture_of-name : (a : Architecture) → architecture_of (architecture_name a) ≡ Some a
 unfolding architecture_of
 architecture_of-name (architecture.Arm arm.Arm) = refl
 architecture_of-name (architecture.Aarch64 aarch64.Aarch64) = refl
@@ -69,9 +63,6 @@ architecture_of-name _ = refl
 pub architecture_of-row : (text : List ℕ) (a : Architecture) → architecture_of text ≡ Some a → is_row_text text ≡ true
 unfolding architecture_of is_row_text row_texts
 architecture_of-row text a found = value_of-passes is_row_text ((codes "arm64", architecture.Aarch64 aarch64.Aarch64) ∷ named architecture_name architecture_values) text a refl found
-
-pub architecture_names : NamesReadBack architecture_name architecture_of
-architecture_names = each-read_back _ _ architecture_of-name architecture_of-row
 
 -- a family of architectures: what is a part of an architecture, and the architecture of such a part
 pub part-read_back : {V : Type 0} (whole : V → Architecture) (part : Architecture → Option V) → ((v : V) → part (whole v) ≡ Some v)

@@ -55,5 +55,4 @@ operating_system_of-name (operating_system.TvOS version) range = rw (suffix_read
 operating_system_of-name (operating_system.VisionOS version) range = rw (suffix_reads version range) refl
 operating_system_of-name (operating_system.WatchOS version) range = rw (suffix_reads version range) refl
 operating_system_of-name (operating_system.XROS version) range = rw (suffix_reads version range) refl
-operating_system_of-name operating_system.Unknown range = refl
 operating_system_of-name _ range = refl

@@ -17,21 +17,17 @@ use Rattle.lexicon_fields.specs.declared.operating_system.OperatingSystem.{Opera
 use Rattle.lexicon_fields.specs.Names.{Pair, named, is_dash_free}
 use Rattle.lexicon_fields.specs.Version.{piece_within, version_of_numbers, version_of_pieces, version_of, version_name, pieces_of}
 use Rattle.lexicon_fields.specs.OperatingSystem.{operating_system_name, fixed_operating_systems, fixed_operating_system_of, operating_system_of, darwin_prefixes, darwin_like_by, behind_prefix, with_version, optional_version_of, version_held, version_suffix}
-use Rattle.lexicon_fields.specs.Laws.{NamesOfReadBack, IsVersionInRange, HasVersionInRange}
-use Rattle.lexicon_fields.proofs.LookUps.{value_of-all, holds-if_read, option_map-holds, option_and_then-holds, option_or-holds, of_kind-read_back, all-dash_free}
-use Rattle.lexicon_fields.proofs.OperatingSystemsReadBack.{operating_system_of-name}
+use Rattle.lexicon_fields.specs.Laws.{IsVersionInRange, HasVersionInRange}
+use Rattle.lexicon_fields.proofs.LookUps.{value_of-all, holds-if_read, option_map-holds, option_and_then-holds, option_or-holds, all-dash_free}
 use Rattle.lexicon_fields.proofs.VersionsReadBack.{digits_model}
 
 is_dash_free-append : (s t : List ℕ) → is_dash_free s ≡ true → is_dash_free t ≡ true → is_dash_free (s ++ t) ≡ true
 is_dash_free-append s t first second = rw (list_any-append (λ b. nat_eq b 45) s t, not-true _ first) second
 
 -- digits, with or without a plus in front
-digits-dash_free : (ds : List ℕ) → list_all is_ascii_digit ds ≡ true → is_dash_free ds ≡ true
-digits-dash_free = all-dash_free is_ascii_digit refl
-
 behind_plus : (plus : Bool) (c : ℕ) (cs : List ℕ) → nat_eq c 43 ≡ plus → list_all is_ascii_digit (drop (cond plus 1 0) (c ∷ cs)) ≡ true → is_dash_free (c ∷ cs) ≡ true
-behind_plus true c cs is digits = rw (eqb-true c 43 is) (digits-dash_free cs digits)
-behind_plus false c cs is digits = digits-dash_free (c ∷ cs) digits
+behind_plus true c cs is digits = rw (eqb-true c 43 is) (all-dash_free is_ascii_digit refl cs digits)
+behind_plus false c cs is digits = all-dash_free is_ascii_digit refl (c ∷ cs) digits
 
 signed_digits-dash_free : (piece : List ℕ) → list_all is_ascii_digit (without_leading_plus piece) ≡ true → is_dash_free piece ≡ true
 signed_digits-dash_free [] digits = refl
@@ -146,7 +142,7 @@ fixed-read text = holds-if_read _ (fixed_operating_system_of text) (λ s is.
     let front = and_parts (is_dash_free text) (is_none (version_held s)) parts.0 in
     (front.0, none_held (version_held s) front.1, omega (arith, leb-true _ _ parts.1)))
 
-operating_system-read : (text : List ℕ) (s : OperatingSystem) → operating_system_of text ≡ Some s → IsSystemRead text s
+pub operating_system-read : (text : List ℕ) (s : OperatingSystem) → operating_system_of text ≡ Some s → IsSystemRead text s
 unfolding operating_system_of
 operating_system-read text s is =
     MatchOption-at_some _ (IsSystemRead text) s is (option_or-holds _ (fixed_operating_system_of text) (darwin_like_by darwin_prefixes text) (fixed-read text)
@@ -157,7 +153,3 @@ version-in_range text s is = (operating_system-read text s is).1
 
 pub operating_system-longer : (text : List ℕ) (s : OperatingSystem) → operating_system_of text ≡ Some s → length (operating_system_name s) ≤ length text + 4
 operating_system-longer text s is = (operating_system-read text s is).2
-
--- every system reads back from its name, with its version, and no text that reads as a system holds a dash
-pub operating_system_names : NamesOfReadBack HasVersionInRange operating_system_name operating_system_of
-operating_system_names = of_kind-read_back _ _ _ operating_system_of-name (λ text s is. (operating_system-read text s is).0)

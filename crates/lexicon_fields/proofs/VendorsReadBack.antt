@@ -11,7 +11,7 @@ use Rattle.lexicon_fields.specs.declared.known_vendor.KnownVendor.{KnownVendor}
 use Rattle.lexicon_fields.specs.declared.known_vendor.KnownVendor.TheVariants.{Unknown}
 use Rattle.lexicon_fields.specs.Vendor.{VendorValue, Known, Custom, known_name, known_vendors, custom_of, vendor_name, is_plain, is_free, is_lowercase_letter, is_vendor_character, has_vendor_form, vendor_of, vendor_value, owns_text, known_vendor_of, is_admitted}
 use Rattle.lexicon_fields.specs.Names.{named, is_dash_free}
-use Rattle.lexicon_fields.proofs.LookUps.{value_of-passes, holds-if_read, option_map-holds, option_or-holds, option_or-none, none_is, of_kind-read_back, test_apart, all-dash_free}
+use Rattle.lexicon_fields.proofs.LookUps.{value_of-passes, holds-if_read, option_map-holds, option_or-holds, option_or-none, none_is, test_apart, all-dash_free}
 use Rattle.lexicon_fields.proofs.RowTexts.{row_text-dash_free}
 use Rattle.lexicon_fields.proofs.RowsHold.{known_vendor_of-row}
 use Rattle.lexicon_fields.specs.Architecture.{architecture_of}
@@ -20,7 +20,6 @@ use Rattle.lexicon_fields.specs.OperatingSystem.{darwin_prefixes, darwin_like_by
 use Rattle.lexicon_fields.specs.Environment.{environment_of}
 use Rattle.lexicon_fields.specs.BinaryFormat.{binary_format_of}
 use Rattle.lexicon_fields.specs.FixedRow.{has_row}
-use Rattle.lexicon_fields.specs.Laws.{NamesOfReadBack}
 
 -- what is admitted: a text without a row that is no system like Darwin, in the form of a vendor
 
@@ -88,7 +87,7 @@ admitted_parts text admitted =
     let whole = and_parts (is_free text) (has_vendor_form text) admitted in
     ((and_parts _ _ (and_parts _ _ (and_parts _ _ (and_parts _ _ whole.0).0).0).0).0, whole.1)
 
-vendor_of-name : (v : VendorValue) → is_plain v ≡ true → vendor_of (vendor_name v) ≡ Some v
+pub vendor_of-name : (v : VendorValue) → is_plain v ≡ true → vendor_of (vendor_name v) ≡ Some v
 unfolding vendor_of known_vendor_of
 vendor_of-name (Custom text) plain = rw (none_is (known_vendor_of text) (admitted_parts text plain).0, plain) refl
 vendor_of-name (Known Unknown) plain = refl
@@ -102,13 +101,9 @@ form-dash_free (c ∷ cs) form =
     let parts = and_parts (is_lowercase_letter c) (list_all is_vendor_character cs) form in
     rw (test_apart is_lowercase_letter c 45 refl parts.0) (all-dash_free is_vendor_character refl cs parts.1)
 
-vendor_of-dash_free : (text : List ℕ) (v : VendorValue) → vendor_of text ≡ Some v → is_dash_free text ≡ true
+pub vendor_of-dash_free : (text : List ℕ) (v : VendorValue) → vendor_of text ≡ Some v → is_dash_free text ≡ true
 unfolding vendor_of
 vendor_of-dash_free text v is =
     MatchOption-at_some _ (λ _. is_dash_free text ≡ true) v is (option_or-holds _ _ (custom_of text)
     (option_map-holds _ _ Known (known_vendor_of text) (holds-if_read _ _ (λ known found. row_text-dash_free text (known_vendor_of-row text known found))) (λ _ free. free))
     (holds-if_read _ _ (λ custom found. form-dash_free text (admitted_parts text (cond_some (is_admitted text) (Custom text) custom found).0).1)))
-
--- every plain vendor reads back from its name, and no text that reads as a vendor holds a dash
-pub vendor_names_read_back : NamesOfReadBack (λ (v : VendorValue). is_plain v ≡ true) vendor_name vendor_of
-vendor_names_read_back = of_kind-read_back _ _ _ vendor_of-name vendor_of-dash_free

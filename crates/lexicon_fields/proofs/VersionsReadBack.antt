@@ -37,12 +37,9 @@ parse_piece k limit piece r fits parses =
     ((ltb-true 0 (length ds) inner.0, digits_model.to ds inner.1), omega (arith, leb-true (digits_value 10 ds) limit outer.1)))
     parses
 
--- what `parse` read of a first piece, and of a later one
-pub major_read : {E : Type 0} (piece : List ℕ) (r : Result ℕ E) (o x : Option ℕ) → ParsesUnsigned 16 10 piece r → o ≡ result_ok r → o ≡ x → piece_within 65535 piece ≡ x
-major_read piece r o x parses taken is = sym (parse_piece 16 65535 piece r refl parses) ∙ sym taken ∙ is
-
-pub part_read : {E : Type 0} (piece : List ℕ) (r : Result ℕ E) (o x : Option ℕ) → ParsesUnsigned 8 10 piece r → o ≡ result_ok r → o ≡ x → piece_within 255 piece ≡ x
-part_read piece r o x parses taken is = sym (parse_piece 8 255 piece r refl parses) ∙ sym taken ∙ is
+-- what `parse` read of a piece
+pub number_read : {E : Type 0} (k limit : ℕ) (piece : List ℕ) (r : Result ℕ E) (o x : Option ℕ) → limit + 1 ≡ 2 ^ k → ParsesUnsigned k 10 piece r → o ≡ result_ok r → o ≡ x → piece_within limit piece ≡ x
+number_read k limit piece r o x fits parses taken is = sym (parse_piece k limit piece r fits parses) ∙ sym taken ∙ is
 
 -- the pieces of a text behind its first dot, and of one without a dot
 pub pieces_of-first : (text piece rest : List ℕ) → piece ≡ before_first (λ c. nat_eq c 46) text → rest ≡ after_first (λ c. nat_eq c 46) text → position_or_len (λ c. nat_eq c 46) text < length text → pieces_of text ≡ piece ∷ pieces_of rest
