@@ -38,7 +38,8 @@ parse_piece k limit piece r fits parses =
     parses
 
 -- what `parse` read of a piece
-pub number_read : {E : Type 0} (k limit : ℕ) (piece : List ℕ) (r : Result ℕ E) (o x : Option ℕ) → limit + 1 ≡ 2 ^ k → ParsesUnsigned k 10 piece r → o ≡ result_ok r → o ≡ x → piece_within limit piece ≡ x
+pub number_read : {E : Type 0} (k limit : ℕ) (piece : List ℕ) (r : Result ℕ E) (o x : Option ℕ)
+    → limit + 1 ≡ 2 ^ k → ParsesUnsigned k 10 piece r → o ≡ result_ok r → o ≡ x → piece_within limit piece ≡ x
 number_read k limit piece r o x fits parses taken is = sym (parse_piece k limit piece r fits parses) ∙ sym taken ∙ is
 
 -- the pieces of a text behind its first dot, and of one without a dot
