@@ -50,14 +50,14 @@ suc_cmp m n = elim (cases_order m n) [
   ]
 ]
 
--- of two texts with one front that holds both, the shorter comes first
-pub order_of_same_front : (k : ℕ) (a b : List ℕ) → AreBytes a → AreBytes b → length a ≤ k → length b ≤ k → front_of k a ≡ front_of k b → slice_cmp nat_cmp a b ≡ nat_cmp (length a) (length b)
-order_of_same_front k [] [] _ _ _ _ h = sym (is_equal 0 0 refl)
-order_of_same_front k [] (y ∷ ys) _ _ _ _ h = sym (is_less 0 (length (y ∷ ys)) (omega arith))
-order_of_same_front k (x ∷ xs) [] _ _ _ _ h = nat_cmp_is (length (x ∷ xs)) 0 Greater (omega arith)
-order_of_same_front zero (x ∷ xs) (y ∷ ys) _ _ m n h = absurd (omega (arith, m))
-order_of_same_front (suc k) (x ∷ xs) (y ∷ ys) p q m n h = elim (cases_order x y) [
-  | inl same ↦ rw (is_equal x y same) (order_of_same_front k xs ys (λ i. p (suc i)) (λ i. q (suc i)) (omega (arith, m)) (omega (arith, n)) (omega (arith, h, ap (λ n. n * 256 ^ k) same)) ∙ suc_cmp (length xs) (length ys))
+-- of two texts with one front that holds the second, the shorter comes first
+pub order_of_same_front : (k : ℕ) (a b : List ℕ) → AreBytes a → AreBytes b → length b ≤ k → front_of k a ≡ front_of k b → slice_cmp nat_cmp a b ≡ nat_cmp (length a) (length b)
+order_of_same_front k [] [] _ _ _ h = sym (is_equal 0 0 refl)
+order_of_same_front k [] (y ∷ ys) _ _ _ h = sym (is_less 0 (length (y ∷ ys)) (omega arith))
+order_of_same_front k (x ∷ xs) [] _ _ _ h = nat_cmp_is (length (x ∷ xs)) 0 Greater (omega arith)
+order_of_same_front zero (x ∷ xs) (y ∷ ys) _ _ n h = absurd (omega (arith, n))
+order_of_same_front (suc k) (x ∷ xs) (y ∷ ys) p q n h = elim (cases_order x y) [
+  | inl same ↦ rw (is_equal x y same) (order_of_same_front k xs ys (λ i. p (suc i)) (λ i. q (suc i)) (omega (arith, n)) (omega (arith, h, ap (λ n. n * 256 ^ k) same)) ∙ suc_cmp (length xs) (length ys))
   | inr other ↦ elim other [
     | inl less ↦ absurd (omega (arith, h, front_below k xs (λ i. p (suc i)), mul-le-mul_right {m = x + 1} {n = y} (256 ^ k) (omega (arith, less))))
     | inr more ↦ absurd (omega (arith, h, front_below k ys (λ i. q (suc i)), mul-le-mul_right {m = y + 1} {n = x} (256 ^ k) (omega (arith, more))))

@@ -70,9 +70,34 @@ fn order_by_front(i: usize, wanted: u64, text: &str, steps: &mut Steps) -> Order
     front::order(row_front(i), row(i).0, wanted, text)
 }
 
-/// The number of the row that has the text.
+/// The number of the row that has the text. A text of at most eight bytes is compared without a call, which would cost
+/// it saved registers, so that longer ones have a function of their own.
 #[inline(never)]
 fn row_number(text: &str, steps: &mut Steps) -> Option<usize>
+    ensures row { MatchOption result (has_row text.now ≡ false) (λ i. (i < row_count) × (row_text i ≡ text.now)) }
+    ensures counted { steps.old.count ≤ steps.new.count }
+    ensures few { steps.new.count ≤ steps.old.count + 8 }
+{
+    if text.len() <= 8 {
+        search(text, steps)
+    } else {
+        row_number_of_long(text, steps)
+    }
+}
+
+/// The same, for a text of more than eight bytes.
+#[inline(never)]
+fn row_number_of_long(text: &str, steps: &mut Steps) -> Option<usize>
+    ensures row { MatchOption result (has_row text.now ≡ false) (λ i. (i < row_count) × (row_text i ≡ text.now)) }
+    ensures counted { steps.old.count ≤ steps.new.count }
+    ensures few { steps.new.count ≤ steps.old.count + 8 }
+{
+    search(text, steps)
+}
+
+/// The same, for any text.
+#[inline(always)]
+fn search(text: &str, steps: &mut Steps) -> Option<usize>
     ensures row { MatchOption result (has_row text.now ≡ false) (λ i. (i < row_count) × (row_text i ≡ text.now)) }
     ensures counted { steps.old.count ≤ steps.new.count }
     ensures few { steps.new.count ≤ steps.old.count + 8 }

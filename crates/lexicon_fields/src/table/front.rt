@@ -19,7 +19,7 @@ pub(crate) fn order(own_front: u64, own: &str, wanted: u64, text: &str) -> Order
     if wanted < own_front {
         return Ordering::Greater;
     }
-    if own.len() <= 8 && text.len() <= 8 {
+    if text.len() <= 8 {
         own.len().cmp(&text.len())
     } else {
         own.cmp(text)

@@ -2,7 +2,7 @@ use Rattle.std.proofs.Common.{◌≡◌, ◌+◌, ◌<◌, ◌≤◌, ℕ, Less,
 use Rattle.std.specs.Cmp.Lexicographic.{slice_cmp}
 use Rattle.lexicon_fields.specs.FixedRow.{row_count, row_text}
 use Rattle.lexicon_fields.proofs.Halving.{IsHalved}
-use Rattle.lexicon_fields.proofs.table.row_number.Given as goal
+use Rattle.lexicon_fields.proofs.table.search.Given as goal
 
 abbrev pub invariant-loop-left : goal.invariant-loop-left
 invariant-loop-left l = record {

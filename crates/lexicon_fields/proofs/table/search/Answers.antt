@@ -2,8 +2,8 @@ use Rattle.std.proofs.Common.{arith, sym, ◌+◌, ◌/◌}
 use Rattle.lexicon_fields.proofs.Halving.{halved-first, halved-middle, halved-next}
 use Rattle.lexicon_fields.proofs.RowsHold.{no_row-between}
 use Rattle.lexicon_fields.proofs.RowTexts.{rows_below, rows_above, row_text-is}
-use Rattle.lexicon_fields.proofs.table.row_number.Goals as goal
-use Rattle.lexicon_fields.proofs.table.row_number.Goals.{in-Less, in-Greater}
+use Rattle.lexicon_fields.proofs.table.search.Goals as goal
+use Rattle.lexicon_fields.proofs.table.search.Goals.{in-Less, in-Greater}
 
 pub returns-in-Equal-clause-row : goal.returns-in-Equal-clause-row
 returns-in-Equal-clause-row c = (omega arith, row_text-is 127 _ (sym c.in-Equal.ensures.order))
