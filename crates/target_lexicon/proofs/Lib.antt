@@ -1,4 +1,4 @@
--- What reading is: Cuts, LookedUp, Vendors (a text's parts, and what each reads as); NamesAcross (a name of one field in a field
+-- What reading is: Cuts, DashBits, LookedUp, Vendors (a text's parts, and what each reads as); NamesAcross (a name of one field in a field
 -- before it); Greedy, Refused, Unique, Computed (from reading as a function to the least placement); ReadVersions (a version that is read is
 -- in range).
 -- What printing is: Printed, Writes, Lengths (how much longer than its text).
@@ -7,6 +7,7 @@
 -- Queries and JSON: ModelsKnown, QueriesKept; Elements. SameValues: equality of triples. FeedsTogether: what fields feed a hasher.
 pub mod Computed
 pub mod Cuts
+pub mod DashBits
 pub mod Elements
 pub mod FamilyTests
 pub mod FeedsTogether

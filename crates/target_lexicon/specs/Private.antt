@@ -1,6 +1,7 @@
 -- Words of the contracts of private functions, which no public contract cites.
-use Rattle.std.specs.Prelude.{◌≡◌, ℕ, ◌∷◌, List, [], Bool, Option, Some, None, is_some, option_and_then, option_map, if◌then◌else◌}
+use Rattle.std.specs.Prelude.{◌≡◌, ◌≤◌, ◌==◌, ◌+◌, ◌-◌, ◌/◌, ◌^◌, ℕ, ◌∷◌, List, [], length, drop, map, Bool, Option, Some, None, is_some, option_and_then, option_map, if◌then◌else◌}
 use Rattle.std.specs.Borrow.{Bor}
+use Rattle.std.specs.Simd.Lanes.{mask_l}
 use Rattle.lexicon_fields.specs.declared.table.FixedRow.{FixedRow}
 use Rattle.lexicon_fields.specs.FixedRow.{has_row}
 use Rattle.lexicon_fields.specs.Architecture.{architecture_of}
@@ -14,6 +15,10 @@ use Rattle.target_lexicon.specs.Parts.{parts_of}
 abbrev pub parts_behind_dash : Option (Bor (List ℕ)) → List (List ℕ)
 parts_behind_dash None = []
 parts_behind_dash (Some text) = parts_of text.now
+
+-- the bits of a text's last sixteen bytes, or of fewer, tell which of them are dashes: the highest of sixteen is the last byte's
+pub record TellsDashes (bits : ℕ) (text : List ℕ) : Type 0 where
+  pub tells : (k : ℕ) → k ≤ length text → length text ≤ k + 16 → bits / 2 ^ (16 - (length text - k)) ≡ mask_l (map (λ b. b == 45) (drop k text))
 
 -- what the row of a text, or that it has none, tells: what the text reads as in each field, but without a row not the vendor and the system
 pub record IsLookedUp (text : List ℕ) (row : Option FixedRow) : Type 0 where

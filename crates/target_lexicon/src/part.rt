@@ -1,22 +1,25 @@
 //! The parts of a text, each looked up once in the table of names.
-ghost use Rattle.std.specs.Prelude.{◌≡◌, ◌==◌, ◌∷◌};
-ghost use Rattle.std.specs.List.{position};
+ghost use Rattle.std.specs.Prelude.{◌≡◌, ◌∷◌};
+ghost use Rattle.std.specs.Option.{ForSome};
 ghost use Rattle.target_lexicon.specs.Parts.{parts_of};
-ghost use Rattle.target_lexicon.specs.Private.{IsLookedUp, parts_behind_dash};
+ghost use Rattle.target_lexicon.specs.Private.{IsLookedUp, TellsDashes, parts_behind_dash};
 
+use crate::dashes::{dash_in, dashes_at_end};
 use lexicon_fields::{
     Architecture, BinaryFormat, Environment, FixedRow, OperatingSystem, Steps, Vendor, VendorError,
     fixed_row,
 };
 use std::alloc::{AllocError, Global};
 
-/// A part of a text, its row in the table of names, and what is behind its dash.
+/// A part of a text, its row in the table of names, what is behind its dash, and the dashes of the text's end.
 #[derive(Clone, Copy)]
 pub(crate) struct Part<'a> {
     pub text: &'a str,
     row: Option<FixedRow>,
     pub behind: Option<&'a str>,
+    dashes_at_end: u64,
     ghost looked_up: { IsLookedUp text.now row },
+    ghost told: { ForSome behind (λ rest. TellsDashes dashes_at_end rest.now) },
 }
 
 /// The row of a text in the table of names.
@@ -26,26 +29,13 @@ fn row_of(text: &str) -> Option<FixedRow>
     fixed_row(text, &mut Steps::new())
 }
 
-/// Where the first dash of a text is.
-fn dash_in(text: &str) -> Option<usize>
-    ensures { result ≡ position (λ b. b == 45) text.now }
+/// Cuts a text at its first dash, the dashes of whose end are known.
+fn cut(text: &str, at_end: u64) -> (&str, Option<&str>)
+    requires { TellsDashes at_end text.now }
+    ensures parts { parts_of text.now ≡ result.0.now ∷ parts_behind_dash result.1 }
+    ensures told { ForSome result.1 (λ rest. TellsDashes at_end rest.now) }
 {
-    let bytes = text.as_bytes();
-    let mut at = 0;
-    while at < bytes.len() {
-        if bytes[at] == b'-' {
-            return Some(at);
-        }
-        at += 1;
-    }
-    None
-}
-
-/// Cuts a text at its first dash.
-fn cut(text: &str) -> (&str, Option<&str>)
-    ensures { parts_of text.now ≡ result.0.now ∷ parts_behind_dash result.1 }
-{
-    match dash_in(text) {
+    match dash_in(text, at_end) {
         Some(at) => (&text[..at], Some(&text[at + 1..])),
         None => (text, None),
     }
@@ -58,16 +48,36 @@ impl<'a> Part<'a> {
     ghost use Rattle.lexicon_fields.specs.OperatingSystem.{operating_system_of};
     ghost use Rattle.lexicon_fields.specs.Environment.{environment_of};
     ghost use Rattle.lexicon_fields.specs.BinaryFormat.{binary_format_of};
+    ghost use Rattle.target_lexicon.specs.PartsLeft.{parts_left};
 
     /// The first part of a text.
     pub(crate) fn first(text: &'a str) -> Self
         ensures { parts_of text.entry.now ≡ result.text.now ∷ parts_behind_dash result.behind }
     {
-        let (first, behind) = cut(text);
+        Part::first_of(text, dashes_at_end(text))
+    }
+
+    /// The part behind the dash.
+    pub(crate) fn next(&self) -> Option<Self>
+        ensures { parts_left result ≡ parts_behind_dash self.now.behind }
+    {
+        match self.behind {
+            Some(text) => Some(Part::first_of(text, self.dashes_at_end)),
+            None => None,
+        }
+    }
+
+    /// The first part of a text, the dashes of whose end are known.
+    fn first_of(text: &'a str, dashes_at_end: u64) -> Self
+        requires { TellsDashes dashes_at_end text.now }
+        ensures { parts_of text.entry.now ≡ result.text.now ∷ parts_behind_dash result.behind }
+    {
+        let (first, behind) = cut(text, dashes_at_end);
         Part {
             text: first,
             row: row_of(first),
             behind,
+            dashes_at_end,
         }
     }
 

@@ -6,7 +6,6 @@ ghost use Rattle.lexicon_fields.specs.Vendor.{IsCustom, Known, OwnsCustomText, v
 ghost use Rattle.target_lexicon.specs.ComputedAnswers.{IsAnswerOf};
 ghost use Rattle.target_lexicon.specs.Field as field;
 ghost use Rattle.target_lexicon.specs.PartsLeft.{field_of, parts_left, taken_of};
-ghost use Rattle.target_lexicon.specs.Private.{parts_behind_dash};
 ghost use Rattle.target_lexicon.specs.Reading.{ReadsAs, IsFaultOf, lack_behind};
 ghost use Rattle.target_lexicon.specs.ReadingByFields.{take_part, read_parts};
 ghost use Rattle.target_lexicon.specs.Refusal.{refused, refusal_of};
@@ -77,16 +76,6 @@ struct Rest<'a> {
     parts: Option<Part<'a>>,
 }
 
-/// The parts behind a dash.
-fn parts_in<'a>(behind: Option<&'a str>) -> Option<Part<'a>>
-    ensures { parts_left result ≡ parts_behind_dash behind.entry }
-{
-    match behind {
-        Some(text) => Some(Part::first(text)),
-        None => None,
-    }
-}
-
 impl<'a> Rest<'a> {
     /// Takes the first part for the vendor, if it reads as one. `Err` says that the memory for a custom
     /// vendor was refused.
@@ -103,7 +92,7 @@ impl<'a> Rest<'a> {
         let vendor = part.vendor(alloc)?;
         if vendor.is_some() {
             self.last = Field::Vendor;
-            self.parts = parts_in(part.behind);
+            self.parts = part.next();
         }
         Ok(vendor)
     }
@@ -116,7 +105,7 @@ impl<'a> Rest<'a> {
         let part = self.parts?;
         let value = T::read_from(&part)?;
         self.last = field;
-        self.parts = parts_in(part.behind);
+        self.parts = part.next();
         Some(value)
     }
 }
@@ -169,7 +158,7 @@ impl Triple {
         };
         let mut rest = Rest {
             last: Field::Architecture,
-            parts: parts_in(first.behind),
+            parts: first.next(),
         };
         let vendor = rest.take_vendor(alloc)?;
         let operating_system = rest.take::<OperatingSystem>(Field::OperatingSystem);

@@ -1,5 +1,8 @@
-use Rattle.std.proofs.Common.{◌∙◌, sym, arith}
+use Rattle.std.proofs.Common.{◌∙◌, ◌+◌, ℕ, Bor, List, sym, subst, arith}
+use Rattle.std.proofs.lemmas.Option.{same_Some}
 use Rattle.std.proofs.lemmas.Str.{IsCharBoundary-before_ascii, lead_after_ascii}
+use Rattle.target_lexicon.specs.Private.{TellsDashes}
+use Rattle.target_lexicon.proofs.DashBits.{tells_behind}
 use Rattle.target_lexicon.proofs.Cuts.{dash_at, cut-found, cut-whole}
 use Rattle.target_lexicon.proofs.part.cut.Goals as goal
 
@@ -13,10 +16,16 @@ range_from-requires c =
     let dash = dash_at c.args.text.now c.in-Some.at (sym c.dash_in.ensures ∙ c.in-Some.is) in
     λ _. (omega (arith, dash.0), λ more high. lead_after_ascii c.args.text.now c.in-Some.at c.utf8.text (omega (arith, dash.1)) more high)
 
-pub returns-in-Some : goal.returns-in-Some
-returns-in-Some c =
+pub returns-in-Some-clause-parts : goal.returns-in-Some-clause-parts
+returns-in-Some-clause-parts c =
     let found = sym c.dash_in.ensures ∙ c.in-Some.is in
     cut-found c.args.text.now c.in-Some.at found _ _ c.range.ensures.value c.range_from.ensures.value
 
-pub returns-in-None : goal.returns-in-None
-returns-in-None c = cut-whole c.args.text.now (sym c.dash_in.ensures ∙ c.in-None.is)
+pub returns-in-Some-clause-told : goal.returns-in-Some-clause-told
+returns-in-Some-clause-told c =
+    let dash = dash_at c.args.text.now c.in-Some.at (sym c.dash_in.ensures ∙ c.in-Some.is) in
+    let told = tells_behind c.args.at_end c.args.text.now c.range_from.result.now (c.in-Some.at + 1) (omega (arith, dash.0)) c.requires c.range_from.ensures.value in
+    λ rest is. subst (λ (text : Bor (List ℕ)). TellsDashes c.args.at_end text.now) (same_Some _ _ is) told
+
+pub returns-in-None-clause-parts : goal.returns-in-None-clause-parts
+returns-in-None-clause-parts c = cut-whole c.args.text.now (sym c.dash_in.ensures ∙ c.in-None.is)

@@ -20,5 +20,5 @@ memory_answers t last (p ∷ ps) (Err e) is custom = subst (λ e. IsAnswerOf (fi
 
 pub returns-in_err-vendor-clause-answer : goal.returns-in_err-vendor-clause-answer
 returns-in_err-vendor-clause-answer c =
-    let custom = subst (λ parts. IsCustom (take_part Vendor vendor_of (Known Unknown) Architecture parts).0) c.parts_in.ensures c.in_err-vendor.ensures.memory in
+    let custom = subst (λ parts. IsCustom (take_part Vendor vendor_of (Known Unknown) Architecture parts).0) c.next.ensures c.in_err-vendor.ensures.memory in
     rw (sym c.architecture.ensures ∙ c.in-Some.is) (memory_answers _ _ _ _ c.from_residual-in_err-vendor.ensures.1 custom)

@@ -1,6 +1,6 @@
 -- No dash was found so far.
 use Rattle.std.proofs.Common.{◌≡◌, ◌<◌, ◌≤◌, ◌-◌, ◌==◌, ℕ, false, get_or, length}
-use Rattle.target_lexicon.proofs.part.dash_in.Given as goal
+use Rattle.target_lexicon.proofs.dashes.dash_in.Given as goal
 
 abbrev pub invariant-loop-at : goal.invariant-loop-at
 invariant-loop-at l = record {

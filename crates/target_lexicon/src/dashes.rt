@@ -1,0 +1,53 @@
+//! Where a text's first dash is, sixteen bytes in one step.
+ghost use Rattle.std.specs.Prelude.{◌≡◌, ◌≤◌, ◌+◌, ◌==◌, length, take, drop, map};
+ghost use Rattle.std.specs.List.{position};
+ghost use Rattle.std.specs.Simd.Lanes.{mask_l};
+ghost use Rattle.target_lexicon.specs.Private.{TellsDashes};
+
+use std::simd::prelude::*;
+
+/// Which of the sixteen bytes from `at` on are dashes, a bit for each, the first byte's the lowest.
+#[inline(always)]
+fn dashes_from(bytes: &[u8], at: usize) -> u64
+    requires { at + 16 ≤ length bytes.now }
+    ensures { result ≡ mask_l (map (λ b. b == 45) (take 16 (drop at bytes.now))) }
+{
+    u8x16::from_slice(&bytes[at..])
+        .simd_eq(u8x16::splat(b'-'))
+        .to_bitmask()
+}
+
+/// Which of the last sixteen bytes of a text are dashes. Of a shorter text the bits of its bytes are the highest of sixteen.
+pub(crate) fn dashes_at_end(text: &str) -> u64
+    ensures { TellsDashes result text.now }
+{
+    let bytes = text.as_bytes();
+    if 16 <= bytes.len() {
+        return dashes_from(bytes, bytes.len() - 16);
+    }
+    let mut last = [0; 16];
+    last[16 - bytes.len()..].copy_from_slice(bytes);
+    dashes_from(&last, 0)
+}
+
+/// Where the first dash of a text is, the dashes of whose end are known.
+pub(crate) fn dash_in(text: &str, at_end: u64) -> Option<usize>
+    requires { TellsDashes at_end text.now }
+    ensures { result ≡ position (λ b. b == 45) text.now }
+{
+    let bytes = text.as_bytes();
+    let mut at = 0;
+    while 16 < bytes.len() - at {
+        let dashes = dashes_from(bytes, at);
+        if dashes != 0 {
+            return Some(at + dashes.trailing_zeros() as usize);
+        }
+        at += 16;
+    }
+    let dashes = at_end >> (16 - (bytes.len() - at));
+    if dashes == 0 {
+        None
+    } else {
+        Some(at + dashes.trailing_zeros() as usize)
+    }
+}
