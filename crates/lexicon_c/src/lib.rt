@@ -8,6 +8,7 @@ mod status;
 #[cfg(test)]
 mod tests;
 mod told;
+mod utf8;
 
 ghost use Rattle.std.specs.Prelude.{◌≡◌, ◌≤◌, ◌<◌, ◌↔◌, ◌⊎◌};
 ghost use Rattle.std.specs.Str.{IsUtf8};
@@ -29,6 +30,7 @@ use std::alloc::Global;
 use target_lexicon::Triple;
 use target_lexicon::laws::printed_texts_are_little_longer;
 use told::{tell, tell_system};
+use utf8::from_utf8;
 
 /// Reads a text as a triple, and tells its printed text, or the refused part. A buffer that is `longer` bytes longer than the text
 /// has room for either.
@@ -48,7 +50,7 @@ pub extern "C" fn lexicon_print(
 {
     printed_texts_are_little_longer();
     *length = 0;
-    let Ok(text) = str::from_utf8(text) else {
+    let Ok(text) = from_utf8(text) else {
         return NOT_UTF8;
     };
     match Triple::from_str(alloc, text) {
@@ -78,7 +80,7 @@ pub extern "C" fn lexicon_settle(
 {
     printed_texts_are_little_longer();
     *length = 0;
-    let Ok(text) = str::from_utf8(text) else {
+    let Ok(text) = from_utf8(text) else {
         return NOT_UTF8;
     };
     match Triple::from_str(alloc, text) {
@@ -112,7 +114,7 @@ pub extern "C" fn lexicon_field(
     if field > 4 {
         return NO_SUCH_FIELD;
     }
-    let Ok(text) = str::from_utf8(text) else {
+    let Ok(text) = from_utf8(text) else {
         return NOT_UTF8;
     };
     let triple = match Triple::from_str(alloc, text) {
@@ -138,7 +140,7 @@ pub extern "C" fn lexicon_facts(alloc: Global, text: &[u8], facts: &mut LexiconF
     ensures nothing { 0 < result → facts.new ≡ facts.old }
     ensures all { result ≤ 8 }
 {
-    let Ok(text) = str::from_utf8(text) else {
+    let Ok(text) = from_utf8(text) else {
         return NOT_UTF8;
     };
     match read(alloc, text) {
@@ -160,7 +162,7 @@ pub extern "C" fn lexicon_comes_back(alloc: Global, text: &[u8], answer: &mut bo
     ensures nothing { 0 < result → answer.new ≡ answer.old }
     ensures all { result ≤ 8 }
 {
-    let Ok(text) = str::from_utf8(text) else {
+    let Ok(text) = from_utf8(text) else {
         return NOT_UTF8;
     };
     match read(alloc, text) {
@@ -188,10 +190,10 @@ pub extern "C" fn lexicon_equal(
     ensures nothing { 0 < result → answer.new ≡ answer.old }
     ensures all { result ≤ 8 }
 {
-    let Ok(first) = str::from_utf8(first) else {
+    let Ok(first) = from_utf8(first) else {
         return NOT_UTF8;
     };
-    let Ok(second) = str::from_utf8(second) else {
+    let Ok(second) = from_utf8(second) else {
         return NOT_UTF8;
     };
     let one = match read(alloc, first) {
@@ -224,7 +226,7 @@ pub extern "C" fn lexicon_error_line(
     ensures all { result ≤ 8 }
 {
     *length = 0;
-    let Ok(text) = str::from_utf8(text) else {
+    let Ok(text) = from_utf8(text) else {
         return NOT_UTF8;
     };
     match Triple::from_str(alloc, text) {
@@ -255,7 +257,7 @@ pub extern "C" fn lexicon_read_name(
     if field > 4 {
         return NO_SUCH_FIELD;
     }
-    let Ok(text) = str::from_utf8(text) else {
+    let Ok(text) = from_utf8(text) else {
         return NOT_UTF8;
     };
     match field {

@@ -1,0 +1,32 @@
+//! The bytes that come in, as text.
+ghost use Rattle.std.specs.Prelude.{◌≡◌, ◌≤◌, ◌<◌, ◌+◌, ℕ, length, slice_index, IsTrue, MatchResult};
+ghost use Rattle.std.specs.Str.{IsUtf8};
+
+use std::simd::prelude::*;
+use std::str::Utf8Error;
+
+/// Whether the sixteen bytes from `at` on are ASCII.
+#[inline(always)]
+fn are_ascii(bytes: &[u8], at: usize) -> bool
+    requires { at + 16 ≤ length bytes.now }
+    ensures { IsTrue result → (k : ℕ) → at ≤ k → k < at + 16 → slice_index bytes.now k < 128 }
+{
+    u8x16::from_slice(&bytes[at..])
+        .simd_gt(u8x16::splat(127))
+        .to_bitmask()
+        == 0
+}
+
+/// The text that the bytes are, if they are UTF-8. Most texts are ASCII and have sixteen to thirty-two bytes, which two loads
+/// that may overlap hold.
+#[inline(always)]
+pub(crate) fn from_utf8(bytes: &[u8]) -> Result<&str, Utf8Error>
+    ensures cases { MatchResult result (λ text. (text.now ≡ bytes.now) × IsUtf8 bytes.now) (λ error. ¬ (IsUtf8 bytes.now)) }
+{
+    let length = bytes.len();
+    if 16 <= length && length <= 32 && are_ascii(bytes, 0) && are_ascii(bytes, length - 16) {
+        Ok(unsafe { str::from_utf8_unchecked(bytes) })
+    } else {
+        str::from_utf8(bytes)
+    }
+}
