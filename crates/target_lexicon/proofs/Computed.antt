@@ -23,9 +23,9 @@ use Rattle.target_lexicon.specs.Refusal.{Refusal, refused}
 use Rattle.target_lexicon.specs.SpecialTexts.{special_values}
 use Rattle.target_lexicon.specs.Values.{Values, values}
 use Rattle.target_lexicon.proofs.Cuts.{parts_of-are, parts_of-some}
-use Rattle.target_lexicon.proofs.Greedy.{Follows, filled, unread, unread-nil, filled-nil, filled-placed, behind_architecture, greedy-least}
+use Rattle.target_lexicon.proofs.Greedy.{Follows, filled, unread, filled-placed, behind_architecture, greedy-least}
 use Rattle.target_lexicon.proofs.Refused.{first-refused, left-refused}
-use Rattle.target_lexicon.proofs.Unique.{values-unique, refusal-unique, read-not_refused}
+use Rattle.target_lexicon.proofs.Unique.{values_unique, refusal_unique, read_not_refused}
 
 -- what stands of the values, where these parts stand for these fields
 abbrev Claim : Type 1
@@ -68,7 +68,7 @@ module _ {A : Type 0} (f : Field) (find : List ℕ → Option A) (is_read : (p :
   takes last p ps x (Err y) is h = rw (is_read p ∙ ap is_some is) h
 
   step : (last : Field) (ps : List (List ℕ)) → Gives (f ∷ fs) last ps (HasValue f find d P) (let v = take_part f find d last ps in read v.0 v.1 v.2)
-  step last [] = leaves last [] _ (sym (unread-nil fs)) (sym (filled-nil fs)) (gives d last [])
+  step last [] = leaves last [] _ refl refl (gives d last [])
   step last (p ∷ ps) = by_found (find p) refl
     where
       by_found : (o : Option A) → find p ≡ o → Gives (f ∷ fs) last (p ∷ ps) (HasValue f find d P) (let v = taken f o d last p ps in read v.0 v.1 v.2)
@@ -146,16 +146,16 @@ reading-holds text = by_special text (special_values text) refl
 computed : (text : List ℕ) (found : Result Values Refusal) → Holds text found
     → ((t : Values) → ReadsAs text t ↔ (found ≡ Ok t)) × ((x : Refusal) → IsRefusedAs text x ↔ (found ≡ Err x))
 computed text (Ok u) h = (
-  λ t. (λ r. ap Ok (values-unique text u t h r), λ e. let same : u ≡ t = cc in subst (ReadsAs text) same h),
-  λ x. (λ r. absurd (read-not_refused text u h (x, r)), λ e. absurd cc),
+  λ t. (λ r. ap Ok (values_unique text u t h r), λ e. let same : u ≡ t = cc in subst (ReadsAs text) same h),
+  λ x. (λ r. absurd (read_not_refused text u h (x, r)), λ e. absurd cc),
 )
 computed text (Err y) h = (
-  λ t. (λ r. absurd (read-not_refused text t r (y, h)), λ e. absurd cc),
-  λ x. (λ r. ap Err (refusal-unique text y x h r), λ e. let same : y ≡ x = cc in subst (IsRefusedAs text) same h),
+  λ t. (λ r. absurd (read_not_refused text t r (y, h)), λ e. absurd cc),
+  λ x. (λ r. ap Err (refusal_unique text y x h r), λ e. let same : y ≡ x = cc in subst (IsRefusedAs text) same h),
 )
 
-pub reading-computed : ReadingIsComputed
-reading-computed text = let both = computed text (reading text) (reading-holds text) in record { read = both.0; refused = both.1 }
+pub reading_computed : ReadingIsComputed
+reading_computed text = let both = computed text (reading text) (reading-holds text) in record { read = both.0; refused = both.1 }
 
 -- a text is read or refused
 outcome : (text : List ℕ) (found : Result Values Refusal) → Holds text found → ((t : Values) × ReadsAs text t) ⊎ IsRefused text
@@ -165,7 +165,7 @@ outcome text (Err x) h = inr (x, h)
 pub one_outcome : OneOutcomeEach
 one_outcome text = record {
   some = outcome text (reading text) (reading-holds text);
-  values = values-unique text;
-  refusal = refusal-unique text;
-  apart = read-not_refused text;
+  values = values_unique text;
+  refusal = refusal_unique text;
+  apart = read_not_refused text;
 }

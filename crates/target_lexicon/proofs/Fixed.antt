@@ -13,7 +13,7 @@ use Rattle.target_lexicon.specs.Reading.{ReadsAs}
 use Rattle.target_lexicon.specs.Values.{Values}
 use Rattle.target_lexicon.proofs.FamilyTests.{prints_as_special-tells, hides_newlib-tells, prints_the_esp_idf_text-tells, shows_none_alone-tells}
 use Rattle.target_lexicon.proofs.StepCases.{IsOutside, step_cases}
-use Rattle.target_lexicon.proofs.Unique.{read-plain, values-unique}
+use Rattle.target_lexicon.proofs.Unique.{read_plain, values_unique}
 
 pub outside-fixed : (t : Values) → IsOutside t → normal_step t ≡ t
 outside-fixed t outside = step_cases (λ u. u ≡ t) t
@@ -65,8 +65,8 @@ no_family-tells t =
 module _ (round : RoundIsNormalStep) where
   back-outside : (t : Values) → HasVersionInRange t.operating_system → ComesBack t → (is_plain t.vendor ≡ true) × IsOutside t
   back-outside t range back =
-      let plain = read-plain (text_of t) t back in
-      (plain, fixed-outside t (values-unique (text_of t) (normal_step t) t (round t (record { vendor = plain; version = range })) back))
+      let plain = read_plain (text_of t) t back in
+      (plain, fixed-outside t (values_unique (text_of t) (normal_step t) t (round t (record { vendor = plain; version = range })) back))
 
   outside-back : (t : Values) → HasVersionInRange t.operating_system → is_plain t.vendor ≡ true → IsOutside t → ComesBack t
   outside-back t range plain outside = subst (λ (u : Values). ReadsAs (text_of t) u) (outside-fixed t outside) (round t (record { vendor = plain; version = range }))

@@ -2,7 +2,7 @@
 use Rattle.std.proofs.Common.{◌≡◌, ◌≢◌, ℕ, zero, suc, ◌+◌, ◌<◌, ◌≤◌, List, [], ◌∷◌, take, true, false, refl, subst, cond, arith, inl, inr}
 use Rattle.target_lexicon.specs.Field.{Field, Architecture, Vendor, OperatingSystem, Environment, BinaryFormat, place, reads}
 use Rattle.target_lexicon.specs.Placement.{IsPlacedBehind, IsPlacement, AreNotBehind, IsLeast, HasPlacement}
-use Rattle.target_lexicon.specs.Laws.{HasOneLeast, OneLeastPlacement}
+use Rattle.target_lexicon.specs.Laws.{HasOneLeast}
 use Rattle.std.proofs.lemmas.Bool.{cases_Bool}
 
 -- the fields behind `last`, in their order
@@ -12,30 +12,19 @@ Follows l (f ∷ fs) = (place f ≡ place l + 1) × Follows f fs
 
 -- the fields that are filled, each by the first part left if that reads as it
 abbrev pub filled : List Field → List (List ℕ) → List Field
-filled [] ps = []
-filled (f ∷ fs) [] = []
+filled fs [] = []
+filled [] (p ∷ ps) = []
 filled (f ∷ fs) (p ∷ ps) = cond (reads f p) (f ∷ filled fs ps) (filled fs (p ∷ ps))
 
 -- the parts that are left then
 abbrev pub unread : List Field → List (List ℕ) → List (List ℕ)
-unread [] ps = ps
-unread (f ∷ fs) [] = []
+unread fs [] = []
+unread [] (p ∷ ps) = p ∷ ps
 unread (f ∷ fs) (p ∷ ps) = cond (reads f p) (unread fs ps) (unread fs (p ∷ ps))
-
-pub unread-nil : (fs : List Field) → unread fs [] ≡ []
-unread-nil [] = refl
-unread-nil (f ∷ fs) = refl
-
-pub filled-nil : (fs : List Field) → filled fs [] ≡ []
-filled-nil [] = refl
-filled-nil (f ∷ fs) = refl
 
 place_most : (f : Field) → place f ≤ 4
 place_most Architecture = omega arith
-place_most Vendor = omega arith
-place_most OperatingSystem = omega arith
-place_most Environment = omega arith
-place_most BinaryFormat = omega arith
+place_most _ = omega arith
 
 -- fields of one place are one field
 pub place-injective : (f g : Field) → place f ≡ place g → f ≡ g
@@ -49,20 +38,16 @@ place-injective f g e = cc
 not_skipped : (p : List ℕ) (f g : Field) → reads f p ≡ false → reads g p ≡ true → place g ≡ place f → ⊥
 not_skipped p f g skips takes e =
     let same : g ≡ f = place-injective g f e in
-    let also : reads f p ≡ true = subst (λ k. reads k p ≡ true) same takes in
     cc
 
 -- a field that is placed behind one, and isn't the next, is behind the next
 weaken : (l k : Field) (ps : List (List ℕ)) (gs : List Field) → place k ≤ place l → IsPlacedBehind l ps gs → IsPlacedBehind k ps gs
-weaken l k [] [] h w = tt
-weaken l k [] (g ∷ gs) h w = absurd w
-weaken l k (p ∷ ps) [] h w = absurd w
 weaken l k (p ∷ ps) (g ∷ gs) h w = (omega (arith, w.0), w.1, w.2)
+weaken l k _ _ h w = w
 
 pub filled-placed : (l : Field) (fs : List Field) (ps : List (List ℕ)) → Follows l fs → unread fs ps ≡ [] → IsPlacedBehind l ps (filled fs ps)
-filled-placed l [] [] h e = tt
+filled-placed l fs [] h e = tt
 filled-placed l [] (p ∷ ps) h e = cc
-filled-placed l (f ∷ fs) [] h e = tt
 filled-placed l (f ∷ fs) (p ∷ ps) h e =
     elim (cases_Bool (reads f p)) [
       | inl takes ↦
@@ -76,9 +61,7 @@ filled-placed l (f ∷ fs) (p ∷ ps) h e =
 -- a placement behind `last` is no better than the greedy one, which then takes every part
 pub filled-least : (l : Field) (fs : List Field) (ps : List (List ℕ)) (gs : List Field) → Follows l fs → IsPlacedBehind l ps gs
     → (unread fs ps ≡ []) × AreNotBehind (filled fs ps) gs
-filled-least l fs [] [] h w = (unread-nil fs, rw (filled-nil fs) tt)
-filled-least l fs [] (g ∷ gs) h w = absurd w
-filled-least l fs (p ∷ ps) [] h w = absurd w
+filled-least l fs [] [] h w = (refl, tt)
 filled-least l [] (p ∷ ps) (g ∷ gs) h w = absurd (omega (arith, h, w.0, place_most g))
 filled-least l (f ∷ fs) (p ∷ ps) (g ∷ gs) h w =
     elim (cases_Bool (reads f p)) [
@@ -91,29 +74,27 @@ filled-least l (f ∷ fs) (p ∷ ps) (g ∷ gs) h w =
           let rest = filled-least f fs (p ∷ ps) (g ∷ gs) h.1 (behind, w.1, w.2) in
           rw skips rest
     ]
+filled-least l fs _ _ h w = absurd w
 
 -- two lists of fields, neither behind the other, are one
 pub AreNotBehind-antisymmetric : (fs gs : List Field) → AreNotBehind fs gs → AreNotBehind gs fs → fs ≡ gs
 AreNotBehind-antisymmetric [] [] a b = refl
-AreNotBehind-antisymmetric [] (g ∷ gs) a b = absurd a
-AreNotBehind-antisymmetric (f ∷ fs) [] a b = absurd a
 AreNotBehind-antisymmetric (f ∷ fs) (g ∷ gs) a b =
     let same : f ≡ g = place-injective f g (omega (arith, a.0, b.0)) in
     let rest : fs ≡ gs = AreNotBehind-antisymmetric fs gs a.1 b.1 in
     cc
+AreNotBehind-antisymmetric _ _ a b = absurd a
 
 -- the front of a placement
 placed-front : (n : ℕ) (l : Field) (ps : List (List ℕ)) (gs : List Field) → IsPlacedBehind l ps gs → IsPlacedBehind l (take n ps) (take n gs)
 placed-front zero l ps gs w = tt
-placed-front (suc n) l [] [] w = tt
-placed-front (suc n) l [] (g ∷ gs) w = absurd w
-placed-front (suc n) l (p ∷ ps) [] w = absurd w
 placed-front (suc n) l (p ∷ ps) (g ∷ gs) w = (w.0, w.1, placed-front n g ps gs w.2)
+placed-front (suc n) l [] [] w = tt
+placed-front (suc n) l _ _ w = absurd w
 
-pub placement-front : (n : ℕ) (ps : List (List ℕ)) → HasPlacement ps → HasPlacement (take (suc n) ps)
-placement-front n [] (fs, w) = absurd w
-placement-front n (p ∷ ps) ([], w) = absurd w
-placement-front n (p ∷ ps) (f ∷ fs, w) = (f ∷ take n fs, (w.0, w.1, placed-front n f ps fs w.2))
+pub placement_front : (n : ℕ) (ps : List (List ℕ)) → HasPlacement ps → HasPlacement (take (suc n) ps)
+placement_front n (p ∷ ps) (f ∷ fs, w) = (f ∷ take n fs, (w.0, w.1, placed-front n f ps fs w.2))
+placement_front n _ (_, w) = absurd w
 
 -- the fields behind the architecture
 abbrev pub behind_architecture : List Field
@@ -148,12 +129,9 @@ pub least-unique : (ps : List (List ℕ)) (fs gs : List Field) → IsLeast ps fs
 least-unique ps fs gs a b = AreNotBehind-antisymmetric fs gs (a.least gs b.placed) (b.least fs a.placed)
 
 -- where there is a placement there is one least
-pub placement-least : (ps : List (List ℕ)) → HasPlacement ps → HasOneLeast ps
-placement-least [] (fs, w) = absurd w
-placement-least (p ∷ ps) some =
+pub placement_least : (ps : List (List ℕ)) → HasPlacement ps → HasOneLeast ps
+placement_least [] (fs, w) = absurd w
+placement_least (p ∷ ps) some =
     let found = greedy-finds p ps some in
     let least = greedy-least p ps found.0 found.1 in
     record { fields = Architecture ∷ filled behind_architecture ps; least = least; only = λ others h. least-unique _ _ _ h least }
-
-pub one_least : OneLeastPlacement
-one_least ps some = (placement-least ps some, λ n. placement-least _ (placement-front n ps some))

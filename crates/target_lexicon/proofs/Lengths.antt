@@ -188,9 +188,9 @@ module _ (formats : TextsAreNames binary_format_name binary_format_of) (environm
         let same : u ≡ t = cc in
         subst (IsLonger text) same (omega (arith, short))
 
-    pub printed-longer : ReadingIsComputed → PrintedTextsAreLittleLonger
+    pub printed_longer : ReadingIsComputed → PrintedTextsAreLittleLonger
     unfolding reading
-    printed-longer computed text t reads = by_special text (special_values text) t refl (((computed text).read t).0 reads)
+    printed_longer computed text t reads = by_special text (special_values text) t refl (((computed text).read t).0 reads)
 
 -- a refused part is one of the text's
 
@@ -199,9 +199,9 @@ part-lighter [] n part is = absurd cc
 part-lighter (p ∷ ps) zero part is = let same : p ≡ part = cc in omega (arith, ap length same)
 part-lighter (p ∷ ps) (suc n) part is = omega (arith, part-lighter ps n part is)
 
-pub refused-no_longer : RefusedPartsAreNoLonger
-refused-no_longer text refusal (ordinary, ([], are, is)) = absurd (are.some refl)
-refused-no_longer text refusal (ordinary, (p ∷ ps, are, is)) =
+pub refused_no_longer : RefusedPartsAreNoLonger
+refused_no_longer text refusal (ordinary, ([], are, is)) = absurd (are.some refl)
+refused_no_longer text refusal (ordinary, (p ∷ ps, are, is)) =
     omega (arith, part-lighter (p ∷ ps) is.count refusal.part is.refused, weight-joined p ps, ap length are.joined)
 
 -- no step of settling makes a text longer
@@ -266,5 +266,5 @@ step-no_longer : (t : Values) → IsNoLonger (normal_step t) t
 step-no_longer t = step_cases (λ u. IsNoLonger u t) t
     (λ is. special-no_longer t is.fields) (λ is. by_weight _ t refl (newlib-lighter t t.binary_format refl is)) (esp-no_longer t) (none-no_longer t) (λ _. omega arith)
 
-pub settled-longer : PrintedTextsAreLittleLonger → SettledTextsAreLittleLonger
-settled-longer printed text t reads = omega (arith, step-no_longer (normal_step t), step-no_longer t, printed text t reads)
+pub settled_longer : PrintedTextsAreLittleLonger → SettledTextsAreLittleLonger
+settled_longer printed text t reads = omega (arith, step-no_longer (normal_step t), step-no_longer t, printed text t reads)

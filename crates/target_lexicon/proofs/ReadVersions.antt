@@ -35,5 +35,5 @@ module _ (version-in_range : (text : List ℕ) (s : OperatingSystem) → operati
   by_special text t (Some s) in_range same = subst IsInRange (sym same) in_range
 
   -- the version of a text that is read
-  pub read-in_range : (text : List ℕ) (t : Values) → ReadsAs text t → IsInRange t
-  read-in_range text t reads = by_special text t (special_values text) (special-holds IsInRange text tt tt) reads
+  pub read_in_range : (text : List ℕ) (t : Values) → ReadsAs text t → IsInRange t
+  read_in_range text t reads = by_special text t (special_values text) (special-holds IsInRange text tt tt) reads

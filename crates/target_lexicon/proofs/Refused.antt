@@ -7,7 +7,7 @@ use Rattle.target_lexicon.specs.Placement.{HasPlacement}
 use Rattle.target_lexicon.specs.Reading.{IsRefusal, IsLackedBehind, lack_behind, last_of}
 use Rattle.target_lexicon.specs.Refusal.{Lacks, refused}
 use Rattle.std.proofs.lemmas.Bool.{cases_Bool}
-use Rattle.target_lexicon.proofs.Greedy.{filled, unread, filled-nil, behind_architecture, greedy-least, greedy-finds, placement-front}
+use Rattle.target_lexicon.proofs.Greedy.{filled, unread, behind_architecture, greedy-least, greedy-finds, placement_front}
 
 -- the parts that the fields take, and the part at which they stop
 record Stop (fs : List Field) (ps : List (List ℕ)) (q : List ℕ) (rest : List (List ℕ)) : Type 0 where
@@ -18,8 +18,8 @@ record Stop (fs : List Field) (ps : List (List ℕ)) (q : List ℕ) (rest : List
   stuck : unread fs (front ++ (q ∷ [])) ≡ q ∷ []
 
 stop : (fs : List Field) (ps : List (List ℕ)) (q : List ℕ) (rest : List (List ℕ)) → unread fs ps ≡ q ∷ rest → Stop fs ps q rest
-stop [] ps q rest e = record { front = []; split = e; taken = refl; same = refl; stuck = refl }
-stop (f ∷ fs) [] q rest e = cc
+stop fs [] q rest e = cc
+stop [] (p ∷ ps) q rest e = record { front = []; split = e; taken = refl; same = refl; stuck = refl }
 stop (f ∷ fs) (p ∷ ps) q rest e =
     elim (cases_Bool (reads f p)) [
       | inl takes ↦
@@ -44,7 +44,7 @@ stop (f ∷ fs) (p ∷ ps) q rest e =
           front = [];
           split = split;
           taken = refl;
-          same = rw skips (sym (filled-nil fs) ∙ same);
+          same = rw skips same;
           stuck = rw also stuck;
         }
     by_front f fs p ps q rest (r ∷ front) skips split taken same stuck =
@@ -99,7 +99,7 @@ refused-at p front q rest takes taken stuck =
       count = suc (length front);
       refused = get-at front q rest;
       unplaced = subst (λ k. HasPlacement (p ∷ k) → ⊥) (sym (take-past front q rest)) (left-unplaced p (front ++ (q ∷ [])) q [] stuck);
-      placed = λ k h. fewer k (omega (arith, h)) (placement-front k (p ∷ front) placed);
+      placed = λ k h. fewer k (omega (arith, h)) (placement_front k (p ∷ front) placed);
       lacked = subst (λ k. IsLackedBehind (p ∷ k) (lack_behind (last_of Architecture (filled behind_architecture front)))) (sym (take-at front q rest))
           (Architecture, (filled behind_architecture front, least, refl));
     }

@@ -23,7 +23,7 @@ use Rattle.target_lexicon.specs.SpecialTexts.{nintendo_3ds, esp_idf}
 use Rattle.target_lexicon.specs.Values.{Values, values}
 use Rattle.target_lexicon.proofs.Fixed.{outside-fixed}
 use Rattle.target_lexicon.proofs.StepCases.{step_cases}
-use Rattle.target_lexicon.proofs.Unique.{values-unique}
+use Rattle.target_lexicon.proofs.Unique.{values_unique}
 
 nintendo_3ds-stays : normal_step nintendo_3ds ≡ nintendo_3ds
 unfolding normal_step
@@ -99,6 +99,6 @@ module _ (round : RoundIsNormalStep) where
   settled_are_keys = record {
     comes_back = settled-comes_back;
     own = λ t u plain_t plain_u same.
-        values-unique (text_of (settled t)) (settled t) (settled u) (settled-comes_back t plain_t)
+        values_unique (text_of (settled t)) (settled t) (settled u) (settled-comes_back t plain_t)
         (subst (λ (text : List ℕ). ReadsAs text (settled u)) (sym same) (settled-comes_back u plain_u));
   }

@@ -33,7 +33,7 @@ use Rattle.target_lexicon.specs.Refusal.{Lacks, refused}
 use Rattle.target_lexicon.specs.Field as field
 use Rattle.target_lexicon.specs.SpecialTexts.{special_text, special_values, nintendo_3ds, nintendo_3ds_text, esp_idf, esp_idf_text}
 use Rattle.target_lexicon.specs.Values.{Values, values}
-use Rattle.target_lexicon.proofs.Computed.{reading-computed}
+use Rattle.target_lexicon.proofs.Computed.{reading_computed}
 use Rattle.target_lexicon.proofs.Cuts.{parts_of-joined}
 use Rattle.target_lexicon.proofs.FamilyTests.{prints_the_esp_idf_text-tells}
 use Rattle.target_lexicon.proofs.NamesAcross.{NamesAreRead}
@@ -165,7 +165,7 @@ reading-text_of names t plain range = round_by names t _ _ plain range refl refl
 
 -- a round of a plain triple is its step
 pub round : NamesAreRead → RoundIsNormalStep
-round names t plain = ((reading-computed (text_of t)).read (normal_step t)).1 (reading-text_of names t plain.vendor plain.version)
+round names t plain = ((reading_computed (text_of t)).read (normal_step t)).1 (reading-text_of names t plain.vendor plain.version)
 
 pub round_by_step : RoundIsNormalStep → (t u : Values) → is_plain t.vendor ≡ true → HasVersionInRange t.operating_system → u ≡ normal_step t → ReadsAs (text_of t) u
 round_by_step round t u plain range is = subst (λ (x : Values). ReadsAs (text_of t) x) (sym is) (round t (record { vendor = plain; version = range }))

@@ -16,7 +16,7 @@ use Rattle.target_lexicon.specs.Refusal.{Lack, LacksAnyField, Refusal, refused}
 use Rattle.target_lexicon.specs.SpecialTexts.{special_values, nintendo_3ds_text, nintendo_3ds, esp_idf_text, esp_idf}
 use Rattle.target_lexicon.specs.Laws.{ReadVendorsArePlain}
 use Rattle.target_lexicon.specs.Values.{Values}
-use Rattle.target_lexicon.proofs.Greedy.{placement-front, least-unique}
+use Rattle.target_lexicon.proofs.Greedy.{placement_front, least-unique}
 use Rattle.target_lexicon.proofs.Cuts.{parts-only}
 use Rattle.target_lexicon.proofs.SameValues.{same_values}
 use Rattle.target_lexicon.proofs.Vendors.{vendor-plain}
@@ -40,8 +40,8 @@ same_least parts t u (fs, least, holds) (gs, other, held) =
     same_held parts gs t u (subst (λ fields. HoldsParts parts fields t) (least-unique parts fs gs least other) holds) held
 
 -- a text reads as one triple's values at most
-pub values-unique : (text : List ℕ) (t u : Values) → ReadsAs text t → ReadsAs text u → t ≡ u
-values-unique text t u h k = by_special (special_values text) h k
+pub values_unique : (text : List ℕ) (t u : Values) → ReadsAs text t → ReadsAs text u → t ≡ u
+values_unique text t u h k = by_special (special_values text) h k
   where
     by_special : (o : Option Values) → MatchOption o ((parts : List (List ℕ)) × ArePartsOf text parts × ReadsAsLeast parts t) (λ s. t ≡ s)
         → MatchOption o ((parts : List (List ℕ)) × ArePartsOf text parts × ReadsAsLeast parts u) (λ s. u ≡ s) → t ≡ u
@@ -86,17 +86,17 @@ refusal_at : (text : List ℕ) (x : Refusal) → IsRefusedAs text x → IsRefusa
 refusal_at text x (ordinary, (parts, are, h)) = subst (λ parts. IsRefusal parts x) (parts-only text parts are) h
 
 -- a text is refused in one way at most
-pub refusal-unique : (text : List ℕ) (x y : Refusal) → IsRefusedAs text x → IsRefusedAs text y → x ≡ y
-refusal-unique text x y h r = same_refusal (parts_of text) x y (refusal_at text x h) (refusal_at text y r)
+pub refusal_unique : (text : List ℕ) (x y : Refusal) → IsRefusedAs text x → IsRefusedAs text y → x ≡ y
+refusal_unique text x y h r = same_refusal (parts_of text) x y (refusal_at text x h) (refusal_at text y r)
 
 -- a text that is refused doesn't read
-pub read-not_refused : (text : List ℕ) (t : Values) → ReadsAs text t → IsRefused text → ⊥
-read-not_refused text t h (refusal, r) =
+pub read_not_refused : (text : List ℕ) (t : Values) → ReadsAs text t → IsRefused text → ⊥
+read_not_refused text t h (refusal, r) =
     let read = rw (r.0) at h in
     by_parts read
   where
     unplaced : (parts : List (List ℕ)) (x : Refusal) → IsRefusal parts x → HasPlacement parts → ⊥
-    unplaced parts x r has = r.unplaced (placement-front r.count parts has)
+    unplaced parts x r has = r.unplaced (placement_front r.count parts has)
 
     by_parts : (parts : List (List ℕ)) × ArePartsOf text parts × ReadsAsLeast parts t → ⊥
     by_parts (parts, are, (fs, least, holds)) =
@@ -121,8 +121,8 @@ placed-plain None d v plain h = subst (λ x. is_plain x ≡ true) (sym h) plain
 placed-plain (Some p) d v plain h = vendor-plain p v h
 
 -- what is read has a plain vendor
-pub read-plain : ReadVendorsArePlain
-read-plain text t h = by_special (special_values text) refl h
+pub read_plain : ReadVendorsArePlain
+read_plain text t h = by_special (special_values text) refl h
   where
     by_special : (o : Option Values) → special_values text ≡ o
         → MatchOption o ((parts : List (List ℕ)) × ArePartsOf text parts × ReadsAsLeast parts t) (λ s. t ≡ s) → is_plain t.vendor ≡ true

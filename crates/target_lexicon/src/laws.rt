@@ -29,6 +29,7 @@ pub use lexicon_fields::laws::names_read_back;
 use std::hash::Hash;
 
 /// Parts that have a placement have exactly one least, and so has each front of them.
+#[tactic(auto, using(crate::proofs::Greedy::placement_front, crate::proofs::Greedy::placement_least))]
 pub fn one_least_placement()
     ensures { OneLeastPlacement }
 {}
@@ -40,6 +41,7 @@ pub fn one_outcome_each()
 
 /// The function `reading` of the definitions gives what a text reads as, and how it is refused; so a caller's proof can
 /// compute what a text reads as.
+#[tactic(auto, using(crate::proofs::Computed::reading_computed))]
 pub fn reading_is_computed()
     ensures { ReadingIsComputed }
 {}
@@ -51,11 +53,13 @@ pub fn answers_are_computed()
 {}
 
 /// Every text that is read has a plain vendor.
+#[tactic(auto, using(crate::proofs::Unique::read_plain))]
 pub fn read_vendors_are_plain()
     ensures { ReadVendorsArePlain }
 {}
 
 /// What a text reads as has a plain vendor, and a version in range where its system holds one; so the laws of rounds speak of it.
+#[tactic(auto, using(crate::proofs::Unique::read_plain, crate::proofs::ReadVersions::read_in_range))]
 pub fn read_triples_are_plain()
     ensures { ReadTriplesArePlain }
 {
@@ -64,6 +68,7 @@ pub fn read_triples_are_plain()
 
 /// The text that a triple prints is at most 22 bytes longer than each text that reads as it, and so is that of the settled triple.
 /// A refused part is no longer than the text.
+#[tactic(auto, using(crate::proofs::Lengths::printed_longer, crate::proofs::Lengths::settled_longer, crate::proofs::Lengths::refused_no_longer))]
 pub fn printed_texts_are_little_longer()
     ensures printed { PrintedTextsAreLittleLonger }
     ensures settled { SettledTextsAreLittleLonger }
@@ -92,11 +97,13 @@ pub fn errors_are_equal_by_value()
 {}
 
 /// Where a triple has a data model, the model's pointers have as many bits as the triple's.
+#[tactic(auto, using(crate::proofs::ModelsKnown::model_pointers))]
 pub fn model_width()
     ensures { ModelWidth }
 {}
 
 /// No triple has the data model `LP32` or `ILP64`.
+#[tactic(auto, using(crate::proofs::ModelsKnown::one_of_three))]
 pub fn no_rare_model()
     ensures { NoRareModel }
 {}
@@ -107,6 +114,7 @@ pub fn integers_grow_in_each()
 {}
 
 /// The normal step keeps the architecture of a triple, and what the four queries answer or refuse.
+#[tactic(auto, using(crate::proofs::QueriesKept::kept))]
 pub fn queries_kept()
     ensures { QueriesKept }
 {}
@@ -128,6 +136,7 @@ pub fn defaults_are_equal_by_value()
 
 /// A triple that is printed and read again is itself exactly outside five families, whatever its vendor's text; and each
 /// triple comes back or is in a family.
+#[tactic(auto, using(crate::proofs::Fixed::fixed_exactly_outside))]
 pub fn fixed_exactly_outside_families()
     ensures { FixedExactlyOutsideFamilies }
 {
@@ -135,6 +144,7 @@ pub fn fixed_exactly_outside_families()
 }
 
 /// The text of each triple with a plain vendor is read, as the triple's normal step.
+#[tactic(auto, using(crate::proofs::TextRounds::round))]
 pub fn round_is_normal_step()
     ensures { RoundIsNormalStep }
 {
@@ -142,11 +152,13 @@ pub fn round_is_normal_step()
 }
 
 /// A second normal step changes no triple, so that one round settles. (By upstream's rules it changes one, hence the name.)
+#[tactic(auto, using(crate::proofs::Settled::second_changes_none))]
 pub fn second_step_changes_one()
     ensures { SecondStepChangesNone }
 {}
 
 /// The settled triple of one with a plain vendor comes back, and no other such triple has its text.
+#[tactic(auto, using(crate::proofs::Settled::settled_are_keys))]
 pub fn settled_texts_are_keys()
     ensures { SettledTextsAreKeys }
 {
@@ -169,6 +181,7 @@ pub fn rounds_are_known()
 
 /// The text of a triple is another than by upstream's rules exactly where environment and format are unknown, another format
 /// is implied, and no special text is printed.
+#[tactic(auto, using(crate::proofs::Upstream::other_texts))]
 pub fn other_texts_than_upstream()
     ensures { OtherTextsThanUpstream }
 {}

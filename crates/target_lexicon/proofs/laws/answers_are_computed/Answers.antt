@@ -6,17 +6,17 @@ use Rattle.target_lexicon.specs.Reading.{IsRefusedAs, MayWantMemory}
 use Rattle.target_lexicon.specs.ReadingByFields.{reading}
 use Rattle.target_lexicon.specs.Refusal.{Refusal, refusal_of}
 use Rattle.target_lexicon.specs.Values.{values_of}
-use Rattle.target_lexicon.proofs.Computed.{reading-computed}
+use Rattle.target_lexicon.proofs.Computed.{reading_computed}
 use Rattle.target_lexicon.proofs.laws.answers_are_computed.Goals as goal
 
 fault : (text : List ℕ) (error : ParseError) (named : Option Refusal) → refusal_of error ≡ named
     → MatchOption named (MayWantMemory text) (λ refusal. IsRefusedAs text refusal) → IsAnswerOf (reading text) (Err error)
-fault text error None is (inl (x, h)) = rw (((reading-computed text).refused x).0 h, is) tt
-fault text error None is (inr (t, h, custom)) = rw (((reading-computed text).read t).0 h) (is, custom)
-fault text error (Some x) is h = rw (((reading-computed text).refused x).0 h, is) refl
+fault text error None is (inl (x, h)) = rw (((reading_computed text).refused x).0 h, is) tt
+fault text error None is (inr (t, h, custom)) = rw (((reading_computed text).read t).0 h) (is, custom)
+fault text error (Some x) is h = rw (((reading_computed text).refused x).0 h, is) refl
 
 answers : AnswersAreComputed
-answers text (Ok triple) ok err = rw (((reading-computed text).read (values_of triple)).0 ok) refl
+answers text (Ok triple) ok err = rw (((reading_computed text).read (values_of triple)).0 ok) refl
 answers text (Err error) ok err = fault text error (refusal_of error) refl err
 
 pub returns : goal.returns

@@ -1,9 +1,9 @@
 use Rattle.std.proofs.Common.{ap, sym, subst, ℕ, List}
 use Rattle.target_lexicon.specs.Reading.{ReadsAs}
 use Rattle.target_lexicon.specs.Printing.{text_of}
-use Rattle.target_lexicon.proofs.Unique.{values-unique}
+use Rattle.target_lexicon.proofs.Unique.{values_unique}
 use Rattle.target_lexicon.proofs.laws.equal_texts_equal_triples.Goals as goal
 
 pub returns : goal.returns
 returns c = λ t u t_back u_back.
-    (ap text_of, λ same. values-unique (text_of t) t u t_back (subst (λ (text : List ℕ). ReadsAs text u) (sym same) u_back))
+    (ap text_of, λ same. values_unique (text_of t) t u t_back (subst (λ (text : List ℕ). ReadsAs text u) (sym same) u_back))

@@ -8,7 +8,7 @@ use Rattle.target_lexicon.specs.Reading.{ReadsAs, IsRefusedAs, MayWantMemory, Is
 use Rattle.target_lexicon.specs.Refusal.{Refusal, refusal_of}
 use Rattle.target_lexicon.specs.Values.{Values, values_of}
 use Rattle.target_lexicon.proofs.Computed.{Holds, parts-hold}
-use Rattle.target_lexicon.proofs.Unique.{read-plain}
+use Rattle.target_lexicon.proofs.Unique.{read_plain}
 use Rattle.target_lexicon.proofs.triple.Triple.from_str.Goals as goal
 
 -- the answer that is computed tells what the text reads as, or its fault
@@ -30,9 +30,9 @@ returns c =
     record {
       ok = told.0;
       owned = c.from_parts.ensures.owned;
-      plain = IfOk-weaker c.from_parts.result _ _ (λ triple h. read-plain c.args.text.now (values_of triple) h) told.0;
+      plain = IfOk-weaker c.from_parts.result _ _ (λ triple h. read_plain c.args.text.now (values_of triple) h) told.0;
       err = told.1;
     }
 
 pub returns-in-Some-clause-plain : goal.returns-in-Some-clause-plain
-returns-in-Some-clause-plain c = read-plain c.args.text.now (values_of c.in-Some.triple) (rw (sym c.in-Some.ensures.values) refl)
+returns-in-Some-clause-plain c = read_plain c.args.text.now (values_of c.in-Some.triple) (rw (sym c.in-Some.ensures.values) refl)

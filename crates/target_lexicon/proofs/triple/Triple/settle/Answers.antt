@@ -1,7 +1,7 @@
 use Rattle.std.proofs.Common.{sym, subst, ◌∙◌}
 use Rattle.target_lexicon.specs.Laws.{ComesBack}
 use Rattle.target_lexicon.proofs.Settled.{second_changes_none}
-use Rattle.target_lexicon.proofs.Unique.{values-unique}
+use Rattle.target_lexicon.proofs.Unique.{values_unique}
 use Rattle.target_lexicon.proofs.triple.Triple.settle.Goals as goal
 
 pub returns-clause-steps : goal.returns-clause-steps
@@ -13,4 +13,4 @@ returns-clause-back c =
     (c.settled_texts_are_keys.ensures.comes_back _ (record { vendor = c.requires; version = c.version_fits.ensures }))
 
 pub returns-clause-stays : goal.returns-clause-stays
-returns-clause-stays c = values-unique _ _ _ c.normal.ensures.round
+returns-clause-stays c = values_unique _ _ _ c.normal.ensures.round
