@@ -2,14 +2,13 @@
 -- before it); Greedy, Refused, Unique, Computed (from reading as a function to the least placement); ReadVersions (a version that is read is
 -- in range).
 -- What printing is: Printed, Writes, Lengths (how much longer than its text).
--- What comes back: Rounds, TextRounds (a text read again); FamilyTests, StepCases, Fixed, Settled, SettlesAs (families and the step).
+-- What comes back: Rounds, TextRounds (a text read again); StepCases, Fixed, Settled, SettlesAs (families and the step).
 -- For callers: OnLiterals (what computes on a literal).
 -- Queries and JSON: ModelsKnown, QueriesKept; Elements. SameValues: equality of triples. FeedsTogether: what fields feed a hasher.
 pub mod Computed
 pub mod Cuts
 pub mod DashBits
 pub mod Elements
-pub mod FamilyTests
 pub mod FeedsTogether
 pub mod Fixed
 pub mod Greedy

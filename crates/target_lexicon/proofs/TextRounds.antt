@@ -35,7 +35,7 @@ use Rattle.target_lexicon.specs.SpecialTexts.{special_text, special_values, nint
 use Rattle.target_lexicon.specs.Values.{Values, values}
 use Rattle.target_lexicon.proofs.Computed.{reading_computed}
 use Rattle.target_lexicon.proofs.Cuts.{parts_of-joined}
-use Rattle.target_lexicon.proofs.FamilyTests.{prints_the_esp_idf_text-tells}
+use Rattle.target_lexicon.proofs.StepCases.{prints_the_esp_idf_text-tells}
 use Rattle.target_lexicon.proofs.NamesAcross.{NamesAreRead}
 use Rattle.target_lexicon.proofs.Rounds.{parts-round}
 use Rattle.target_lexicon.proofs.StepCases.{step_cases, step-architecture}
