@@ -11,8 +11,7 @@ use Rattle.target_lexicon.specs.NormalStep.{normal_step, is_in_no_family}
 use Rattle.target_lexicon.specs.Printing.{text_of}
 use Rattle.target_lexicon.specs.Reading.{ReadsAs}
 use Rattle.target_lexicon.specs.Values.{Values}
-use Rattle.target_lexicon.proofs.StepCases.{prints_as_special-tells, hides_newlib-tells, prints_the_esp_idf_text-tells, shows_none_alone-tells}
-use Rattle.target_lexicon.proofs.StepCases.{IsOutside, step_cases}
+use Rattle.target_lexicon.proofs.StepCases.{IsOutside, step_cases, prints_as_special-tells, hides_newlib-tells, prints_the_esp_idf_text-tells, shows_none_alone-tells}
 use Rattle.target_lexicon.proofs.Unique.{read_plain, values_unique}
 
 pub outside-fixed : (t : Values) → IsOutside t → normal_step t ≡ t

@@ -20,15 +20,18 @@ use Rattle.lexicon_fields.specs.BinaryFormat.{binary_format_name}
 use Rattle.lexicon_fields.specs.Laws.{HasVersionInRange}
 use Rattle.target_lexicon.specs.Field as field
 use Rattle.std.proofs.lemmas.Bool.{not-false, or_parts}
+use Rattle.std.proofs.lemmas.Bool.Decides.{not_from_Decides}
 use Rattle.target_lexicon.specs.Field.{Field}
 use Rattle.target_lexicon.specs.ImpliedFormat.{implied, implied_format}
-use Rattle.target_lexicon.specs.NormalStep.{normal_step, prints_as_special, hides_newlib, prints_the_esp_idf_text, shows_none_alone}
+use Rattle.target_lexicon.specs.Families.{PrintsAsSpecial, HidesNewlib}
+use Rattle.target_lexicon.specs.NormalStep.{normal_step, hides_newlib, prints_the_esp_idf_text, shows_none_alone, elf_if_unknown}
 use Rattle.target_lexicon.specs.Printing.{shows_vendor, goes_without_vendor, shows_operating_system, shows_environment, shows_binary_format, shows_unknowns, same_format, shown_parts, when}
 use Rattle.target_lexicon.specs.ReadingByFields.{read_parts, read_vendor, read_operating_system, read_environment}
 use Rattle.target_lexicon.specs.Refusal.{Refusal}
 use Rattle.target_lexicon.specs.SpecialTexts.{special_text}
 use Rattle.target_lexicon.specs.Values.{Values, values}
 use Rattle.target_lexicon.proofs.NamesAcross.{NamesAreRead, environment_of-format, operating_system_of-format, operating_system_of-environment, vendor_of-operating_system, system_as_vendor}
+use Rattle.target_lexicon.proofs.StepCases.{step_cases, hides_newlib-tells, prints_the_esp_idf_text-tells, shows_none_alone-tells}
 
 abbrev known_format : BinaryFormat → Bool
 known_format f = not (same_format f binary_format.Unknown)
@@ -52,60 +55,38 @@ shown_or_implied : (t : Values) → cond (shows_binary_format t) t.binary_format
 unfolding shows_binary_format
 shown_or_implied t = shown_by (same_format t.binary_format (implied t)) _ t.binary_format (implied t) (same_format-is t.binary_format (implied t))
 
--- the tests of the families, where no special text is printed
+-- where no special text is printed
 
-pub not_special : (s : OperatingSystem) (v : VendorValue) (a : Architecture) (e : Environment) (f : BinaryFormat) → special_text s v a ≡ None → prints_as_special s v a e f ≡ false
+none-apart : (t : Values) → special_text t.operating_system t.vendor t.architecture ≡ None → ¬ PrintsAsSpecial t
 unfolding special_text
-not_special operating_system.Horizon (Known Nintendo) (architecture.Arm arm.Armv6k) e f none = absurd cc
-not_special operating_system.Espidf (Known Espressif) (architecture.Riscv32 riscv32.Riscv32imc) e f none = absurd cc
-not_special _ _ _ e f none = refl
+none-apart t none is = elim is.fields [
+  | inl of ↦ let bad = rw (of.operating_system, of.vendor, of.architecture) at none in cc
+  | inr of ↦ let bad = rw (of.operating_system, of.vendor, of.architecture) at none in cc
+]
 
-nintendo_hides : (a : Architecture) → special_text operating_system.Horizon (Known Nintendo) a ≡ None → hides_newlib environment.Newlib operating_system.Horizon (Known Nintendo) a ≡ true
-unfolding special_text
-nintendo_hides (architecture.Arm arm.Armv6k) none = absurd cc
-nintendo_hides _ none = refl
+-- an environment that isn't shown is unknown, or a hidden `Newlib`
+not_shown : (e : Environment) (s : OperatingSystem) (v : VendorValue) (a : Architecture) → special_text s v a ≡ None → shows_environment e s v ≡ false
+    → (e ≡ environment.Unknown) ⊎ (hides_newlib e s v a ≡ true)
+unfolding special_text shows_environment
+not_shown environment.Unknown s v a none hidden = inl refl
+not_shown environment.Newlib operating_system.Horizon (Known Nintendo) (architecture.Arm arm.Armv6k) none hidden = absurd cc
+not_shown environment.Newlib operating_system.Horizon (Known Nintendo) _ none hidden = inr refl
+not_shown environment.Newlib operating_system.Espidf (Known Espressif) (architecture.Riscv32 riscv32.Riscv32imc) none hidden = absurd cc
+not_shown environment.Newlib operating_system.Espidf (Known Espressif) _ none hidden = inr refl
+not_shown _ _ _ a none hidden = absurd cc
 
-espressif_hides : (a : Architecture) → special_text operating_system.Espidf (Known Espressif) a ≡ None → hides_newlib environment.Newlib operating_system.Espidf (Known Espressif) a ≡ true
-unfolding special_text
-espressif_hides (architecture.Riscv32 riscv32.Riscv32imc) none = absurd cc
-espressif_hides _ none = refl
+-- the format that is read where the environment isn't shown
 
--- `Newlib` where it isn't shown
+shown_unless_elf : (f : BinaryFormat) → cond (known_format f && (not (same_format f binary_format.Elf) || false)) f binary_format.Elf ≡ elf_if_unknown f
+shown_unless_elf binary_format.Unknown = refl
+shown_unless_elf _ = refl
 
-nintendo-step : (a : Architecture) (f : BinaryFormat) → special_text operating_system.Horizon (Known Nintendo) a ≡ None
-    → values a (Known Nintendo) operating_system.Horizon environment.Unknown (cond (known_format f && shows_binary_format (values a (Known Nintendo) operating_system.Horizon environment.Newlib f)) f (implied_format a operating_system.Horizon environment.Unknown))
-    ≡ normal_step (values a (Known Nintendo) operating_system.Horizon environment.Newlib f)
-unfolding normal_step shows_binary_format implied_format
-nintendo-step a binary_format.Unknown none = rw (not_special operating_system.Horizon (Known Nintendo) a environment.Newlib binary_format.Unknown none, nintendo_hides a none) refl
-nintendo-step a f none = rw (not_special operating_system.Horizon (Known Nintendo) a environment.Newlib f none, nintendo_hides a none) refl
+shown_unless_unknown : (f i : BinaryFormat) (b : Bool) → shows_unknowns environment.Unknown f i ≡ false → cond b f i ≡ f → cond (known_format f && b) f i ≡ f
+shown_unless_unknown binary_format.Unknown binary_format.Unknown b hidden same = refl
+shown_unless_unknown binary_format.Unknown _ b hidden same = absurd cc
+shown_unless_unknown _ i b hidden same = same
 
-espressif-step : (a : Architecture) (f : BinaryFormat) → special_text operating_system.Espidf (Known Espressif) a ≡ None
-    → values a (Known Espressif) operating_system.Espidf environment.Unknown (cond (known_format f && shows_binary_format (values a (Known Espressif) operating_system.Espidf environment.Newlib f)) f (implied_format a operating_system.Espidf environment.Unknown))
-    ≡ normal_step (values a (Known Espressif) operating_system.Espidf environment.Newlib f)
-unfolding normal_step shows_binary_format implied_format
-espressif-step a binary_format.Unknown none = rw (not_special operating_system.Espidf (Known Espressif) a environment.Newlib binary_format.Unknown none, espressif_hides a none) refl
-espressif-step a f none = rw (not_special operating_system.Espidf (Known Espressif) a environment.Newlib f none, espressif_hides a none) refl
-
--- which two they are
-hidden_newlib : (s : OperatingSystem) (v : VendorValue) → shows_environment environment.Newlib s v ≡ false
-    → ((s ≡ operating_system.Horizon) × (v ≡ Known Nintendo)) ⊎ ((s ≡ operating_system.Espidf) × (v ≡ Known Espressif))
-unfolding shows_environment
-hidden_newlib operating_system.Horizon (Known Nintendo) h = inl (refl, refl)
-hidden_newlib operating_system.Espidf (Known Espressif) h = inr (refl, refl)
-hidden_newlib _ _ h = absurd cc
-
-newlib_shown : (s : OperatingSystem) (v : VendorValue) (a : Architecture) → shows_environment environment.Newlib s v ≡ true → hides_newlib environment.Newlib s v a ≡ false
-unfolding shows_environment
-newlib_shown operating_system.Horizon (Known Nintendo) a h = absurd cc
-newlib_shown operating_system.Espidf (Known Espressif) a h = absurd cc
-newlib_shown _ _ a h = refl
-
--- where two unknowns aren't shown, the format is the implied one
-unknown_is_implied : (i : BinaryFormat) → shows_unknowns environment.Unknown binary_format.Unknown i ≡ false → i ≡ binary_format.Unknown
-unknown_is_implied binary_format.Unknown hidden = refl
-unknown_is_implied _ hidden = absurd cc
-
--- vendor and system, where they are shown and where they aren't
+-- vendor and system, where they aren't shown
 
 hidden_vendor : (v : VendorValue) (s : OperatingSystem) (e : Environment) (a : Architecture) → shows_vendor v s e a ≡ false → (v ≡ Known Unknown) × (goes_without_vendor s e a ≡ true)
 unfolding shows_vendor
@@ -148,86 +129,60 @@ module _ (names : NamesAreRead) where
   hidden-read a v s binary_format.Unknown true last = rw (environment_of-format binary_format.Unknown) refl
   hidden-read a v s f true last = rw (environment_of-format f, names.binary_format.reads_back f tt) refl
 
-  -- environment and format, read back, are those of the step
+  -- what is shown behind the system, read back
+  abbrev ReadsBehind : Values → Field → Values → Type 0
+  ReadsBehind t last u = read_environment t.architecture t.vendor t.operating_system last
+      (when (both_unknown t || shows_environment t.environment t.operating_system t.vendor) (environment_name t.environment) (when (shows_binary_format t) (binary_format_name t.binary_format) [])) ≡ Ok u
+
+  newlib-read : (t : Values) (last : Field) → HidesNewlib t
+      → ReadsBehind t last (values t.architecture t.vendor t.operating_system environment.Unknown (elf_if_unknown t.binary_format))
+  unfolding shows_environment shows_binary_format implied_format
+  newlib-read t last (newlib, inl on) = rw (newlib, on.0, on.1) (hidden-read t.architecture _ _ t.binary_format _ last
+      ∙ ap (λ f. Ok (values t.architecture (Known Nintendo) operating_system.Horizon environment.Unknown f)) (shown_unless_elf t.binary_format))
+  newlib-read t last (newlib, inr on) = rw (newlib, on.0, on.1) (hidden-read t.architecture _ _ t.binary_format _ last
+      ∙ ap (λ f. Ok (values t.architecture (Known Espressif) operating_system.Espidf environment.Unknown f)) (shown_unless_elf t.binary_format))
+
   module _ (a : Architecture) (v : VendorValue) (s : OperatingSystem) (none : special_text s v a ≡ None) where
-    unknown-kept : (f : BinaryFormat) → prints_the_esp_idf_text environment.Unknown f s a v ≡ false → normal_step (values a v s environment.Unknown f) ≡ values a v s environment.Unknown f
-    unfolding normal_step
-    unknown-kept binary_format.Elf apart = rw (not_special s v a environment.Unknown binary_format.Elf none, apart) refl
-    unknown-kept f apart = rw (not_special s v a environment.Unknown f none) refl
+    unknown-read : (e : Environment) (f : BinaryFormat) (last : Field) → e ≡ environment.Unknown → both_unknown (values a v s e f) ≡ false
+        → read_environment a v s last (when (shows_binary_format (values a v s e f)) (binary_format_name f) []) ≡ Ok (values a v s e f)
+    unknown-read e f last is hidden = rw is (hidden-read a v s f _ last
+        ∙ ap (λ x. Ok (values a v s environment.Unknown x)) (shown_unless_unknown f _ _ (rw is at hidden) (shown_or_implied (values a v s environment.Unknown f))))
 
-    unknown-step : (f : BinaryFormat) → prints_the_esp_idf_text environment.Unknown f s a v ≡ false → shows_unknowns environment.Unknown f (implied_format a s environment.Unknown) ≡ false
-        → values a v s environment.Unknown (cond (known_format f && shows_binary_format (values a v s environment.Unknown f)) f (implied_format a s environment.Unknown)) ≡ normal_step (values a v s environment.Unknown f)
-    unknown-step binary_format.Unknown apart hidden = ap (values a v s environment.Unknown) (unknown_is_implied _ hidden) ∙ sym (unknown-kept binary_format.Unknown apart)
-    unknown-step f apart hidden = ap (values a v s environment.Unknown) (shown_or_implied (values a v s environment.Unknown f)) ∙ sym (unknown-kept f apart)
+    outside-read : (e : Environment) (f : BinaryFormat) (last : Field) → ¬ HidesNewlib (values a v s e f) → (b : Bool) → (both_unknown (values a v s e f) || shows_environment e s v) ≡ b
+        → read_environment a v s last (when b (environment_name e) (when (shows_binary_format (values a v s e f)) (binary_format_name f) [])) ≡ Ok (values a v s e f)
+    outside-read e f last outside true is = shown-read a v s e f _ last ∙ ap (λ x. Ok (values a v s e x)) (shown_or_implied (values a v s e f))
+    outside-read e f last outside false is =
+        let hidden = or_parts (both_unknown (values a v s e f)) (shows_environment e s v) is in
+        elim (not_shown e s v a none hidden.1) [
+          | inl unknown ↦ unknown-read e f last unknown hidden.0
+          | inr newlib ↦ absurd (outside ((hides_newlib-tells (values a v s e f)).0 newlib))
+        ]
 
-    -- an environment that is shown, and stays
-    kept : (e : Environment) (f : BinaryFormat) (last : Field) → normal_step (values a v s e f) ≡ values a v s e f
-        → read_environment a v s last (environment_name e ∷ when (shows_binary_format (values a v s e f)) (binary_format_name f) []) ≡ Ok (normal_step (values a v s e f))
-    kept e f last same = shown-read a v s e f (shows_binary_format (values a v s e f)) last ∙ ap (λ x. Ok (values a v s e x)) (shown_or_implied (values a v s e f)) ∙ ap Ok (sym same)
-
-    newlib-step : (f : BinaryFormat) → hides_newlib environment.Newlib s v a ≡ false → normal_step (values a v s environment.Newlib f) ≡ values a v s environment.Newlib f
-    unfolding normal_step
-    newlib-step f shown = rw (not_special s v a environment.Newlib f none, shown) refl
-
-    newlib-hidden : (f : BinaryFormat) → shows_environment environment.Newlib s v ≡ false
-        → values a v s environment.Unknown (cond (known_format f && shows_binary_format (values a v s environment.Newlib f)) f (implied_format a s environment.Unknown)) ≡ normal_step (values a v s environment.Newlib f)
-    newlib-hidden f hidden = elim (hidden_newlib s v hidden) [
-      | inl is ↦ rw (is.0, is.1) (nintendo-step a f (rw (is.0, is.1) at none))
-      | inr is ↦ rw (is.0, is.1) (espressif-step a f (rw (is.0, is.1) at none))
-    ]
-
-    newlib_by : (f : BinaryFormat) (b : Bool) (last : Field) → shows_environment environment.Newlib s v ≡ b
-        → read_environment a v s last (when b (environment_name environment.Newlib) (when (shows_binary_format (values a v s environment.Newlib f)) (binary_format_name f) [])) ≡ Ok (normal_step (values a v s environment.Newlib f))
-    newlib_by f true last is = kept environment.Newlib f last (newlib-step f (newlib_shown s v a is))
-    newlib_by f false last is = hidden-read a v s f (shows_binary_format (values a v s environment.Newlib f)) last ∙ ap Ok (newlib-hidden f is)
-
-    none-step : (f : BinaryFormat) → shows_none_alone environment.None s a ≡ false → normal_step (values a v s environment.None f) ≡ values a v s environment.None f
-    unfolding normal_step
-    none-step f apart = rw (not_special s v a environment.None f none, apart) refl
-
-    other-step : (e : Environment) (f : BinaryFormat) → prints_as_special s v a e f ≡ false → hides_newlib e s v a ≡ false → prints_the_esp_idf_text e f s a v ≡ false
-        → shows_none_alone e s a ≡ false → normal_step (values a v s e f) ≡ values a v s e f
-    unfolding normal_step
-    other-step e f special newlib esp alone = rw (special, newlib, esp, alone) refl
-
-    tail-round : (e : Environment) (f : BinaryFormat) (last : Field) → prints_the_esp_idf_text e f s a v ≡ false → shows_none_alone e s a ≡ false → (both : Bool) → shows_unknowns e f (implied_format a s e) ≡ both
-        → read_environment a v s last (when (both || shows_environment e s v) (environment_name e) (when (shows_binary_format (values a v s e f)) (binary_format_name f) [])) ≡ Ok (normal_step (values a v s e f))
-    unfolding shows_environment
-    tail-round environment.Unknown f last apart clever true shown = kept environment.Unknown f last (unknown-kept f apart)
-    tail-round environment.Unknown f last apart clever false hidden = hidden-read a v s f (shows_binary_format (values a v s environment.Unknown f)) last ∙ ap Ok (unknown-step f apart hidden)
-    tail-round environment.None f last apart clever false hidden = kept environment.None f last (none-step f clever)
-    tail-round environment.Newlib f last apart clever false hidden = newlib_by f (shows_environment environment.Newlib s v) last refl
-    tail-round e f last apart clever false hidden = kept e f last (other-step e f (not_special s v a e f none) refl refl refl)
-    tail-round e f last apart clever true shown = absurd cc
+    tail-round : (e : Environment) (f : BinaryFormat) (last : Field) → prints_the_esp_idf_text e f s a v ≡ false → shows_none_alone e s a ≡ false
+        → ReadsBehind (values a v s e f) last (normal_step (values a v s e f))
+    tail-round e f last apart alone = step_cases (ReadsBehind (values a v s e f) last) (values a v s e f)
+        (λ is. absurd (none-apart _ none is))
+        (newlib-read (values a v s e f) last)
+        (λ is. absurd (not_from_Decides _ (prints_the_esp_idf_text-tells (values a v s e f)) apart is))
+        (λ is. absurd (not_from_Decides _ (shows_none_alone-tells (values a v s e f)) alone is))
+        (λ outside. outside-read e f last outside.newlib _ refl)
 
   -- architecture, vendor and system, read back
 
-  middle-read : (a : Architecture) (v : VendorValue) (s : OperatingSystem) (rest : List (List ℕ)) (last : Field) → HasVersionInRange s
-      → read_operating_system a v last (operating_system_name s ∷ rest) ≡ read_environment a v s field.OperatingSystem rest
-  middle-read a v s rest last range = rw (names.operating_system.reads_back s range) refl
-
-  front_by : (a : Architecture) (v : VendorValue) (s : OperatingSystem) (b : Bool) (rest : List (List ℕ)) (result : Result Values Refusal) → is_plain v ≡ true
-      → (b ≡ false → (v ≡ Known Unknown) × (vendor_of (operating_system_name s) ≡ None)) → ((last : Field) → read_operating_system a v last (operating_system_name s ∷ rest) ≡ result)
-      → read_vendor a (when b (vendor_name v) (operating_system_name s ∷ rest)) ≡ result
-  front_by a v s true rest result plain hidden reads = rw (names.vendor.reads_back v plain) (reads field.Vendor)
-  front_by a v s false rest result plain hidden reads = rw ((hidden refl).1, sym (hidden refl).0) (reads field.Architecture)
-
-  front : (a : Architecture) (v : VendorValue) (s : OperatingSystem) (e : Environment) (rest : List (List ℕ)) (result : Result Values Refusal) → is_plain v ≡ true → HasVersionInRange s
-      → ((last : Field) → read_operating_system a v last (operating_system_name s ∷ rest) ≡ result)
-      → read_vendor a (when (shows_vendor v s e a) (vendor_name v) (operating_system_name s ∷ rest)) ≡ result
-  front a v s e rest result plain range reads = front_by a v s (shows_vendor v s e a) rest result plain
-      (λ h. let is = hidden_vendor v s e a h in (is.0, vendor_of-operating_system names s range ∙ no_vendor s e a is.1)) reads
-
-  whole : (a : Architecture) (rest : List (List ℕ)) → read_parts (architecture_name a ∷ rest) ≡ read_vendor a rest
-  whole a rest = rw (names.architecture.reads_back a tt) refl
+  front : (a : Architecture) (v : VendorValue) (b : Bool) (rest : List (List ℕ)) (result : Result Values Refusal) → is_plain v ≡ true
+      → (b ≡ false → (v ≡ Known Unknown) × (read_vendor a rest ≡ read_operating_system a (Known Unknown) field.Architecture rest)) → ((last : Field) → read_operating_system a v last rest ≡ result)
+      → read_parts (architecture_name a ∷ when b (vendor_name v) rest) ≡ result
+  front a v true rest result plain hidden reads = rw (names.architecture.reads_back a tt, names.vendor.reads_back v plain) (reads field.Vendor)
+  front a v false rest result plain hidden reads = rw (names.architecture.reads_back a tt) ((hidden refl).1 ∙ rw (sym (hidden refl).0) (reads field.Architecture))
 
   plain-round : (a : Architecture) (v : VendorValue) (s : OperatingSystem) (e : Environment) (f : BinaryFormat) → is_plain v ≡ true → HasVersionInRange s → special_text s v a ≡ None
       → prints_the_esp_idf_text e f s a v ≡ false → (both_unknown (values a v s e f) || shows_operating_system s a) ≡ true
       → read_parts (shown_parts (both_unknown (values a v s e f)) (values a v s e f)) ≡ Ok (normal_step (values a v s e f))
   unfolding shown_parts
   plain-round a v s e f plain range none apart shown =
-      rw shown (whole a _ ∙ front a v s e _ _ plain range (λ last. middle-read a v s _ last range
-      ∙ tail-round a v s none e f field.OperatingSystem apart (shown_system e f _ s a shown) _ refl))
+      rw shown (front a v (shows_vendor v s e a) _ _ plain
+      (λ h. let is = hidden_vendor v s e a h in (is.0, rw (vendor_of-operating_system names s range ∙ no_vendor s e a is.1) refl))
+      (λ last. rw (names.operating_system.reads_back s range) (tail-round a v s none e f field.OperatingSystem apart (shown_system e f _ s a shown))))
 
   -- where it isn't: Clever without a system
   clever-read : (c : CleverArchitecture) (v : VendorValue) (e : Environment) (f : BinaryFormat) (last : Field) → both_unknown (values (architecture.Clever c) v operating_system.Unknown e f) ≡ false
@@ -246,14 +201,8 @@ module _ (names : NamesAreRead) where
   clever-round : (c : CleverArchitecture) (v : VendorValue) (e : Environment) (f : BinaryFormat) → is_plain v ≡ true → both_unknown (values (architecture.Clever c) v operating_system.Unknown e f) ≡ false
       → read_parts (shown_parts false (values (architecture.Clever c) v operating_system.Unknown e f)) ≡ Ok (normal_step (values (architecture.Clever c) v operating_system.Unknown e f))
   unfolding shown_parts shows_operating_system
-  clever-round c v e f plain hidden = rw (names.architecture.reads_back (architecture.Clever c) tt) (clever-front (shows_vendor v operating_system.Unknown e (architecture.Clever c)) refl)
-    where
-      clever-front : (b : Bool) → shows_vendor v operating_system.Unknown e (architecture.Clever c) ≡ b
-          → read_vendor (architecture.Clever c) (when b (vendor_name v) (when (shows_environment e operating_system.Unknown v) (environment_name e)
-          (when (shows_binary_format (values (architecture.Clever c) v operating_system.Unknown e f)) (binary_format_name f) [])))
-          ≡ Ok (normal_step (values (architecture.Clever c) v operating_system.Unknown e f))
-      clever-front true is = rw (names.vendor.reads_back v plain) (clever-read c v e f field.Vendor hidden)
-      clever-front false is = absurd (let hidden = (hidden_vendor v operating_system.Unknown e (architecture.Clever c) is).1 in cc)
+  clever-round c v e f plain hidden =
+      front (architecture.Clever c) v _ _ _ plain (λ h. absurd (let is = (hidden_vendor v operating_system.Unknown e (architecture.Clever c) h).1 in cc)) (λ last. clever-read c v e f last hidden)
 
   module _ (a : Architecture) (v : VendorValue) (s : OperatingSystem) (e : Environment) (f : BinaryFormat) (plain : is_plain v ≡ true) (range : HasVersionInRange s)
       (none : special_text s v a ≡ None) (apart : prints_the_esp_idf_text e f s a v ≡ false) where

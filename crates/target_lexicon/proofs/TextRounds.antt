@@ -1,5 +1,5 @@
 -- The text of a triple with a plain vendor reads as its normal step.
-use Rattle.std.proofs.Common.{◌≡◌, ◌≢◌, ◌∙◌, ℕ, Bool, true, false, ◌||◌, cond, List, [], ◌∷◌, Option, Some, None, Ok, Err, codes, refl, sym, ap, subst}
+use Rattle.std.proofs.Common.{◌≡◌, ◌≢◌, ◌∙◌, ℕ, Bool, true, false, ◌||◌, cond, inl, inr, List, [], ◌∷◌, Option, Some, None, Ok, Err, codes, refl, sym, ap, subst}
 use Rattle.std.specs.List.{list_all, join_with_byte}
 use Rattle.std.specs.Str.{bytes_eq}
 use Rattle.std.proofs.lemmas.Slice.Eq.{bytes_eq-Decides}
@@ -35,10 +35,9 @@ use Rattle.target_lexicon.specs.SpecialTexts.{special_text, special_values, nint
 use Rattle.target_lexicon.specs.Values.{Values, values}
 use Rattle.target_lexicon.proofs.Computed.{reading_computed}
 use Rattle.target_lexicon.proofs.Cuts.{parts_of-joined}
-use Rattle.target_lexicon.proofs.StepCases.{prints_the_esp_idf_text-tells}
 use Rattle.target_lexicon.proofs.NamesAcross.{NamesAreRead}
 use Rattle.target_lexicon.proofs.Rounds.{parts-round}
-use Rattle.target_lexicon.proofs.StepCases.{step_cases, step-architecture}
+use Rattle.target_lexicon.proofs.StepCases.{step_cases, prints_the_esp_idf_text-tells}
 
 -- parts without dashes are the parts of the text that joins them
 
@@ -51,29 +50,13 @@ when-free false p ps free others = others
 
 -- the special texts, and the triples that print them
 
-nintendo-step : (e : Environment) (f : BinaryFormat) → normal_step (values (architecture.Arm arm.Armv6k) (Known Nintendo) operating_system.Horizon e f) ≡ nintendo_3ds
-unfolding normal_step
-nintendo-step environment.Newlib binary_format.Elf = refl
-nintendo-step _ _ = refl
-
-esp_idf-step : (e : Environment) (f : BinaryFormat) → normal_step (values (architecture.Riscv32 riscv32.Riscv32imc) (Known Espressif) operating_system.Espidf e f) ≡ esp_idf
-unfolding normal_step
-esp_idf-step environment.Newlib binary_format.Elf = refl
-esp_idf-step _ _ = refl
-
-nintendo-text : (e : Environment) (f : BinaryFormat) → reading (text_of (values (architecture.Arm arm.Armv6k) (Known Nintendo) operating_system.Horizon e f)) ≡ Ok nintendo_3ds
-unfolding reading text_of special_text special_values
-nintendo-text e f = refl
-
-esp_idf-text : (e : Environment) (f : BinaryFormat) → reading (text_of (values (architecture.Riscv32 riscv32.Riscv32imc) (Known Espressif) operating_system.Espidf e f)) ≡ Ok esp_idf
-unfolding reading text_of special_text special_values
-esp_idf-text e f = refl
-
 pub special-round : (s : OperatingSystem) (v : VendorValue) (a : Architecture) (e : Environment) (f : BinaryFormat) (text : List ℕ) → special_text s v a ≡ Some text
     → reading (text_of (values a v s e f)) ≡ Ok (normal_step (values a v s e f))
-unfolding special_text
-special-round operating_system.Horizon (Known Nintendo) (architecture.Arm arm.Armv6k) e f text is = nintendo-text e f ∙ ap Ok (sym (nintendo-step e f))
-special-round operating_system.Espidf (Known Espressif) (architecture.Riscv32 riscv32.Riscv32imc) e f text is = esp_idf-text e f ∙ ap Ok (sym (esp_idf-step e f))
+unfolding special_text special_values normal_step reading text_of
+special-round operating_system.Horizon (Known Nintendo) (architecture.Arm arm.Armv6k) environment.Newlib binary_format.Elf text is = refl
+special-round operating_system.Horizon (Known Nintendo) (architecture.Arm arm.Armv6k) _ _ text is = refl
+special-round operating_system.Espidf (Known Espressif) (architecture.Riscv32 riscv32.Riscv32imc) environment.Newlib binary_format.Elf text is = refl
+special-round operating_system.Espidf (Known Espressif) (architecture.Riscv32 riscv32.Riscv32imc) _ _ text is = refl
 special-round _ _ _ e f text is = absurd cc
 
 -- the triple that prints another's special text
@@ -106,37 +89,17 @@ by_tests text ps t false false is_x is_y are reads apart = ap read_parts are ∙
 abbrev parts : Values → List (List ℕ)
 parts t = shown_parts (shows_unknowns t.environment t.binary_format (implied t)) t
 
-abbrev has_more_than_three : List (List ℕ) → Bool
-has_more_than_three (_ ∷ _ ∷ _ ∷ _ ∷ _) = true
-has_more_than_three _ = false
-
--- with the fields of the device, a custom `esp` shows more parts where the text isn't the device's
-esp-shows : (e : Environment) (f : BinaryFormat) → prints_the_esp_idf_text e f operating_system.Espidf (architecture.Riscv32 riscv32.Riscv32imc) (Custom (codes "esp")) ≡ false
-    → has_more_than_three (parts (values (architecture.Riscv32 riscv32.Riscv32imc) (Custom (codes "esp")) operating_system.Espidf e f)) ≡ true
-unfolding shown_parts shows_vendor shows_operating_system shows_environment shows_binary_format implied_format
-esp-shows environment.Unknown binary_format.Elf apart = absurd cc
-esp-shows environment.Unknown _ apart = refl
-esp-shows _ f apart = refl
-
--- what the step keeps
-
-step-vendor : (t : Values) → prints_the_esp_idf_text t.environment t.binary_format t.operating_system t.architecture t.vendor ≡ false → (normal_step t).vendor ≡ t.vendor
-step-vendor t apart = step_cases (λ u. u.vendor ≡ t.vendor) t (λ _. refl) (λ _. refl) (λ esp. absurd (let is = (prints_the_esp_idf_text-tells t).1 esp in cc)) (λ _. refl) (λ _. refl)
-
-step-operating_system : (t : Values) → is_clever t.architecture ≡ false → (normal_step t).operating_system ≡ t.operating_system
-step-operating_system t other = step_cases (λ u. u.operating_system ≡ t.operating_system) t (λ _. refl) (λ _. refl) (λ _. refl) (λ none. absurd (let is = none.architecture in cc)) (λ _. refl)
-
 module _ (names : NamesAreRead) (a : Architecture) (v : VendorValue) (s : OperatingSystem) (e : Environment) (f : BinaryFormat) (plain : is_plain v ≡ true) (range : HasVersionInRange s)
     (none : special_text s v a ≡ None) (apart : prints_the_esp_idf_text e f s a v ≡ false) where
   parts-apart : parts (values a v s e f) ≢ parts_of esp_idf_text
   parts-apart same =
       let reads : Ok (normal_step (values a v s e f)) ≡ Ok custom_esp = sym (parts-round names a v s e f plain range none apart) ∙ ap read_parts same ∙ esp_idf-parts in
-      let step : normal_step (values a v s e f) ≡ custom_esp = cc in
-      let is_a : a ≡ architecture.Riscv32 riscv32.Riscv32imc = sym (step-architecture (values a v s e f)) ∙ ap (λ t. t.architecture) step in
-      let is_v : v ≡ Custom (codes "esp") = sym (step-vendor (values a v s e f) apart) ∙ ap (λ t. t.vendor) step in
-      let is_s : s ≡ operating_system.Espidf = sym (step-operating_system (values a v s e f) (ap is_clever is_a)) ∙ ap (λ t. t.operating_system) step in
-      let more = esp-shows e f (rw (is_a, is_v, is_s) at apart) in
-      let three = rw (is_a, is_v, is_s) at (ap has_more_than_three same) in cc
+      step_cases (λ u. u ≡ custom_esp → ⊥) (values a v s e f)
+      (λ is step. let of = ap (λ x. x.environment) step in cc)
+      (λ is step. let of = ap (λ x. x.vendor) step in elim is.1 [ inl on ↦ cc | inr on ↦ cc ])
+      (λ is step. let of = ap (λ x. x.vendor) step in cc)
+      (λ is step. let of = ap (λ x. x.operating_system) step in cc)
+      (λ outside. outside.esp) cc
 
   shown-round : reading (join_with_byte 45 (parts (values a v s e f))) ≡ Ok (normal_step (values a v s e f))
   unfolding reading shown_parts special_values
