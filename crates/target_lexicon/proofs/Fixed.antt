@@ -12,7 +12,8 @@ use Rattle.target_lexicon.specs.Printing.{text_of}
 use Rattle.target_lexicon.specs.Reading.{ReadsAs}
 use Rattle.target_lexicon.specs.Values.{Values}
 use Rattle.target_lexicon.proofs.StepCases.{IsOutside, step_cases, prints_as_special-tells, hides_newlib-tells, prints_the_esp_idf_text-tells, shows_none_alone-tells}
-use Rattle.target_lexicon.proofs.Unique.{read_plain, values_unique}
+use Rattle.target_lexicon.proofs.ReadValues.{read_plain}
+use Rattle.target_lexicon.proofs.Unique.{values_unique}
 
 pub outside-fixed : (t : Values) → IsOutside t → normal_step t ≡ t
 outside-fixed t outside = step_cases (λ u. u ≡ t) t

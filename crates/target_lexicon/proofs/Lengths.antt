@@ -35,7 +35,7 @@ use Rattle.target_lexicon.specs.NormalStep.{normal_step, elf_if_unknown}
 use Rattle.target_lexicon.specs.SpecialTexts.{special_text, special_values}
 use Rattle.target_lexicon.specs.Values.{Values, values}
 use Rattle.target_lexicon.proofs.NamesAcross.{environment_of-format}
-use Rattle.target_lexicon.proofs.ReadVersions.{special-holds}
+use Rattle.target_lexicon.proofs.ReadValues.{special-holds}
 use Rattle.target_lexicon.proofs.StepCases.{step_cases}
 
 -- the bytes of parts, each with its dash

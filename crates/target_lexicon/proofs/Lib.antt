@@ -1,6 +1,6 @@
 -- What reading is: Cuts, DashBits, LookedUp, Vendors (a text's parts, and what each reads as); NamesAcross (a name of one field in a field
--- before it); Greedy, Refused, Unique, Computed (from reading as a function to the least placement); ReadVersions (a version that is read is
--- in range).
+-- before it); Greedy, Refused, Unique, Computed (from reading as a function to the least placement); ReadValues (what holds of all
+-- that is read).
 -- What printing is: Printed, Writes, Lengths (how much longer than its text).
 -- What comes back: Rounds, TextRounds (a text read again); StepCases, Fixed, Settled, SettlesAs (families and the step).
 -- For callers: OnLiterals (what computes on a literal).
@@ -19,7 +19,7 @@ pub mod NamesAcross
 pub mod OnLiterals
 pub mod Printed
 pub mod QueriesKept
-pub mod ReadVersions
+pub mod ReadValues
 pub mod Refused
 pub mod Rounds
 pub mod SameValues

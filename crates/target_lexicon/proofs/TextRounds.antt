@@ -101,34 +101,27 @@ module _ (names : NamesAreRead) (a : Architecture) (v : VendorValue) (s : Operat
       (λ is step. let of = ap (λ x. x.operating_system) step in cc)
       (λ outside. outside.esp) cc
 
-  shown-round : reading (join_with_byte 45 (parts (values a v s e f))) ≡ Ok (normal_step (values a v s e f))
-  unfolding reading shown_parts special_values
+  shown-round : reading (text_of (values a v s e f)) ≡ Ok (normal_step (values a v s e f))
+  unfolding reading text_of shown_parts special_values
   shown-round =
       let both = shows_unknowns e f (implied_format a s e) in
-      by_tests (join_with_byte 45 (parts (values a v s e f))) (parts (values a v s e f)) (normal_step (values a v s e f)) _ _ refl refl
+      rw none (by_tests (join_with_byte 45 (parts (values a v s e f))) (parts (values a v s e f)) (normal_step (values a v s e f)) _ _ refl refl
       (parts_of-join (architecture_name a) _ (names.architecture.name_dash_free a tt)
       (when-free (shows_vendor v s e a) _ _ (names.vendor.name_dash_free v plain)
       (when-free (both || shows_operating_system s a) (operating_system_name s) _ (names.operating_system.name_dash_free s range)
       (when-free (both || shows_environment e s v) (environment_name e) _ (names.environment.name_dash_free e tt)
       (when-free (shows_binary_format (values a v s e f)) (binary_format_name f) [] (names.binary_format.name_dash_free f tt) refl)))))
-      (parts-round names a v s e f plain range none apart) parts-apart
-
-  parts-text : reading (text_of (values a v s e f)) ≡ Ok (normal_step (values a v s e f))
-  unfolding text_of
-  parts-text = rw none shown-round
+      (parts-round names a v s e f plain range none apart) parts-apart)
 
 round_by : NamesAreRead → (t : Values) (special : Option (List ℕ)) (b : Bool) → is_plain t.vendor ≡ true → HasVersionInRange t.operating_system → special_text t.operating_system t.vendor t.architecture ≡ special
     → prints_the_esp_idf_text t.environment t.binary_format t.operating_system t.architecture t.vendor ≡ b → reading (text_of t) ≡ Ok (normal_step t)
 round_by names t (Some text) b plain range is is_b = special-round t.operating_system t.vendor t.architecture t.environment t.binary_format text is
 round_by names t None true plain range is is_b = rw ((prints_the_esp_idf_text-tells t).0 is_b) custom_esp-round
-round_by names t None false plain range is is_b = parts-text names t.architecture t.vendor t.operating_system t.environment t.binary_format plain range is is_b
-
-reading-text_of : NamesAreRead → (t : Values) → is_plain t.vendor ≡ true → HasVersionInRange t.operating_system → reading (text_of t) ≡ Ok (normal_step t)
-reading-text_of names t plain range = round_by names t _ _ plain range refl refl
+round_by names t None false plain range is is_b = shown-round names t.architecture t.vendor t.operating_system t.environment t.binary_format plain range is is_b
 
 -- a round of a plain triple is its step
 pub round : NamesAreRead → RoundIsNormalStep
-round names t plain = ((reading_computed (text_of t)).read (normal_step t)).1 (reading-text_of names t plain.vendor plain.version)
+round names t plain = ((reading_computed (text_of t)).read (normal_step t)).1 (round_by names t _ _ plain.vendor plain.version refl refl)
 
 pub round_by_step : RoundIsNormalStep → (t u : Values) → is_plain t.vendor ≡ true → HasVersionInRange t.operating_system → u ≡ normal_step t → ReadsAs (text_of t) u
 round_by_step round t u plain range is = subst (λ (x : Values). ReadsAs (text_of t) x) (sym is) (round t (record { vendor = plain; version = range }))

@@ -51,18 +51,10 @@ values_unique text t u h k = by_special (special_values text) h k
 
 -- a refusal of the same parts stands at the same place
 same_count : (parts : List (List ℕ)) (x y : Refusal) (a : IsRefusal parts x) (b : IsRefusal parts y) → a.count ≡ b.count
-same_count parts x y a b = by_order (order a.count b.count)
-  where
-    order : (m n : ℕ) → (m < n) ⊎ ((n < m) ⊎ (m ≡ n))
-    order zero zero = inr (inr refl)
-    order zero (suc n) = inl (omega arith)
-    order (suc m) zero = inr (inl (omega arith))
-    order (suc m) (suc n) = elim (order m n) [ inl h ↦ inl (omega arith) | inr h ↦ elim h [ inl x ↦ inr (inl (omega arith)) | inr x ↦ inr (inr (ap suc x)) ] ]
-
-    by_order : (a.count < b.count) ⊎ ((b.count < a.count) ⊎ (a.count ≡ b.count)) → a.count ≡ b.count
-    by_order (inl h) = absurd (a.unplaced (b.placed a.count h))
-    by_order (inr (inl h)) = absurd (b.unplaced (a.placed b.count h))
-    by_order (inr (inr e)) = e
+same_count parts x y a b =
+    let first : a.count < b.count → ⊥ = λ before. a.unplaced (b.placed a.count before) in
+    let second : b.count < a.count → ⊥ = λ before. b.unplaced (a.placed b.count before) in
+    omega arith
 
 abbrev lack_behind_all : List Field → Lack
 lack_behind_all [] = LacksAnyField
@@ -91,40 +83,9 @@ refusal_unique text x y h r = same_refusal (parts_of text) x y (refusal_at text 
 
 -- a text that is refused doesn't read
 pub read_not_refused : (text : List ℕ) (t : Values) → ReadsAs text t → IsRefused text → ⊥
-read_not_refused text t h (refusal, r) =
-    let read = rw (r.0) at h in
-    by_parts read
+read_not_refused text t h (refusal, r) = by_parts (rw (r.0) at h)
   where
-    unplaced : (parts : List (List ℕ)) (x : Refusal) → IsRefusal parts x → HasPlacement parts → ⊥
-    unplaced parts x r has = r.unplaced (placement_front r.count parts has)
-
     by_parts : (parts : List (List ℕ)) × ArePartsOf text parts × ReadsAsLeast parts t → ⊥
     by_parts (parts, are, (fs, least, holds)) =
-        unplaced (parts_of text) refusal (refusal_at text refusal r)
-        (subst HasPlacement (parts-only text parts are) (fs, least.placed))
-
-one_of : (a b : Bool) (x y t : Values) → cond a (Some x) (cond b (Some y) None) ≡ Some t → (x ≡ t) ⊎ (y ≡ t)
-one_of true b x y t h = inl cc
-one_of false true x y t h = inr cc
-one_of false false x y t h = cc
-
-special-plain : (text : List ℕ) (t : Values) → special_values text ≡ Some t → is_plain t.vendor ≡ true
-unfolding special_values
-special-plain text t h =
-    elim (one_of (bytes_eq text nintendo_3ds_text) (bytes_eq text esp_idf_text) nintendo_3ds esp_idf t h) [
-      | inl e ↦ subst (λ (u : Values). is_plain u.vendor ≡ true) e refl
-      | inr e ↦ subst (λ (u : Values). is_plain u.vendor ≡ true) e refl
-    ]
-
-placed-plain : (o : Option (List ℕ)) (d v : VendorValue) → is_plain d ≡ true → IsValueOf vendor_of d o v → is_plain v ≡ true
-placed-plain None d v plain h = subst (λ x. is_plain x ≡ true) (sym h) plain
-placed-plain (Some p) d v plain h = vendor-plain p v h
-
--- what is read has a plain vendor
-pub read_plain : ReadVendorsArePlain
-read_plain text t h = by_special (special_values text) refl h
-  where
-    by_special : (o : Option Values) → special_values text ≡ o
-        → MatchOption o ((parts : List (List ℕ)) × ArePartsOf text parts × ReadsAsLeast parts t) (λ s. t ≡ s) → is_plain t.vendor ≡ true
-    by_special (Some s) is e = special-plain text t (is ∙ ap Some (sym e))
-    by_special None is (parts, are, (fs, least, holds)) = placed-plain _ _ t.vendor refl holds.vendor
+        let at = refusal_at text refusal r in
+        at.unplaced (placement_front at.count (parts_of text) (subst HasPlacement (parts-only text parts are) (fs, least.placed)))

@@ -53,13 +53,13 @@ pub fn answers_are_computed()
 {}
 
 /// Every text that is read has a plain vendor.
-#[tactic(auto, using(crate::proofs::Unique::read_plain))]
+#[tactic(auto, using(crate::proofs::ReadValues::read_plain))]
 pub fn read_vendors_are_plain()
     ensures { ReadVendorsArePlain }
 {}
 
 /// What a text reads as has a plain vendor, and a version in range where its system holds one; so the laws of rounds speak of it.
-#[tactic(auto, using(crate::proofs::Unique::read_plain, crate::proofs::ReadVersions::read_in_range))]
+#[tactic(auto, using(crate::proofs::ReadValues::read_plain, crate::proofs::ReadValues::read_in_range))]
 pub fn read_triples_are_plain()
     ensures { ReadTriplesArePlain }
 {

@@ -8,7 +8,7 @@ use Rattle.target_lexicon.specs.Reading.{ReadsAs, IsRefusedAs, MayWantMemory, Is
 use Rattle.target_lexicon.specs.Refusal.{Refusal, refusal_of}
 use Rattle.target_lexicon.specs.Values.{Values, values_of}
 use Rattle.target_lexicon.proofs.Computed.{Holds, parts-hold}
-use Rattle.target_lexicon.proofs.Unique.{read_plain}
+use Rattle.target_lexicon.proofs.ReadValues.{read_plain}
 use Rattle.target_lexicon.proofs.triple.Triple.from_str.Goals as goal
 
 -- the answer that is computed tells what the text reads as, or its fault

@@ -1,0 +1,54 @@
+-- What holds of all values that are read: the vendor is plain, and the version in range.
+use Rattle.std.proofs.Common.{refl, ◌≡◌, ℕ, List, Bool, true, false, cond, Option, Some, None, IfSome, MatchOption, sym, subst}
+use Rattle.std.specs.Str.{bytes_eq}
+use Rattle.lexicon_fields.specs.declared.operating_system.OperatingSystem.{OperatingSystem}
+use Rattle.lexicon_fields.specs.declared.operating_system.OperatingSystem.TheVariants as operating_system
+use Rattle.lexicon_fields.specs.Laws.{HasVersionInRange}
+use Rattle.lexicon_fields.specs.OperatingSystem.{operating_system_of}
+use Rattle.lexicon_fields.specs.declared.known_vendor.KnownVendor.TheVariants.{Unknown}
+use Rattle.lexicon_fields.specs.Vendor.{VendorValue, Known, vendor_of, is_plain}
+use Rattle.target_lexicon.specs.Field.{Field}
+use Rattle.target_lexicon.specs.Laws.{ReadVendorsArePlain}
+use Rattle.target_lexicon.specs.Parts.{ArePartsOf}
+use Rattle.target_lexicon.specs.Reading.{HoldsParts, ReadsAs, ReadsAsLeast, IsValueOf}
+use Rattle.target_lexicon.specs.SpecialTexts.{special_values, nintendo_3ds, nintendo_3ds_text, esp_idf, esp_idf_text}
+use Rattle.target_lexicon.specs.Values.{Values}
+use Rattle.target_lexicon.proofs.Vendors.{vendor-plain}
+
+-- what holds of the two triples of special texts
+pub special-holds : (P : Values → Type 0) (text : List ℕ) → P nintendo_3ds → P esp_idf → IfSome (special_values text) P
+unfolding special_values
+special-holds P text nintendo esp = by_tests (bytes_eq text nintendo_3ds_text) (bytes_eq text esp_idf_text)
+  where
+    by_tests : (x y : Bool) → IfSome (cond x (Some nintendo_3ds) (cond y (Some esp_idf) None)) P
+    by_tests true y = nintendo
+    by_tests false true = esp
+    by_tests false false = tt
+
+-- what holds of these, and of what parts give, holds of what is read
+read-holds : (P : Values → Type 0) → P nintendo_3ds → P esp_idf → ((parts : List (List ℕ)) (fields : List Field) (t : Values) → HoldsParts parts fields t → P t)
+    → (text : List ℕ) (t : Values) → ReadsAs text t → P t
+read-holds P nintendo esp held text t reads = by_special (special_values text) (special-holds P text nintendo esp) reads
+  where
+    by_special : (special : Option Values) → IfSome special P → MatchOption special ((parts : List (List ℕ)) × ArePartsOf text parts × ReadsAsLeast parts t) (λ values. t ≡ values) → P t
+    by_special None special (parts, are, (fields, least, holds)) = held parts fields t holds
+    by_special (Some s) special same = subst P (sym same) special
+
+-- the vendor is plain
+
+placed-plain : (part : Option (List ℕ)) (v : VendorValue) → IsValueOf vendor_of (Known Unknown) part v → is_plain v ≡ true
+placed-plain None v is = rw is refl
+placed-plain (Some part) v is = vendor-plain part v is
+
+pub read_plain : ReadVendorsArePlain
+read_plain = read-holds (λ t. is_plain t.vendor ≡ true) refl refl (λ parts fields t holds. placed-plain _ t.vendor holds.vendor)
+
+-- the version that the system holds is in range
+
+module _ (version-in_range : (text : List ℕ) (s : OperatingSystem) → operating_system_of text ≡ Some s → HasVersionInRange s) where
+  placed-in_range : (part : Option (List ℕ)) (s : OperatingSystem) → IsValueOf operating_system_of operating_system.Unknown part s → HasVersionInRange s
+  placed-in_range None s is = rw is tt
+  placed-in_range (Some part) s is = version-in_range part s is
+
+  pub read_in_range : (text : List ℕ) (t : Values) → ReadsAs text t → HasVersionInRange t.operating_system
+  read_in_range = read-holds (λ t. HasVersionInRange t.operating_system) tt tt (λ parts fields t holds. placed-in_range _ t.operating_system holds.operating_system)
