@@ -1,5 +1,5 @@
 -- The function that reads field by field gives what a text reads as by placements, and how it is refused.
-use Rattle.std.proofs.Common.{◌≡◌, ℕ, ◌≤◌, List, [], ◌∷◌, true, false, nat_eq, refl, sym, ◌∙◌, ap, subst, Option, Some, None, Result, Ok, Err, arith, inl, inr, ◌↔◌, ◌⊎◌}
+use Rattle.std.proofs.Common.{◌≡◌, ℕ, ◌≤◌, List, [], ◌∷◌, true, false, nat_eq, refl, ◌∙◌, ap, subst, Option, Some, None, Result, Ok, Err, arith, inl, inr, ◌↔◌, ◌⊎◌}
 use Rattle.std.specs.Prelude.{MatchResult, is_some}
 use Rattle.lexicon_fields.specs.declared.architecture.Architecture.{Architecture as AnyArchitecture}
 use Rattle.lexicon_fields.specs.declared.operating_system.OperatingSystem.{OperatingSystem as AnySystem}

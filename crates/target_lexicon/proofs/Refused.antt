@@ -1,5 +1,5 @@
 -- What the greedy placement leaves is refused.
-use Rattle.std.proofs.Common.{◌≡◌, ℕ, suc, ◌≤◌, List, [], ◌∷◌, ◌++◌, length, take, true, false, refl, sym, ◌∙◌, ap, subst, Some, arith, inl, inr}
+use Rattle.std.proofs.Common.{◌≡◌, ℕ, suc, ◌≤◌, List, [], ◌∷◌, ◌++◌, length, take, true, false, refl, sym, ap, subst, Some, arith, inl, inr}
 use Rattle.std.proofs.lemmas.List.{take-append-le}
 use Rattle.std.specs.Prelude.{slice_get}
 use Rattle.target_lexicon.specs.Field.{Field, Architecture, reads}

@@ -13,8 +13,7 @@ use Rattle.lexicon_fields.specs.declared.binary_format.BinaryFormat.{BinaryForma
 use Rattle.lexicon_fields.specs.declared.binary_format.BinaryFormat.TheVariants as binary_format
 use Rattle.lexicon_fields.specs.Architecture.{architecture_name}
 use Rattle.lexicon_fields.specs.declared.known_vendor.KnownVendor.TheVariants.{Unknown, Nintendo, Espressif}
-use Rattle.lexicon_fields.specs.Vendor.{VendorValue, Known, vendor_name, vendor_of, is_plain}
-use Rattle.lexicon_fields.specs.OperatingSystem.{operating_system_name}
+use Rattle.lexicon_fields.specs.Vendor.{VendorValue, Known, vendor_name, is_plain}
 use Rattle.lexicon_fields.specs.Environment.{environment_name}
 use Rattle.lexicon_fields.specs.BinaryFormat.{binary_format_name}
 use Rattle.lexicon_fields.specs.Laws.{HasVersionInRange}

@@ -1,5 +1,5 @@
 -- The tests by which the step is written tell the families; so what holds in the case of each family, and outside them, holds of the step.
-use Rattle.std.proofs.Common.{◌≡◌, inl, inr, true, false, codes, refl, ap}
+use Rattle.std.proofs.Common.{◌≡◌, inl, inr, true, codes, refl, ap}
 use Rattle.std.specs.Bool.{Decides}
 use Rattle.std.proofs.lemmas.Slice.Eq.{bytes_eq-Decides}
 use Rattle.lexicon_fields.specs.declared.architecture.Architecture.{Architecture}
