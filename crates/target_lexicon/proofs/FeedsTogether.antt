@@ -3,16 +3,6 @@ use Rattle.std.proofs.Common.{◌≡◌, ◌++◌, [], ◌∙◌, sym, ap, appen
 use Rattle.std.specs.Hash.{HashWrites}
 use Rattle.lexicon_fields.specs.Hashing.{FeedsOfTell}
 
--- a kind of values feeds the same exactly where it is the same, if what is fed tells so whatever is behind it
-pub feeds_of_tell : {V W : Type 0} {IsOfKind : V → Type 0} {value : V → W} {feed : V → HashWrites}
-    → ((x y : V) (a b : HashWrites) → IsOfKind x → IsOfKind y → feed x ++ a ≡ feed y ++ b → (value x ≡ value y) × (a ≡ b))
-    → ((x y : V) → value x ≡ value y → feed x ≡ feed y)
-    → FeedsOfTell IsOfKind value feed
-feeds_of_tell tells respects = record {
-  exactly = λ x y hx hy. (λ same. (tells x y [] [] hx hy (ap (λ fed. fed ++ []) same)).0, respects x y);
-  with_more = tells;
-}
-
 module _ {T V W X Y : Type 0} {IsFirst : V → Type 0} {IsSecond : X → Type 0} {first : V → W} {second : X → Y}
     {feed_first : V → HashWrites} {feed_second : X → HashWrites} (p : T → V) (q : T → X)
     (one : FeedsOfTell IsFirst first feed_first) (other : FeedsOfTell IsSecond second feed_second) where

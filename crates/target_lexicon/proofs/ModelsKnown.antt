@@ -40,29 +40,20 @@ at_32 : (s : OperatingSystem) (c : Option CallingConvention) (a : Architecture) 
 at_32 Windows c a m h = cc
 at_32 _ c a m h = other_32 c a m h
 
--- a model has the pointer width by which it is chosen
-pointers_of_width : (w : Option PointerWidth) (s : OperatingSystem) (c : Option CallingConvention) (a : Architecture) (m : CDataModel)
-    → model_of_width w s c a ≡ Some m → option_map width_bits w ≡ Some (size_bits (sizes_of m).pointer)
-pointers_of_width (Some U64) s c a m h = elim (at_64 s c a m h) [ inl e ↦ rw e refl | inr e ↦ rw e refl ]
-pointers_of_width (Some U32) s c a m h = rw (at_32 s c a m h) refl
-pointers_of_width _ s c a m h = absurd cc
+-- a model has the pointer width by which it is chosen, and is one of three
+chosen : (w : Option PointerWidth) (s : OperatingSystem) (c : Option CallingConvention) (a : Architecture) (m : CDataModel) → model_of_width w s c a ≡ Some m
+    → (option_map width_bits w ≡ Some (size_bits (sizes_of m).pointer)) × ((m ≡ ILP32) ⊎ ((m ≡ LLP64) ⊎ (m ≡ LP64)))
+chosen (Some U64) s c a m h = elim (at_64 s c a m h) [ inl e ↦ rw e (refl, inr (inl refl)) | inr e ↦ rw e (refl, inr (inr refl)) ]
+chosen (Some U32) s c a m h = rw (at_32 s c a m h) (refl, inl refl)
+chosen _ s c a m h = absurd cc
 
 pub model_pointers : (t : Values) (m : CDataModel) → data_model t ≡ Some m → option_map width_bits (pointer_width t) ≡ Some (size_bits (sizes_of m).pointer)
 unfolding model_of
-model_pointers t m h =
-    pointers_of_width (pointer_width t) t.operating_system (calling_convention t) t.architecture m h
-
--- a model is one of three
-model_of_three : (w : Option PointerWidth) (s : OperatingSystem) (c : Option CallingConvention) (a : Architecture) (m : CDataModel)
-    → model_of_width w s c a ≡ Some m → (m ≡ ILP32) ⊎ ((m ≡ LLP64) ⊎ (m ≡ LP64))
-model_of_three (Some U64) s c a m h = inr (at_64 s c a m h)
-model_of_three (Some U32) s c a m h = inl (at_32 s c a m h)
-model_of_three _ s c a m h = absurd cc
+model_pointers t m h = (chosen (pointer_width t) t.operating_system (calling_convention t) t.architecture m h).0
 
 pub one_of_three : (t : Values) (m : CDataModel) → data_model t ≡ Some m → (m ≡ ILP32) ⊎ ((m ≡ LLP64) ⊎ (m ≡ LP64))
 unfolding model_of
-one_of_three t m h =
-    model_of_three (pointer_width t) t.operating_system (calling_convention t) t.architecture m h
+one_of_three t m h = (chosen (pointer_width t) t.operating_system (calling_convention t) t.architecture m h).1
 
 -- where no row of a table fits, there is no model
 no_other_64 : (c : CallingConvention) (a : Architecture)

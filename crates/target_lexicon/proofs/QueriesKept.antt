@@ -36,10 +36,6 @@ narrow_width a environment.Gnux32 narrow = refl
 narrow_width a environment.GnuIlp32 narrow = refl
 narrow_width a _ narrow = narrow
 
-narrow-alike : (a : Architecture) (v w : VendorValue) (s : OperatingSystem) (e d : Environment) (f g : BinaryFormat)
-    → width_in environment.Unknown a ≡ Some U32 → AnswersAlike (values a v s e f) (values a w s d g)
-narrow-alike a v w s e d f g narrow = alike_by_width a v w s e d f g (narrow_width a e narrow ∙ sym (narrow_width a d narrow))
-
 special-narrow : (t : Values) → PrintsAsSpecial t → width_in environment.Unknown t.architecture ≡ Some U32
 unfolding width_in
 special-narrow t special = elim special.fields [ inl device ↦ rw device.architecture refl | inr device ↦ rw device.architecture refl ]
@@ -65,7 +61,7 @@ pub kept : (t : Values) → AnswersAlike (normal_step t) t
 kept t =
     let a = t.architecture in let v = t.vendor in let s = t.operating_system in let e = t.environment in let f = t.binary_format in
     step_cases (λ u. AnswersAlike u t) t
-    (λ special. narrow-alike a v v s _ e _ f (special-narrow t special))
+    (λ special. let narrow = special-narrow t special in alike_by_width a v v s _ e _ f (narrow_width a _ narrow ∙ sym (narrow_width a e narrow)))
     (λ newlib. alike_by_width a v v s _ e _ f (newlib-width a ∙ ap (λ d. width_in d a) (sym newlib.0)))
     (λ esp. rw esp (alike_by_width _ _ _ _ _ _ _ _ (sym (newlib-width _))))
     (λ none. rw (none.operating_system, none.environment) (clever-alike a v f none.architecture))

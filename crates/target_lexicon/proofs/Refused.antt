@@ -1,5 +1,6 @@
 -- What the greedy placement leaves is refused.
 use Rattle.std.proofs.Common.{◌≡◌, ℕ, suc, ◌≤◌, List, [], ◌∷◌, ◌++◌, length, take, true, false, refl, sym, ap, subst, Some, arith, inl, inr}
+use Rattle.std.proofs.Math.Seq.{take-append_seam}
 use Rattle.std.proofs.lemmas.List.{take-append-le}
 use Rattle.std.specs.Prelude.{slice_get}
 use Rattle.target_lexicon.specs.Field.{Field, Architecture, reads}
@@ -38,8 +39,7 @@ stop (f ∷ fs) (p ∷ ps) q rest e =
         → p ∷ ps ≡ front ++ (q ∷ rest) → unread fs front ≡ [] → filled fs front ≡ filled fs (p ∷ ps)
         → unread fs (front ++ (q ∷ [])) ≡ q ∷ [] → Stop (f ∷ fs) (p ∷ ps) q rest
     by_front f fs p ps q rest [] skips split taken same stuck =
-        let head : p ≡ q = cc in
-        let also : reads f q ≡ false = subst (λ k. reads f k ≡ false) head skips in
+        let also : reads f q ≡ false = cc in
         record {
           front = [];
           split = split;
@@ -48,8 +48,7 @@ stop (f ∷ fs) (p ∷ ps) q rest e =
           stuck = rw also stuck;
         }
     by_front f fs p ps q rest (r ∷ front) skips split taken same stuck =
-        let head : p ≡ r = cc in
-        let also : reads f r ≡ false = subst (λ k. reads f k ≡ false) head skips in
+        let also : reads f r ≡ false = cc in
         record {
           front = r ∷ front;
           split = split;
@@ -80,10 +79,6 @@ get-at : (front : List (List ℕ)) (q : List ℕ) (rest : List (List ℕ)) → s
 get-at [] q rest = refl
 get-at (r ∷ front) q rest = get-at front q rest
 
-take-at : (front : List (List ℕ)) (q : List ℕ) (rest : List (List ℕ)) → take (length front) (front ++ (q ∷ rest)) ≡ front
-take-at [] q rest = refl
-take-at (r ∷ front) q rest = ap (λ k. r ∷ k) (take-at front q rest)
-
 take-past : (front : List (List ℕ)) (q : List ℕ) (rest : List (List ℕ)) → take (suc (length front)) (front ++ (q ∷ rest)) ≡ front ++ (q ∷ [])
 take-past [] q rest = refl
 take-past (r ∷ front) q rest = ap (λ k. r ∷ k) (take-past front q rest)
@@ -100,7 +95,7 @@ refused-at p front q rest takes taken stuck =
       refused = get-at front q rest;
       unplaced = subst (λ k. HasPlacement (p ∷ k) → ⊥) (sym (take-past front q rest)) (left-unplaced p (front ++ (q ∷ [])) q [] stuck);
       placed = λ k h. fewer k (omega (arith, h)) (placement_front k (p ∷ front) placed);
-      lacked = subst (λ k. IsLackedBehind (p ∷ k) (lack_behind (last_of Architecture (filled behind_architecture front)))) (sym (take-at front q rest))
+      lacked = subst (λ k. IsLackedBehind (p ∷ k) (lack_behind (last_of Architecture (filled behind_architecture front)))) (sym (take-append_seam front (q ∷ rest)))
           (Architecture, (filled behind_architecture front, least, refl));
     }
   where

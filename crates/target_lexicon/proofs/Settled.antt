@@ -12,7 +12,7 @@ use Rattle.lexicon_fields.specs.ArchitectureQueries.{is_clever}
 use Rattle.lexicon_fields.specs.declared.known_vendor.KnownVendor.TheVariants.{Nintendo, Espressif}
 use Rattle.lexicon_fields.specs.Vendor.{VendorValue, Known, is_plain}
 use Rattle.lexicon_fields.specs.Laws.{HasVersionInRange}
-use Rattle.target_lexicon.specs.Families.{IsNintendo3ds, IsEspIdf, HidesNewlib}
+use Rattle.target_lexicon.specs.Families.{IsNintendo3ds, IsEspIdf, HidesNewlib, PrintsTheEspIdfText}
 use Rattle.target_lexicon.specs.FixedPoints.{IsPlainTriple, RoundIsNormalStep, settled, SecondStepChangesNone, SettledTextsAreKeys}
 use Rattle.target_lexicon.specs.ImpliedFormat.{implied_format}
 use Rattle.target_lexicon.specs.Laws.{ComesBack}
@@ -38,44 +38,31 @@ special-stays : (t : Values) → IsNintendo3ds t ⊎ IsEspIdf t
 special-stays t (inl is) = rw (is.architecture, is.vendor, is.operating_system) nintendo_3ds-stays
 special-stays t (inr is) = rw (is.architecture, is.vendor, is.operating_system) esp_idf-stays
 
-nintendo-stays : (a : Architecture) (f : BinaryFormat) → a ≢ architecture.Arm arm.Armv6k
-    → normal_step (values a (Known Nintendo) operating_system.Horizon environment.Unknown (elf_if_unknown f)) ≡ values a (Known Nintendo) operating_system.Horizon environment.Unknown (elf_if_unknown f)
-unfolding normal_step
-nintendo-stays (architecture.Arm arm.Armv6k) f other = absurd (other refl)
-nintendo-stays _ binary_format.Unknown other = refl
-nintendo-stays _ _ other = refl
+-- with an unknown environment the special texts alone tell whether a triple stays
+unknown-stays : (t : Values) → t.environment ≡ environment.Unknown → ¬ (IsNintendo3ds t ⊎ IsEspIdf t) → ¬ PrintsTheEspIdfText t → normal_step t ≡ t
+unknown-stays t unknown special esp = outside-fixed t (record {
+  special = λ is. special is.fields;
+  newlib = λ is. let newlib = is.0 in cc;
+  esp = esp;
+  none = λ is. let none = is.environment in cc;
+})
 
-espressif-stays : (a : Architecture) (f : BinaryFormat) → a ≢ architecture.Riscv32 riscv32.Riscv32imc
-    → normal_step (values a (Known Espressif) operating_system.Espidf environment.Unknown (elf_if_unknown f)) ≡ values a (Known Espressif) operating_system.Espidf environment.Unknown (elf_if_unknown f)
-unfolding normal_step
-espressif-stays (architecture.Riscv32 riscv32.Riscv32imc) f other = absurd (other refl)
-espressif-stays _ binary_format.Unknown other = refl
-espressif-stays _ _ other = refl
+newlib-stays : (t : Values) → HidesNewlib t → let u = values t.architecture t.vendor t.operating_system environment.Unknown (elf_if_unknown t.binary_format) in normal_step u ≡ u
+newlib-stays t (newlib, inl on) = unknown-stays (values t.architecture t.vendor t.operating_system environment.Unknown (elf_if_unknown t.binary_format)) refl
+    (λ special. elim special [ inl of ↦ on.2 of.architecture | inr of ↦ cc ]) (λ esp. let of = ap (λ x. x.vendor) esp in cc)
+newlib-stays t (newlib, inr on) = unknown-stays (values t.architecture t.vendor t.operating_system environment.Unknown (elf_if_unknown t.binary_format)) refl
+    (λ special. elim special [ inl of ↦ cc | inr of ↦ on.2 of.architecture ]) (λ esp. let of = ap (λ x. x.vendor) esp in cc)
 
-newlib-stays : (t : Values) → HidesNewlib t
-    → normal_step (values t.architecture t.vendor t.operating_system environment.Unknown (elf_if_unknown t.binary_format)) ≡ values t.architecture t.vendor t.operating_system environment.Unknown (elf_if_unknown t.binary_format)
-newlib-stays t is = elim is.1 [
-  | inl on ↦ rw (on.0, on.1) (nintendo-stays t.architecture t.binary_format on.2)
-  | inr on ↦ rw (on.0, on.1) (espressif-stays t.architecture t.binary_format on.2)
-]
-
-clever-stays : (a : Architecture) (v : VendorValue) (f : BinaryFormat) → is_clever a ≡ true
-    → normal_step (values a v operating_system.None_ environment.Unknown f) ≡ values a v operating_system.None_ environment.Unknown f
-unfolding normal_step implied_format
-clever-stays (architecture.Clever sub) v binary_format.Unknown is = refl
-clever-stays (architecture.Clever sub) v _ is = refl
-clever-stays _ v f is = absurd cc
-
-step-stays : (t : Values) → normal_step (normal_step t) ≡ normal_step t
-step-stays t = step_cases (λ u. normal_step u ≡ u) t
-    (λ is. special-stays t is.fields)
-    (λ is. newlib-stays t is)
-    (λ is. rw (ap (λ x. x.architecture) is, ap (λ x. x.operating_system) is) esp_idf-stays)
-    (λ is. clever-stays t.architecture t.vendor t.binary_format is.architecture)
-    (λ outside. outside-fixed t outside)
+none-stays : (a : Architecture) (v : VendorValue) (f : BinaryFormat) → let u = values a v operating_system.None_ environment.Unknown f in normal_step u ≡ u
+none-stays a v f = unknown-stays (values a v operating_system.None_ environment.Unknown f) refl (λ special. elim special [ inl of ↦ cc | inr of ↦ cc ]) (λ esp. let of = ap (λ x. x.operating_system) esp in cc)
 
 pub second_changes_none : SecondStepChangesNone
-second_changes_none = step-stays
+second_changes_none t = step_cases (λ u. normal_step u ≡ u) t
+    (λ is. special-stays t is.fields)
+    (newlib-stays t)
+    (λ is. rw (ap (λ x. x.architecture) is, ap (λ x. x.operating_system) is) esp_idf-stays)
+    (λ is. none-stays t.architecture t.vendor t.binary_format)
+    (λ outside. outside-fixed t outside)
 
 -- the step keeps a triple plain
 
@@ -93,7 +80,7 @@ step-plain t plain = record { vendor = step-vendor_plain t plain.vendor; version
 module _ (round : RoundIsNormalStep) where
   pub settled-comes_back : (t : Values) → IsPlainTriple t → ComesBack (settled t)
   settled-comes_back t plain =
-      subst (λ (u : Values). ReadsAs (text_of (settled t)) u) (step-stays (normal_step t)) (round (settled t) (step-plain (normal_step t) (step-plain t plain)))
+      subst (λ (u : Values). ReadsAs (text_of (settled t)) u) (second_changes_none (normal_step t)) (round (settled t) (step-plain (normal_step t) (step-plain t plain)))
 
   pub settled_are_keys : SettledTextsAreKeys
   settled_are_keys = record {

@@ -1,6 +1,7 @@
 -- Where system and environment are shown for the sake of an unknown format, the text is longer than upstream's.
 use Rattle.std.proofs.Common.{◌≡◌, ◌≢◌, ℕ, Bool, true, false, List, [], ◌∷◌, ◌++◌, Option, Some, None, codes, refl, sym, ap, ◌∙◌}
 use Rattle.std.specs.List.{join_with_byte}
+use Rattle.std.proofs.lemmas.List.{append_cancel_left}
 use Rattle.lexicon_fields.specs.declared.architecture.Architecture.{Architecture}
 use Rattle.lexicon_fields.specs.declared.architecture.Architecture.TheVariants as architecture
 use Rattle.lexicon_fields.specs.declared.operating_system.OperatingSystem.{OperatingSystem}
@@ -19,23 +20,14 @@ use Rattle.target_lexicon.specs.Upstream.{ShowsUnknowns, OtherTextsThanUpstream}
 use Rattle.target_lexicon.specs.Values.{Values, values}
 use Rattle.target_lexicon.proofs.Printed.{dashed, dashed_joined}
 
-behind : ℕ → List ℕ → List ℕ
-behind n [] = []
-behind n (x ∷ s) = s
-
-same_behind : (p s t : List ℕ) → p ++ s ≡ p ++ t → s ≡ t
-unfolding behind
-same_behind [] s t same = same
-same_behind (x ∷ p) s t same = same_behind p s t (ap (behind 0) same)
-
 -- the same part before two lists changes nothing
 same_parts : (b : Bool) (part : List ℕ) (ps qs : List (List ℕ)) → dashed (when b part ps) ≡ dashed (when b part qs) → dashed ps ≡ dashed qs
 unfolding dashed
-same_parts true part ps qs same = same_behind (45 ∷ part) (dashed ps) (dashed qs) same
+same_parts true part ps qs same = append_cancel_left (45 ∷ part) (dashed ps) (dashed qs) same
 same_parts false part ps qs same = same
 
 same_first : (part : List ℕ) (ps qs : List (List ℕ)) → join_with_byte 45 (part ∷ ps) ≡ join_with_byte 45 (part ∷ qs) → dashed ps ≡ dashed qs
-same_first part ps qs same = same_behind part (dashed ps) (dashed qs) (dashed_joined part ps ∙ same ∙ sym (dashed_joined part qs))
+same_first part ps qs same = append_cancel_left part (dashed ps) (dashed qs) (dashed_joined part ps ∙ same ∙ sym (dashed_joined part qs))
 
 abbrev unknown : List ℕ
 unknown = codes "unknown"
@@ -68,20 +60,15 @@ unknowns_shown : (i : BinaryFormat) → i ≢ binary_format.Unknown → shows_un
 unknowns_shown binary_format.Unknown other = absurd (other refl)
 unknowns_shown _ other = refl
 
-other_text : (a : Architecture) (v : VendorValue) (s : OperatingSystem) (e : Environment) (f : BinaryFormat) → ShowsUnknowns (values a v s e f) → text_of (values a v s e f) ≢ upstream_text_of (values a v s e f)
+other_text : (t : Values) → ShowsUnknowns t → text_of t ≢ upstream_text_of t
 unfolding text_of upstream_text_of
-other_text a v s e f is same =
-    longer a v s (rw (is.special, is.environment, is.binary_format, unknowns_shown _ (rw (is.environment) at is.implied)) at same)
+other_text t is same =
+    longer t.architecture t.vendor t.operating_system (rw (is.special, is.environment, is.binary_format, unknowns_shown _ (rw (is.environment) at is.implied)) at same)
 
 -- which fields they are
-record AreUnknown (e : Environment) (f i : BinaryFormat) : Type 0 where
-  implied : i ≢ binary_format.Unknown
-  environment : e ≡ environment.Unknown
-  binary_format : f ≡ binary_format.Unknown
-
-are_unknown : (e : Environment) (f i : BinaryFormat) → shows_unknowns e f i ≡ true → AreUnknown e f i
+are_unknown : (e : Environment) (f i : BinaryFormat) → shows_unknowns e f i ≡ true → (e ≡ environment.Unknown) × (f ≡ binary_format.Unknown) × (i ≢ binary_format.Unknown)
 are_unknown environment.Unknown binary_format.Unknown binary_format.Unknown shown = absurd cc
-are_unknown environment.Unknown binary_format.Unknown i shown = record { environment = refl; binary_format = refl; implied = λ is. cc }
+are_unknown environment.Unknown binary_format.Unknown i shown = (refl, refl, λ is. cc)
 are_unknown _ _ i shown = absurd cc
 
 shows_unknowns_by : (t : Values) (special : Option (List ℕ)) (b : Bool) → special_text t.operating_system t.vendor t.architecture ≡ special
@@ -91,10 +78,7 @@ shows_unknowns_by t (Some text) b special shown other = absurd (other (rw specia
 shows_unknowns_by t None false special shown other = absurd (other (ap (λ both. text_by both t) shown))
 shows_unknowns_by t None true special shown other =
     let is = are_unknown t.environment t.binary_format (implied t) shown in
-    record { environment = is.environment; binary_format = is.binary_format; implied = is.implied; special = special }
+    record { environment = is.0; binary_format = is.1; implied = is.2; special = special }
 
 pub other_texts : OtherTextsThanUpstream
-other_texts t = (
-  shows_unknowns_by t _ _ refl refl,
-  other_text t.architecture t.vendor t.operating_system t.environment t.binary_format,
-)
+other_texts t = (shows_unknowns_by t _ _ refl refl, other_text t)
