@@ -30,7 +30,8 @@ read-holds : (P : Values → Type 0) → P nintendo_3ds → P esp_idf → ((part
     → (text : List ℕ) (t : Values) → ReadsAs text t → P t
 read-holds P nintendo esp held text t reads = by_special (special_values text) (special-holds P text nintendo esp) reads
   where
-    by_special : (special : Option Values) → IfSome special P → MatchOption special ((parts : List (List ℕ)) × ArePartsOf text parts × ReadsAsLeast parts t) (λ values. t ≡ values) → P t
+    by_special : (special : Option Values) → IfSome special P
+        → MatchOption special ((parts : List (List ℕ)) × ArePartsOf text parts × ReadsAsLeast parts t) (λ values. t ≡ values) → P t
     by_special None special (parts, are, (fields, least, holds)) = held parts fields t holds
     by_special (Some s) special same = subst P (sym same) special
 

@@ -131,7 +131,8 @@ module _ (names : NamesAreRead) where
   -- what is shown behind the system, read back
   abbrev ReadsBehind : Values → Field → Values → Type 0
   ReadsBehind t last u = read_environment t.architecture t.vendor t.operating_system last
-      (when (both_unknown t || shows_environment t.environment t.operating_system t.vendor) (environment_name t.environment) (when (shows_binary_format t) (binary_format_name t.binary_format) [])) ≡ Ok u
+      (when (both_unknown t || shows_environment t.environment t.operating_system t.vendor) (environment_name t.environment)
+      (when (shows_binary_format t) (binary_format_name t.binary_format) [])) ≡ Ok u
 
   newlib-read : (t : Values) (last : Field) → HidesNewlib t
       → ReadsBehind t last (values t.architecture t.vendor t.operating_system environment.Unknown (elf_if_unknown t.binary_format))
@@ -147,7 +148,8 @@ module _ (names : NamesAreRead) where
     unknown-read e f last is hidden = rw is (hidden-read a v s f _ last
         ∙ ap (λ x. Ok (values a v s environment.Unknown x)) (shown_unless_unknown f _ _ (rw is at hidden) (shown_or_implied (values a v s environment.Unknown f))))
 
-    outside-read : (e : Environment) (f : BinaryFormat) (last : Field) → ¬ HidesNewlib (values a v s e f) → (b : Bool) → (both_unknown (values a v s e f) || shows_environment e s v) ≡ b
+    outside-read : (e : Environment) (f : BinaryFormat) (last : Field) → ¬ HidesNewlib (values a v s e f) → (b : Bool)
+        → (both_unknown (values a v s e f) || shows_environment e s v) ≡ b
         → read_environment a v s last (when b (environment_name e) (when (shows_binary_format (values a v s e f)) (binary_format_name f) [])) ≡ Ok (values a v s e f)
     outside-read e f last outside true is = shown-read a v s e f _ last ∙ ap (λ x. Ok (values a v s e x)) (shown_or_implied (values a v s e f))
     outside-read e f last outside false is =
@@ -169,7 +171,8 @@ module _ (names : NamesAreRead) where
   -- architecture, vendor and system, read back
 
   front : (a : Architecture) (v : VendorValue) (b : Bool) (rest : List (List ℕ)) (result : Result Values Refusal) → is_plain v ≡ true
-      → (b ≡ false → (v ≡ Known Unknown) × (read_vendor a rest ≡ read_operating_system a (Known Unknown) field.Architecture rest)) → ((last : Field) → read_operating_system a v last rest ≡ result)
+      → (b ≡ false → (v ≡ Known Unknown) × (read_vendor a rest ≡ read_operating_system a (Known Unknown) field.Architecture rest))
+      → ((last : Field) → read_operating_system a v last rest ≡ result)
       → read_parts (architecture_name a ∷ when b (vendor_name v) rest) ≡ result
   front a v true rest result plain hidden reads = rw (names.architecture.reads_back a tt, names.vendor.reads_back v plain) (reads field.Vendor)
   front a v false rest result plain hidden reads = rw (names.architecture.reads_back a tt) ((hidden refl).1 ∙ rw (sym (hidden refl).0) (reads field.Architecture))
@@ -201,7 +204,8 @@ module _ (names : NamesAreRead) where
       → read_parts (shown_parts false (values (architecture.Clever c) v operating_system.Unknown e f)) ≡ Ok (normal_step (values (architecture.Clever c) v operating_system.Unknown e f))
   unfolding shown_parts shows_operating_system
   clever-round c v e f plain hidden =
-      front (architecture.Clever c) v _ _ _ plain (λ h. absurd (let is = (hidden_vendor v operating_system.Unknown e (architecture.Clever c) h).1 in cc)) (λ last. clever-read c v e f last hidden)
+      front (architecture.Clever c) v _ _ _ plain
+      (λ h. absurd (let is = (hidden_vendor v operating_system.Unknown e (architecture.Clever c) h).1 in cc)) (λ last. clever-read c v e f last hidden)
 
   module _ (a : Architecture) (v : VendorValue) (s : OperatingSystem) (e : Environment) (f : BinaryFormat) (plain : is_plain v ≡ true) (range : HasVersionInRange s)
       (none : special_text s v a ≡ None) (apart : prints_the_esp_idf_text e f s a v ≡ false) where

@@ -47,14 +47,16 @@ unknown-stays t unknown special esp = outside-fixed t (record {
   none = λ is. let none = is.environment in cc;
 })
 
-newlib-stays : (t : Values) → HidesNewlib t → let u = values t.architecture t.vendor t.operating_system environment.Unknown (elf_if_unknown t.binary_format) in normal_step u ≡ u
+newlib-stays : (t : Values) → HidesNewlib t
+    → let u = values t.architecture t.vendor t.operating_system environment.Unknown (elf_if_unknown t.binary_format) in normal_step u ≡ u
 newlib-stays t (newlib, inl on) = unknown-stays (values t.architecture t.vendor t.operating_system environment.Unknown (elf_if_unknown t.binary_format)) refl
     (λ special. elim special [ inl of ↦ on.2 of.architecture | inr of ↦ cc ]) (λ esp. let of = ap (λ x. x.vendor) esp in cc)
 newlib-stays t (newlib, inr on) = unknown-stays (values t.architecture t.vendor t.operating_system environment.Unknown (elf_if_unknown t.binary_format)) refl
     (λ special. elim special [ inl of ↦ cc | inr of ↦ on.2 of.architecture ]) (λ esp. let of = ap (λ x. x.vendor) esp in cc)
 
 none-stays : (a : Architecture) (v : VendorValue) (f : BinaryFormat) → let u = values a v operating_system.None_ environment.Unknown f in normal_step u ≡ u
-none-stays a v f = unknown-stays (values a v operating_system.None_ environment.Unknown f) refl (λ special. elim special [ inl of ↦ cc | inr of ↦ cc ]) (λ esp. let of = ap (λ x. x.operating_system) esp in cc)
+none-stays a v f = unknown-stays (values a v operating_system.None_ environment.Unknown f) refl
+    (λ special. elim special [ inl of ↦ cc | inr of ↦ cc ]) (λ esp. let of = ap (λ x. x.operating_system) esp in cc)
 
 pub second_changes_none : SecondStepChangesNone
 second_changes_none t = step_cases (λ u. normal_step u ≡ u) t
