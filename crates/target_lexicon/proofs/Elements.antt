@@ -21,9 +21,8 @@ read-more : (xs : List Value) (i : ℕ) (x : Value) (ts : List Values) (t : Valu
     → ElementsReadAs (items_view (take i xs)) ts → JsonReadsAs (view (get_or xs i x)) t → ElementsReadAs (items_view (take (suc i) xs)) (ts ++ t ∷ [])
 read-more [] i x ts t within read reads = absurd (omega arith)
 read-more (y ∷ ys) zero x [] t within read reads = (reads, tt)
-read-more (y ∷ ys) zero x (u ∷ us) t within read reads = absurd read
-read-more (y ∷ ys) (suc i) x [] t within read reads = absurd read
 read-more (y ∷ ys) (suc i) x (u ∷ us) t within read reads = (read.0, read-more ys i x us t (omega arith) read.1 reads)
+read-more _ _ x _ t within read reads = absurd read
 
 pub elements_read-more : (xs : List Value) (i : ℕ) (x : Value) (old new : List Triple) (t : Triple) → i < length xs → x ≡ get_or xs i x → new ≡ old ++ t ∷ []
     → ElementsReadAs (items_view (take i xs)) (map values_of old) → JsonReadsAs (view x) (values_of t)

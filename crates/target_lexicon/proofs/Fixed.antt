@@ -42,10 +42,6 @@ not_both t plain outside (inr (inr (inl is))) = outside.esp is
 not_both t plain outside (inr (inr (inr (inl is)))) = outside.none is
 not_both t plain outside (inr (inr (inr (inr is)))) = let bad : true ≡ false = sym plain ∙ is in cc
 
-back_by : (t : Values) → ComesBack t ⊎ IsInSomeFamily t → ¬ IsInSomeFamily t → ComesBack t
-back_by t (inl back) none = back
-back_by t (inr is) none = absurd (none is)
-
 -- what the tests of the families tell
 no_family-tells : (t : Values) → Decides (is_in_no_family t) (IsOutside t × (is_plain t.vendor ≡ true))
 unfolding is_in_no_family
@@ -80,7 +76,7 @@ module _ (round : RoundIsNormalStep) where
   -- a triple comes back exactly outside the families
   pub fixed_exactly_outside : FixedExactlyOutsideFamilies
   fixed_exactly_outside t range = record {
-    exactly = (λ back. let is = back-outside t range back in not_both t is.0 is.1, back_by t (either t range));
+    exactly = (λ back. let is = back-outside t range back in not_both t is.0 is.1, λ none. elim (either t range) [ inl back ↦ back | inr is ↦ absurd (none is) ]);
     either = either t range;
   }
 

@@ -35,11 +35,6 @@ place-injective Environment Environment e = refl
 place-injective BinaryFormat BinaryFormat e = refl
 place-injective f g e = cc
 
-not_skipped : (p : List ℕ) (f g : Field) → reads f p ≡ false → reads g p ≡ true → place g ≡ place f → ⊥
-not_skipped p f g skips takes e =
-    let same : g ≡ f = place-injective g f e in
-    cc
-
 -- a field that is placed behind one, and isn't the next, is behind the next
 weaken : (l k : Field) (ps : List (List ℕ)) (gs : List Field) → place k ≤ place l → IsPlacedBehind l ps gs → IsPlacedBehind k ps gs
 weaken l k (p ∷ ps) (g ∷ gs) h w = (omega (arith, w.0), w.1, w.2)
@@ -69,7 +64,7 @@ filled-least l (f ∷ fs) (p ∷ ps) (g ∷ gs) h w =
           let rest = filled-least f fs ps gs h.1 (weaken g f ps gs (omega (arith, h.0, w.0)) w.2) in
           rw takes (rest.0, (omega (arith, h.0, w.0), rest.1))
       | inr skips ↦
-          let other : place g ≢ place f = λ e. not_skipped p f g skips w.1 e in
+          let other : place g ≢ place f = λ e. let same : g ≡ f = place-injective g f e in let takes = w.1 in cc in
           let behind : place f < place g = omega (arith, h.0, w.0, other) in
           let rest = filled-least f fs (p ∷ ps) (g ∷ gs) h.1 (behind, w.1, w.2) in
           rw skips rest

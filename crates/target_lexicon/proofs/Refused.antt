@@ -32,7 +32,9 @@ stop (f ∷ fs) (p ∷ ps) q rest e =
             same = rw takes (ap (λ k. f ∷ k) s.same);
             stuck = rw takes s.stuck;
           }
-      | inr skips ↦ skipped f fs p ps q rest skips (stop fs (p ∷ ps) q rest (rw skips at e))
+      | inr skips ↦
+          let s = stop fs (p ∷ ps) q rest (rw skips at e) in
+          by_front f fs p ps q rest s.front skips s.split s.taken s.same s.stuck
     ]
   where
     by_front : (f : Field) (fs : List Field) (p : List ℕ) (ps : List (List ℕ)) (q : List ℕ) (rest front : List (List ℕ)) → reads f p ≡ false
@@ -56,10 +58,6 @@ stop (f ∷ fs) (p ∷ ps) q rest e =
           same = rw (also, skips) same;
           stuck = rw also stuck;
         }
-
-    skipped : (f : Field) (fs : List Field) (p : List ℕ) (ps : List (List ℕ)) (q : List ℕ) (rest : List (List ℕ)) → reads f p ≡ false
-        → Stop fs (p ∷ ps) q rest → Stop (f ∷ fs) (p ∷ ps) q rest
-    skipped f fs p ps q rest skips s = by_front f fs p ps q rest s.front skips s.split s.taken s.same s.stuck
 
 -- the first part is refused where it reads as no architecture
 pub first-refused : (p : List ℕ) (ps : List (List ℕ)) → reads Architecture p ≡ false → IsRefusal (p ∷ ps) (refused (Lacks Architecture) p)

@@ -24,14 +24,6 @@ pub alike : {A : Type 0} (r b : Bool) (v w x y : A) → r ≡ b → Decides b (v
 alike r b v w x y is test first second =
     Decides-at r b is (Decides-like b (λ same. sym first ∙ same ∙ second) (λ same. first ∙ same ∙ sym second) test)
 
-same_fields : (t u : Values) → t.architecture ≡ u.architecture → (normal_step t).vendor ≡ (normal_step u).vendor
-    → (normal_step t).operating_system ≡ (normal_step u).operating_system → (normal_step t).environment ≡ (normal_step u).environment
-    → (normal_step t).binary_format ≡ (normal_step u).binary_format → settled t ≡ settled u
-same_fields t u a v s e f =
-    second_changes_none t
-    ∙ same_values (normal_step t) (normal_step u) (step-architecture t ∙ a ∙ sym (step-architecture u)) v s e f
-    ∙ sym (second_changes_none u)
-
 -- the five tests, each behind the one before it
 abbrev pub AreSameFields : Values → Values → Type 0
 AreSameFields t u = ((((t.architecture ≡ u.architecture) × ((normal_step t).vendor ≡ (normal_step u).vendor))
@@ -52,6 +44,8 @@ fields_of_settled t u same = (
 
 pub settles_alike : (r : Bool) (t u : Values) → Decides r (AreSameFields t u) → Decides r (settled t ≡ settled u)
 settles_alike r t u tests = Decides-like r
-    (λ h. same_fields t u h.0.0.0.0 h.0.0.0.1 h.0.0.1 h.0.1 h.1)
+    (λ h. second_changes_none t
+        ∙ same_values (normal_step t) (normal_step u) (step-architecture t ∙ h.0.0.0.0 ∙ sym (step-architecture u)) h.0.0.0.1 h.0.0.1 h.0.1 h.1
+        ∙ sym (second_changes_none u))
     (λ same. fields_of_settled t u (sym (second_changes_none t) ∙ same ∙ second_changes_none u))
     tests

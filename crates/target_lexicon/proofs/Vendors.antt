@@ -1,5 +1,5 @@
 -- What reads as a vendor.
-use Rattle.std.proofs.Common.{◌≡◌, ℕ, List, Bool, true, ◌&&◌, is_none, refl, sym, ◌∙◌, subst, Option, Some, None}
+use Rattle.std.proofs.Common.{◌≡◌, ◌⊎◌, inl, inr, ℕ, List, Bool, true, ◌&&◌, is_none, refl, sym, ◌∙◌, subst, Option, Some, None}
 use Rattle.std.specs.Prelude.{option_map}
 use Rattle.std.specs.Option.{option_or}
 use Rattle.lexicon_fields.specs.declared.known_vendor.KnownVendor.{KnownVendor}
@@ -7,31 +7,23 @@ use Rattle.lexicon_fields.specs.Vendor.{VendorValue, Known, Custom, known_vendor
 use Rattle.lexicon_fields.specs.declared.vendor.Vendor.{Vendor}
 use Rattle.std.proofs.lemmas.Option.{cond_some}
 
--- a custom vendor is read from an admitted text
-custom-plain : (text : List ℕ) (v : VendorValue) → custom_of text ≡ Some v → is_plain v ≡ true
-custom-plain text v h = let admitted = cond_some (is_admitted text) (Custom text) v h in subst (λ x. is_plain x ≡ true) admitted.1 admitted.0
+-- what reads as a vendor: a known one, or the custom one of an admitted text
+vendor-read : (text : List ℕ) (v : VendorValue) → vendor_of text ≡ Some v → ((known : KnownVendor) × (v ≡ Known known)) ⊎ ((is_admitted text ≡ true) × (v ≡ Custom text))
+unfolding vendor_of
+vendor-read text v h = by_known (known_vendor_of text) h
+  where
+    by_known : (o : Option KnownVendor) → option_or (option_map Known o) (custom_of text) ≡ Some v
+        → ((known : KnownVendor) × (v ≡ Known known)) ⊎ ((is_admitted text ≡ true) × (v ≡ Custom text))
+    by_known None h = let custom = cond_some (is_admitted text) (Custom text) v h in inr (custom.0, sym custom.1)
+    by_known (Some known) h = inl (known, cc)
 
 -- what reads as a vendor is plain
 pub vendor-plain : (text : List ℕ) (v : VendorValue) → vendor_of text ≡ Some v → is_plain v ≡ true
-unfolding vendor_of
-vendor-plain text v h = by_known (known_vendor_of text) h
-  where
-    by_known : (o : Option KnownVendor) → option_or (option_map Known o) (custom_of text) ≡ Some v → is_plain v ≡ true
-    by_known None h = custom-plain text v h
-    by_known (Some known) h =
-        let same : Known known ≡ v = cc in
-        subst (λ x. is_plain x ≡ true) same refl
+vendor-plain text v h = elim (vendor-read text v h) [ inl is ↦ rw is.1 refl | inr is ↦ rw is.1 is.0 ]
 
 -- a text that reads as a custom vendor is admitted
 custom-admitted : (text : List ℕ) (v : VendorValue) → vendor_of text ≡ Some v → IsCustom v → is_admitted text ≡ true
-unfolding vendor_of
-custom-admitted text v h = by_known (known_vendor_of text) h
-  where
-    by_known : (o : Option KnownVendor) → option_or (option_map Known o) (custom_of text) ≡ Some v → IsCustom v → is_admitted text ≡ true
-    by_known None h custom = (cond_some (is_admitted text) (Custom text) v h).0
-    by_known (Some known) h custom =
-        let same : Known known ≡ v = cc in
-        absurd (subst IsCustom (sym same) custom)
+custom-admitted text v h custom = elim (vendor-read text v h) [ inl is ↦ absurd (rw is.1 at custom) | inr is ↦ is.0 ]
 
 -- a vendor that owns its text where that is admitted owns the text of a custom one
 pub owns_custom_text : (text : List ℕ) (v : Vendor) → vendor_of text ≡ Some (vendor_value v) → owns_text v ≡ is_admitted text → OwnsCustomText v
