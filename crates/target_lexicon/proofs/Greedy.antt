@@ -1,5 +1,5 @@
 -- The placement that takes, field by field, each part at the first field that reads it.
-use Rattle.std.proofs.Common.{◌≡◌, ◌≢◌, ℕ, zero, suc, ◌+◌, ◌<◌, ◌≤◌, List, [], ◌∷◌, take, true, false, refl, subst, cond, arith, inl, inr}
+use Rattle.std.proofs.Common.{◌≡◌, ◌≢◌, ℕ, zero, suc, ◌+◌, ◌<◌, ◌≤◌, List, [], ◌∷◌, take, true, refl, subst, cond, arith, inl, inr}
 use Rattle.target_lexicon.specs.Field.{Field, Architecture, Vendor, OperatingSystem, Environment, BinaryFormat, place, reads}
 use Rattle.target_lexicon.specs.Placement.{IsPlacedBehind, IsPlacement, AreNotBehind, IsLeast, HasPlacement}
 use Rattle.target_lexicon.specs.Laws.{HasOneLeast}

@@ -1,5 +1,6 @@
 -- What the names of one field read as in a field before it.
-use Rattle.std.proofs.Common.{◌≡◌, ℕ, List, Bool, true, false, ◌&&◌, Option, Some, None, refl}
+use Rattle.std.proofs.Common.{◌≡◌, ℕ, List, true, false, Option, Some, None, refl}
+use Rattle.std.proofs.Math.Bool.{and-false}
 use Rattle.lexicon_fields.specs.declared.operating_system.OperatingSystem.{OperatingSystem}
 use Rattle.lexicon_fields.specs.declared.operating_system.OperatingSystem.TheVariants as operating_system
 use Rattle.lexicon_fields.specs.declared.environment.Environment.{Environment}
@@ -57,14 +58,10 @@ abbrev pub system_as_vendor : OperatingSystem → Option VendorValue
 system_as_vendor operating_system.Unknown = Some (Known Unknown)
 system_as_vendor _ = None
 
-third_false : (x e f form : Bool) → (((x && false) && e) && f) && form ≡ false
-third_false true e f form = refl
-third_false false e f form = refl
-
 -- what reads as a system is not admitted
 not_admitted : (text : List ℕ) (s : OperatingSystem) → operating_system_of text ≡ Some s → is_admitted text ≡ false
 unfolding is_admitted
-not_admitted text s reads = rw reads (third_false _ _ _ _)
+not_admitted text s reads = rw (reads, and-false) refl
 
 module _ (names : NamesAreRead) where
   by_system : (s : OperatingSystem) → HasVersionInRange s → known_vendor_of (operating_system_name s) ≡ None → vendor_of (operating_system_name s) ≡ None

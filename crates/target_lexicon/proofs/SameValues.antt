@@ -1,5 +1,5 @@
 -- Values that are equal field by field are equal.
-use Rattle.std.proofs.Common.{◌≡◌, ◌∙◌, ap}
+use Rattle.std.proofs.Common.{◌≡◌}
 use Rattle.target_lexicon.specs.Values.{Values, values}
 
 pub same_values : (t u : Values) → t.architecture ≡ u.architecture → t.vendor ≡ u.vendor → t.operating_system ≡ u.operating_system

@@ -1,33 +1,23 @@
 -- A second step changes no triple.
-use Rattle.std.proofs.Common.{◌≡◌, ◌≢◌, ◌⊎◌, inl, inr, ℕ, List, true, refl, sym, ap, subst}
+use Rattle.std.proofs.Common.{◌≡◌, ◌⊎◌, inl, inr, ℕ, List, true, refl, sym, ap, subst}
 use Rattle.lexicon_fields.specs.declared.architecture.Architecture.{Architecture}
-use Rattle.lexicon_fields.specs.declared.architecture.Architecture.TheVariants as architecture
-use Rattle.lexicon_fields.specs.declared.architecture.arm.ArmArchitecture.TheVariants as arm
-use Rattle.lexicon_fields.specs.declared.architecture.riscv.Riscv32Architecture.TheVariants as riscv32
 use Rattle.lexicon_fields.specs.declared.operating_system.OperatingSystem.TheVariants as operating_system
 use Rattle.lexicon_fields.specs.declared.environment.Environment.TheVariants as environment
 use Rattle.lexicon_fields.specs.declared.binary_format.BinaryFormat.{BinaryFormat}
 use Rattle.lexicon_fields.specs.declared.binary_format.BinaryFormat.TheVariants as binary_format
-use Rattle.lexicon_fields.specs.ArchitectureQueries.{is_clever}
-use Rattle.lexicon_fields.specs.declared.known_vendor.KnownVendor.TheVariants.{Nintendo, Espressif}
-use Rattle.lexicon_fields.specs.Vendor.{VendorValue, Known, is_plain}
+use Rattle.lexicon_fields.specs.Vendor.{VendorValue, is_plain}
 use Rattle.lexicon_fields.specs.Laws.{HasVersionInRange}
 use Rattle.target_lexicon.specs.Families.{IsNintendo3ds, IsEspIdf, HidesNewlib, PrintsTheEspIdfText}
 use Rattle.target_lexicon.specs.FixedPoints.{IsPlainTriple, RoundIsNormalStep, settled, SecondStepChangesNone, SettledTextsAreKeys}
-use Rattle.target_lexicon.specs.ImpliedFormat.{implied_format}
 use Rattle.target_lexicon.specs.Laws.{ComesBack}
 use Rattle.target_lexicon.specs.NormalStep.{normal_step, elf_if_unknown}
 use Rattle.target_lexicon.specs.Printing.{text_of}
 use Rattle.target_lexicon.specs.Reading.{ReadsAs}
-use Rattle.target_lexicon.specs.SpecialTexts.{nintendo_3ds, esp_idf}
+use Rattle.target_lexicon.specs.SpecialTexts.{esp_idf}
 use Rattle.target_lexicon.specs.Values.{Values, values}
 use Rattle.target_lexicon.proofs.Fixed.{outside-fixed}
 use Rattle.target_lexicon.proofs.StepCases.{step_cases}
 use Rattle.target_lexicon.proofs.Unique.{values_unique}
-
-nintendo_3ds-stays : normal_step nintendo_3ds ≡ nintendo_3ds
-unfolding normal_step
-nintendo_3ds-stays = refl
 
 esp_idf-stays : normal_step esp_idf ≡ esp_idf
 unfolding normal_step
@@ -35,8 +25,9 @@ esp_idf-stays = refl
 
 special-stays : (t : Values) → IsNintendo3ds t ⊎ IsEspIdf t
     → normal_step (values t.architecture t.vendor t.operating_system environment.Newlib binary_format.Elf) ≡ values t.architecture t.vendor t.operating_system environment.Newlib binary_format.Elf
-special-stays t (inl is) = rw (is.architecture, is.vendor, is.operating_system) nintendo_3ds-stays
-special-stays t (inr is) = rw (is.architecture, is.vendor, is.operating_system) esp_idf-stays
+unfolding normal_step
+special-stays t (inl is) = rw (is.architecture, is.vendor, is.operating_system) refl
+special-stays t (inr is) = rw (is.architecture, is.vendor, is.operating_system) refl
 
 -- with an unknown environment the special texts alone tell whether a triple stays
 unknown-stays : (t : Values) → t.environment ≡ environment.Unknown → ¬ (IsNintendo3ds t ⊎ IsEspIdf t) → ¬ PrintsTheEspIdfText t → normal_step t ≡ t

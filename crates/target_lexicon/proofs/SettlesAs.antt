@@ -45,7 +45,7 @@ fields_of_settled t u same = (
 pub settles_alike : (r : Bool) (t u : Values) → Decides r (AreSameFields t u) → Decides r (settled t ≡ settled u)
 settles_alike r t u tests = Decides-like r
     (λ h. second_changes_none t
-        ∙ same_values (normal_step t) (normal_step u) (step-architecture t ∙ h.0.0.0.0 ∙ sym (step-architecture u)) h.0.0.0.1 h.0.0.1 h.0.1 h.1
-        ∙ sym (second_changes_none u))
+    ∙ same_values (normal_step t) (normal_step u) (step-architecture t ∙ h.0.0.0.0 ∙ sym (step-architecture u)) h.0.0.0.1 h.0.0.1 h.0.1 h.1
+    ∙ sym (second_changes_none u))
     (λ same. fields_of_settled t u (sym (second_changes_none t) ∙ same ∙ second_changes_none u))
     tests

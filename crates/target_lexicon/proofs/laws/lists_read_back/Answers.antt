@@ -12,12 +12,11 @@ list-reads (t ∷ ts) back = (back zero t (omega arith), list-reads ts (λ k d w
 
 list-only : OneOutcomeEach → (ts us : List Values) → All ComesBack ts → ElementsReadAs (items_of (map json_of ts)) us → us ≡ ts
 list-only one [] [] back read = refl
-list-only one [] (u ∷ us) back read = absurd read
-list-only one (t ∷ ts) [] back read = absurd read
 list-only one (t ∷ ts) (u ∷ us) back read =
     let first : u ≡ t = (one (text_of t)).values u t read.0 (back zero t (omega arith)) in
     let others : us ≡ ts = list-only one ts us (λ k d within. back (suc k) d (omega arith)) read.1 in
     ap (λ (v : Values). v ∷ us) first ∙ ap (λ (vs : List Values). t ∷ vs) others
+list-only one _ _ back read = absurd read
 
 pub returns : goal.returns
 returns c = λ ts us back. (
