@@ -20,6 +20,8 @@ use Rattle.target_lexicon.specs.Values.{Values, values}
 use Rattle.std.proofs.lemmas.Bool.{cond_both, false≢true}
 use Rattle.std.proofs.lemmas.Bool.Decides.{not_from_Decides}
 
+-- a special text is printed
+
 special-decides : (s : OperatingSystem) (v : VendorValue) (a : Architecture) (e : Environment) (f : BinaryFormat)
     → Decides (prints_as_special s v a e f) (PrintsAsSpecial (values a v s e f))
 special-decides operating_system.Horizon (Known Nintendo) (architecture.Arm arm.Armv6k) environment.Newlib binary_format.Elf =
@@ -35,6 +37,8 @@ special-decides _ _ _ e f = (λ h. absurd (false≢true h), λ is. elim is.field
 pub prints_as_special-tells : (t : Values) → Decides (prints_as_special t.operating_system t.vendor t.architecture t.environment t.binary_format) (PrintsAsSpecial t)
 prints_as_special-tells t = special-decides t.operating_system t.vendor t.architecture t.environment t.binary_format
 
+-- `Newlib` isn't shown
+
 newlib-decides : (e : Environment) (s : OperatingSystem) (v : VendorValue) (a : Architecture) (f : BinaryFormat)
     → Decides (hides_newlib e s v a) (HidesNewlib (values a v s e f))
 newlib-decides environment.Newlib operating_system.Horizon (Known Nintendo) (architecture.Arm arm.Armv6k) f =
@@ -47,6 +51,8 @@ newlib-decides _ _ _ _ f = (λ h. absurd (false≢true h), λ is. elim is.1 [ in
 
 pub hides_newlib-tells : (t : Values) → Decides (hides_newlib t.environment t.operating_system t.vendor t.architecture) (HidesNewlib t)
 hides_newlib-tells t = newlib-decides t.environment t.operating_system t.vendor t.architecture t.binary_format
+
+-- the custom vendor `esp`
 
 esp_fields : (e : Environment) (f : BinaryFormat) (s : OperatingSystem) (a : Architecture) (v : VendorValue)
     → prints_the_esp_idf_text e f s a v ≡ true → PrintsTheEspIdfText (values a v s e f)
@@ -61,6 +67,8 @@ prints_the_esp_idf_text-tells t = (
   esp_fields t.environment t.binary_format t.operating_system t.architecture t.vendor,
   λ is. ap (λ (u : Values). prints_the_esp_idf_text u.environment u.binary_format u.operating_system u.architecture u.vendor) is,
 )
+
+-- `none` alone, on Clever
 
 none-decides : (e : Environment) (s : OperatingSystem) (a : Architecture) (v : VendorValue) (f : BinaryFormat)
     → Decides (shows_none_alone e s a) (ShowsNoneAlone (values a v s e f))
