@@ -1,5 +1,5 @@
 //! What the program says at its end.
-ghost use Rattle.std.specs.Prelude.{◌≡◌, ◌<◌, ◌++◌, OnOk, OnErr, IfErr, codes};
+ghost use Rattle.std.specs.Prelude.{◌≡◌, ◌++◌, codes};
 ghost use Rattle.std.specs.Io.KnownBytes.{Appends};
 ghost use Rattle.triples.specs.Device.{device, failures};
 ghost use Rattle.triples.specs.Run.{AppendsFront};
@@ -34,10 +34,8 @@ pub fn conclude<W: Write>(end: Option<Result<(), RunError>>, w: &mut Counted<W>)
 
 /// Writes a line of two pieces, and flushes.
 fn say<W: Write>(w: &mut Counted<W>, front: &str, back: &str) -> Result<(), RunError>
-    ensures ok { OnOk result (Appends (W.contents (device w.old)) (W.contents (device w.new)) (front.now ++ (back.now ++ codes "\n"))) }
+    ensures said { failures w.new ≡ failures w.old → Appends (W.contents (device w.old)) (W.contents (device w.new)) (front.now ++ (back.now ++ codes "\n")) }
     ensures begun { AppendsFront (W.contents (device w.old)) (W.contents (device w.new)) (front.now ++ (back.now ++ codes "\n")) }
-    ensures failed { OnErr result (failures w.old < failures w.new) }
-    ensures only { IfErr result (λ e. e ≡ RunError.Write) }
 {
     write_all(w, front.as_bytes())?;
     write_all(w, back.as_bytes())?;

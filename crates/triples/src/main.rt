@@ -29,11 +29,13 @@ use std::rt::Env;
 fn asked_mode(rt: &(impl Env + Alloc)) -> Option<Mode> {
     let mut args = env::args(rt).ok()?;
     let _name = args.next();
-    match (args.next(), args.next()) {
-        (None, _) => Some(Mode::Print),
-        (Some(word), None) => Mode::from_word(word.as_str()),
-        (Some(_), Some(_)) => None,
+    let Some(word) = args.next() else {
+        return Some(Mode::Print);
+    };
+    if args.next().is_some() {
+        return None;
     }
+    Mode::from_word(word.as_str())
 }
 
 fn main(rt: HostRuntime) -> ExitCode {

@@ -16,6 +16,18 @@ use crate::run_error::RunError;
 use std::alloc::{AllocError, Global};
 use target_lexicon::{ParseError, Triple};
 
+/// Adds what a mode shows of a triple.
+fn push_text(output: &mut String, mode: Mode, triple: Triple) -> Result<(), AllocError>
+    requires { is_plain (vendor_value triple.vendor) ≡ true }
+    ensures { OnOk result (string_bytes output.new ≡ string_bytes output.old ++ shown_in mode (values_of triple)) }
+{
+    match mode {
+        Mode::Print | Mode::Json => output.write(&triple),
+        Mode::Show => push_facts(output, &triple),
+        Mode::Settle | Mode::Matrix => output.write(&triple.settle()),
+    }
+}
+
 /// Adds what a mode shows of a triple, and a line feed; mode `matrix` adds no text that it has shown before.
 fn push_shown(
     alloc: Global,
@@ -29,12 +41,12 @@ fn push_shown(
     ensures seen { OnOk result (mode ≡ Mode.Matrix → HasOneMore seen.old.texts seen.new.texts (shown_in mode (values_of triple))) }
 {
     match mode {
-        Mode::Print | Mode::Json => output.write(&triple)?,
-        Mode::Show => push_facts(output, &triple)?,
-        Mode::Settle => output.write(&triple.settle())?,
-        Mode::Matrix => return seen.push_first(alloc, output, &triple.settle()),
+        Mode::Matrix => seen.push_first(alloc, output, &triple.settle()),
+        Mode::Print | Mode::Show | Mode::Settle | Mode::Json => {
+            push_text(output, mode, triple)?;
+            output.push('\n')
+        }
     }
-    output.push('\n')
 }
 
 /// Adds `error: ` and the line of a refusal, and a line feed.

@@ -1,5 +1,6 @@
 -- What was written by then is a beginning of the line.
-use Rattle.std.proofs.Common.{◌++◌, [], ◌∷◌}
+use Rattle.std.proofs.Common.{◌++◌, [], ◌∷◌, arith}
+use Rattle.std.proofs.lemmas.Grind.{common_steps}
 use Rattle.triples.specs.Device.{device}
 use Rattle.triples.proofs.KnownBytes.{AppendsFront-more, AppendsFront-then}
 use Rattle.triples.proofs.conclude.say.Goals as goal
@@ -26,3 +27,6 @@ returns-clause-begun g c =
     let x = g.W.Write.contents (device c.write_and_flush.new.writer) in
     AppendsFront-then u v x c.args.front.now (c.args.back.now ++ (10 ∷ [])) (rw c.as_bytes.ensures.value at c.in_ok-write_all.ensures.ok)
     (AppendsFront-then v w x c.args.back.now (10 ∷ []) (rw c.as_bytes-2.ensures.value at c.in_ok-write_all-2.ensures.ok) c.write_and_flush.ensures.begun)
+
+pub returns-clause-said : goal.returns-clause-said
+returns-clause-said g c = grind (arith, common_steps)

@@ -1,4 +1,5 @@
 use Rattle.std.proofs.Common.{◌<◌, ◌++◌, length, take, arith, length-append}
+use Rattle.std.proofs.lemmas.Grind.{common_steps}
 use Rattle.std.proofs.lemmas.List.{length-take}
 use Rattle.std.proofs.KnownBytes.{Consumes-trans}
 use Rattle.triples.proofs.input.read_all.Goals as goal
@@ -9,3 +10,6 @@ returns-then-is_err-clause-memory g c = λ is.
     let piece = take c.in-Ok.taken c.read.new.buf in
     let some : 0 < length (old ++ piece) = simp (length-append, length-take) (omega arith) in
     (old ++ piece, some, Consumes-trans _ _ _ old piece c.loop-taken.invariant.taken c.in-Ok.ensures.bytes.0)
+
+pub loop-taken-preserved : goal.loop-taken-preserved
+loop-taken-preserved g c = grind (arith, common_steps)

@@ -1,0 +1,8 @@
+-- Without a run the usage line is said.
+use Rattle.triples.proofs.conclude.conclude.Goals as goal
+
+pub returns-in-None-clause-said : goal.returns-in-None-clause-said
+returns-in-None-clause-said g c = rw c.in-None.is c.say-in-None.ensures.said
+
+pub returns-in-None-clause-begun : goal.returns-in-None-clause-begun
+returns-in-None-clause-begun g c = rw c.in-None.is c.say-in-None.ensures.begun
