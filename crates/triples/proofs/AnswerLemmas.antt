@@ -1,5 +1,5 @@
 -- The answers of an input's lines, one after another.
-use Rattle.std.proofs.Common.{◌≡◌, ◌≢◌, ℕ, Bool, true, false, ◌||◌, not, List, [], ◌∷◌, ◌++◌, codes, if◌then◌else◌, Result, Ok, Err, OnOk, refl, sym, ap, ◌∙◌, append_assoc, length, arith}
+use Rattle.std.proofs.Common.{◌≡◌, ◌≢◌, ℕ, Bool, true, false, ◌||◌, not, List, [], ◌∷◌, ◌++◌, codes, if◌then◌else◌, Result, Ok, Err, OnOk, refl, sym, ap, ◌∙◌, append_assoc}
 use Rattle.std.proofs.lemmas.List.{append-nil}
 use Rattle.std.proofs.Math.Bool.{or-false, or_comm, or_assoc}
 use Rattle.std.proofs.lemmas.List.Folds.{list_any-append}
@@ -18,11 +18,10 @@ use Rattle.target_lexicon.specs.Reading.{ReadsAs, IsFaultOf}
 use Rattle.target_lexicon.specs.Refusal.{error_line}
 use Rattle.target_lexicon.specs.Values.{Values}
 use Rattle.target_lexicon.specs.declared.parse_error.ParseError.{ParseError}
-use Rattle.target_lexicon.specs.declared.parse_error.ParseError.TheVariants.{UnrecognizedArchitecture, UnrecognizedVendor, UnrecognizedOperatingSystem, UnrecognizedEnvironment, UnrecognizedBinaryFormat, UnrecognizedField, OutOfMemory}
+use Rattle.target_lexicon.specs.declared.parse_error.ParseError.TheVariants.{OutOfMemory}
 use Rattle.triples.specs.declared.matrix.Marked.{Marked}
 use Rattle.triples.specs.declared.mode.Mode.{Mode}
-use Rattle.triples.specs.declared.mode.Mode.TheVariants.{Print, Show, Settle, Json, Matrix}
-use Rattle.triples.specs.Lines.{lines_of}
+use Rattle.triples.specs.declared.mode.Mode.TheVariants.{Matrix}
 use Rattle.triples.specs.Output.{Answer, Shown, Refused, IsAnswer, AreAnswers, AreAnswered, shows, shown_in, stays_behind, staying_behind, matrix_of, kept_in, answer_bytes, written}
 use Rattle.triples.specs.Private.{mark_of, text_cmp, has_text, HasOneMore, is_left_out, is_repeated, AddsAnswer}
 
@@ -49,9 +48,9 @@ pub record IsSoFar (mode : Mode) (lines rest : List (List ℕ)) (output : List �
   pub kept : output ≡ written (kept_in mode before)
   pub agree : mode ≡ Matrix → (text : List ℕ) → has_text seen text ≡ list_any (shows text) before
 
-pub so-far-none : (mode : Mode) (lines : List (List ℕ)) (output : List ℕ) (seen : BTreeSet Marked) → output ≡ [] → ((text : List ℕ) → has_text seen text ≡ false)
+pub so-far-none : {mode : Mode} {lines : List (List ℕ)} {output : List ℕ} {seen : BTreeSet Marked} → output ≡ [] → ((text : List ℕ) → has_text seen text ≡ false)
     → IsSoFar mode lines lines output seen
-so-far-none mode lines output seen empty none = record {
+so-far-none {mode} empty none = record {
   before = [];
   whole = λ more are. are;
   kept = empty ∙ ap written (kept-none mode);
@@ -81,11 +80,8 @@ written-append (x ∷ xs) ys = ap (λ (t : List ℕ). answer_bytes x ++ (10 ∷ 
 repeated-stays : (before : List Answer) (seen : BTreeSet Marked) (answer : Answer)
     → ((text : List ℕ) → has_text seen text ≡ list_any (shows text) before)
     → (if is_repeated Matrix seen answer then [] else answer ∷ []) ≡ if_stays (stays_behind before answer) answer
-repeated-stays before seen (Shown text) agree = rw (agree text) (unless-repeated (list_any (shows text) before) (Shown text))
-  where
-    unless-repeated : (b : Bool) (answer : Answer) → (if b then [] else answer ∷ []) ≡ if_stays (not b) answer
-    unless-repeated true answer = refl
-    unless-repeated false answer = refl
+repeated-stays before seen (Shown text) agree =
+    rw (agree text) (elim (list_any (shows text) before) as (λ b. (if b then [] else Shown text ∷ []) ≡ if_stays (not b) (Shown text)) [ true ↦ refl | false ↦ refl ])
 repeated-stays before seen (Refused told) agree = refl
 
 all-kept : (mode : Mode) (seen : BTreeSet Marked) (answer : Answer) → ((text : List ℕ) → is_left_out mode seen text ≡ false) → (if is_repeated mode seen answer then [] else answer ∷ []) ≡ answer ∷ []
@@ -98,14 +94,11 @@ kept-more : (mode : Mode) (before : List Answer) (seen : BTreeSet Marked) (answe
     → kept_in mode before ++ (if is_repeated mode seen answer then [] else answer ∷ []) ≡ kept_in mode (before ++ answer ∷ [])
 kept-more Matrix before seen answer agree =
     ap (λ (t : List Answer). matrix_of before ++ t) (repeated-stays before seen answer (agree refl)) ∙ sym (staying-push [] before answer)
-kept-more Print before seen answer agree = ap (λ (t : List Answer). before ++ t) (all-kept Print seen answer (λ text. refl))
-kept-more Show before seen answer agree = ap (λ (t : List Answer). before ++ t) (all-kept Show seen answer (λ text. refl))
-kept-more Settle before seen answer agree = ap (λ (t : List Answer). before ++ t) (all-kept Settle seen answer (λ text. refl))
-kept-more Json before seen answer agree = ap (λ (t : List Answer). before ++ t) (all-kept Json seen answer (λ text. refl))
+kept-more mode before seen answer agree = ap (λ (t : List Answer). before ++ t) (all-kept mode seen answer (λ text. refl))
 
-pub so-far-more : (mode : Mode) (lines rest behind : List (List ℕ)) (line old new : List ℕ) (seen_old seen_new : BTreeSet Marked)
+pub so-far-more : {mode : Mode} {lines rest behind : List (List ℕ)} {line old new : List ℕ} {seen_old seen_new : BTreeSet Marked}
     → rest ≡ line ∷ behind → AddsAnswer mode line old new seen_old seen_new → IsSoFar mode lines rest old seen_old → IsSoFar mode lines behind new seen_new
-so-far-more mode lines rest behind line old new seen_old seen_new cut adds far = record {
+so-far-more {mode} {seen_old} cut adds far = record {
   before = far.before ++ adds.answer ∷ [];
   whole = λ more are. rw append_assoc (far.whole (adds.answer ∷ more) (rw cut (adds.is, are)));
   kept =
@@ -120,23 +113,13 @@ so-far-more mode lines rest behind line old new seen_old seen_new cut adds far =
       ∙ sym (list_any-append (shows text) far.before (adds.answer ∷ []));
 }
 
--- an empty text has no line
-pub no_lines : (rest : List ℕ) → length rest ≡ 0 → lines_of rest ≡ []
-no_lines [] none = refl
-no_lines (b ∷ bs) none = absurd (omega arith)
-
-pub so-far-whole : (mode : Mode) (lines rest : List (List ℕ)) (output : List ℕ) (seen : BTreeSet Marked) → rest ≡ [] → IsSoFar mode lines rest output seen → AreAnswered mode lines output
-so-far-whole mode lines rest output seen none far = (far.before, rw append-nil at (far.whole [] (rw none tt)), far.kept)
+pub so-far-whole : {mode : Mode} {lines rest : List (List ℕ)} {output : List ℕ} {seen : BTreeSet Marked} → rest ≡ [] → IsSoFar mode lines rest output seen → AreAnswered mode lines output
+so-far-whole none far = (far.before, rw append-nil at (far.whole [] (rw none tt)), far.kept)
 
 -- what an error that isn't want of memory says is the line of the refusal
 refusal_is_told : (shown : Values → List ℕ) (line : List ℕ) (error : ParseError) → error ≢ OutOfMemory → IsFaultOf line error → IsAnswer shown line (Refused (codes "error: " ++ error_line error))
-refusal_is_told shown line (UnrecognizedArchitecture part) other fault = (_, fault, refl)
-refusal_is_told shown line (UnrecognizedVendor part) other fault = (_, fault, refl)
-refusal_is_told shown line (UnrecognizedOperatingSystem part) other fault = (_, fault, refl)
-refusal_is_told shown line (UnrecognizedEnvironment part) other fault = (_, fault, refl)
-refusal_is_told shown line (UnrecognizedBinaryFormat part) other fault = (_, fault, refl)
-refusal_is_told shown line (UnrecognizedField part) other fault = (_, fault, refl)
 refusal_is_told shown line OutOfMemory other fault = absurd (other refl)
+refusal_is_told shown line _ other fault = (_, fault, refl)
 
 -- what a line adds that is read, and one that is refused
 module _ (mode : Mode) (line old new : List ℕ) (seen_old seen_new : BTreeSet Marked) where
@@ -174,10 +157,8 @@ marked_cmp a b = ordering_then (nat_cmp a.mark b.mark) (string_cmp a.text b.text
 -- a second test beside one that it implies changes nothing
 then-same : (x : Ordering) (order : Ordering) (b : Bool) → is_eq order ≡ b → (b ≡ true → x ≡ Equal) → is_eq (ordering_then x order) ≡ b
 then-same Equal order b is implied = is
-then-same Less order true is implied = absurd (let bad = implied refl in cc)
-then-same Less order false is implied = refl
-then-same Greater order true is implied = absurd (let bad = implied refl in cc)
-then-same Greater order false is implied = refl
+then-same _ order true is implied = absurd (let bad = implied refl in cc)
+then-same _ order false is implied = refl
 
 -- a text that has its mark is found by its bytes
 found-by-bytes : (text other : List ℕ) → is_eq (ordering_then (nat_cmp (mark_of other) (mark_of text)) (slice_cmp nat_cmp other text)) ≡ bytes_eq other text

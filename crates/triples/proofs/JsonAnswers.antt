@@ -31,7 +31,4 @@ pub input_fault : (input : List ℕ) (value : Data) (e : RunError) → read inpu
 input_fault input value run_error.NotList found fault =
     subst (λ (o : Option Data). MatchOption o ⊥ (λ d. as_array d ≡ None)) (sym found) fault
 input_fault input value run_error.OutOfMemory found fault = read-some input value found
-input_fault input value run_error.NotJson found fault = absurd fault
-input_fault input value run_error.Read found fault = absurd fault
-input_fault input value run_error.Write found fault = absurd fault
-input_fault input value run_error.NotUtf8 found fault = absurd fault
+input_fault input value _ found fault = absurd fault

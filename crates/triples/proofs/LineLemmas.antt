@@ -1,8 +1,8 @@
 -- The first line of a text.
 use Rattle.std.proofs.Common.{◌≡◌, ◌∙◌, ap, sym, ℕ, ◌+◌, ◌-◌, ◌%◌, ◌^◌, ◌<◌, ◌≤◌, ◌==◌, Bool, false, not, cond, eqb, List, [], ◌∷◌, map, take, drop, get_or, replicate, length, w8, refl, arith, inl, inr}
-use Rattle.std.specs.List.{slice_split, slice_range, position_or_len, before_first, after_first}
+use Rattle.std.specs.List.{slice_split, slice_range, position_or_len, after_first}
 use Rattle.std.proofs.lemmas.Bool.{cases_lt, eqb-true, not-false}
-use Rattle.std.proofs.lemmas.List.Sums.{fails_before_first, position_or_len_is, prefix_len-le-length, prefix_len_stops}
+use Rattle.std.proofs.lemmas.List.Sums.{fails_before_first, position_or_len_is, prefix_len_stops}
 use Rattle.std.proofs.lemmas.List.Splits.{slice_split_first, slice_split_none, length-slice_split}
 use Rattle.std.proofs.lemmas.Simd.{bitmask_splat, first_set_mask_l, length-chunk, run_in_chunk_fails, run_in_chunk_le, run_in_chunk_stops}
 use lib.Count.{count_trailing_zeros}
@@ -21,15 +21,7 @@ without_empty_last-one : (part : List ℕ) → 0 < length part → without_empty
 without_empty_last-one [] some = absurd (omega arith)
 without_empty_last-one (b ∷ bs) some = refl
 
--- of a text that is cut at its first line feed: what is before it, and the lines behind it
-pub lines_of-first : (text line behind : List ℕ) → (line ≡ before_first is_line_feed text) × (behind ≡ after_first is_line_feed text)
-    × (position_or_len is_line_feed text < length text) → lines_of text ≡ line ∷ lines_of behind
-lines_of-first text line behind is =
-    let parts = slice_split is_line_feed (after_first is_line_feed text) in
-    rw (is.0, is.1) (ap without_empty_last (slice_split_first is_line_feed text 0 is.2)
-    ∙ without_empty_last-more _ parts (omega (arith, length-slice_split is_line_feed (after_first is_line_feed text))))
-
--- where a text is cut at its first line feed
+-- of a text that is cut at its first line feed: what is there, before it and behind it
 module _ (text : List ℕ) (end : ℕ) (is : end ≡ position_or_len is_line_feed text) (below : end < length text) where
   pub line_feed_at : get_or text end 0 ≡ 10
   line_feed_at = ap (λ k. get_or text k 0) is ∙ eqb-true _ 10 (not-false _ (prefix_len_stops (λ b. not (is_line_feed b)) text 0 (omega (arith, is, below))))
@@ -37,16 +29,15 @@ module _ (text : List ℕ) (end : ℕ) (is : end ≡ position_or_len is_line_fee
   pub lines_of-cut : (line behind : List ℕ) → line ≡ slice_range text 0 end → behind ≡ drop (end + 1) text → lines_of text ≡ line ∷ lines_of behind
   lines_of-cut line behind front back =
       let whole : end - 0 ≡ end = omega arith in
-      lines_of-first text line behind (front ∙ ap (λ n. take n text) (whole ∙ is), back ∙ ap (λ n. drop (n + 1) text) is, omega (arith, is, below))
+      let rest = after_first is_line_feed text in
+      rw (front ∙ ap (λ n. take n text) (whole ∙ is), back ∙ ap (λ n. drop (n + 1) text) is) (ap without_empty_last (slice_split_first is_line_feed text 0 (omega (arith, is, below)))
+      ∙ without_empty_last-more _ (slice_split is_line_feed rest) (omega (arith, length-slice_split is_line_feed rest)))
 
 -- a text without one is a line
-pub lines_of-last : (text : List ℕ) → 0 < length text → position_or_len is_line_feed text ≡ length text → lines_of text ≡ text ∷ []
-lines_of-last text some whole =
-    rw (slice_split_none is_line_feed text (λ k d h. fails_before_first is_line_feed text k d (omega (arith, whole, h))))
-    (without_empty_last-one text some)
-
 pub lines_of-whole : (text : List ℕ) (end : ℕ) → 0 < length text → end ≡ position_or_len is_line_feed text → length text ≤ end → lines_of text ≡ text ∷ []
-lines_of-whole text end some is past = lines_of-last text some (omega (arith, is, past, prefix_len-le-length (λ b. not (is_line_feed b)) text))
+lines_of-whole text end some is past =
+    rw (slice_split_none is_line_feed text (λ k d h. fails_before_first is_line_feed text k d (omega (arith, is, past, h))))
+    (without_empty_last-one text some)
 
 -- the mask of sixteen bytes tells how many come before a line feed
 pub feed_from_mask : (bytes : List ℕ) (at mask : ℕ) → at + 16 ≤ length bytes

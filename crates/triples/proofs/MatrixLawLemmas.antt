@@ -14,7 +14,7 @@ use Rattle.target_lexicon.specs.Laws.{OneOutcomeEach}
 use Rattle.target_lexicon.specs.Printing.{text_of}
 use Rattle.target_lexicon.specs.Reading.{ReadsAs}
 use Rattle.target_lexicon.specs.Values.{Values}
-use Rattle.triples.specs.MatrixLaws.{EntriesAreSettledTriples, entries_of, is_refusal, EntriesAreKeptOnce, EachSettledTripleIsThere, entries_alone, MatricesAreTheirOwn}
+use Rattle.triples.specs.MatrixLaws.{EntriesAreSettledTriples, entries_of, is_refusal, EachSettledTripleIsThere, entries_alone, MatricesAreTheirOwn}
 use Rattle.triples.specs.Output.{Answer, Shown, Refused, IsAnswer, AreAnswers, shows, stays_behind, staying_behind, matrix_of, settled_text, answer_bytes}
 use Rattle.triples.proofs.AnswerLemmas.{if_stays}
 
@@ -41,17 +41,13 @@ entry-case true false false test line rest is alike = refl
 entry-case false false true test line rest is alike = rw is refl
 entry-case false false false test line rest is alike = refl
 
-none-left : (before : Bool) → ◌≡◌ {A = List Answer} [] (if before then [] else take 1 [])
-none-left true = refl
-none-left false = refl
-
 stays-alike : (text : List ℕ) (before : List Answer) (line : Answer) → shows text line ≡ true → stays_behind before line ≡ not (list_any (shows text) before)
 stays-alike text before (Shown other) is = ap (λ (t : List ℕ). not (list_any (shows t) before)) (sym (same_text text other (sym is)))
 stays-alike text before (Refused told) is = absurd cc
 
-entries-behind : (text : List ℕ) (before lines : List Answer)
+pub entries-behind : (text : List ℕ) (before lines : List Answer)
     → entries_of text (staying_behind before lines) ≡ (if list_any (shows text) before then [] else take 1 (entries_of text lines))
-entries-behind text before [] = none-left (list_any (shows text) before)
+entries-behind text before [] = elim (list_any (shows text) before) as (λ b. ◌≡◌ {A = List Answer} [] (if b then [] else take 1 [])) [ true ↦ refl | false ↦ refl ]
 entries-behind text before (line ∷ lines) =
     let test = shows text in
     filter-append test (if_stays (stays_behind before line) line) (staying_behind (before ++ line ∷ []) lines)
@@ -60,36 +56,25 @@ entries-behind text before (line ∷ lines) =
     ∙ ap (λ (b : Bool). if b then [] else take 1 (filter test lines)) (list_any-append test before (line ∷ []) ∙ ap (λ (b : Bool). list_any test before || b) (or-false (test line))))
     ∙ entry-case (list_any test before) (test line) (stays_behind before line) test line (filter test lines) refl (stays-alike text before line)
 
-refusals-behind : (before lines : List Answer) → filter is_refusal (staying_behind before lines) ≡ filter is_refusal lines
+pub refusals-behind : (before lines : List Answer) → filter is_refusal (staying_behind before lines) ≡ filter is_refusal lines
 refusals-behind before [] = refl
 refusals-behind before (Shown text ∷ lines) =
+    let rest = filter is_refusal (staying_behind (before ++ Shown text ∷ []) lines) in
     filter-append is_refusal (if_stays (stays_behind before (Shown text)) (Shown text)) (staying_behind (before ++ Shown text ∷ []) lines)
-    ∙ ap (λ (t : List Answer). t ++ filter is_refusal (staying_behind (before ++ Shown text ∷ []) lines)) (no_refusal (stays_behind before (Shown text)) text)
+    ∙ elim (stays_behind before (Shown text)) as (λ stays. filter is_refusal (if_stays stays (Shown text)) ++ rest ≡ rest) [ true ↦ refl | false ↦ refl ]
     ∙ refusals-behind (before ++ Shown text ∷ []) lines
-  where
-    no_refusal : (stays : Bool) (text : List ℕ) → filter is_refusal (if_stays stays (Shown text)) ≡ []
-    no_refusal true text = refl
-    no_refusal false text = refl
 refusals-behind before (Refused told ∷ lines) =
     ap (λ (t : List Answer). Refused told ∷ t) (refusals-behind (before ++ Refused told ∷ []) lines)
-
-pub entries_are_kept_once : EntriesAreKeptOnce
-entries_are_kept_once lines = record {
-  entries = λ text. entries-behind text [] lines;
-  refusals = refusals-behind [] lines;
-}
 
 -- the settled triple of each line that is read is there
 
 first-entry : (text : List ℕ) (lines : List Answer) → list_any (shows text) lines ≡ true → take 1 (entries_of text lines) ≡ Shown text ∷ []
 first-entry text [] some = absurd cc
 first-entry text (Refused told ∷ lines) some = first-entry text lines some
-first-entry text (Shown other ∷ lines) some = by_text (bytes_eq text other) refl some (λ later. first-entry text lines later)
-  where
-    by_text : (is : Bool) → bytes_eq text other ≡ is → (is || list_any (shows text) lines) ≡ true
-        → (list_any (shows text) lines ≡ true → take 1 (entries_of text lines) ≡ Shown text ∷ []) → take 1 (cond is (Shown other ∷ entries_of text lines) (entries_of text lines)) ≡ Shown text ∷ []
-    by_text true is some later = ap (λ (t : List ℕ). Shown t ∷ []) (sym (same_text text other (sym is)))
-    by_text false is some later = later some
+first-entry text (Shown other ∷ lines) some =
+    let rest = entries_of text lines in
+    (elim (bytes_eq text other) as (λ is. bytes_eq text other ≡ is → (is || list_any (shows text) lines) ≡ true → take 1 (cond is (Shown other ∷ rest) rest) ≡ Shown text ∷ [])
+    [ true ↦ λ is here. ap (λ (t : List ℕ). Shown t ∷ []) (sym (same_text text other (sym is))) | false ↦ λ is later. first-entry text lines later ]) refl some
 
 module _ (one : OneOutcomeEach) (line : List ℕ) (t : Values) (reads : ReadsAs line t) where
   own-entry : (answer : Answer) → IsAnswer settled_text line answer → shows (settled_text t) answer ≡ true
@@ -161,11 +146,9 @@ AreOwn (Refused told ∷ lines) = AreOwn lines
 staying-own : (before lines : List Answer) → AreOwn lines → AreOwn (staying_behind before lines)
 staying-own before [] own = tt
 staying-own before (Refused told ∷ lines) own = staying-own (before ++ Refused told ∷ []) lines own
-staying-own before (Shown text ∷ lines) own = by_stay (stays_behind before (Shown text)) (staying-own (before ++ Shown text ∷ []) lines own.1)
-  where
-    by_stay : (stays : Bool) → AreOwn (staying_behind (before ++ Shown text ∷ []) lines) → AreOwn (if_stays stays (Shown text) ++ staying_behind (before ++ Shown text ∷ []) lines)
-    by_stay true rest = (own.0, rest)
-    by_stay false rest = rest
+staying-own before (Shown text ∷ lines) own =
+    let rest = staying-own (before ++ Shown text ∷ []) lines own.1 in
+    elim (stays_behind before (Shown text)) as (λ stays. AreOwn (if_stays stays (Shown text) ++ staying_behind (before ++ Shown text ∷ []) lines)) [ true ↦ (own.0, rest) | false ↦ rest ]
 
 own-lines : (lines : List Answer) → AreOwn lines → AreAnswers settled_text (map answer_bytes (entries_alone lines)) (entries_alone lines)
 own-lines [] own = tt
@@ -187,10 +170,9 @@ module _ (one : OneOutcomeEach) (plain : ReadTriplesArePlain) (round : RoundIsNo
 
   are-own : (lines : List (List ℕ)) (answers : List Answer) → AreAnswers settled_text lines answers → AreOwn answers
   are-own [] [] are = tt
-  are-own [] (line ∷ answers) are = absurd are
-  are-own (line ∷ lines) [] are = absurd are
   are-own (line ∷ lines) (Shown text ∷ answers) are = (own-line line text are.0, are-own lines answers are.1)
   are-own (line ∷ lines) (Refused told ∷ answers) are = are-own lines answers are.1
+  are-own _ _ are = absurd are
 
   pub matrices_are_their_own : MatricesAreTheirOwn
   matrices_are_their_own lines answers are = record {

@@ -3,26 +3,19 @@ use Rattle.std.proofs.Common.{◌≡◌, Bool, true, false, ◌||◌, not, List,
 use Rattle.std.proofs.lemmas.List.{append-nil}
 use Rattle.std.specs.List.{filter, list_any}
 use Rattle.triples.specs.MatrixLaws.{FirstEntriesStayInOrder}
-use Rattle.triples.specs.Output.{Answer, Shown, Refused, shows, matrix_of}
+use Rattle.triples.specs.Output.{Shown, Refused, shows, matrix_of}
 use Rattle.triples.proofs.AnswerLemmas.{if_stays, staying-push}
-
-module _ {X : Type 0} (x : X) (kept : List X) (any : Bool) where
-  none-passes-here : (passes : Bool) → (kept ≡ [] → any ≡ false) → cond passes (x ∷ kept) kept ≡ [] → (passes || any) ≡ false
-  none-passes-here true behind none = absurd cc
-  none-passes-here false behind none = behind none
-
-  one-passes-here : (passes : Bool) → (¬ (kept ≡ []) → any ≡ true) → ¬ (cond passes (x ∷ kept) kept ≡ []) → (passes || any) ≡ true
-  one-passes-here true behind some = refl
-  one-passes-here false behind some = behind some
 
 -- no element passes exactly where none is kept
 none-passes : {X : Type 0} (test : X → Bool) (xs : List X) → filter test xs ≡ [] → list_any test xs ≡ false
 none-passes test [] none = refl
-none-passes test (x ∷ xs) none = none-passes-here x (filter test xs) (list_any test xs) (test x) (none-passes test xs) none
+none-passes test (x ∷ xs) none =
+    (elim (test x) as (λ b. cond b (x ∷ filter test xs) (filter test xs) ≡ [] → (b || list_any test xs) ≡ false) [ true ↦ λ bad. absurd cc | false ↦ none-passes test xs ]) none
 
 one-passes : {X : Type 0} (test : X → Bool) (xs : List X) → ¬ (filter test xs ≡ []) → list_any test xs ≡ true
 one-passes test [] some = absurd (some refl)
-one-passes test (x ∷ xs) some = one-passes-here x (filter test xs) (list_any test xs) (test x) (one-passes test xs) some
+one-passes test (x ∷ xs) some =
+    (elim (test x) as (λ b. ¬ (cond b (x ∷ filter test xs) (filter test xs) ≡ []) → (b || list_any test xs) ≡ true) [ true ↦ λ one. refl | false ↦ one-passes test xs ]) some
 
 pub first_entries_stay_in_order : FirstEntriesStayInOrder
 first_entries_stay_in_order = record {

@@ -29,11 +29,13 @@ pub fn entries_are_kept_once()
 
 /// The matrix goes line by line, in their order: each refusal stays in its place, and so does the first entry of each text; a later
 /// entry of that text leaves the matrix as it was.
+#[tactic(auto, using(crate::proofs::MatrixOrder::first_entries_stay_in_order))]
 pub fn first_entries_stay_in_order()
     ensures { FirstEntriesStayInOrder }
 {}
 
 /// The settled triple of each line that is read has exactly one entry in the matrix.
+#[tactic(auto, using(crate::proofs::MatrixLawLemmas::each_settled_triple_is_there))]
 pub fn each_settled_triple_is_there()
     ensures { EachSettledTripleIsThere }
 {
@@ -41,6 +43,7 @@ pub fn each_settled_triple_is_there()
 }
 
 /// The entries of a matrix, as lines that are given to mode `matrix`, give these entries again.
+#[tactic(auto, using(crate::proofs::MatrixLawLemmas::matrices_are_their_own))]
 pub fn matrices_are_their_own()
     ensures { MatricesAreTheirOwn }
 {

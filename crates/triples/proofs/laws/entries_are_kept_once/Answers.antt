@@ -1,5 +1,6 @@
-use Rattle.triples.proofs.MatrixLawLemmas.{entries_are_kept_once}
+use Rattle.std.proofs.Common.{[]}
+use Rattle.triples.proofs.MatrixLawLemmas.{entries-behind, refusals-behind}
 use Rattle.triples.proofs.laws.entries_are_kept_once.Goals as goal
 
 pub returns : goal.returns
-returns c = entries_are_kept_once
+returns c lines = record { entries = λ text. entries-behind text [] lines; refusals = refusals-behind [] lines }
