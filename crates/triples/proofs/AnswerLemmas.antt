@@ -30,16 +30,15 @@ module _ {K : Type 0} (cmp : K → K → Ordering) (test : K → Bool) (k : K) w
   abbrev Inserts : List K → List K → Type 0
   Inserts old new = list_any test new ≡ (list_any test old || test k)
 
-  inserts-at : (order : Ordering) (x : K) (xs : List K) → (is_eq order || list_any (is_at (cmp k)) xs) ≡ false
-      → (list_any (is_at (cmp k)) xs ≡ false → Inserts xs (insert_key cmp xs k))
-      → Inserts (x ∷ xs) (match_ordering order (k ∷ x ∷ xs) (x ∷ xs) (x ∷ insert_key cmp xs k))
-  inserts-at Less x xs absent more = or_comm (test k) (list_any test (x ∷ xs))
-  inserts-at Equal x xs absent more = absurd cc
-  inserts-at Greater x xs absent more = ap (λ (b : Bool). test x || b) (more absent) ∙ sym (or_assoc (test x) (list_any test xs) (test k))
-
   inserts : (xs : List K) → list_any (is_at (cmp k)) xs ≡ false → Inserts xs (insert_key cmp xs k)
   inserts [] absent = or-false (test k)
-  inserts (x ∷ xs) absent = inserts-at (cmp k x) x xs absent (inserts xs)
+  inserts (x ∷ xs) absent =
+      let new = insert_key cmp xs k in
+      (elim (cmp k x) as (λ order. (is_eq order || list_any (is_at (cmp k)) xs) ≡ false → Inserts (x ∷ xs) (match_ordering order (k ∷ x ∷ xs) (x ∷ xs) (x ∷ new))) [
+        | Less ↦ λ none. or_comm (test k) (list_any test (x ∷ xs))
+        | Equal ↦ λ bad. absurd cc
+        | Greater ↦ λ none. ap (λ (b : Bool). test x || b) (inserts xs none) ∙ sym (or_assoc (test x) (list_any test xs) (test k))
+      ]) absent
 
 -- the lines so far are those before the rest, what was written are their answers, and what `matrix` shows of them was seen
 pub record IsSoFar (mode : Mode) (lines rest : List (List ℕ)) (output : List ℕ) (seen : BTreeSet Marked) : Type 0 where
@@ -84,9 +83,8 @@ repeated-stays before seen (Shown text) agree =
     rw (agree text) (elim (list_any (shows text) before) as (λ b. (if b then [] else Shown text ∷ []) ≡ if_stays (not b) (Shown text)) [ true ↦ refl | false ↦ refl ])
 repeated-stays before seen (Refused told) agree = refl
 
-all-kept : (mode : Mode) (seen : BTreeSet Marked) (answer : Answer) → ((text : List ℕ) → is_left_out mode seen text ≡ false) → (if is_repeated mode seen answer then [] else answer ∷ []) ≡ answer ∷ []
-all-kept mode seen (Shown text) none = rw (none text) refl
-all-kept mode seen (Refused told) none = refl
+pub push-any : (text : List ℕ) (xs : List Answer) (line : Answer) → list_any (shows text) (xs ++ line ∷ []) ≡ (list_any (shows text) xs || shows text line)
+push-any text xs line = list_any-append (shows text) xs (line ∷ []) ∙ ap (λ (b : Bool). list_any (shows text) xs || b) (or-false (shows text line))
 
 -- one answer more that the mode keeps, if it does
 kept-more : (mode : Mode) (before : List Answer) (seen : BTreeSet Marked) (answer : Answer)
@@ -94,7 +92,8 @@ kept-more : (mode : Mode) (before : List Answer) (seen : BTreeSet Marked) (answe
     → kept_in mode before ++ (if is_repeated mode seen answer then [] else answer ∷ []) ≡ kept_in mode (before ++ answer ∷ [])
 kept-more Matrix before seen answer agree =
     ap (λ (t : List Answer). matrix_of before ++ t) (repeated-stays before seen answer (agree refl)) ∙ sym (staying-push [] before answer)
-kept-more mode before seen answer agree = ap (λ (t : List Answer). before ++ t) (all-kept mode seen answer (λ text. refl))
+kept-more mode before seen (Shown text) agree = refl
+kept-more mode before seen (Refused told) agree = refl
 
 pub so-far-more : {mode : Mode} {lines rest behind : List (List ℕ)} {line old new : List ℕ} {seen_old seen_new : BTreeSet Marked}
     → rest ≡ line ∷ behind → AddsAnswer mode line old new seen_old seen_new → IsSoFar mode lines rest old seen_old → IsSoFar mode lines behind new seen_new
@@ -109,11 +108,11 @@ so-far-more {mode} {seen_old} cut adds far = record {
   agree = λ matrix text.
       adds.seen matrix text
       ∙ ap (λ (b : Bool). b || shows text adds.answer) (far.agree matrix text)
-      ∙ ap (λ (b : Bool). list_any (shows text) far.before || b) (sym (or-false (shows text adds.answer)))
-      ∙ sym (list_any-append (shows text) far.before (adds.answer ∷ []));
+      ∙ sym (push-any text far.before adds.answer);
 }
 
-pub so-far-whole : {mode : Mode} {lines rest : List (List ℕ)} {output : List ℕ} {seen : BTreeSet Marked} → rest ≡ [] → IsSoFar mode lines rest output seen → AreAnswered mode lines output
+pub so-far-whole : {mode : Mode} {lines rest : List (List ℕ)} {output : List ℕ} {seen : BTreeSet Marked}
+    → rest ≡ [] → IsSoFar mode lines rest output seen → AreAnswered mode lines output
 so-far-whole none far = (far.before, rw append-nil at (far.whole [] (rw none tt)), far.kept)
 
 -- what an error that isn't want of memory says is the line of the refusal

@@ -12,14 +12,11 @@ use Rattle.triples.specs.Lines.{without_empty_last, lines_of}
 abbrev pub is_line_feed : ℕ → Bool
 is_line_feed b = b == 10
 
-without_empty_last-more : (part : List ℕ) (parts : List (List ℕ)) → 0 < length parts → without_empty_last (part ∷ parts) ≡ part ∷ without_empty_last parts
-without_empty_last-more part [] some = absurd (omega arith)
-without_empty_last-more [] (next ∷ parts) some = refl
-without_empty_last-more (b ∷ bs) (next ∷ parts) some = refl
-
-without_empty_last-one : (part : List ℕ) → 0 < length part → without_empty_last (part ∷ []) ≡ part ∷ []
-without_empty_last-one [] some = absurd (omega arith)
-without_empty_last-one (b ∷ bs) some = refl
+stays-first : (part : List ℕ) (parts : List (List ℕ)) → 0 < length part + length parts → without_empty_last (part ∷ parts) ≡ part ∷ without_empty_last parts
+stays-first [] [] some = absurd (omega arith)
+stays-first [] (next ∷ parts) some = refl
+stays-first (b ∷ bs) [] some = refl
+stays-first (b ∷ bs) (next ∷ parts) some = refl
 
 -- of a text that is cut at its first line feed: what is there, before it and behind it
 module _ (text : List ℕ) (end : ℕ) (is : end ≡ position_or_len is_line_feed text) (below : end < length text) where
@@ -30,14 +27,15 @@ module _ (text : List ℕ) (end : ℕ) (is : end ≡ position_or_len is_line_fee
   lines_of-cut line behind front back =
       let whole : end - 0 ≡ end = omega arith in
       let rest = after_first is_line_feed text in
-      rw (front ∙ ap (λ n. take n text) (whole ∙ is), back ∙ ap (λ n. drop (n + 1) text) is) (ap without_empty_last (slice_split_first is_line_feed text 0 (omega (arith, is, below)))
-      ∙ without_empty_last-more _ (slice_split is_line_feed rest) (omega (arith, length-slice_split is_line_feed rest)))
+      rw (front ∙ ap (λ n. take n text) (whole ∙ is), back ∙ ap (λ n. drop (n + 1) text) is)
+      (ap without_empty_last (slice_split_first is_line_feed text 0 (omega (arith, is, below)))
+      ∙ stays-first _ (slice_split is_line_feed rest) (omega (arith, length-slice_split is_line_feed rest)))
 
 -- a text without one is a line
 pub lines_of-whole : (text : List ℕ) (end : ℕ) → 0 < length text → end ≡ position_or_len is_line_feed text → length text ≤ end → lines_of text ≡ text ∷ []
 lines_of-whole text end some is past =
     rw (slice_split_none is_line_feed text (λ k d h. fails_before_first is_line_feed text k d (omega (arith, is, past, h))))
-    (without_empty_last-one text some)
+    (stays-first text [] (omega (arith, some)))
 
 -- the mask of sixteen bytes tells how many come before a line feed
 pub feed_from_mask : (bytes : List ℕ) (at mask : ℕ) → at + 16 ≤ length bytes

@@ -1,9 +1,9 @@
 -- The laws of mode `matrix`.
 use Rattle.std.proofs.Common.{◌≡◌, ℕ, Bool, true, false, ◌||◌, not, List, [], ◌∷◌, ◌++◌, cond, map, take, if◌then◌else◌, refl, sym, ap, ◌∙◌, subst}
+use Rattle.std.proofs.lemmas.List.{append-nil}
 use Rattle.std.proofs.Math.Bool.{or-false, or-true}
 use Rattle.std.proofs.lemmas.Bool.{not-false}
 use Rattle.std.proofs.lemmas.List.Elements.{filter-append}
-use Rattle.std.proofs.lemmas.List.Folds.{list_any-append}
 use Rattle.std.proofs.lemmas.Slice.Eq.{bytes_eq-Decides}
 use Rattle.std.specs.Cmp.Lexicographic.{same_text}
 use Rattle.std.specs.List.{filter, list_any}
@@ -14,9 +14,9 @@ use Rattle.target_lexicon.specs.Laws.{OneOutcomeEach}
 use Rattle.target_lexicon.specs.Printing.{text_of}
 use Rattle.target_lexicon.specs.Reading.{ReadsAs}
 use Rattle.target_lexicon.specs.Values.{Values}
-use Rattle.triples.specs.MatrixLaws.{EntriesAreSettledTriples, entries_of, is_refusal, EachSettledTripleIsThere, entries_alone, MatricesAreTheirOwn}
+use Rattle.triples.specs.MatrixLaws.{EntriesAreSettledTriples, entries_of, is_refusal, FirstEntriesStayInOrder, EachSettledTripleIsThere, entries_alone, MatricesAreTheirOwn}
 use Rattle.triples.specs.Output.{Answer, Shown, Refused, IsAnswer, AreAnswers, shows, stays_behind, staying_behind, matrix_of, settled_text, answer_bytes}
-use Rattle.triples.proofs.AnswerLemmas.{if_stays}
+use Rattle.triples.proofs.AnswerLemmas.{if_stays, push-any, staying-push}
 
 -- two lines that are read share an entry exactly where their settled triples are equal
 
@@ -53,7 +53,7 @@ entries-behind text before (line ∷ lines) =
     filter-append test (if_stays (stays_behind before line) line) (staying_behind (before ++ line ∷ []) lines)
     ∙ ap (λ (t : List Answer). filter test (if_stays (stays_behind before line) line) ++ t)
     (entries-behind text (before ++ line ∷ []) lines
-    ∙ ap (λ (b : Bool). if b then [] else take 1 (filter test lines)) (list_any-append test before (line ∷ []) ∙ ap (λ (b : Bool). list_any test before || b) (or-false (test line))))
+    ∙ ap (λ (b : Bool). if b then [] else take 1 (filter test lines)) (push-any text before line))
     ∙ entry-case (list_any test before) (test line) (stays_behind before line) test line (filter test lines) refl (stays-alike text before line)
 
 pub refusals-behind : (before lines : List Answer) → filter is_refusal (staying_behind before lines) ≡ filter is_refusal lines
@@ -66,6 +66,34 @@ refusals-behind before (Shown text ∷ lines) =
 refusals-behind before (Refused told ∷ lines) =
     ap (λ (t : List Answer). Refused told ∷ t) (refusals-behind (before ++ Refused told ∷ []) lines)
 
+-- each line is added to the matrix of those before it
+
+-- no element passes exactly where none is kept
+none-passes : {X : Type 0} (test : X → Bool) (xs : List X) → filter test xs ≡ [] → list_any test xs ≡ false
+none-passes test [] none = refl
+none-passes test (x ∷ xs) none =
+    let kept = filter test xs in
+    (elim (test x) as (λ b. cond b (x ∷ kept) kept ≡ [] → (b || list_any test xs) ≡ false) [ true ↦ λ bad. absurd cc | false ↦ none-passes test xs ]) none
+
+one-passes : {X : Type 0} (test : X → Bool) (xs : List X) → ¬ (filter test xs ≡ []) → list_any test xs ≡ true
+one-passes test [] some = absurd (some refl)
+one-passes test (x ∷ xs) some =
+    let kept = filter test xs in
+    (elim (test x) as (λ b. ¬ (cond b (x ∷ kept) kept ≡ []) → (b || list_any test xs) ≡ true) [ true ↦ λ one. refl | false ↦ one-passes test xs ]) some
+
+pub first_entries_stay_in_order : FirstEntriesStayInOrder
+first_entries_stay_in_order = record {
+  none = refl;
+  behind = λ before. record {
+    refusal = λ told. staying-push [] before (Refused told);
+    first = λ text none. staying-push [] before (Shown text)
+        ∙ ap (λ any. matrix_of before ++ if_stays (not any) (Shown text)) (none-passes (shows text) before none);
+    again = λ text some. staying-push [] before (Shown text)
+        ∙ ap (λ any. matrix_of before ++ if_stays (not any) (Shown text)) (one-passes (shows text) before some)
+        ∙ append-nil (matrix_of before);
+  };
+}
+
 -- the settled triple of each line that is read is there
 
 first-entry : (text : List ℕ) (lines : List Answer) → list_any (shows text) lines ≡ true → take 1 (entries_of text lines) ≡ Shown text ∷ []
@@ -73,7 +101,8 @@ first-entry text [] some = absurd cc
 first-entry text (Refused told ∷ lines) some = first-entry text lines some
 first-entry text (Shown other ∷ lines) some =
     let rest = entries_of text lines in
-    (elim (bytes_eq text other) as (λ is. bytes_eq text other ≡ is → (is || list_any (shows text) lines) ≡ true → take 1 (cond is (Shown other ∷ rest) rest) ≡ Shown text ∷ [])
+    (elim (bytes_eq text other) as
+    (λ is. bytes_eq text other ≡ is → (is || list_any (shows text) lines) ≡ true → take 1 (cond is (Shown other ∷ rest) rest) ≡ Shown text ∷ [])
     [ true ↦ λ is here. ap (λ (t : List ℕ). Shown t ∷ []) (sym (same_text text other (sym is))) | false ↦ λ is later. first-entry text lines later ]) refl some
 
 module _ (one : OneOutcomeEach) (line : List ℕ) (t : Values) (reads : ReadsAs line t) where
@@ -100,9 +129,6 @@ each_settled_triple_is_there one front back line answers are t reads =
 -- two lists of lines have the same entries
 abbrev HaveSameEntries : List Answer → List Answer → Type 0
 HaveSameEntries xs ys = (text : List ℕ) → list_any (shows text) xs ≡ list_any (shows text) ys
-
-push-any : (text : List ℕ) (xs : List Answer) (line : Answer) → list_any (shows text) (xs ++ line ∷ []) ≡ (list_any (shows text) xs || shows text line)
-push-any text xs line = list_any-append (shows text) xs (line ∷ []) ∙ ap (λ (b : Bool). list_any (shows text) xs || b) (or-false (shows text line))
 
 -- a line whose entry is there adds none
 or-there : (there is : Bool) → (is ≡ true → there ≡ true) → (there || is) ≡ there
@@ -139,21 +165,15 @@ stay-again before entries (Shown text ∷ lines) same =
 
 -- each entry is what mode `settle` writes for its own text
 abbrev AreOwn : List Answer → Type 0
-AreOwn [] = Unit {0}
-AreOwn (Shown text ∷ lines) = IsAnswer settled_text text (Shown text) × AreOwn lines
-AreOwn (Refused told ∷ lines) = AreOwn lines
+AreOwn lines = AreAnswers settled_text (map answer_bytes (entries_alone lines)) (entries_alone lines)
 
 staying-own : (before lines : List Answer) → AreOwn lines → AreOwn (staying_behind before lines)
 staying-own before [] own = tt
 staying-own before (Refused told ∷ lines) own = staying-own (before ++ Refused told ∷ []) lines own
 staying-own before (Shown text ∷ lines) own =
-    let rest = staying-own (before ++ Shown text ∷ []) lines own.1 in
-    elim (stays_behind before (Shown text)) as (λ stays. AreOwn (if_stays stays (Shown text) ++ staying_behind (before ++ Shown text ∷ []) lines)) [ true ↦ (own.0, rest) | false ↦ rest ]
-
-own-lines : (lines : List Answer) → AreOwn lines → AreAnswers settled_text (map answer_bytes (entries_alone lines)) (entries_alone lines)
-own-lines [] own = tt
-own-lines (Refused told ∷ lines) own = own-lines lines own
-own-lines (Shown text ∷ lines) own = (own.0, own-lines lines own.1)
+    let more = before ++ Shown text ∷ [] in
+    let rest = staying-own more lines own.1 in
+    elim (stays_behind before (Shown text)) as (λ stays. AreOwn (if_stays stays (Shown text) ++ staying_behind more lines)) [ true ↦ (own.0, rest) | false ↦ rest ]
 
 module _ (one : OneOutcomeEach) (plain : ReadTriplesArePlain) (round : RoundIsNormalStep) (keys : SettledTextsAreKeys) where
   -- what is settled stays, since it comes back and a round is a normal step
@@ -176,6 +196,6 @@ module _ (one : OneOutcomeEach) (plain : ReadTriplesArePlain) (round : RoundIsNo
 
   pub matrices_are_their_own : MatricesAreTheirOwn
   matrices_are_their_own lines answers are = record {
-    settled = own-lines (matrix_of answers) (staying-own [] answers (are-own lines answers are));
+    settled = staying-own [] answers (are-own lines answers are);
     stays = stay-again [] [] answers (λ text. refl);
   }

@@ -29,7 +29,7 @@ pub fn entries_are_kept_once()
 
 /// The matrix goes line by line, in their order: each refusal stays in its place, and so does the first entry of each text; a later
 /// entry of that text leaves the matrix as it was.
-#[tactic(auto, using(crate::proofs::MatrixOrder::first_entries_stay_in_order))]
+#[tactic(auto, using(crate::proofs::MatrixLawLemmas::first_entries_stay_in_order))]
 pub fn first_entries_stay_in_order()
     ensures { FirstEntriesStayInOrder }
 {}

@@ -9,7 +9,8 @@ returns-in_err-write_all-clause-begun g c = search (AppendsFront-more, rw c.as_b
 
 pub returns-in_err-write_all-2-clause-begun : goal.returns-in_err-write_all-2-clause-begun
 returns-in_err-write_all-2-clause-begun g c =
-    search (AppendsFront-then, AppendsFront-more, rw c.as_bytes.ensures.value at c.in_ok-write_all.ensures.ok, rw c.as_bytes-2.ensures.value at c.in_err-write_all-2.ensures.begun)
+    let front = rw c.as_bytes.ensures.value at c.in_ok-write_all.ensures.ok in
+    search (AppendsFront-then, AppendsFront-more, front, rw c.as_bytes-2.ensures.value at c.in_err-write_all-2.ensures.begun)
 
 pub returns-clause-said : goal.returns-clause-said
 returns-clause-said g c = grind (arith, common_steps)

@@ -10,5 +10,4 @@ returns-in_err-output-clause-err c =
 
 pub returns-in_err-push-clause-err : goal.returns-in_err-push-clause-err
 returns-in_err-push-clause-err c =
-    let some = read-some c.args.input.now (view c.in-Ok.value) c.in-Ok.ensures.ok in
-    search (rules, some)
+    search (rules, read-some c.args.input.now (view c.in-Ok.value) c.in-Ok.ensures.ok)

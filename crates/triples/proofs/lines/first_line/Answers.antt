@@ -16,7 +16,8 @@ range_from-requires c =
 
 pub returns-then-end-text-clause-lines : goal.returns-then-end-text-clause-lines
 returns-then-end-text-clause-lines c =
-    lines_of-cut c.args.text.now _ (rw c.as_bytes.ensures.value at c.line_end-end.ensures) (omega (arith, c.if-end-text.true)) _ _ c.range.ensures.value c.range_from.ensures.value
+    let is = rw c.as_bytes.ensures.value at c.line_end-end.ensures in
+    lines_of-cut c.args.text.now _ is (omega (arith, c.if-end-text.true)) _ _ c.range.ensures.value c.range_from.ensures.value
 
 pub returns-else-end-text-clause-lines : goal.returns-else-end-text-clause-lines
 returns-else-end-text-clause-lines c =
