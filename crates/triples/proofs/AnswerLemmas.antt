@@ -52,13 +52,9 @@ pub so-far-none : {mode : Mode} {lines : List (List ℕ)} {output : List ℕ} {s
 so-far-none {mode} empty none = record {
   before = [];
   whole = λ more are. are;
-  kept = empty ∙ ap written (kept-none mode);
+  kept = empty ∙ ap written (elim mode as (λ m. [] ≡ kept_in m []) [ Matrix ↦ refl | _ ↦ refl ]);
   agree = λ matrix text. none text;
 }
-  where
-    kept-none : (mode : Mode) → [] ≡ kept_in mode []
-    kept-none Matrix = refl
-    kept-none _ = refl
 
 -- a line that is written if it stays behind others
 abbrev pub if_stays : Bool → Answer → List Answer

@@ -1,5 +1,5 @@
 -- The answers of mode `json`.
-use Rattle.std.proofs.Common.{◌≡◌, ◌∙◌, ℕ, ◌<◌, false, List, [], ◌∷◌, Some, None, MatchOption, Option, map, length, refl, sym, subst, arith}
+use Rattle.std.proofs.Common.{◌≡◌, ℕ, ◌<◌, false, List, [], ◌∷◌, Some, None, MatchOption, Option, map, length, refl, sym, subst, arith}
 use Rattle.serde_json.specs.Data.{Data}
 use Rattle.serde_json.specs.Find.{as_array}
 use Rattle.serde_json.specs.Read.{read}
@@ -18,12 +18,9 @@ no_float [] = refl
 no_float (t ∷ ts) = no_float ts
 
 -- an empty input is no JSON
-read-empty : read [] ≡ None
-unfolding serde_json_on_literals
-read-empty = refl
-
 pub read-some : (input : List ℕ) (value : Data) → read input ≡ Some value → 0 < length input
-read-some [] value found = absurd (let same = sym read-empty ∙ found in cc)
+unfolding serde_json_on_literals
+read-some [] value found = absurd (let same : None ≡ Some value = found in cc)
 read-some (b ∷ bs) value found = omega arith
 
 -- why a value has no answer is why its text has no output

@@ -46,15 +46,20 @@ feed_from_mask bytes at mask room is =
     ap (λ m. cond (eqb m 0) 16 (count_trailing_zeros 64 m)) (is ∙ bitmask_splat w8 eqb (chunk at 16 bytes) 16 10 long (omega arith))
     ∙ first_set_mask_l is_line_feed (chunk at 16 bytes) 16 long (omega arith)
 
--- of a text of which some bytes were seen to hold no line feed: what the next sixteen tell
-module _ (bytes : List ℕ) (at before : ℕ) (room : at + 16 ≤ length bytes) (none : (k : ℕ) → k < at → is_line_feed (get_or bytes k 0) ≡ false)
-    (is : before ≡ position_or_len is_line_feed (take 16 (drop at bytes))) where
-  pub none_in_load : (k : ℕ) → k < at + before → is_line_feed (get_or bytes k 0) ≡ false
-  none_in_load k lt = elim (cases_lt k at) [ inl early ↦ none k early | inr late ↦ run_in_chunk_fails is_line_feed bytes at 16 before 0 room is k late lt ]
+-- the bytes so far hold no line feed
+pub record NoneBefore (bytes : List ℕ) (at : ℕ) : Type 0 where
+  pub within : at ≤ length bytes
+  pub none : (k : ℕ) → k < at → is_line_feed (get_or bytes k 0) ≡ false
 
-  pub load_is_left : at + before ≤ length bytes
-  load_is_left = omega (arith, run_in_chunk_le is_line_feed bytes at 16 before 0 room is)
+-- and what the next sixteen tell
+module _ (bytes : List ℕ) (at before : ℕ) (room : at + 16 ≤ length bytes) (so_far : NoneBefore bytes at)
+    (is : before ≡ position_or_len is_line_feed (take 16 (drop at bytes))) where
+  pub none_in_load : NoneBefore bytes (at + before)
+  none_in_load = record {
+    within = omega (arith, run_in_chunk_le is_line_feed bytes at 16 before 0 room is);
+    none = λ k lt. elim (cases_lt k at) [ inl early ↦ so_far.none k early | inr late ↦ run_in_chunk_fails is_line_feed bytes at 16 before 0 room is k late lt ];
+  }
 
   pub ends_in_load : before < 16 → at + before ≡ position_or_len is_line_feed bytes
   ends_in_load short =
-      sym (position_or_len_is is_line_feed bytes (at + before) 0 load_is_left none_in_load (λ _. run_in_chunk_stops is_line_feed bytes at 16 before 0 room is short))
+      sym (position_or_len_is is_line_feed bytes (at + before) 0 none_in_load.within none_in_load.none (λ _. run_in_chunk_stops is_line_feed bytes at 16 before 0 room is short))

@@ -5,8 +5,7 @@ use Rattle.triples.proofs.json.json_output.Goals as goal
 
 pub returns-in_err-output-clause-err : goal.returns-in_err-output-clause-err
 returns-in_err-output-clause-err c =
-    let fault = input_fault c.args.input.now (view c.in-Ok.value) c.in_err-output.field-0.0 c.in-Ok.ensures.ok c.in_err-output.ensures.err in
-    search (rules, fault)
+    search (rules, input_fault c.args.input.now (view c.in-Ok.value) c.in_err-output.field-0.0 c.in-Ok.ensures.ok c.in_err-output.ensures.err)
 
 pub returns-in_err-push-clause-err : goal.returns-in_err-push-clause-err
 returns-in_err-push-clause-err c =

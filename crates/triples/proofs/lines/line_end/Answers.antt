@@ -1,23 +1,19 @@
 -- Each load, and then each byte, tells where the next line feed is.
-use Rattle.std.proofs.Common.{◌+◌, ◌≤◌, length, arith, sym}
+use Rattle.std.proofs.Common.{arith, sym}
 use Rattle.std.proofs.lemmas.Bool.{eq-eqb}
 use Rattle.std.proofs.lemmas.List.Sums.{position_or_len_is}
-use Rattle.triples.proofs.LineLemmas.{is_line_feed, none_in_load, load_is_left, ends_in_load}
+use Rattle.triples.proofs.LineLemmas.{is_line_feed, none_in_load, ends_in_load}
 use Rattle.triples.proofs.lines.line_end.Goals as goal
 
 pub returns-then-before-lt16 : goal.returns-then-before-lt16
 returns-then-before-lt16 c =
     let so_far = c.loop-at.invariant in
-    ends_in_load c.args.bytes.now c.loop-at.at _ (omega (arith, so_far.within, c.loop-at-test.true)) so_far.none c.before_line_feed-before.ensures (omega (arith, c.if-before-lt16.true))
+    ends_in_load c.args.bytes.now c.loop-at.at _ (omega (arith, so_far.within, c.loop-at-test.true)) so_far c.before_line_feed-before.ensures (omega (arith, c.if-before-lt16.true))
 
 pub loop-at-preserved : goal.loop-at-preserved
 loop-at-preserved c =
     let so_far = c.loop-at.invariant in
-    let room : c.loop-at.at + 16 ≤ length c.args.bytes.now = omega (arith, so_far.within, c.loop-at-test.true) in
-    record {
-      within = load_is_left c.args.bytes.now c.loop-at.at _ room so_far.none c.before_line_feed-before.ensures;
-      none = none_in_load c.args.bytes.now c.loop-at.at _ room so_far.none c.before_line_feed-before.ensures;
-    }
+    none_in_load c.args.bytes.now c.loop-at.at _ (omega (arith, so_far.within, c.loop-at-test.true)) so_far c.before_line_feed-before.ensures
 
 pub returns-else-bytes-at-ne10 : goal.returns-else-bytes-at-ne10
 returns-else-bytes-at-ne10 c =

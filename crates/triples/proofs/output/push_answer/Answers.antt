@@ -1,15 +1,13 @@
 -- A line is answered by what is shown of its triple, or by its refusal.
-use Rattle.std.proofs.Common.{◌≢◌, string_bytes, rules}
-use Rattle.target_lexicon.specs.declared.parse_error.ParseError.TheVariants.{OutOfMemory}
+use Rattle.std.proofs.Common.{string_bytes, rules}
 use Rattle.target_lexicon.specs.Values.{values_of}
 use Rattle.triples.proofs.AnswerLemmas.{read-adds, refusal-adds}
 use Rattle.triples.proofs.output.push_answer.Goals as goal
 
 pub returns-in-Err : goal.returns-in-Err
 returns-in-Err c =
-    let other : c.in-Err.error ≢ OutOfMemory = search rules in
     refusal-adds c.args.mode c.args.line.now (string_bytes c.args.output.now) (string_bytes c.push_refusal.new.output) c.args.seen.now.texts c.args.seen.now.texts
-    c.push_refusal.result c.in-Err.error other c.in-Err.ensures.err c.push_refusal.ensures
+    c.push_refusal.result c.in-Err.error (search rules) c.in-Err.ensures.err c.push_refusal.ensures
 
 pub returns-in-Ok : goal.returns-in-Ok
 returns-in-Ok c =
