@@ -1,7 +1,35 @@
--- What fields that are fed one behind another tell.
-use Rattle.std.proofs.Common.{◌≡◌, ◌++◌, [], ◌∙◌, sym, ap, append_assoc}
-use Rattle.std.specs.Hash.{HashWrites}
-use Rattle.lexicon_fields.specs.Hashing.{FeedsOfTell}
+-- What variants without fields tell that are fed, and fields that are fed one behind another.
+use Rattle.std.proofs.Common.{◌≡◌, ℕ, ◌≤◌, ◌++◌, [], ◌∷◌, ◌∙◌, sym, ap, append_assoc, length, arith}
+use Rattle.std.specs.Hash.{HashWrites, le_bytes, usize}
+use Rattle.lexicon_fields.specs.Hashing.{FeedsOfTell, FeedsTell}
+use denote.Enum.Bare.{Bare, tag_one}
+use denote.Enum.Declared.{Record, declared, rowss, tag_of}
+use denote.Enum.Enum.{tag_below}
+
+abbrev first_byte : HashWrites → ℕ
+first_byte [] = 0
+first_byte ([] ∷ writes) = 0
+first_byte ((byte ∷ bytes) ∷ writes) = byte
+
+abbrev behind_first : HashWrites → HashWrites
+behind_first [] = []
+behind_first (write ∷ writes) = writes
+
+bare_told : (N : Record) → Bare N.parts → length (rowss N.parts) ≤ 256 → (x y : N.D) (a b : HashWrites)
+    → usize (tag_of (declared N) x) ++ a ≡ usize (tag_of (declared N) y) ++ b → (x ≡ y) × (a ≡ b)
+unfolding le_bytes
+bare_told N bare few x y a b same =
+    let firsts = ap first_byte same in
+    let below_x = tag_below (rowss N.parts) ((declared N).to x) in
+    let below_y = tag_below (rowss N.parts) ((declared N).to y) in
+    (tag_one (declared N) bare x y (omega arith), ap behind_first same)
+
+-- variants without fields, at most 256 of them
+pub bare_feeds : (N : Record) → Bare N.parts → length (rowss N.parts) ≤ 256 → FeedsTell (λ x. usize (tag_of (declared N) x))
+bare_feeds N bare few = record {
+  exactly = λ x y _ _. (λ same. (bare_told N bare few x y [] [] (ap (λ fed. fed ++ []) same)).0, ap (λ z. usize (tag_of (declared N) z)));
+  with_more = λ x y a b _ _. bare_told N bare few x y a b;
+}
 
 module _ {T V W X Y : Type 0} {IsFirst : V → Type 0} {IsSecond : X → Type 0} {first : V → W} {second : X → Y}
     {feed_first : V → HashWrites} {feed_second : X → HashWrites} (p : T → V) (q : T → X)
