@@ -1,8 +1,7 @@
 -- What an error says of memory.
 use Rattle.std.proofs.Common.{List, ℕ, Option, Some, None, inl}
 use Rattle.std.specs.Prelude.{MatchOption}
-use Rattle.target_lexicon.specs.Reading.{MayWantMemory, IsRefusedAs}
-use Rattle.target_lexicon.specs.Refusal.{Refusal}
+use Rattle.target_lexicon.specs.{Reading.MayWantMemory, Reading.IsRefusedAs, Refusal.Refusal}
 
 -- a text that gives an error is refused or has a custom vendor, so that it may want memory
 pub fault_wants : (text : List ℕ) (refusal : Option Refusal)

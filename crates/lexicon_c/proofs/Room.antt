@@ -1,11 +1,8 @@
 -- What an error tells is no longer than the text.
 use Rattle.std.proofs.Common.{◌≡◌, ℕ, List, Option, Some, None, arith}
 use Rattle.std.specs.Prelude.{MatchOption}
-use Rattle.lexicon_c.specs.Refused.{lack_status}
-use Rattle.lexicon_c.specs.Told.{IsTold, IsNothingTold, IsLittleLonger}
-use Rattle.target_lexicon.specs.Lengths.{RefusedPartsAreNoLonger}
-use Rattle.target_lexicon.specs.Reading.{MayWantMemory, IsRefusedAs}
-use Rattle.target_lexicon.specs.Refusal.{Refusal}
+use Rattle.lexicon_c.specs.{Told.lack_status, Told.IsTold, Told.IsNothingTold, Told.IsLittleLonger}
+use Rattle.target_lexicon.specs.{FixedPoints.RefusedPartsAreNoLonger, Reading.MayWantMemory, Reading.IsRefusedAs, Refusal.Refusal}
 
 -- a refused part is no longer than the text, and of want of memory nothing is told
 pub fault_has_room : RefusedPartsAreNoLonger → (text : List ℕ) (refusal : Option Refusal) (status size : ℕ) (old new : List ℕ)

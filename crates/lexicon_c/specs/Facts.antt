@@ -1,22 +1,14 @@
--- What C asks of a triple, as numbers.
-use Rattle.std.specs.Prelude.{◌≡◌, ℕ, List, Option, Some, None}
-use Rattle.std.specs.Option.{option_map_or}
-use Rattle.lexicon_fields.specs.OperatingSystem.{version_held}
-use Rattle.lexicon_fields.specs.Width.{width_bits}
-use Rattle.lexicon_fields.specs.declared.binary_format.BinaryFormat.{BinaryFormat}
-use Rattle.lexicon_fields.specs.declared.binary_format.BinaryFormat.TheVariants as binary_format
-use Rattle.lexicon_fields.specs.declared.deployment_target.DeploymentTarget.{DeploymentTarget}
-use Rattle.lexicon_fields.specs.declared.width.Endianness.{Endianness}
-use Rattle.lexicon_fields.specs.declared.width.Endianness.TheVariants.{Little, Big}
-use Rattle.lexicon_c.specs.declared.facts.LexiconFacts.{LexiconFacts}
-use Rattle.target_lexicon.specs.ImpliedFormat.{implied}
-use Rattle.target_lexicon.specs.Queries.{endianness, pointer_width, calling_convention, data_model}
-use Rattle.target_lexicon.specs.Reading.{ReadsAs}
-use Rattle.target_lexicon.specs.Values.{Values}
-use Rattle.target_lexicon.specs.declared.calling_convention.CallingConvention.{CallingConvention}
+-- What C asks of a triple, as numbers, and the answers of yes or no.
+use Rattle.std.specs.Prelude.{◌≡◌, ◌↔◌, ℕ, Bool, true, List, Option, Some, None}
+use Rattle.target_lexicon.specs.{Laws.ComesBack, ImpliedFormat.implied, Queries.endianness, Queries.pointer_width, Queries.calling_convention, Queries.data_model, Reading.ReadsAs, Values.Values}
+use Rattle.target_lexicon.specs.{declared.calling_convention.CallingConvention.CallingConvention, declared.data_model.CDataModel.CDataModel}
 use Rattle.target_lexicon.specs.declared.calling_convention.CallingConvention.TheVariants.{SystemV, WasmBasicCAbi, WindowsFastcall, AppleAarch64}
-use Rattle.target_lexicon.specs.declared.data_model.CDataModel.{CDataModel}
 use Rattle.target_lexicon.specs.declared.data_model.CDataModel.TheVariants.{LP32, ILP32, LLP64, LP64, ILP64}
+use Rattle.std.specs.Option.{option_map_or}
+use Rattle.lexicon_fields.specs.{OperatingSystem.version_held, Width.width_bits, declared.binary_format.BinaryFormat.BinaryFormat, declared.deployment_target.DeploymentTarget.DeploymentTarget}
+use Rattle.lexicon_fields.specs.{declared.width.Endianness.Endianness, declared.width.Endianness.TheVariants.Little, declared.width.Endianness.TheVariants.Big}
+use Rattle.lexicon_c.specs.declared.facts.LexiconFacts.{LexiconFacts}
+use Rattle.lexicon_fields.specs.declared.binary_format.BinaryFormat.TheVariants as binary_format
 
 -- the number of each answer; 0 where there is none
 
@@ -68,3 +60,12 @@ pub record AreFactsOf (facts : LexiconFacts) (t : Values) : Type 0 where
 -- the text reads as a triple with these facts
 abbrev pub AreFactsRead : List ℕ → LexiconFacts → Type 0
 AreFactsRead text facts = (t : Values) × ReadsAs text t × AreFactsOf facts t
+
+-- the text reads as a triple, and the answer is whether it comes back
+abbrev pub IsFixedTold : List ℕ → Bool → Type 0
+IsFixedTold text answer = (t : Values) × ReadsAs text t × ((answer ≡ true) ↔ ComesBack t)
+
+-- both texts read as triples, and the answer is whether they are equal
+abbrev pub IsComparedTold : List ℕ → List ℕ → Bool → Type 0
+IsComparedTold first second answer =
+    (t : Values) × ((u : Values) × ReadsAs first t × ReadsAs second u × ((answer ≡ true) ↔ (t ≡ u)))

@@ -1,5 +1,3 @@
-pub mod Answers
 pub mod Facts
 pub mod Names
-pub mod Refused
 pub mod Told

@@ -1,26 +1,15 @@
 -- Printed texts and names, as they go out.
 use Rattle.std.specs.Prelude.{◌≡◌, ◌⊎◌, ℕ, suc, List, Option, Some, None, true, option_map, IsSome}
-use Rattle.lexicon_fields.specs.Architecture.{architecture_name, architecture_of}
-use Rattle.lexicon_fields.specs.BinaryFormat.{binary_format_name, binary_format_of}
-use Rattle.lexicon_fields.specs.Environment.{environment_name, environment_of}
-use Rattle.lexicon_fields.specs.OperatingSystem.{operating_system_name, operating_system_of, version_held}
-use Rattle.lexicon_fields.specs.Vendor.{vendor_name, vendor_of, is_admitted}
-use Rattle.lexicon_fields.specs.declared.operating_system.OperatingSystem.{OperatingSystem}
+use Rattle.lexicon_fields.specs.{Architecture.architecture_name, Architecture.architecture_of, BinaryFormat.binary_format_name, BinaryFormat.binary_format_of}
+use Rattle.lexicon_fields.specs.{Environment.environment_name, Environment.environment_of, OperatingSystem.operating_system_name, OperatingSystem.operating_system_of, OperatingSystem.version_held}
+use Rattle.lexicon_fields.specs.{Vendor.vendor_name, Vendor.vendor_of, Vendor.is_admitted, declared.operating_system.OperatingSystem.OperatingSystem}
 use Rattle.lexicon_c.specs.Told.{IsTold}
+use Rattle.target_lexicon.specs.{Field.Field, Field.place, Reading.ReadsAs, Reading.MayWantMemory, Values.Values}
 use Rattle.target_lexicon.specs.Field as field
-use Rattle.target_lexicon.specs.Field.{Field, place}
-use Rattle.target_lexicon.specs.FixedPoints.{settled}
-use Rattle.target_lexicon.specs.Printing.{text_of}
-use Rattle.target_lexicon.specs.Reading.{ReadsAs, MayWantMemory}
-use Rattle.target_lexicon.specs.Values.{Values}
 
--- the text reads as a triple, whose printed text is told
-abbrev pub IsPrintedTold : List ℕ → List ℕ → List ℕ → ℕ → Type 0
-IsPrintedTold text old new size = (t : Values) × ReadsAs text t × IsTold (text_of t) old new size
-
--- the text reads as a triple, whose printed text once it is settled is told
-abbrev pub IsSettledTold : List ℕ → List ℕ → List ℕ → ℕ → Type 0
-IsSettledTold text old new size = (t : Values) × ReadsAs text t × IsTold (text_of (settled t)) old new size
+-- the text reads as a triple, and what is shown of it is told
+abbrev pub IsShownTold : (Values → List ℕ) → List ℕ → List ℕ → List ℕ → ℕ → Type 0
+IsShownTold shown text old new size = (t : Values) × ReadsAs text t × IsTold (shown t) old new size
 
 -- the name of a triple's value in a field
 abbrev pub name_in : Values → Field → List ℕ

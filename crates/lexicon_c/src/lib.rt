@@ -12,12 +12,13 @@ mod utf8;
 
 ghost use Rattle.std.specs.Prelude.{◌≡◌, ◌≤◌, ◌<◌, ◌↔◌, ◌⊎◌};
 ghost use Rattle.std.specs.Str.{IsUtf8};
-ghost use Rattle.lexicon_c.specs.Answers.{IsRead, IsFixedTold, IsComparedTold, IsEitherRefusedBy};
-ghost use Rattle.lexicon_c.specs.Facts.{AreFactsRead};
-ghost use Rattle.lexicon_c.specs.Names.{IsPrintedTold, IsSettledTold, IsNameTold, MayNameWantMemory, IsReadNameTold, IsUnreadTold, MayReadNameWantMemory};
-ghost use Rattle.lexicon_c.specs.Refused.{IsRefusedBy, IsRefusedTold, IsLineTold};
-ghost use Rattle.lexicon_c.specs.Told.{IsNothingTold, IsLittleLonger};
-ghost use Rattle.target_lexicon.specs.Reading.{MayWantMemory};
+ghost use Rattle.lexicon_c.specs.Facts.{AreFactsRead, IsFixedTold, IsComparedTold};
+ghost use Rattle.lexicon_c.specs.Names.{IsShownTold, IsNameTold, MayNameWantMemory, IsReadNameTold, IsUnreadTold, MayReadNameWantMemory};
+ghost use Rattle.lexicon_c.specs.Told.{IsNothingTold, IsLittleLonger, IsRefusedBy, IsEitherRefusedBy, IsRefusalTold};
+ghost use Rattle.target_lexicon.specs.FixedPoints.{settled_text};
+ghost use Rattle.target_lexicon.specs.Printing.{text_of};
+ghost use Rattle.target_lexicon.specs.Reading.{IsRead, MayWantMemory};
+ghost use Rattle.target_lexicon.specs.Refusal.{refusal_line};
 
 pub use facts::LexiconFacts;
 use facts::facts_of;
@@ -41,9 +42,9 @@ pub extern "C" fn lexicon_print(
     out: &mut [u8],
     length: &mut usize,
 ) -> u32
-    ensures done { result ≡ 0 → IsPrintedTold text.now out.old out.new length.new }
+    ensures done { result ≡ 0 → IsShownTold text_of text.now out.old out.new length.new }
     ensures room { IsLittleLonger text.now length.new }
-    ensures refused { 1 ≤ result → result ≤ 6 → IsRefusedTold result text.now out.old out.new length.new }
+    ensures refused { 1 ≤ result → result ≤ 6 → IsRefusalTold (λ refusal. refusal.part) result text.now out.old out.new length.new }
     ensures utf8 { (result ≡ 7) ↔ ¬ (IsUtf8 text.now) }
     ensures nothing { 7 ≤ result → IsNothingTold out.old out.new length.new }
     ensures all { result ≤ 8 }
@@ -71,9 +72,9 @@ pub extern "C" fn lexicon_settle(
     out: &mut [u8],
     length: &mut usize,
 ) -> u32
-    ensures done { result ≡ 0 → IsSettledTold text.now out.old out.new length.new }
+    ensures done { result ≡ 0 → IsShownTold settled_text text.now out.old out.new length.new }
     ensures room { IsLittleLonger text.now length.new }
-    ensures refused { 1 ≤ result → result ≤ 6 → IsRefusedTold result text.now out.old out.new length.new }
+    ensures refused { 1 ≤ result → result ≤ 6 → IsRefusalTold (λ refusal. refusal.part) result text.now out.old out.new length.new }
     ensures utf8 { (result ≡ 7) ↔ ¬ (IsUtf8 text.now) }
     ensures nothing { 7 ≤ result → IsNothingTold out.old out.new length.new }
     ensures all { result ≤ 8 }
@@ -103,7 +104,7 @@ pub extern "C" fn lexicon_field(
     length: &mut usize,
 ) -> u32
     ensures done { result ≡ 0 → IsNameTold field text.now out.old out.new length.new }
-    ensures refused { 1 ≤ result → result ≤ 6 → IsRefusedTold result text.now out.old out.new length.new }
+    ensures refused { 1 ≤ result → result ≤ 6 → IsRefusalTold (λ refusal. refusal.part) result text.now out.old out.new length.new }
     ensures utf8 { (result ≡ 7) ↔ ((field ≤ 4) × ¬ (IsUtf8 text.now)) }
     ensures no_such_field { (result ≡ 9) ↔ (4 < field) }
     ensures memory { result ≡ 8 → MayNameWantMemory field text.now }
@@ -219,7 +220,7 @@ pub extern "C" fn lexicon_error_line(
     length: &mut usize,
 ) -> u32
     ensures done { result ≡ 0 → IsRead text.now × IsNothingTold out.old out.new length.new }
-    ensures refused { 1 ≤ result → result ≤ 6 → IsLineTold result text.now out.old out.new length.new }
+    ensures refused { 1 ≤ result → result ≤ 6 → IsRefusalTold refusal_line result text.now out.old out.new length.new }
     ensures utf8 { (result ≡ 7) ↔ ¬ (IsUtf8 text.now) }
     ensures memory { result ≡ 8 → MayWantMemory text.now }
     ensures nothing { 7 ≤ result → IsNothingTold out.old out.new length.new }

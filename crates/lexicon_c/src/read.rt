@@ -2,7 +2,7 @@
 ghost use Rattle.std.specs.Prelude.{◌≡◌, ◌≢◌, ◌≤◌, ◌↔◌, true, IfOk, IfErr};
 ghost use Rattle.target_lexicon.specs.Reading.{ReadsAs, MayWantMemory};
 ghost use Rattle.target_lexicon.specs.Values.{values_of};
-ghost use Rattle.lexicon_c.specs.Refused.{IsRefusedBy};
+ghost use Rattle.lexicon_c.specs.Told.{IsRefusedBy};
 
 use crate::status::status_of;
 use std::alloc::Global;

@@ -1,8 +1,7 @@
 //! The statuses that a call answers.
 ghost use Rattle.std.specs.Prelude.{◌≡◌, ◌≢◌, ◌≤◌, MatchOption};
 ghost use Rattle.target_lexicon.specs.Refusal.{refusal_of, refusal_line};
-ghost use Rattle.lexicon_c.specs.Refused.{lack_status};
-ghost use Rattle.lexicon_c.specs.Told.{IsTold, IsNothingTold};
+ghost use Rattle.lexicon_c.specs.Told.{lack_status, IsTold, IsNothingTold};
 
 use crate::told::tell;
 use std::alloc::Global;

@@ -6,12 +6,12 @@ use Rattle.std.specs.Option.{option_eq}
 use Rattle.std.proofs.lemmas.Bool.{false≢true}
 use Rattle.std.proofs.lemmas.Bool.Decides.{Decides-like}
 use Rattle.lexicon_fields.specs.declared.deployment_target.DeploymentTarget.{DeploymentTarget}
-use Rattle.lexicon_fields.specs.contracts.deployment_target.DeploymentTargetPartialEq.TheImpl as version
 use denote.Struct.Field.{Field}
 use denote.Struct.Values.{Values}
 use denote.Enum.Declared.{Record, Declared, Choice}
 use denote.Enum.Compared.{Each, by}
 use denote.Enum.Bare.{Bare, sameb, same_true, true_same}
+use Rattle.lexicon_fields.specs.contracts.deployment_target.DeploymentTargetPartialEq.TheImpl as version
 
 -- variants without fields are told apart by their places
 pub bare-Decides : (D : Declared) → Bare D.parts → (a b : D.D) → Decides (sameb D a b) (a ≡ b)

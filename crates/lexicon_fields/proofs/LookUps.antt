@@ -7,8 +7,7 @@ use Rattle.std.proofs.lemmas.Bool.{and_parts, ne_eqb}
 use Rattle.std.proofs.lemmas.List.Folds.{list_any_none}
 use Rattle.std.proofs.lemmas.List.Sums.{AllPass-from_list_all}
 use Rattle.std.proofs.lemmas.Slice.Eq.{bytes_eq-Decides}
-use Rattle.lexicon_fields.specs.Names.{Pair, value_of, named, is_dash_free}
-use Rattle.lexicon_fields.specs.Laws.{NamesOfReadBack}
+use Rattle.lexicon_fields.specs.{Names.Pair, Names.value_of, Names.named, Names.is_dash_free, Laws.NamesOfReadBack}
 
 -- a test that every pair passes holds of each text with the value that it reads as
 pub value_of-all : {V : Type 0} (test : Pair V → Bool) (pairs : List (Pair V)) (text : List ℕ) (v : V) → list_all test pairs ≡ true → value_of pairs text ≡ Some v → test (text, v) ≡ true

@@ -1,6 +1,10 @@
 -- Names of the types whose values are listed in tables: each reads back, and each text that reads is that of a row.
 use Rattle.std.proofs.Common.{◌≡◌, ◌∙◌, ℕ, List, ◌∷◌, true, Option, Some, None, codes, refl, ap, option_and_then}
-use Rattle.lexicon_fields.specs.declared.architecture.Architecture.{Architecture}
+use Rattle.lexicon_fields.specs.{declared.architecture.Architecture.Architecture, declared.environment.Environment.Environment, declared.binary_format.BinaryFormat.BinaryFormat, Names.named}
+use Rattle.lexicon_fields.specs.{Laws.NamesReadBack, Architecture.architecture_name, Architecture.architecture_values, Architecture.architecture_of, FixedRow.row_texts}
+use Rattle.lexicon_fields.specs.Environment.{environment_name, environment_values, environment_of}
+use Rattle.lexicon_fields.specs.BinaryFormat.{binary_format_name, binary_format_values, binary_format_of}
+use Rattle.lexicon_fields.proofs.{LookUps.value_of-passes, LookUps.of_kind-read_back, RowTexts.is_row_text, RowTexts.row_text-dash_free}
 use Rattle.lexicon_fields.specs.declared.architecture.Architecture.TheVariants as architecture
 use Rattle.lexicon_fields.specs.declared.architecture.arm.ArmArchitecture.TheVariants as arm
 use Rattle.lexicon_fields.specs.declared.architecture.aarch64.Aarch64Architecture.TheVariants as aarch64
@@ -11,18 +15,8 @@ use Rattle.lexicon_fields.specs.declared.architecture.riscv.Riscv32Architecture.
 use Rattle.lexicon_fields.specs.declared.architecture.riscv.Riscv64Architecture.TheVariants as riscv64
 use Rattle.lexicon_fields.specs.declared.architecture.clever.CleverArchitecture.TheVariants as clever
 use Rattle.lexicon_fields.specs.declared.architecture.z80.Z80Architecture.TheVariants as z80
-use Rattle.lexicon_fields.specs.declared.environment.Environment.{Environment}
 use Rattle.lexicon_fields.specs.declared.environment.Environment.TheVariants as environment
-use Rattle.lexicon_fields.specs.declared.binary_format.BinaryFormat.{BinaryFormat}
 use Rattle.lexicon_fields.specs.declared.binary_format.BinaryFormat.TheVariants as binary_format
-use Rattle.lexicon_fields.specs.Names.{named}
-use Rattle.lexicon_fields.specs.Laws.{NamesReadBack}
-use Rattle.lexicon_fields.specs.Architecture.{architecture_name, architecture_values, architecture_of}
-use Rattle.lexicon_fields.specs.FixedRow.{row_texts}
-use Rattle.lexicon_fields.specs.Environment.{environment_name, environment_values, environment_of}
-use Rattle.lexicon_fields.specs.BinaryFormat.{binary_format_name, binary_format_values, binary_format_of}
-use Rattle.lexicon_fields.proofs.LookUps.{value_of-passes, of_kind-read_back}
-use Rattle.lexicon_fields.proofs.RowTexts.{is_row_text, row_text-dash_free}
 
 -- names read back where each reads as its value, and each text that reads is a row's
 pub each-read_back : {V : Type 0} (name : V → List ℕ) (find : List ℕ → Option V) → ((v : V) → find (name v) ≡ Some v)

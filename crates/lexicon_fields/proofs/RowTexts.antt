@@ -10,8 +10,7 @@ use Rattle.std.proofs.lemmas.Cmp.{nat_list_cmp_total}
 use Rattle.std.proofs.lemmas.Map.Keys.{sorted_from_all_adjacent, Less-from_sorted}
 use Rattle.std.proofs.lemmas.Map.Text.{is_eq-slice_cmp}
 use Rattle.std.proofs.lemmas.Slice.Eq.{bytes_eq-Decides}
-use Rattle.lexicon_fields.specs.Names.{is_dash_free}
-use Rattle.lexicon_fields.specs.FixedRow.{row_count, row_texts, row_text}
+use Rattle.lexicon_fields.specs.{Names.is_dash_free, FixedRow.row_count, FixedRow.row_texts, FixedRow.row_text}
 
 pub length-row_texts : length row_texts ≡ row_count
 unfolding row_texts

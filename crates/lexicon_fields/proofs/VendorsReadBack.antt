@@ -5,21 +5,13 @@ use Rattle.std.specs.Option.{option_or}
 use Rattle.std.proofs.Math.Bool.{and-true, and-false}
 use Rattle.std.proofs.lemmas.Bool.{and_parts}
 use Rattle.std.proofs.lemmas.Option.{MatchOption-at_some, cond_some}
-use Rattle.lexicon_fields.specs.declared.vendor.Vendor.{Vendor}
-use Rattle.lexicon_fields.specs.declared.vendor.Vendor.TheVariants as vendor
-use Rattle.lexicon_fields.specs.declared.known_vendor.KnownVendor.{KnownVendor}
-use Rattle.lexicon_fields.specs.declared.known_vendor.KnownVendor.TheVariants.{Unknown}
+use Rattle.lexicon_fields.specs.{declared.vendor.Vendor.Vendor, declared.known_vendor.KnownVendor.KnownVendor, declared.known_vendor.KnownVendor.TheVariants.Unknown, Names.named, Names.is_dash_free}
 use Rattle.lexicon_fields.specs.Vendor.{VendorValue, Known, Custom, known_name, known_vendors, custom_of, vendor_name, is_plain, is_free, is_lowercase_letter, is_vendor_character, has_vendor_form, vendor_of, vendor_value, owns_text, known_vendor_of, is_admitted}
-use Rattle.lexicon_fields.specs.Names.{named, is_dash_free}
-use Rattle.lexicon_fields.proofs.LookUps.{value_of-passes, holds-if_read, option_map-holds, option_or-holds, option_or-none, none_is, test_apart, all-dash_free}
-use Rattle.lexicon_fields.proofs.RowTexts.{row_text-dash_free}
-use Rattle.lexicon_fields.proofs.RowsHold.{known_vendor_of-row}
-use Rattle.lexicon_fields.specs.Architecture.{architecture_of}
-use Rattle.lexicon_fields.specs.declared.operating_system.OperatingSystem.{OperatingSystem}
+use Rattle.lexicon_fields.specs.{Architecture.architecture_of, declared.operating_system.OperatingSystem.OperatingSystem, Environment.environment_of, BinaryFormat.binary_format_of, FixedRow.has_row}
 use Rattle.lexicon_fields.specs.OperatingSystem.{darwin_prefixes, darwin_like_by, fixed_operating_system_of, operating_system_of}
-use Rattle.lexicon_fields.specs.Environment.{environment_of}
-use Rattle.lexicon_fields.specs.BinaryFormat.{binary_format_of}
-use Rattle.lexicon_fields.specs.FixedRow.{has_row}
+use Rattle.lexicon_fields.proofs.LookUps.{value_of-passes, holds-if_read, option_map-holds, option_or-holds, option_or-none, none_is, test_apart, all-dash_free}
+use Rattle.lexicon_fields.proofs.{RowTexts.row_text-dash_free, RowsHold.known_vendor_of-row}
+use Rattle.lexicon_fields.specs.declared.vendor.Vendor.TheVariants as vendor
 
 -- what is admitted: a text without a row that is no system like Darwin, in the form of a vendor
 

@@ -10,9 +10,8 @@ use Rattle.std.proofs.lemmas.Fmt.{decimal_is_IsNumeral}
 use Rattle.std.proofs.lemmas.List.Splits.{slice_split_first, slice_split_none, length-slice_split}
 use Rattle.std.proofs.lemmas.List.Sums.{fails_before_first}
 use Rattle.std.proofs.lemmas.Str.Parse.{IsNumeralModel, numerals_by_value}
-use Rattle.lexicon_fields.specs.declared.deployment_target.DeploymentTarget.{DeploymentTarget}
+use Rattle.lexicon_fields.specs.{declared.deployment_target.DeploymentTarget.DeploymentTarget, Private.pieces_left}
 use Rattle.lexicon_fields.specs.Version.{number_within, piece_within, version_of_numbers, version_of_pieces, version_of, version_name, pieces_of}
-use Rattle.lexicon_fields.specs.Private.{pieces_left}
 use Rattle.lexicon_fields.proofs.LookUps.{test_apart, all_apart}
 
 -- the test by which a version's digits are told is that of `parse`

@@ -1,19 +1,13 @@
 -- The names of the architectures, and what reads as which.
 use Rattle.std.specs.Prelude.{ℕ, List, ◌∷◌, ◌++◌, codes, map, Option, Some, None, option_and_then}
-use Rattle.lexicon_fields.specs.declared.architecture.Architecture.{Architecture}
-use Rattle.lexicon_fields.specs.declared.architecture.Architecture.TheVariants as architecture
-use Rattle.lexicon_fields.specs.declared.architecture.arm.ArmArchitecture.{ArmArchitecture}
-use Rattle.lexicon_fields.specs.declared.architecture.aarch64.Aarch64Architecture.{Aarch64Architecture}
-use Rattle.lexicon_fields.specs.declared.architecture.x86_32.X86_32Architecture.{X86_32Architecture}
-use Rattle.lexicon_fields.specs.declared.architecture.mips.Mips32Architecture.{Mips32Architecture}
-use Rattle.lexicon_fields.specs.declared.architecture.mips.Mips64Architecture.{Mips64Architecture}
-use Rattle.lexicon_fields.specs.declared.architecture.riscv.Riscv32Architecture.{Riscv32Architecture}
-use Rattle.lexicon_fields.specs.declared.architecture.riscv.Riscv64Architecture.{Riscv64Architecture}
+use Rattle.lexicon_fields.specs.{declared.architecture.Architecture.Architecture, declared.architecture.arm.ArmArchitecture.ArmArchitecture, declared.architecture.z80.Z80Architecture.Z80Architecture}
+use Rattle.lexicon_fields.specs.{declared.architecture.aarch64.Aarch64Architecture.Aarch64Architecture, declared.architecture.x86_32.X86_32Architecture.X86_32Architecture, Names.value_of, Names.named}
+use Rattle.lexicon_fields.specs.{declared.architecture.mips.Mips32Architecture.Mips32Architecture, declared.architecture.mips.Mips64Architecture.Mips64Architecture}
+use Rattle.lexicon_fields.specs.{declared.architecture.riscv.Riscv32Architecture.Riscv32Architecture, declared.architecture.riscv.Riscv64Architecture.Riscv64Architecture}
 use Rattle.lexicon_fields.specs.declared.architecture.clever.CleverArchitecture.{CleverArchitecture}
-use Rattle.lexicon_fields.specs.declared.architecture.z80.Z80Architecture.{Z80Architecture}
-use Rattle.lexicon_fields.specs.declared.architecture.aarch64.Aarch64Architecture.TheVariants as aarch64
-use Rattle.lexicon_fields.specs.Names.{value_of, named}
 use Rattle.lexicon_fields.specs.SubArchitecture.{arm_name, arm_values, aarch64_name, aarch64_values, x86_32_name, x86_32_values, mips32_name, mips32_values, mips64_name, mips64_values, riscv32_name, riscv32_values, riscv64_name, riscv64_values, clever_name, clever_values, z80_name, z80_values}
+use Rattle.lexicon_fields.specs.declared.architecture.Architecture.TheVariants as architecture
+use Rattle.lexicon_fields.specs.declared.architecture.aarch64.Aarch64Architecture.TheVariants as aarch64
 
 -- the name of an architecture; one that holds a sub-architecture has its name
 abbrev pub architecture_name : Architecture → List ℕ
@@ -74,67 +68,43 @@ architecture_values =
 unfoldable pub architecture_of : List ℕ → Option Architecture
 architecture_of text = value_of ((codes "arm64", architecture.Aarch64 aarch64.Aarch64) ∷ named architecture_name architecture_values) text
 
--- A sub-architecture that a text reads as is the part of the architecture that it reads as.
-
+-- the sub-architecture that an architecture holds, if it is of that family
 abbrev pub as_arm : Architecture → Option ArmArchitecture
 as_arm (architecture.Arm sub) = Some sub
 as_arm _ = None
-
-abbrev pub arm_of : List ℕ → Option ArmArchitecture
-arm_of text = option_and_then as_arm (architecture_of text)
 
 abbrev pub as_aarch64 : Architecture → Option Aarch64Architecture
 as_aarch64 (architecture.Aarch64 sub) = Some sub
 as_aarch64 _ = None
 
-abbrev pub aarch64_of : List ℕ → Option Aarch64Architecture
-aarch64_of text = option_and_then as_aarch64 (architecture_of text)
-
 abbrev pub as_x86_32 : Architecture → Option X86_32Architecture
 as_x86_32 (architecture.X86_32 sub) = Some sub
 as_x86_32 _ = None
-
-abbrev pub x86_32_of : List ℕ → Option X86_32Architecture
-x86_32_of text = option_and_then as_x86_32 (architecture_of text)
 
 abbrev pub as_mips32 : Architecture → Option Mips32Architecture
 as_mips32 (architecture.Mips32 sub) = Some sub
 as_mips32 _ = None
 
-abbrev pub mips32_of : List ℕ → Option Mips32Architecture
-mips32_of text = option_and_then as_mips32 (architecture_of text)
-
 abbrev pub as_mips64 : Architecture → Option Mips64Architecture
 as_mips64 (architecture.Mips64 sub) = Some sub
 as_mips64 _ = None
-
-abbrev pub mips64_of : List ℕ → Option Mips64Architecture
-mips64_of text = option_and_then as_mips64 (architecture_of text)
 
 abbrev pub as_riscv32 : Architecture → Option Riscv32Architecture
 as_riscv32 (architecture.Riscv32 sub) = Some sub
 as_riscv32 _ = None
 
-abbrev pub riscv32_of : List ℕ → Option Riscv32Architecture
-riscv32_of text = option_and_then as_riscv32 (architecture_of text)
-
 abbrev pub as_riscv64 : Architecture → Option Riscv64Architecture
 as_riscv64 (architecture.Riscv64 sub) = Some sub
 as_riscv64 _ = None
-
-abbrev pub riscv64_of : List ℕ → Option Riscv64Architecture
-riscv64_of text = option_and_then as_riscv64 (architecture_of text)
 
 abbrev pub as_clever : Architecture → Option CleverArchitecture
 as_clever (architecture.Clever sub) = Some sub
 as_clever _ = None
 
-abbrev pub clever_of : List ℕ → Option CleverArchitecture
-clever_of text = option_and_then as_clever (architecture_of text)
-
 abbrev pub as_z80 : Architecture → Option Z80Architecture
 as_z80 (architecture.Z80 sub) = Some sub
 as_z80 _ = None
 
-abbrev pub z80_of : List ℕ → Option Z80Architecture
-z80_of text = option_and_then as_z80 (architecture_of text)
+-- the sub-architecture that a text reads as: the part of the architecture that it reads as
+abbrev pub sub_architecture_of : {S : Type 0} → (Architecture → Option S) → List ℕ → Option S
+sub_architecture_of as_family text = option_and_then as_family (architecture_of text)

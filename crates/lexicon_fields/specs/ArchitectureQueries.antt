@@ -1,19 +1,15 @@
 -- The instruction set, byte order and pointer width of an architecture.
 use Rattle.std.specs.Prelude.{Bool, true, false, Option, Some, None, codes, nat_eq}
 use Rattle.std.specs.List.{starts_with}
-use Rattle.lexicon_fields.specs.declared.architecture.Architecture.{Architecture}
+use Rattle.lexicon_fields.specs.{declared.architecture.Architecture.Architecture, declared.architecture.arm.ArmArchitecture.ArmArchitecture, declared.width.Endianness.Endianness}
+use Rattle.lexicon_fields.specs.{declared.architecture.aarch64.Aarch64Architecture.Aarch64Architecture, declared.width.Endianness.TheVariants.Little, declared.width.Endianness.TheVariants.Big}
+use Rattle.lexicon_fields.specs.{declared.width.PointerWidth.PointerWidth, SubArchitecture.arm_name}
+use Rattle.lexicon_fields.specs.declared.width.PointerWidth.TheVariants.{U16, U32, U64}
 use Rattle.lexicon_fields.specs.declared.architecture.Architecture.TheVariants as architecture
-use Rattle.lexicon_fields.specs.declared.architecture.arm.ArmArchitecture.{ArmArchitecture}
 use Rattle.lexicon_fields.specs.declared.architecture.arm.ArmArchitecture.TheVariants as arm
-use Rattle.lexicon_fields.specs.declared.architecture.aarch64.Aarch64Architecture.{Aarch64Architecture}
 use Rattle.lexicon_fields.specs.declared.architecture.aarch64.Aarch64Architecture.TheVariants as aarch64
 use Rattle.lexicon_fields.specs.declared.architecture.mips.Mips32Architecture.TheVariants as mips32
 use Rattle.lexicon_fields.specs.declared.architecture.mips.Mips64Architecture.TheVariants as mips64
-use Rattle.lexicon_fields.specs.declared.width.Endianness.{Endianness}
-use Rattle.lexicon_fields.specs.declared.width.Endianness.TheVariants.{Little, Big}
-use Rattle.lexicon_fields.specs.declared.width.PointerWidth.{PointerWidth}
-use Rattle.lexicon_fields.specs.declared.width.PointerWidth.TheVariants.{U16, U32, U64}
-use Rattle.lexicon_fields.specs.SubArchitecture.{arm_name}
 
 -- whether an Arm architecture is Thumb, which its name tells
 abbrev pub is_thumb : ArmArchitecture → Bool

@@ -1,8 +1,7 @@
 -- The names of the binary formats, and what reads as which.
 use Rattle.std.specs.Prelude.{ℕ, List, [], ◌∷◌, codes, Option}
-use Rattle.lexicon_fields.specs.declared.binary_format.BinaryFormat.{BinaryFormat}
+use Rattle.lexicon_fields.specs.{declared.binary_format.BinaryFormat.BinaryFormat, Names.value_of, Names.named}
 use Rattle.lexicon_fields.specs.declared.binary_format.BinaryFormat.TheVariants as binary_format
-use Rattle.lexicon_fields.specs.Names.{value_of, named}
 
 -- the name of a binary format
 abbrev pub binary_format_name : BinaryFormat → List ℕ

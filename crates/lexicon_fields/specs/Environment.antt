@@ -1,8 +1,7 @@
 -- The names of the environments, and what reads as which.
 use Rattle.std.specs.Prelude.{ℕ, List, [], ◌∷◌, codes, Option}
-use Rattle.lexicon_fields.specs.declared.environment.Environment.{Environment}
+use Rattle.lexicon_fields.specs.{declared.environment.Environment.Environment, Names.value_of, Names.named}
 use Rattle.lexicon_fields.specs.declared.environment.Environment.TheVariants as environment
-use Rattle.lexicon_fields.specs.Names.{value_of, named}
 
 -- the name of an environment
 abbrev pub environment_name : Environment → List ℕ
@@ -45,15 +44,12 @@ environment_name environment.Ohos = codes "ohos"
 -- all of them
 abbrev pub environment_values : List Environment
 environment_values =
-    environment.Unknown ∷ environment.AmdGiz ∷ environment.Android ∷ environment.Androideabi ∷
-    environment.Eabi ∷ environment.Eabihf ∷ environment.Gnu ∷ environment.Gnuabi64 ∷
-    environment.Gnueabi ∷ environment.Gnueabihf ∷ environment.Gnuspe ∷ environment.Gnux32 ∷
-    environment.GnuIlp32 ∷ environment.GnuLlvm ∷ environment.HermitKernel ∷
-    environment.HurdKernel ∷ environment.LinuxKernel ∷ environment.Macabi ∷ environment.Musl ∷
-    environment.Musleabi ∷ environment.Musleabihf ∷ environment.Muslabi64 ∷ environment.Msvc ∷
-    environment.Newlib ∷ environment.None ∷ environment.Kernel ∷ environment.Uclibc ∷
-    environment.Uclibceabi ∷ environment.Uclibceabihf ∷ environment.Sgx ∷ environment.Sim ∷
-    environment.Softfloat ∷ environment.Spe ∷ environment.Threads ∷ environment.Ohos ∷ []
+    environment.Unknown ∷ environment.AmdGiz ∷ environment.Android ∷ environment.Androideabi ∷ environment.Eabi ∷ environment.Eabihf ∷
+    environment.Gnu ∷ environment.Gnuabi64 ∷ environment.Gnueabi ∷ environment.Gnueabihf ∷ environment.Gnuspe ∷ environment.Gnux32 ∷
+    environment.GnuIlp32 ∷ environment.GnuLlvm ∷ environment.HermitKernel ∷ environment.HurdKernel ∷ environment.LinuxKernel ∷ environment.Macabi ∷
+    environment.Musl ∷ environment.Musleabi ∷ environment.Musleabihf ∷ environment.Muslabi64 ∷ environment.Msvc ∷ environment.Newlib ∷
+    environment.None ∷ environment.Kernel ∷ environment.Uclibc ∷ environment.Uclibceabi ∷ environment.Uclibceabihf ∷ environment.Sgx ∷
+    environment.Sim ∷ environment.Softfloat ∷ environment.Spe ∷ environment.Threads ∷ environment.Ohos ∷ []
 
 -- what a text reads as, if anything
 unfoldable pub environment_of : List ℕ → Option Environment

@@ -1,10 +1,9 @@
--- Laws of names, queries, versions and equality.
-use Rattle.std.specs.Prelude.{◌≡◌, ℕ, ◌+◌, ◌<◌, ◌≤◌, ◌^◌, Bool, true, List, length, Option, Some, IfSome, Decides}
+-- Laws of names, queries, versions, equality and hashes.
+use Rattle.std.specs.Prelude.{◌≡◌, ◌↔◌, ◌++◌, ℕ, ◌+◌, ◌<◌, ◌≤◌, ◌^◌, Bool, true, List, length, Option, Some, IfSome, Decides}
+use Rattle.std.specs.Hash.{HashWrites}
 use Rattle.std.specs.Ordering.{nat_cmp, on, then_cmp}
 use Rattle.std.specs.declared.cmp.Ordering.{Ordering}
-use Rattle.lexicon_fields.specs.declared.deployment_target.DeploymentTarget.{DeploymentTarget}
-use Rattle.lexicon_fields.specs.declared.operating_system.OperatingSystem.{OperatingSystem}
-use Rattle.lexicon_fields.specs.Names.{is_dash_free}
+use Rattle.lexicon_fields.specs.{declared.deployment_target.DeploymentTarget.DeploymentTarget, declared.operating_system.OperatingSystem.OperatingSystem, Names.is_dash_free}
 use Rattle.lexicon_fields.specs.OperatingSystem.{version_held}
 
 -- each value of this kind reads back from its name as itself, and neither such a name nor any text that reads as
@@ -45,3 +44,13 @@ ComparesByValue {V} eq = (x y : V) → Decides (eq x y) (x ≡ y)
 -- a copy is its source, and comes without memory
 abbrev pub CopiesAreTheirSources : {V : Type 0} → (V → V → Type 0) → (V → Type 0) → Type 0
 CopiesAreTheirSources {V} IsCopy NeedsNoMemory = (source : V) → NeedsNoMemory source × ((copy : V) → IsCopy source copy → copy ≡ source)
+
+-- Two values of this kind feed a hasher the same exactly where what they stand for is the same. Where more is fed behind them,
+-- as by the next field of a struct, it is told apart from what they feed.
+pub record FeedsOfTell {V W : Type 0} (IsOfKind : V → Type 0) (value : V → W) (feed : V → HashWrites) : Type 0 where
+  pub exactly : (x y : V) → IsOfKind x → IsOfKind y → (feed x ≡ feed y) ↔ (value x ≡ value y)
+  pub with_more : (x y : V) (a b : HashWrites) → IsOfKind x → IsOfKind y → feed x ++ a ≡ feed y ++ b → (value x ≡ value y) × (a ≡ b)
+
+-- so it is for each value of the type, which stands for itself
+abbrev pub FeedsTell : {V : Type 0} → (V → HashWrites) → Type 0
+FeedsTell {V} feed = FeedsOfTell (λ (v : V). Unit {0}) (λ (v : V). v) feed

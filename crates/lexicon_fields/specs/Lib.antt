@@ -3,7 +3,6 @@ pub mod ArchitectureQueries
 pub mod BinaryFormat
 pub mod Environment
 pub mod FixedRow
-pub mod Hashing
 pub mod Laws
 pub mod Names
 pub mod OperatingSystem

@@ -2,11 +2,9 @@
 use Rattle.std.specs.Prelude.{ℕ, Bool, true, false, List, [], ◌∷◌, ◌++◌, codes, nat_eq, length, drop, Option, Some, None, option_map, option_and_then, if◌then◌else◌}
 use Rattle.std.specs.List.{starts_with}
 use Rattle.std.specs.Option.{option_or}
-use Rattle.lexicon_fields.specs.declared.deployment_target.DeploymentTarget.{DeploymentTarget}
-use Rattle.lexicon_fields.specs.declared.operating_system.OperatingSystem.{OperatingSystem}
-use Rattle.lexicon_fields.specs.declared.operating_system.OperatingSystem.TheVariants as operating_system
-use Rattle.lexicon_fields.specs.Names.{Pair, value_of, named}
+use Rattle.lexicon_fields.specs.{declared.deployment_target.DeploymentTarget.DeploymentTarget, declared.operating_system.OperatingSystem.OperatingSystem, Names.Pair, Names.value_of, Names.named}
 use Rattle.lexicon_fields.specs.Version.{version_of, version_name}
+use Rattle.lexicon_fields.specs.declared.operating_system.OperatingSystem.TheVariants as operating_system
 
 -- the version behind a prefix, where there is one
 abbrev pub version_suffix : Option DeploymentTarget → List ℕ
@@ -81,12 +79,13 @@ is_like_darwin _ = false
 -- the systems with a fixed name
 abbrev pub fixed_operating_systems : List OperatingSystem
 fixed_operating_systems =
-    operating_system.Unknown ∷ operating_system.Aix ∷ operating_system.AmdHsa ∷ operating_system.Bitrig ∷ operating_system.Cloudabi ∷ operating_system.Cuda ∷
-    operating_system.Cygwin ∷ operating_system.Dragonfly ∷ operating_system.Emscripten ∷ operating_system.Espidf ∷ operating_system.Freebsd ∷
-    operating_system.Fuchsia ∷ operating_system.Haiku ∷ operating_system.Hermit ∷ operating_system.Horizon ∷ operating_system.Hurd ∷ operating_system.Illumos ∷
-    operating_system.L4re ∷ operating_system.Linux ∷ operating_system.Nebulet ∷ operating_system.Netbsd ∷ operating_system.None_ ∷ operating_system.Openbsd ∷
-    operating_system.Psp ∷ operating_system.Redox ∷ operating_system.Solaris ∷ operating_system.SolidAsp3 ∷ operating_system.Uefi ∷ operating_system.VxWorks ∷
-    operating_system.Wasi ∷ operating_system.WasiP1 ∷ operating_system.WasiP2 ∷ operating_system.Windows ∷ []
+    operating_system.Unknown ∷ operating_system.Aix ∷ operating_system.AmdHsa ∷ operating_system.Bitrig ∷ operating_system.Cloudabi ∷
+    operating_system.Cuda ∷ operating_system.Cygwin ∷ operating_system.Dragonfly ∷ operating_system.Emscripten ∷ operating_system.Espidf ∷
+    operating_system.Freebsd ∷ operating_system.Fuchsia ∷ operating_system.Haiku ∷ operating_system.Hermit ∷ operating_system.Horizon ∷
+    operating_system.Hurd ∷ operating_system.Illumos ∷ operating_system.L4re ∷ operating_system.Linux ∷ operating_system.Nebulet ∷
+    operating_system.Netbsd ∷ operating_system.None_ ∷ operating_system.Openbsd ∷ operating_system.Psp ∷ operating_system.Redox ∷
+    operating_system.Solaris ∷ operating_system.SolidAsp3 ∷ operating_system.Uefi ∷ operating_system.VxWorks ∷ operating_system.Wasi ∷
+    operating_system.WasiP1 ∷ operating_system.WasiP2 ∷ operating_system.Windows ∷ []
 
 -- the prefixes of the systems like Darwin
 abbrev pub darwin_prefixes : List (Pair (Option DeploymentTarget → OperatingSystem))

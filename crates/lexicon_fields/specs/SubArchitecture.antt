@@ -1,22 +1,18 @@
--- The names of the sub-architectures.
+-- The names of the sub-architectures, and behind each name's rule all values of the family.
 use Rattle.std.specs.Prelude.{ℕ, List, [], ◌∷◌, codes}
-use Rattle.lexicon_fields.specs.declared.architecture.arm.ArmArchitecture.{ArmArchitecture}
-use Rattle.lexicon_fields.specs.declared.architecture.arm.ArmArchitecture.TheVariants as arm
-use Rattle.lexicon_fields.specs.declared.architecture.aarch64.Aarch64Architecture.{Aarch64Architecture}
-use Rattle.lexicon_fields.specs.declared.architecture.aarch64.Aarch64Architecture.TheVariants as aarch64
-use Rattle.lexicon_fields.specs.declared.architecture.x86_32.X86_32Architecture.{X86_32Architecture}
-use Rattle.lexicon_fields.specs.declared.architecture.x86_32.X86_32Architecture.TheVariants as x86_32
-use Rattle.lexicon_fields.specs.declared.architecture.mips.Mips32Architecture.{Mips32Architecture}
-use Rattle.lexicon_fields.specs.declared.architecture.mips.Mips32Architecture.TheVariants as mips32
-use Rattle.lexicon_fields.specs.declared.architecture.mips.Mips64Architecture.{Mips64Architecture}
-use Rattle.lexicon_fields.specs.declared.architecture.mips.Mips64Architecture.TheVariants as mips64
-use Rattle.lexicon_fields.specs.declared.architecture.riscv.Riscv32Architecture.{Riscv32Architecture}
-use Rattle.lexicon_fields.specs.declared.architecture.riscv.Riscv32Architecture.TheVariants as riscv32
-use Rattle.lexicon_fields.specs.declared.architecture.riscv.Riscv64Architecture.{Riscv64Architecture}
-use Rattle.lexicon_fields.specs.declared.architecture.riscv.Riscv64Architecture.TheVariants as riscv64
-use Rattle.lexicon_fields.specs.declared.architecture.clever.CleverArchitecture.{CleverArchitecture}
-use Rattle.lexicon_fields.specs.declared.architecture.clever.CleverArchitecture.TheVariants as clever
+use Rattle.lexicon_fields.specs.{declared.architecture.arm.ArmArchitecture.ArmArchitecture, declared.architecture.aarch64.Aarch64Architecture.Aarch64Architecture}
+use Rattle.lexicon_fields.specs.{declared.architecture.x86_32.X86_32Architecture.X86_32Architecture, declared.architecture.mips.Mips32Architecture.Mips32Architecture}
+use Rattle.lexicon_fields.specs.{declared.architecture.mips.Mips64Architecture.Mips64Architecture, declared.architecture.riscv.Riscv32Architecture.Riscv32Architecture}
+use Rattle.lexicon_fields.specs.{declared.architecture.riscv.Riscv64Architecture.Riscv64Architecture, declared.architecture.clever.CleverArchitecture.CleverArchitecture}
 use Rattle.lexicon_fields.specs.declared.architecture.z80.Z80Architecture.{Z80Architecture}
+use Rattle.lexicon_fields.specs.declared.architecture.arm.ArmArchitecture.TheVariants as arm
+use Rattle.lexicon_fields.specs.declared.architecture.aarch64.Aarch64Architecture.TheVariants as aarch64
+use Rattle.lexicon_fields.specs.declared.architecture.x86_32.X86_32Architecture.TheVariants as x86_32
+use Rattle.lexicon_fields.specs.declared.architecture.mips.Mips32Architecture.TheVariants as mips32
+use Rattle.lexicon_fields.specs.declared.architecture.mips.Mips64Architecture.TheVariants as mips64
+use Rattle.lexicon_fields.specs.declared.architecture.riscv.Riscv32Architecture.TheVariants as riscv32
+use Rattle.lexicon_fields.specs.declared.architecture.riscv.Riscv64Architecture.TheVariants as riscv64
+use Rattle.lexicon_fields.specs.declared.architecture.clever.CleverArchitecture.TheVariants as clever
 use Rattle.lexicon_fields.specs.declared.architecture.z80.Z80Architecture.TheVariants as z80
 
 -- the name of an Arm architecture
@@ -64,26 +60,21 @@ arm_name arm.Thumbv7neon = codes "thumbv7neon"
 arm_name arm.Thumbv8mBase = codes "thumbv8m.base"
 arm_name arm.Thumbv8mMain = codes "thumbv8m.main"
 
--- all of them
 abbrev pub arm_values : List ArmArchitecture
 arm_values =
-    arm.Arm ∷ arm.Armeb ∷ arm.Armv4 ∷ arm.Armv4t ∷ arm.Armv5t ∷ arm.Armv5te ∷ arm.Armv5tej ∷
-    arm.Armv6 ∷ arm.Armv6j ∷ arm.Armv6k ∷ arm.Armv6z ∷ arm.Armv6kz ∷ arm.Armv6t2 ∷ arm.Armv6m ∷
-    arm.Armv7 ∷ arm.Armv7a ∷ arm.Armv7k ∷ arm.Armv7ve ∷ arm.Armv7m ∷ arm.Armv7r ∷ arm.Armv7s ∷
-    arm.Armv8 ∷ arm.Armv8a ∷ arm.Armv8_1a ∷ arm.Armv8_2a ∷ arm.Armv8_3a ∷ arm.Armv8_4a ∷
-    arm.Armv8_5a ∷ arm.Armv8mBase ∷ arm.Armv8mMain ∷ arm.Armv8r ∷ arm.Armebv7r ∷ arm.Thumbeb ∷
-    arm.Thumbv4t ∷ arm.Thumbv5te ∷ arm.Thumbv6m ∷ arm.Thumbv7a ∷ arm.Thumbv7em ∷ arm.Thumbv7m ∷
-    arm.Thumbv7neon ∷ arm.Thumbv8mBase ∷ arm.Thumbv8mMain ∷ []
+    arm.Arm ∷ arm.Armeb ∷ arm.Armv4 ∷ arm.Armv4t ∷ arm.Armv5t ∷ arm.Armv5te ∷ arm.Armv5tej ∷ arm.Armv6 ∷ arm.Armv6j ∷ arm.Armv6k ∷ arm.Armv6z ∷
+    arm.Armv6kz ∷ arm.Armv6t2 ∷ arm.Armv6m ∷ arm.Armv7 ∷ arm.Armv7a ∷ arm.Armv7k ∷ arm.Armv7ve ∷ arm.Armv7m ∷ arm.Armv7r ∷ arm.Armv7s ∷ arm.Armv8 ∷
+    arm.Armv8a ∷ arm.Armv8_1a ∷ arm.Armv8_2a ∷ arm.Armv8_3a ∷ arm.Armv8_4a ∷ arm.Armv8_5a ∷ arm.Armv8mBase ∷ arm.Armv8mMain ∷ arm.Armv8r ∷
+    arm.Armebv7r ∷ arm.Thumbeb ∷ arm.Thumbv4t ∷ arm.Thumbv5te ∷ arm.Thumbv6m ∷ arm.Thumbv7a ∷ arm.Thumbv7em ∷ arm.Thumbv7m ∷ arm.Thumbv7neon ∷
+    arm.Thumbv8mBase ∷ arm.Thumbv8mMain ∷ []
 
 -- the name of a 64-bit Arm architecture
 abbrev pub aarch64_name : Aarch64Architecture → List ℕ
 aarch64_name aarch64.Aarch64 = codes "aarch64"
 aarch64_name aarch64.Aarch64be = codes "aarch64_be"
 
--- all of them
 abbrev pub aarch64_values : List Aarch64Architecture
-aarch64_values =
-    aarch64.Aarch64 ∷ aarch64.Aarch64be ∷ []
+aarch64_values = aarch64.Aarch64 ∷ aarch64.Aarch64be ∷ []
 
 -- the name of a 32-bit x86 architecture
 abbrev pub x86_32_name : X86_32Architecture → List ℕ
@@ -91,10 +82,8 @@ x86_32_name x86_32.I386 = codes "i386"
 x86_32_name x86_32.I586 = codes "i586"
 x86_32_name x86_32.I686 = codes "i686"
 
--- all of them
 abbrev pub x86_32_values : List X86_32Architecture
-x86_32_values =
-    x86_32.I386 ∷ x86_32.I586 ∷ x86_32.I686 ∷ []
+x86_32_values = x86_32.I386 ∷ x86_32.I586 ∷ x86_32.I686 ∷ []
 
 -- the name of a 32-bit MIPS architecture
 abbrev pub mips32_name : Mips32Architecture → List ℕ
@@ -103,10 +92,8 @@ mips32_name mips32.Mipsel = codes "mipsel"
 mips32_name mips32.Mipsisa32r6 = codes "mipsisa32r6"
 mips32_name mips32.Mipsisa32r6el = codes "mipsisa32r6el"
 
--- all of them
 abbrev pub mips32_values : List Mips32Architecture
-mips32_values =
-    mips32.Mips ∷ mips32.Mipsel ∷ mips32.Mipsisa32r6 ∷ mips32.Mipsisa32r6el ∷ []
+mips32_values = mips32.Mips ∷ mips32.Mipsel ∷ mips32.Mipsisa32r6 ∷ mips32.Mipsisa32r6el ∷ []
 
 -- the name of a 64-bit MIPS architecture
 abbrev pub mips64_name : Mips64Architecture → List ℕ
@@ -115,10 +102,8 @@ mips64_name mips64.Mips64el = codes "mips64el"
 mips64_name mips64.Mipsisa64r6 = codes "mipsisa64r6"
 mips64_name mips64.Mipsisa64r6el = codes "mipsisa64r6el"
 
--- all of them
 abbrev pub mips64_values : List Mips64Architecture
-mips64_values =
-    mips64.Mips64 ∷ mips64.Mips64el ∷ mips64.Mipsisa64r6 ∷ mips64.Mipsisa64r6el ∷ []
+mips64_values = mips64.Mips64 ∷ mips64.Mips64el ∷ mips64.Mipsisa64r6 ∷ mips64.Mipsisa64r6el ∷ []
 
 -- the name of a 32-bit RISC-V architecture
 abbrev pub riscv32_name : Riscv32Architecture → List ℕ
@@ -131,11 +116,10 @@ riscv32_name riscv32.Riscv32imac = codes "riscv32imac"
 riscv32_name riscv32.Riscv32imafc = codes "riscv32imafc"
 riscv32_name riscv32.Riscv32imc = codes "riscv32imc"
 
--- all of them
 abbrev pub riscv32_values : List Riscv32Architecture
 riscv32_values =
-    riscv32.Riscv32 ∷ riscv32.Riscv32gc ∷ riscv32.Riscv32i ∷ riscv32.Riscv32im ∷
-    riscv32.Riscv32ima ∷ riscv32.Riscv32imac ∷ riscv32.Riscv32imafc ∷ riscv32.Riscv32imc ∷ []
+    riscv32.Riscv32 ∷ riscv32.Riscv32gc ∷ riscv32.Riscv32i ∷ riscv32.Riscv32im ∷ riscv32.Riscv32ima ∷ riscv32.Riscv32imac ∷ riscv32.Riscv32imafc ∷
+    riscv32.Riscv32imc ∷ []
 
 -- the name of a 64-bit RISC-V architecture
 abbrev pub riscv64_name : Riscv64Architecture → List ℕ
@@ -144,20 +128,16 @@ riscv64_name riscv64.Riscv64gc = codes "riscv64gc"
 riscv64_name riscv64.Riscv64imac = codes "riscv64imac"
 riscv64_name riscv64.Riscv64a23 = codes "riscv64a23"
 
--- all of them
 abbrev pub riscv64_values : List Riscv64Architecture
-riscv64_values =
-    riscv64.Riscv64 ∷ riscv64.Riscv64gc ∷ riscv64.Riscv64imac ∷ riscv64.Riscv64a23 ∷ []
+riscv64_values = riscv64.Riscv64 ∷ riscv64.Riscv64gc ∷ riscv64.Riscv64imac ∷ riscv64.Riscv64a23 ∷ []
 
 -- the name of a Clever architecture
 abbrev pub clever_name : CleverArchitecture → List ℕ
 clever_name clever.Clever = codes "clever"
 clever_name clever.Clever1_0 = codes "clever1.0"
 
--- all of them
 abbrev pub clever_values : List CleverArchitecture
-clever_values =
-    clever.Clever ∷ clever.Clever1_0 ∷ []
+clever_values = clever.Clever ∷ clever.Clever1_0 ∷ []
 
 -- the name of an architecture of the Z80 family
 abbrev pub z80_name : Z80Architecture → List ℕ
@@ -172,8 +152,6 @@ z80_name z80.Rabbit3000A = codes "rabbit3000a"
 z80_name z80.Tlcs90 = codes "tlcs90"
 z80_name z80.R800 = codes "r800"
 
--- all of them
 abbrev pub z80_values : List Z80Architecture
 z80_values =
-    z80.Z80 ∷ z80.Z180 ∷ z80.Ez80 ∷ z80.Sm83 ∷ z80.Rabbit2000 ∷ z80.Rabbit2000A ∷ z80.Rabbit3000 ∷
-    z80.Rabbit3000A ∷ z80.Tlcs90 ∷ z80.R800 ∷ []
+    z80.Z80 ∷ z80.Z180 ∷ z80.Ez80 ∷ z80.Sm83 ∷ z80.Rabbit2000 ∷ z80.Rabbit2000A ∷ z80.Rabbit3000 ∷ z80.Rabbit3000A ∷ z80.Tlcs90 ∷ z80.R800 ∷ []

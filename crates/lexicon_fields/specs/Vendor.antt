@@ -4,17 +4,10 @@ use Rattle.std.specs.List.{list_all}
 use Rattle.std.specs.Option.{option_or}
 pub use Rattle.lexicon_fields.specs.declared.known_vendor.KnownVendor.{KnownVendor}
 pub use Rattle.lexicon_fields.specs.declared.known_vendor.KnownVendor.TheVariants.{Unknown, Amd, Apple, Espressif, Experimental, Fortanix, Ibm, Kmc, Nintendo, Nvidia, Pc, Rumprun, Sun, Uwp, Wrs}
-use Rattle.lexicon_fields.specs.declared.vendor.CustomVendor.{CustomVendor}
-use Rattle.lexicon_fields.specs.declared.vendor.CustomVendor.TheVariants.{Owned, Static}
-use Rattle.lexicon_fields.specs.declared.vendor.Vendor.{Vendor}
+use Rattle.lexicon_fields.specs.{declared.vendor.CustomVendor.CustomVendor, declared.vendor.CustomVendor.TheVariants.Owned, declared.vendor.CustomVendor.TheVariants.Static, Environment.environment_of}
+use Rattle.lexicon_fields.specs.{declared.vendor.Vendor.Vendor, declared.vendor.VendorError.VendorError, Names.value_of, Names.named, Architecture.architecture_of, OperatingSystem.operating_system_of}
+use Rattle.lexicon_fields.specs.{declared.vendor.VendorError.TheVariants.Unrecognized, declared.vendor.VendorError.TheVariants.OutOfMemory, BinaryFormat.binary_format_of}
 use Rattle.lexicon_fields.specs.declared.vendor.Vendor.TheVariants as vendor
-use Rattle.lexicon_fields.specs.declared.vendor.VendorError.{VendorError}
-use Rattle.lexicon_fields.specs.declared.vendor.VendorError.TheVariants.{Unrecognized, OutOfMemory}
-use Rattle.lexicon_fields.specs.Names.{value_of, named}
-use Rattle.lexicon_fields.specs.Architecture.{architecture_of}
-use Rattle.lexicon_fields.specs.OperatingSystem.{operating_system_of}
-use Rattle.lexicon_fields.specs.Environment.{environment_of}
-use Rattle.lexicon_fields.specs.BinaryFormat.{binary_format_of}
 
 -- a vendor as the rules see it: a known one, or a custom one by its text
 pub data VendorValue : Type 0 where
@@ -79,9 +72,7 @@ vendor_name (Known known) = known_name known
 vendor_name (Custom text) = text
 
 abbrev pub known_vendors : List KnownVendor
-known_vendors =
-    Unknown ∷ Amd ∷ Apple ∷ Espressif ∷ Experimental ∷ Fortanix ∷ Ibm ∷ Kmc ∷ Nintendo ∷ Nvidia ∷
-    Pc ∷ Rumprun ∷ Sun ∷ Uwp ∷ Wrs ∷ []
+known_vendors = Unknown ∷ Amd ∷ Apple ∷ Espressif ∷ Experimental ∷ Fortanix ∷ Ibm ∷ Kmc ∷ Nintendo ∷ Nvidia ∷ Pc ∷ Rumprun ∷ Sun ∷ Uwp ∷ Wrs ∷ []
 
 -- the known vendor of this name, if there is one
 unfoldable pub known_vendor_of : List ℕ → Option KnownVendor

@@ -3,10 +3,9 @@ ghost use Rattle.std.specs.Prelude.{◌≡◌, ◌↔◌, true, ℕ, List, Some,
 ghost use Rattle.std.specs.Cmp.Lexicographic.{slice_cmp};
 ghost use Rattle.std.specs.List.Sorted.{IsStrictlySortedBy};
 ghost use Rattle.std.specs.Ordering.{nat_cmp};
-ghost use Rattle.lexicon_fields.specs.Hashing.{FeedsOfTell, FeedsTell};
-ghost use Rattle.lexicon_fields.specs.Laws.{CopiesAreTheirSources, IsVersionInRange, HasVersionInRange, NamesOfReadBack, NamesReadBack, TextsAreNames, NamesAreLonger, ComparesByValue, version_cmp};
+ghost use Rattle.lexicon_fields.specs.Laws.{FeedsOfTell, FeedsTell, CopiesAreTheirSources, IsVersionInRange, HasVersionInRange, NamesOfReadBack, NamesReadBack, TextsAreNames, NamesAreLonger, ComparesByValue, version_cmp};
 ghost use Rattle.lexicon_fields.specs.SubArchitecture.{arm_name, aarch64_name, x86_32_name, mips32_name, mips64_name, riscv32_name, riscv64_name, clever_name, z80_name};
-ghost use Rattle.lexicon_fields.specs.Architecture.{architecture_name, architecture_of, arm_of, aarch64_of, x86_32_of, mips32_of, mips64_of, riscv32_of, riscv64_of, clever_of, z80_of};
+ghost use Rattle.lexicon_fields.specs.Architecture.{architecture_name, architecture_of, sub_architecture_of, as_arm, as_aarch64, as_x86_32, as_mips32, as_mips64, as_riscv32, as_riscv64, as_clever, as_z80};
 ghost use Rattle.lexicon_fields.specs.Environment.{environment_name, environment_of};
 ghost use Rattle.lexicon_fields.specs.OperatingSystem.{operating_system_name, operating_system_of};
 ghost use Rattle.lexicon_fields.specs.BinaryFormat.{binary_format_name, binary_format_of};
@@ -34,15 +33,15 @@ use std::hash::Hash;
 /// value holds a dash; of vendors, each plain one.
 pub fn names_read_back()
     ensures architecture { NamesReadBack architecture_name architecture_of }
-    ensures arm { NamesReadBack arm_name arm_of }
-    ensures aarch64 { NamesReadBack aarch64_name aarch64_of }
-    ensures x86_32 { NamesReadBack x86_32_name x86_32_of }
-    ensures mips32 { NamesReadBack mips32_name mips32_of }
-    ensures mips64 { NamesReadBack mips64_name mips64_of }
-    ensures riscv32 { NamesReadBack riscv32_name riscv32_of }
-    ensures riscv64 { NamesReadBack riscv64_name riscv64_of }
-    ensures clever { NamesReadBack clever_name clever_of }
-    ensures z80 { NamesReadBack z80_name z80_of }
+    ensures arm { NamesReadBack arm_name (sub_architecture_of as_arm) }
+    ensures aarch64 { NamesReadBack aarch64_name (sub_architecture_of as_aarch64) }
+    ensures x86_32 { NamesReadBack x86_32_name (sub_architecture_of as_x86_32) }
+    ensures mips32 { NamesReadBack mips32_name (sub_architecture_of as_mips32) }
+    ensures mips64 { NamesReadBack mips64_name (sub_architecture_of as_mips64) }
+    ensures riscv32 { NamesReadBack riscv32_name (sub_architecture_of as_riscv32) }
+    ensures riscv64 { NamesReadBack riscv64_name (sub_architecture_of as_riscv64) }
+    ensures clever { NamesReadBack clever_name (sub_architecture_of as_clever) }
+    ensures z80 { NamesReadBack z80_name (sub_architecture_of as_z80) }
     ensures operating_system { NamesOfReadBack HasVersionInRange operating_system_name operating_system_of }
     ensures environment { NamesReadBack environment_name environment_of }
     ensures binary_format { NamesReadBack binary_format_name binary_format_of }

@@ -1,31 +1,18 @@
 -- The function that reads field by field gives what a text reads as by placements, and how it is refused.
 use Rattle.std.proofs.Common.{◌≡◌, ℕ, ◌≤◌, List, [], ◌∷◌, true, false, nat_eq, refl, ◌∙◌, ap, subst, Option, Some, None, Result, Ok, Err, arith, inl, inr, ◌↔◌, ◌⊎◌}
 use Rattle.std.specs.Prelude.{MatchResult, is_some}
-use Rattle.lexicon_fields.specs.declared.architecture.Architecture.{Architecture as AnyArchitecture}
-use Rattle.lexicon_fields.specs.declared.operating_system.OperatingSystem.{OperatingSystem as AnySystem}
-use Rattle.lexicon_fields.specs.declared.operating_system.OperatingSystem.TheVariants as operating_system
-use Rattle.lexicon_fields.specs.declared.environment.Environment.{Environment as AnyEnvironment}
-use Rattle.lexicon_fields.specs.declared.environment.Environment.TheVariants as environment
-use Rattle.lexicon_fields.specs.Architecture.{architecture_of}
-use Rattle.lexicon_fields.specs.declared.known_vendor.KnownVendor.TheVariants.{Unknown}
-use Rattle.lexicon_fields.specs.Vendor.{VendorValue, Known, vendor_of}
-use Rattle.lexicon_fields.specs.OperatingSystem.{operating_system_of}
-use Rattle.lexicon_fields.specs.Environment.{environment_of}
-use Rattle.lexicon_fields.specs.BinaryFormat.{binary_format_of}
+use Rattle.lexicon_fields.specs.{declared.architecture.Architecture.Architecture as AnyArchitecture, declared.operating_system.OperatingSystem.OperatingSystem as AnySystem, Environment.environment_of}
+use Rattle.lexicon_fields.specs.{declared.environment.Environment.Environment as AnyEnvironment, Architecture.architecture_of, declared.known_vendor.KnownVendor.TheVariants.Unknown, Vendor.vendor_of}
+use Rattle.lexicon_fields.specs.{OperatingSystem.operating_system_of, BinaryFormat.binary_format_of}
+use Rattle.target_lexicon.specs.{Values.VendorValue, Values.Known, Values.Values, Values.values, ImpliedFormat.implied_format, Laws.OneOutcomeEach, Laws.ReadingIsComputed, SpecialTexts.special_values}
+use Rattle.target_lexicon.specs.{Placement.parts_of, Placement.IsPlacedBehind, Refusal.Refusal, Refusal.refused}
 use Rattle.target_lexicon.specs.Field.{Field, Architecture, Vendor, OperatingSystem, Environment, BinaryFormat, place, reads}
-use Rattle.target_lexicon.specs.ImpliedFormat.{implied_format}
-use Rattle.target_lexicon.specs.Laws.{OneOutcomeEach, ReadingIsComputed}
-use Rattle.target_lexicon.specs.Parts.{parts_of}
-use Rattle.target_lexicon.specs.Placement.{IsPlacedBehind}
 use Rattle.target_lexicon.specs.Reading.{part_at, IsValueOf, HoldsParts, ReadsAs, IsRefusal, IsRefusedAs, IsRefused, lack_behind, last_of}
 use Rattle.target_lexicon.specs.ReadingByFields.{taken, take_part, finish, read_binary_format, read_environment, read_operating_system, read_vendor, read_behind, read_parts, read_unless_special, reading}
-use Rattle.target_lexicon.specs.Refusal.{Refusal, refused}
-use Rattle.target_lexicon.specs.SpecialTexts.{special_values}
-use Rattle.target_lexicon.specs.Values.{Values, values}
-use Rattle.target_lexicon.proofs.Cuts.{parts_of-are, parts_of-some}
-use Rattle.target_lexicon.proofs.Greedy.{Follows, filled, unread, filled-placed, behind_architecture, greedy-least}
-use Rattle.target_lexicon.proofs.Refused.{first-refused, left-refused}
-use Rattle.target_lexicon.proofs.Unique.{values_unique, refusal_unique, read_not_refused}
+use Rattle.target_lexicon.proofs.{Cuts.parts_of-are, Cuts.parts_of-some, Greedy.Follows, Greedy.filled, Greedy.unread, Greedy.filled-placed, Greedy.behind_architecture, Greedy.greedy-least}
+use Rattle.target_lexicon.proofs.{Refused.first-refused, Refused.left-refused, Unique.values_unique, Unique.refusal_unique, Unique.read_not_refused}
+use Rattle.target_lexicon.specs.Values.operating_system
+use Rattle.target_lexicon.specs.Values.environment
 
 -- what stands of the values, where these parts stand for these fields
 abbrev Claim : Type 1

@@ -8,7 +8,7 @@ use Rattle.std.proofs.lemmas.List.Quantifiers.{position-Some}
 use Rattle.std.proofs.lemmas.List.Sums.{fails_before_first, position_or_len_is}
 use Rattle.std.proofs.lemmas.List.Splits.{join_with_byte-slice_split, slice_split_first, slice_split_none}
 use Rattle.lexicon_fields.specs.Names.{is_dash_free}
-use Rattle.target_lexicon.specs.Parts.{ArePartsOf, parts_of}
+use Rattle.target_lexicon.specs.Placement.{ArePartsOf, parts_of}
 
 -- the first byte of a text without dashes is none, and the others have none
 dash_free-parts : (b : ℕ) (bs : List ℕ) → is_dash_free (b ∷ bs) ≡ true → (nat_eq b 45 ≡ false) × (is_dash_free bs ≡ true)

@@ -6,8 +6,7 @@ use Rattle.serde_json.specs.Data.{Data, Items}
 use Rattle.serde_json.specs.View.{view, items_view}
 use Rattle.serde_json.specs.declared.value.Value.{Value}
 use Rattle.serde_json.proofs.Views.{get_item_within}
-use Rattle.target_lexicon.specs.Json.{JsonReadsAs, ElementsReadAs, ElementReads, JsonFault, IsJsonFault, IsFirstFault}
-use Rattle.target_lexicon.specs.Values.{Values, values_of}
+use Rattle.target_lexicon.specs.{Json.JsonReadsAs, Json.ElementsReadAs, Json.ElementReads, Json.JsonFault, Json.IsJsonFault, Json.IsFirstFault, Values.Values, Values.values_of}
 use Rattle.target_lexicon.specs.declared.triple.Triple.{Triple}
 
 -- what holds of the elements of an array holds of the value

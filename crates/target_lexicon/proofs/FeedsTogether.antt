@@ -1,7 +1,7 @@
 -- What variants without fields tell that are fed, and fields that are fed one behind another.
 use Rattle.std.proofs.Common.{◌≡◌, ℕ, ◌≤◌, ◌++◌, [], ◌∷◌, ◌∙◌, sym, ap, append_assoc, length, arith}
 use Rattle.std.specs.Hash.{HashWrites, le_bytes, usize}
-use Rattle.lexicon_fields.specs.Hashing.{FeedsOfTell, FeedsTell}
+use Rattle.lexicon_fields.specs.Laws.{FeedsOfTell, FeedsTell}
 use denote.Enum.Bare.{Bare, tag_one}
 use denote.Enum.Declared.{Record, declared, rowss, tag_of}
 use denote.Enum.Enum.{tag_below}

@@ -2,18 +2,11 @@
 use Rattle.std.proofs.Common.{◌≡◌, ◌⊎◌, inl, inr, ◌∙◌, Bool, true, false, refl, sym, ap, subst}
 use Rattle.std.specs.Bool.{Decides}
 use Rattle.std.proofs.lemmas.Bool.Decides.{Decides-not, Decides-and, Decides-like}
-use Rattle.lexicon_fields.specs.Vendor.{is_plain}
-use Rattle.lexicon_fields.specs.Laws.{HasVersionInRange}
-use Rattle.target_lexicon.specs.Families.{IsInSomeFamily}
-use Rattle.target_lexicon.specs.FixedPoints.{FixedExactlyOutsideFamilies, RoundIsNormalStep}
-use Rattle.target_lexicon.specs.Laws.{ComesBack}
-use Rattle.target_lexicon.specs.NormalStep.{normal_step, is_in_no_family}
-use Rattle.target_lexicon.specs.Printing.{text_of}
-use Rattle.target_lexicon.specs.Reading.{ReadsAs}
-use Rattle.target_lexicon.specs.Values.{Values}
+use Rattle.lexicon_fields.specs.{Vendor.is_plain, Laws.HasVersionInRange}
+use Rattle.target_lexicon.specs.{Families.IsInSomeFamily, FixedPoints.FixedExactlyOutsideFamilies, FixedPoints.RoundIsNormalStep, Laws.ComesBack, NormalStep.normal_step, NormalStep.is_in_no_family}
+use Rattle.target_lexicon.specs.{Printing.text_of, Reading.ReadsAs, Values.Values}
 use Rattle.target_lexicon.proofs.StepCases.{IsOutside, step_cases, prints_as_special-tells, hides_newlib-tells, prints_the_esp_idf_text-tells, shows_none_alone-tells}
-use Rattle.target_lexicon.proofs.ReadValues.{read_plain}
-use Rattle.target_lexicon.proofs.Unique.{values_unique}
+use Rattle.target_lexicon.proofs.{ReadValues.read_plain, Unique.values_unique}
 
 pub outside-fixed : (t : Values) → IsOutside t → normal_step t ≡ t
 outside-fixed t outside = step_cases (λ u. u ≡ t) t

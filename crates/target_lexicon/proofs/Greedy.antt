@@ -1,8 +1,7 @@
 -- The placement that takes, field by field, each part at the first field that reads it.
 use Rattle.std.proofs.Common.{◌≡◌, ◌≢◌, ℕ, zero, suc, ◌+◌, ◌<◌, ◌≤◌, List, [], ◌∷◌, take, true, refl, subst, cond, arith, inl, inr}
 use Rattle.target_lexicon.specs.Field.{Field, Architecture, Vendor, OperatingSystem, Environment, BinaryFormat, place, reads}
-use Rattle.target_lexicon.specs.Placement.{IsPlacedBehind, IsPlacement, AreNotBehind, IsLeast, HasPlacement}
-use Rattle.target_lexicon.specs.Laws.{HasOneLeast}
+use Rattle.target_lexicon.specs.{Laws.HasOneLeast, Placement.IsPlacedBehind, Placement.IsPlacement, Placement.AreNotBehind, Placement.IsLeast, Placement.HasPlacement}
 use Rattle.std.proofs.lemmas.Bool.{cases_Bool}
 
 -- the fields behind `last`, in their order

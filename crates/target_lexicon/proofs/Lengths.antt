@@ -4,39 +4,25 @@ use Rattle.std.specs.List.{join_with_byte, slice_get}
 use Rattle.std.proofs.lemmas.List.{length-append}
 use Rattle.std.proofs.lemmas.List.Splits.{join_with_byte-slice_split}
 use Rattle.std.proofs.lemmas.Option.{MatchOption-at_some}
-use Rattle.lexicon_fields.specs.declared.architecture.Architecture.{Architecture}
-use Rattle.lexicon_fields.specs.declared.architecture.Architecture.TheVariants as architecture
-use Rattle.lexicon_fields.specs.declared.architecture.arm.ArmArchitecture.TheVariants as arm
-use Rattle.lexicon_fields.specs.declared.architecture.riscv.Riscv32Architecture.TheVariants as riscv32
-use Rattle.lexicon_fields.specs.declared.operating_system.OperatingSystem.{OperatingSystem}
-use Rattle.lexicon_fields.specs.declared.operating_system.OperatingSystem.TheVariants as operating_system
-use Rattle.lexicon_fields.specs.declared.environment.Environment.{Environment}
-use Rattle.lexicon_fields.specs.declared.environment.Environment.TheVariants as environment
-use Rattle.lexicon_fields.specs.declared.binary_format.BinaryFormat.{BinaryFormat}
-use Rattle.lexicon_fields.specs.declared.binary_format.BinaryFormat.TheVariants as binary_format
-use Rattle.lexicon_fields.specs.declared.known_vendor.KnownVendor.TheVariants.{Unknown, Nintendo, Espressif}
-use Rattle.lexicon_fields.specs.Architecture.{architecture_name, architecture_of}
-use Rattle.lexicon_fields.specs.Vendor.{VendorValue, Known, vendor_name, vendor_of}
-use Rattle.lexicon_fields.specs.OperatingSystem.{operating_system_name, operating_system_of}
-use Rattle.lexicon_fields.specs.Environment.{environment_name, environment_of}
-use Rattle.lexicon_fields.specs.BinaryFormat.{binary_format_name, binary_format_of}
-use Rattle.lexicon_fields.specs.Laws.{TextsAreNames, NamesAreLonger}
-use Rattle.target_lexicon.specs.Field as field
-use Rattle.target_lexicon.specs.Field.{Field}
-use Rattle.target_lexicon.specs.ImpliedFormat.{implied_format, implied}
-use Rattle.target_lexicon.specs.Lengths.{PrintedTextsAreLittleLonger, SettledTextsAreLittleLonger, RefusedPartsAreNoLonger}
+use Rattle.target_lexicon.specs.Values.{Architecture, OperatingSystem, Environment, BinaryFormat, VendorValue, Known, Values, values}
+use Rattle.target_lexicon.specs.{Field.Field, ImpliedFormat.implied_format, ImpliedFormat.implied, Laws.ReadingIsComputed, Placement.parts_of, NormalStep.normal_step, NormalStep.elf_if_unknown}
+use Rattle.target_lexicon.specs.{FixedPoints.PrintedTextsAreLittleLonger, FixedPoints.SettledTextsAreLittleLonger, FixedPoints.RefusedPartsAreNoLonger}
+use Rattle.target_lexicon.specs.SpecialTexts.{special_text, special_values}
 use Rattle.target_lexicon.specs.Families.{IsNintendo3ds, IsEspIdf, HidesNewlib, PrintsTheEspIdfText, ShowsNoneAlone}
-use Rattle.lexicon_fields.specs.ArchitectureQueries.{is_clever}
-use Rattle.target_lexicon.specs.Laws.{ReadingIsComputed}
-use Rattle.target_lexicon.specs.Parts.{parts_of}
 use Rattle.target_lexicon.specs.Printing.{same_format, shows_vendor, shows_operating_system, shows_environment, shows_implied_format, shows_binary_format, shows_unknowns, when, shown_parts, text_of}
 use Rattle.target_lexicon.specs.ReadingByFields.{Taken, taken, take_part, finish, read_behind, read_parts, read_unless_special, reading}
-use Rattle.target_lexicon.specs.NormalStep.{normal_step, elf_if_unknown}
-use Rattle.target_lexicon.specs.SpecialTexts.{special_text, special_values}
-use Rattle.target_lexicon.specs.Values.{Values, values}
-use Rattle.target_lexicon.proofs.NamesAcross.{environment_of-format}
-use Rattle.target_lexicon.proofs.ReadValues.{special-holds}
-use Rattle.target_lexicon.proofs.StepCases.{step_cases}
+use Rattle.lexicon_fields.specs.{Architecture.architecture_name, Architecture.architecture_of, Laws.TextsAreNames, Laws.NamesAreLonger, Vendor.vendor_name, Vendor.vendor_of}
+use Rattle.lexicon_fields.specs.declared.known_vendor.KnownVendor.TheVariants.{Unknown, Nintendo, Espressif}
+use Rattle.lexicon_fields.specs.{OperatingSystem.operating_system_name, OperatingSystem.operating_system_of, Environment.environment_name, Environment.environment_of, ArchitectureQueries.is_clever}
+use Rattle.lexicon_fields.specs.BinaryFormat.{binary_format_name, binary_format_of}
+use Rattle.target_lexicon.proofs.{NamesAcross.environment_of-format, ReadValues.special-holds, StepCases.step_cases}
+use Rattle.target_lexicon.specs.Values.architecture
+use Rattle.target_lexicon.specs.Values.arm
+use Rattle.target_lexicon.specs.Values.riscv32
+use Rattle.target_lexicon.specs.Values.operating_system
+use Rattle.target_lexicon.specs.Values.environment
+use Rattle.target_lexicon.specs.Values.binary_format
+use Rattle.target_lexicon.specs.Field as field
 
 -- the bytes of parts, each with its dash
 abbrev weight : List (List ℕ) → ℕ

@@ -1,13 +1,8 @@
 -- What the row of a part tells.
 use Rattle.std.proofs.Common.{◌≡◌, ◌∙◌, ℕ, List, ◌∷◌, true, false, Option, None, Result, Ok, Err, sym, ap}
 use Rattle.std.specs.Prelude.{is_some, OnErr}
-use Rattle.lexicon_fields.specs.declared.table.FixedRow.{FixedRow}
-use Rattle.lexicon_fields.specs.declared.known_vendor.KnownVendor.TheVariants.{Unknown}
-use Rattle.lexicon_fields.specs.FixedRow.{has_row}
-use Rattle.lexicon_fields.specs.Vendor.{Known, IsCustom, is_admitted, vendor_of}
-use Rattle.target_lexicon.specs.Field.{Field, Vendor}
-use Rattle.target_lexicon.specs.Private.{IsLookedUp}
-use Rattle.target_lexicon.specs.ReadingByFields.{take_part}
+use Rattle.lexicon_fields.specs.{declared.table.FixedRow.FixedRow, declared.known_vendor.KnownVendor.TheVariants.Unknown, FixedRow.has_row, Vendor.IsCustom, Vendor.is_admitted, Vendor.vendor_of}
+use Rattle.target_lexicon.specs.{Values.Known, Field.Field, Field.Vendor, Private.IsLookedUp, ReadingByFields.take_part}
 use Rattle.target_lexicon.proofs.Vendors.{admitted-reads}
 
 -- a part without a row is a text that has none

@@ -1,20 +1,14 @@
 -- Which data models triples have.
 use Rattle.std.proofs.Common.{◌≡◌, ◌⊎◌, inl, inr, Option, Some, None, refl}
 use Rattle.std.specs.Prelude.{option_map}
-use Rattle.lexicon_fields.specs.declared.architecture.Architecture.{Architecture}
-use Rattle.lexicon_fields.specs.declared.architecture.Architecture.TheVariants.{Wasm32, Wasm64}
-use Rattle.lexicon_fields.specs.declared.operating_system.OperatingSystem.{OperatingSystem}
-use Rattle.lexicon_fields.specs.declared.operating_system.OperatingSystem.TheVariants.{Windows}
-use Rattle.lexicon_fields.specs.declared.width.PointerWidth.{PointerWidth}
-use Rattle.lexicon_fields.specs.declared.width.PointerWidth.TheVariants.{U32, U64}
-use Rattle.lexicon_fields.specs.Width.{width_bits}
-use Rattle.target_lexicon.specs.declared.calling_convention.CallingConvention.{CallingConvention}
-use Rattle.target_lexicon.specs.declared.calling_convention.CallingConvention.TheVariants.{SystemV, AppleAarch64}
-use Rattle.target_lexicon.specs.declared.data_model.CDataModel.{CDataModel}
-use Rattle.target_lexicon.specs.declared.data_model.CDataModel.TheVariants.{ILP32, LLP64, LP64}
+use Rattle.target_lexicon.specs.{Values.Architecture, Values.OperatingSystem, Values.Values, declared.calling_convention.CallingConvention.CallingConvention, declared.data_model.CDataModel.CDataModel}
 use Rattle.target_lexicon.specs.DataModel.{size_bits, sizes_of}
+use Rattle.target_lexicon.specs.declared.calling_convention.CallingConvention.TheVariants.{SystemV, AppleAarch64}
+use Rattle.target_lexicon.specs.declared.data_model.CDataModel.TheVariants.{ILP32, LLP64, LP64}
 use Rattle.target_lexicon.specs.Queries.{other_model_64, other_model_32, model_64, model_32, model_of_width, model_of, pointer_width, calling_convention, data_model}
-use Rattle.target_lexicon.specs.Values.{Values}
+use Rattle.lexicon_fields.specs.{declared.architecture.Architecture.TheVariants.Wasm32, declared.architecture.Architecture.TheVariants.Wasm64, declared.width.PointerWidth.PointerWidth}
+use Rattle.lexicon_fields.specs.{declared.operating_system.OperatingSystem.TheVariants.Windows, declared.width.PointerWidth.TheVariants.U32, declared.width.PointerWidth.TheVariants.U64}
+use Rattle.lexicon_fields.specs.Width.{width_bits}
 
 -- the one model of 64-bit pointers off Windows
 other_64 : (c : Option CallingConvention) (a : Architecture) (m : CDataModel) → other_model_64 c a ≡ Some m → m ≡ LP64

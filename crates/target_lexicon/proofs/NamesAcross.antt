@@ -1,19 +1,14 @@
 -- What the names of one field read as in a field before it.
 use Rattle.std.proofs.Common.{◌≡◌, ℕ, List, true, false, Option, Some, None, refl}
 use Rattle.std.proofs.Math.Bool.{and-false}
-use Rattle.lexicon_fields.specs.declared.operating_system.OperatingSystem.{OperatingSystem}
-use Rattle.lexicon_fields.specs.declared.operating_system.OperatingSystem.TheVariants as operating_system
-use Rattle.lexicon_fields.specs.declared.environment.Environment.{Environment}
-use Rattle.lexicon_fields.specs.declared.environment.Environment.TheVariants as environment
-use Rattle.lexicon_fields.specs.declared.binary_format.BinaryFormat.{BinaryFormat}
-use Rattle.lexicon_fields.specs.declared.binary_format.BinaryFormat.TheVariants as binary_format
-use Rattle.lexicon_fields.specs.declared.known_vendor.KnownVendor.TheVariants.{Unknown}
-use Rattle.lexicon_fields.specs.Architecture.{architecture_name, architecture_of}
-use Rattle.lexicon_fields.specs.Vendor.{VendorValue, Known, known_vendor_of, is_admitted, is_plain, vendor_name, vendor_of}
+use Rattle.target_lexicon.specs.Values.{OperatingSystem, Environment, BinaryFormat, VendorValue, Known}
+use Rattle.lexicon_fields.specs.{declared.known_vendor.KnownVendor.TheVariants.Unknown, Architecture.architecture_name, Architecture.architecture_of}
+use Rattle.lexicon_fields.specs.{Vendor.known_vendor_of, Vendor.is_admitted, Vendor.is_plain, Vendor.vendor_name, Vendor.vendor_of, Environment.environment_name, Environment.environment_of}
 use Rattle.lexicon_fields.specs.OperatingSystem.{operating_system_name, operating_system_of, fixed_operating_system_of}
-use Rattle.lexicon_fields.specs.Environment.{environment_name, environment_of}
-use Rattle.lexicon_fields.specs.BinaryFormat.{binary_format_name, binary_format_of}
-use Rattle.lexicon_fields.specs.Laws.{HasVersionInRange, NamesOfReadBack, NamesReadBack}
+use Rattle.lexicon_fields.specs.{BinaryFormat.binary_format_name, BinaryFormat.binary_format_of, Laws.HasVersionInRange, Laws.NamesOfReadBack, Laws.NamesReadBack}
+use Rattle.target_lexicon.specs.Values.operating_system
+use Rattle.target_lexicon.specs.Values.environment
+use Rattle.target_lexicon.specs.Values.binary_format
 
 -- what the law of names says of the five fields
 pub record NamesAreRead : Type 0 where

@@ -2,16 +2,9 @@
 use Rattle.std.proofs.Common.{◌≡◌, ◌||◌, ℕ, Bool, true, false, List, [], ◌∷◌, ◌++◌, refl, ap, ◌∙◌, append_assoc, Option, Some, None, unwrap_or}
 use Rattle.std.specs.List.{join_with_byte}
 use Rattle.std.proofs.lemmas.List.{append-nil}
-use Rattle.lexicon_fields.specs.Architecture.{architecture_name}
-use Rattle.lexicon_fields.specs.Vendor.{vendor_name}
-use Rattle.lexicon_fields.specs.OperatingSystem.{operating_system_name}
-use Rattle.lexicon_fields.specs.Environment.{environment_name}
-use Rattle.lexicon_fields.specs.BinaryFormat.{binary_format_name}
-use Rattle.target_lexicon.specs.ImpliedFormat.{implied}
-use Rattle.target_lexicon.specs.Values.{Values}
+use Rattle.lexicon_fields.specs.{Architecture.architecture_name, Vendor.vendor_name, OperatingSystem.operating_system_name, Environment.environment_name, BinaryFormat.binary_format_name}
+use Rattle.target_lexicon.specs.{ImpliedFormat.implied, Values.Values, Private.part_text, SpecialTexts.special_text}
 use Rattle.target_lexicon.specs.Printing.{shows_vendor, shows_operating_system, shows_environment, shows_binary_format, shows_unknowns, when, shown_parts, text_by, text_of}
-use Rattle.target_lexicon.specs.Private.{part_text}
-use Rattle.target_lexicon.specs.SpecialTexts.{special_text}
 
 -- each part behind a dash
 unfoldable pub dashed : List (List ℕ) → List ℕ

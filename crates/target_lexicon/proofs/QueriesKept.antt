@@ -1,21 +1,12 @@
 -- The normal step keeps what the four queries answer.
 use Rattle.std.proofs.Common.{◌≡◌, ◌∙◌, sym, ap, refl, true, Some, inl, inr}
-use Rattle.lexicon_fields.specs.declared.architecture.Architecture.{Architecture}
-use Rattle.lexicon_fields.specs.declared.architecture.Architecture.TheVariants as architecture
-use Rattle.lexicon_fields.specs.declared.operating_system.OperatingSystem.{OperatingSystem}
-use Rattle.lexicon_fields.specs.declared.operating_system.OperatingSystem.TheVariants as operating_system
-use Rattle.lexicon_fields.specs.declared.environment.Environment.{Environment}
-use Rattle.lexicon_fields.specs.declared.environment.Environment.TheVariants as environment
-use Rattle.lexicon_fields.specs.declared.binary_format.BinaryFormat.{BinaryFormat}
-use Rattle.lexicon_fields.specs.declared.width.PointerWidth.TheVariants.{U32}
-use Rattle.lexicon_fields.specs.ArchitectureQueries.{is_clever}
-use Rattle.lexicon_fields.specs.Vendor.{VendorValue}
-use Rattle.target_lexicon.specs.NormalStep.{normal_step}
-use Rattle.target_lexicon.specs.Families.{PrintsAsSpecial}
-use Rattle.target_lexicon.specs.Queries.{width_in, convention_on, model_of, model_of_width}
-use Rattle.target_lexicon.specs.QueryLaws.{AnswersAlike}
-use Rattle.target_lexicon.specs.Values.{Values, values}
+use Rattle.target_lexicon.specs.Values.{Architecture, OperatingSystem, Environment, BinaryFormat, VendorValue, Values, values}
+use Rattle.target_lexicon.specs.{NormalStep.normal_step, Families.PrintsAsSpecial, Queries.width_in, Queries.convention_on, Queries.model_of, Queries.model_of_width, QueryLaws.AnswersAlike}
+use Rattle.lexicon_fields.specs.{declared.width.PointerWidth.TheVariants.U32, ArchitectureQueries.is_clever}
 use Rattle.target_lexicon.proofs.StepCases.{step_cases}
+use Rattle.target_lexicon.specs.Values.architecture
+use Rattle.target_lexicon.specs.Values.operating_system
+use Rattle.target_lexicon.specs.Values.environment
 
 -- vendor and format have no part, and the environment has one in the width alone
 alike_by_width : (a : Architecture) (v w : VendorValue) (s : OperatingSystem) (e d : Environment) (f g : BinaryFormat)

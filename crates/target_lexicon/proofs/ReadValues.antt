@@ -1,19 +1,12 @@
 -- What holds of all values that are read: the vendor is plain, and the version in range.
 use Rattle.std.proofs.Common.{refl, ◌≡◌, ℕ, List, Bool, true, false, cond, Option, Some, None, IfSome, MatchOption, sym, subst}
 use Rattle.std.specs.Str.{bytes_eq}
-use Rattle.lexicon_fields.specs.declared.operating_system.OperatingSystem.{OperatingSystem}
-use Rattle.lexicon_fields.specs.declared.operating_system.OperatingSystem.TheVariants as operating_system
-use Rattle.lexicon_fields.specs.Laws.{HasVersionInRange}
-use Rattle.lexicon_fields.specs.OperatingSystem.{operating_system_of}
-use Rattle.lexicon_fields.specs.declared.known_vendor.KnownVendor.TheVariants.{Unknown}
-use Rattle.lexicon_fields.specs.Vendor.{VendorValue, Known, vendor_of, is_plain}
-use Rattle.target_lexicon.specs.Field.{Field}
-use Rattle.target_lexicon.specs.Laws.{ReadVendorsArePlain}
-use Rattle.target_lexicon.specs.Parts.{ArePartsOf}
+use Rattle.target_lexicon.specs.{Values.OperatingSystem, Values.VendorValue, Values.Known, Values.Values, Field.Field, Laws.ReadVendorsArePlain, Placement.ArePartsOf}
 use Rattle.target_lexicon.specs.Reading.{HoldsParts, ReadsAs, ReadsAsLeast, IsValueOf}
 use Rattle.target_lexicon.specs.SpecialTexts.{special_values, nintendo_3ds, nintendo_3ds_text, esp_idf, esp_idf_text}
-use Rattle.target_lexicon.specs.Values.{Values}
+use Rattle.lexicon_fields.specs.{Laws.HasVersionInRange, OperatingSystem.operating_system_of, declared.known_vendor.KnownVendor.TheVariants.Unknown, Vendor.vendor_of, Vendor.is_plain}
 use Rattle.target_lexicon.proofs.Vendors.{vendor-plain}
+use Rattle.target_lexicon.specs.Values.operating_system
 
 -- what holds of the two triples of special texts
 pub special-holds : (P : Values → Type 0) (text : List ℕ) → P nintendo_3ds → P esp_idf → IfSome (special_values text) P

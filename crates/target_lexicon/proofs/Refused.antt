@@ -3,9 +3,7 @@ use Rattle.std.proofs.Common.{◌≡◌, ℕ, suc, ◌≤◌, List, [], ◌∷�
 use Rattle.std.proofs.Math.Seq.{take-append_seam}
 use Rattle.std.proofs.lemmas.List.{take-append-le}
 use Rattle.std.specs.Prelude.{slice_get}
-use Rattle.target_lexicon.specs.Field.{Field, Architecture, reads}
-use Rattle.target_lexicon.specs.Placement.{HasPlacement}
-use Rattle.target_lexicon.specs.Reading.{IsRefusal, IsLackedBehind, lack_behind, last_of}
+use Rattle.target_lexicon.specs.{Field.Field, Field.Architecture, Field.reads, Placement.HasPlacement, Reading.IsRefusal, Reading.IsLackedBehind, Reading.lack_behind, Reading.last_of}
 use Rattle.target_lexicon.specs.Refusal.{Lacks, refused}
 use Rattle.std.proofs.lemmas.Bool.{cases_Bool}
 use Rattle.target_lexicon.proofs.Greedy.{filled, unread, behind_architecture, greedy-least, greedy-finds, placement_front}

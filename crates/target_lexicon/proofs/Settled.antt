@@ -1,23 +1,13 @@
 -- A second step changes no triple.
 use Rattle.std.proofs.Common.{◌≡◌, ◌⊎◌, inl, inr, ℕ, List, true, refl, sym, ap, subst}
-use Rattle.lexicon_fields.specs.declared.architecture.Architecture.{Architecture}
-use Rattle.lexicon_fields.specs.declared.operating_system.OperatingSystem.TheVariants as operating_system
-use Rattle.lexicon_fields.specs.declared.environment.Environment.TheVariants as environment
-use Rattle.lexicon_fields.specs.declared.binary_format.BinaryFormat.{BinaryFormat}
-use Rattle.lexicon_fields.specs.declared.binary_format.BinaryFormat.TheVariants as binary_format
-use Rattle.lexicon_fields.specs.Vendor.{VendorValue, is_plain}
-use Rattle.lexicon_fields.specs.Laws.{HasVersionInRange}
-use Rattle.target_lexicon.specs.Families.{IsNintendo3ds, IsEspIdf, HidesNewlib, PrintsTheEspIdfText}
+use Rattle.target_lexicon.specs.{Values.Architecture, Values.BinaryFormat, Values.VendorValue, Values.Values, Values.values, Laws.ComesBack, NormalStep.normal_step, NormalStep.elf_if_unknown}
+use Rattle.target_lexicon.specs.{Families.IsNintendo3ds, Families.IsEspIdf, Families.HidesNewlib, Families.PrintsTheEspIdfText, Printing.text_of, Reading.ReadsAs, SpecialTexts.esp_idf}
 use Rattle.target_lexicon.specs.FixedPoints.{IsPlainTriple, RoundIsNormalStep, settled, SecondStepChangesNone, SettledTextsAreKeys}
-use Rattle.target_lexicon.specs.Laws.{ComesBack}
-use Rattle.target_lexicon.specs.NormalStep.{normal_step, elf_if_unknown}
-use Rattle.target_lexicon.specs.Printing.{text_of}
-use Rattle.target_lexicon.specs.Reading.{ReadsAs}
-use Rattle.target_lexicon.specs.SpecialTexts.{esp_idf}
-use Rattle.target_lexicon.specs.Values.{Values, values}
-use Rattle.target_lexicon.proofs.Fixed.{outside-fixed}
-use Rattle.target_lexicon.proofs.StepCases.{step_cases}
-use Rattle.target_lexicon.proofs.Unique.{values_unique}
+use Rattle.lexicon_fields.specs.{Vendor.is_plain, Laws.HasVersionInRange}
+use Rattle.target_lexicon.proofs.{Fixed.outside-fixed, StepCases.step_cases, Unique.values_unique}
+use Rattle.target_lexicon.specs.Values.operating_system
+use Rattle.target_lexicon.specs.Values.environment
+use Rattle.target_lexicon.specs.Values.binary_format
 
 esp_idf-stays : normal_step esp_idf ≡ esp_idf
 unfolding normal_step

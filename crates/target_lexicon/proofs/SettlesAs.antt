@@ -3,12 +3,8 @@ use Rattle.std.proofs.Common.{◌≡◌, ◌∙◌, Bool, true, false, ◌&&◌,
 use mathlib.Core.Bool.{true≢false}
 use Rattle.std.specs.Bool.{Decides}
 use Rattle.std.proofs.lemmas.Bool.Decides.{Decides-like, Decides-and, Decides-at}
-use Rattle.target_lexicon.specs.FixedPoints.{settled}
-use Rattle.target_lexicon.specs.NormalStep.{normal_step}
-use Rattle.target_lexicon.specs.Values.{Values}
-use Rattle.target_lexicon.proofs.SameValues.{same_values}
-use Rattle.target_lexicon.proofs.Settled.{second_changes_none}
-use Rattle.target_lexicon.proofs.StepCases.{step-architecture}
+use Rattle.target_lexicon.specs.{FixedPoints.settled, NormalStep.normal_step, Values.Values}
+use Rattle.target_lexicon.proofs.{SameValues.same_values, Settled.second_changes_none, StepCases.step-architecture}
 
 -- both tests hold, of which the second is made where the first holds
 

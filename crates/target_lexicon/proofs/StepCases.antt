@@ -2,23 +2,18 @@
 use Rattle.std.proofs.Common.{◌≡◌, inl, inr, true, codes, refl, ap}
 use Rattle.std.specs.Bool.{Decides}
 use Rattle.std.proofs.lemmas.Slice.Eq.{bytes_eq-Decides}
-use Rattle.lexicon_fields.specs.declared.architecture.Architecture.{Architecture}
-use Rattle.lexicon_fields.specs.declared.architecture.Architecture.TheVariants as architecture
-use Rattle.lexicon_fields.specs.declared.architecture.arm.ArmArchitecture.TheVariants as arm
-use Rattle.lexicon_fields.specs.declared.architecture.riscv.Riscv32Architecture.TheVariants as riscv32
-use Rattle.lexicon_fields.specs.declared.operating_system.OperatingSystem.{OperatingSystem}
-use Rattle.lexicon_fields.specs.declared.operating_system.OperatingSystem.TheVariants as operating_system
-use Rattle.lexicon_fields.specs.declared.environment.Environment.{Environment}
-use Rattle.lexicon_fields.specs.declared.environment.Environment.TheVariants as environment
-use Rattle.lexicon_fields.specs.declared.binary_format.BinaryFormat.{BinaryFormat}
-use Rattle.lexicon_fields.specs.declared.binary_format.BinaryFormat.TheVariants as binary_format
-use Rattle.lexicon_fields.specs.declared.known_vendor.KnownVendor.TheVariants.{Nintendo, Espressif}
-use Rattle.lexicon_fields.specs.Vendor.{VendorValue, Known, Custom}
+use Rattle.target_lexicon.specs.Values.{Architecture, OperatingSystem, Environment, BinaryFormat, VendorValue, Known, Custom, Values, values}
 use Rattle.target_lexicon.specs.Families.{PrintsAsSpecial, HidesNewlib, PrintsTheEspIdfText, ShowsNoneAlone}
 use Rattle.target_lexicon.specs.NormalStep.{prints_as_special, hides_newlib, prints_the_esp_idf_text, shows_none_alone, normal_step, elf_if_unknown}
-use Rattle.target_lexicon.specs.Values.{Values, values}
+use Rattle.lexicon_fields.specs.declared.known_vendor.KnownVendor.TheVariants.{Nintendo, Espressif}
 use Rattle.std.proofs.lemmas.Bool.{cond_both, false≢true}
 use Rattle.std.proofs.lemmas.Bool.Decides.{not_from_Decides}
+use Rattle.target_lexicon.specs.Values.architecture
+use Rattle.target_lexicon.specs.Values.arm
+use Rattle.target_lexicon.specs.Values.riscv32
+use Rattle.target_lexicon.specs.Values.operating_system
+use Rattle.target_lexicon.specs.Values.environment
+use Rattle.target_lexicon.specs.Values.binary_format
 
 -- a special text is printed
 

@@ -3,40 +3,23 @@ use Rattle.std.proofs.Common.{◌≡◌, ◌≢◌, ◌∙◌, ℕ, Bool, true, 
 use Rattle.std.specs.List.{list_all, join_with_byte}
 use Rattle.std.specs.Str.{bytes_eq}
 use Rattle.std.proofs.lemmas.Slice.Eq.{bytes_eq-Decides}
-use Rattle.lexicon_fields.specs.declared.architecture.Architecture.{Architecture}
-use Rattle.lexicon_fields.specs.declared.architecture.Architecture.TheVariants as architecture
-use Rattle.lexicon_fields.specs.declared.architecture.arm.ArmArchitecture.TheVariants as arm
-use Rattle.lexicon_fields.specs.declared.architecture.riscv.Riscv32Architecture.TheVariants as riscv32
-use Rattle.lexicon_fields.specs.declared.operating_system.OperatingSystem.{OperatingSystem}
-use Rattle.lexicon_fields.specs.declared.operating_system.OperatingSystem.TheVariants as operating_system
-use Rattle.lexicon_fields.specs.declared.environment.Environment.{Environment}
-use Rattle.lexicon_fields.specs.declared.environment.Environment.TheVariants as environment
-use Rattle.lexicon_fields.specs.declared.binary_format.BinaryFormat.{BinaryFormat}
-use Rattle.lexicon_fields.specs.declared.binary_format.BinaryFormat.TheVariants as binary_format
-use Rattle.lexicon_fields.specs.Names.{is_dash_free}
-use Rattle.lexicon_fields.specs.Architecture.{architecture_name, architecture_of}
-use Rattle.lexicon_fields.specs.declared.known_vendor.KnownVendor.TheVariants.{Nintendo, Espressif}
-use Rattle.lexicon_fields.specs.Vendor.{VendorValue, Known, Custom, vendor_of, known_vendor_of, is_admitted, is_plain}
-use Rattle.lexicon_fields.specs.OperatingSystem.{operating_system_name, operating_system_of, fixed_operating_system_of}
-use Rattle.lexicon_fields.specs.Environment.{environment_name, environment_of}
-use Rattle.lexicon_fields.specs.BinaryFormat.{binary_format_name, binary_format_of}
-use Rattle.lexicon_fields.specs.Laws.{HasVersionInRange}
-use Rattle.target_lexicon.specs.FixedPoints.{RoundIsNormalStep}
-use Rattle.target_lexicon.specs.ImpliedFormat.{implied, implied_format}
-use Rattle.target_lexicon.specs.NormalStep.{normal_step, prints_the_esp_idf_text}
-use Rattle.target_lexicon.specs.Parts.{parts_of}
+use Rattle.target_lexicon.specs.Values.{Architecture, OperatingSystem, Environment, BinaryFormat, VendorValue, Known, Custom, Values, values}
+use Rattle.target_lexicon.specs.{FixedPoints.RoundIsNormalStep, ImpliedFormat.implied, ImpliedFormat.implied_format, NormalStep.normal_step, NormalStep.prints_the_esp_idf_text, Placement.parts_of}
 use Rattle.target_lexicon.specs.Printing.{shows_vendor, shows_operating_system, shows_environment, shows_binary_format, shows_unknowns, shown_parts, text_of, when}
-use Rattle.target_lexicon.specs.Reading.{ReadsAs}
-use Rattle.target_lexicon.specs.ReadingByFields.{read_parts, read_unless_special, reading}
-use Rattle.target_lexicon.specs.Refusal.{Lacks, refused}
-use Rattle.target_lexicon.specs.Field as field
+use Rattle.target_lexicon.specs.{Reading.ReadsAs, ReadingByFields.read_parts, ReadingByFields.read_unless_special, ReadingByFields.reading, Refusal.Lacks, Refusal.refused}
 use Rattle.target_lexicon.specs.SpecialTexts.{special_text, special_values, nintendo_3ds, nintendo_3ds_text, esp_idf, esp_idf_text}
-use Rattle.target_lexicon.specs.Values.{Values, values}
-use Rattle.target_lexicon.proofs.Computed.{reading_computed}
-use Rattle.target_lexicon.proofs.Cuts.{parts_of-joined}
-use Rattle.target_lexicon.proofs.NamesAcross.{NamesAreRead}
-use Rattle.target_lexicon.proofs.Rounds.{parts-round}
-use Rattle.target_lexicon.proofs.StepCases.{step_cases, prints_the_esp_idf_text-tells}
+use Rattle.lexicon_fields.specs.{Names.is_dash_free, Architecture.architecture_name, Architecture.architecture_of, Laws.HasVersionInRange, Environment.environment_name, Environment.environment_of}
+use Rattle.lexicon_fields.specs.declared.known_vendor.KnownVendor.TheVariants.{Nintendo, Espressif}
+use Rattle.lexicon_fields.specs.{Vendor.vendor_of, Vendor.known_vendor_of, Vendor.is_admitted, Vendor.is_plain, BinaryFormat.binary_format_name, BinaryFormat.binary_format_of}
+use Rattle.lexicon_fields.specs.OperatingSystem.{operating_system_name, operating_system_of, fixed_operating_system_of}
+use Rattle.target_lexicon.proofs.{Computed.reading_computed, Cuts.parts_of-joined, NamesAcross.NamesAreRead, Rounds.parts-round, StepCases.step_cases, StepCases.prints_the_esp_idf_text-tells}
+use Rattle.target_lexicon.specs.Values.architecture
+use Rattle.target_lexicon.specs.Values.arm
+use Rattle.target_lexicon.specs.Values.riscv32
+use Rattle.target_lexicon.specs.Values.operating_system
+use Rattle.target_lexicon.specs.Values.environment
+use Rattle.target_lexicon.specs.Values.binary_format
+use Rattle.target_lexicon.specs.Field as field
 
 -- parts without dashes are the parts of the text that joins them
 

@@ -1,22 +1,11 @@
 -- A text has one outcome at most.
 use Rattle.std.proofs.Common.{◌≡◌, ℕ, ◌<◌, List, [], ◌∷◌, take, refl, sym, ◌∙◌, ap, subst, Option, Some, None, arith}
 use Rattle.std.specs.Prelude.{MatchOption, slice_get}
-use Rattle.lexicon_fields.specs.Architecture.{architecture_of}
-use Rattle.lexicon_fields.specs.Vendor.{vendor_of}
-use Rattle.lexicon_fields.specs.OperatingSystem.{operating_system_of}
-use Rattle.lexicon_fields.specs.Environment.{environment_of}
-use Rattle.lexicon_fields.specs.BinaryFormat.{binary_format_of}
-use Rattle.target_lexicon.specs.Field.{Field}
-use Rattle.target_lexicon.specs.ImpliedFormat.{implied}
-use Rattle.target_lexicon.specs.Parts.{ArePartsOf, parts_of}
-use Rattle.target_lexicon.specs.Placement.{HasPlacement}
-use Rattle.target_lexicon.specs.Reading.{IsValueOf, HoldsParts, ReadsAsLeast, ReadsAs, IsRefusal, IsLackedBehind, IsRefusedAs, IsRefused, lack_behind, last_of}
+use Rattle.lexicon_fields.specs.{Architecture.architecture_of, Vendor.vendor_of, OperatingSystem.operating_system_of, Environment.environment_of, BinaryFormat.binary_format_of}
+use Rattle.target_lexicon.specs.{Field.Field, ImpliedFormat.implied, Placement.ArePartsOf, Placement.parts_of, Placement.HasPlacement, SpecialTexts.special_values, Values.Values}
 use Rattle.target_lexicon.specs.Refusal.{Lack, LacksAnyField, Refusal, refused}
-use Rattle.target_lexicon.specs.SpecialTexts.{special_values}
-use Rattle.target_lexicon.specs.Values.{Values}
-use Rattle.target_lexicon.proofs.Greedy.{placement_front, least-unique}
-use Rattle.target_lexicon.proofs.Cuts.{parts-only}
-use Rattle.target_lexicon.proofs.SameValues.{same_values}
+use Rattle.target_lexicon.specs.Reading.{IsValueOf, HoldsParts, ReadsAsLeast, ReadsAs, IsRefusal, IsLackedBehind, IsRefusedAs, IsRefused, lack_behind, last_of}
+use Rattle.target_lexicon.proofs.{Greedy.placement_front, Greedy.least-unique, Cuts.parts-only, SameValues.same_values}
 
 same_value : {A : Type 0} (find : List ℕ → Option A) (d e : A) (o : Option (List ℕ)) (x y : A) → d ≡ e → IsValueOf find d o x → IsValueOf find e o y → x ≡ y
 same_value find d e None x y same h k = h ∙ same ∙ sym k

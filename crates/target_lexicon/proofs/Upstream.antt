@@ -2,23 +2,15 @@
 use Rattle.std.proofs.Common.{◌≡◌, ◌≢◌, ℕ, Bool, true, false, List, [], ◌∷◌, Option, Some, None, codes, refl, sym, ap, ◌∙◌}
 use Rattle.std.specs.List.{join_with_byte}
 use Rattle.std.proofs.lemmas.List.{append_cancel_left}
-use Rattle.lexicon_fields.specs.declared.architecture.Architecture.{Architecture}
-use Rattle.lexicon_fields.specs.declared.architecture.Architecture.TheVariants as architecture
-use Rattle.lexicon_fields.specs.declared.operating_system.OperatingSystem.{OperatingSystem}
-use Rattle.lexicon_fields.specs.declared.operating_system.OperatingSystem.TheVariants as operating_system
-use Rattle.lexicon_fields.specs.declared.environment.Environment.{Environment}
-use Rattle.lexicon_fields.specs.declared.environment.Environment.TheVariants as environment
-use Rattle.lexicon_fields.specs.declared.binary_format.BinaryFormat.{BinaryFormat}
-use Rattle.lexicon_fields.specs.declared.binary_format.BinaryFormat.TheVariants as binary_format
-use Rattle.lexicon_fields.specs.Architecture.{architecture_name}
-use Rattle.lexicon_fields.specs.Vendor.{VendorValue, vendor_name}
-use Rattle.lexicon_fields.specs.OperatingSystem.{operating_system_name}
-use Rattle.target_lexicon.specs.ImpliedFormat.{implied}
-use Rattle.target_lexicon.specs.Printing.{shows_vendor, shows_operating_system, shows_environment, shows_binary_format, shows_unknowns, shown_parts, when, text_by, text_of, upstream_text_of}
-use Rattle.target_lexicon.specs.SpecialTexts.{special_text}
-use Rattle.target_lexicon.specs.Upstream.{ShowsUnknowns, OtherTextsThanUpstream}
-use Rattle.target_lexicon.specs.Values.{Values, values}
+use Rattle.target_lexicon.specs.Values.{Architecture, OperatingSystem, Environment, BinaryFormat, VendorValue, Values, values}
+use Rattle.target_lexicon.specs.{ImpliedFormat.implied, SpecialTexts.special_text}
+use Rattle.target_lexicon.specs.Printing.{shows_vendor, shows_operating_system, shows_environment, shows_binary_format, shows_unknowns, shown_parts, when, text_by, text_of, upstream_text_of, ShowsUnknowns, OtherTextsThanUpstream}
+use Rattle.lexicon_fields.specs.{Architecture.architecture_name, Vendor.vendor_name, OperatingSystem.operating_system_name}
 use Rattle.target_lexicon.proofs.Printed.{dashed, dashed_joined}
+use Rattle.target_lexicon.specs.Values.architecture
+use Rattle.target_lexicon.specs.Values.operating_system
+use Rattle.target_lexicon.specs.Values.environment
+use Rattle.target_lexicon.specs.Values.binary_format
 
 -- the same part before two lists changes nothing
 same_parts : (b : Bool) (part : List ℕ) (ps qs : List (List ℕ)) → dashed (when b part ps) ≡ dashed (when b part qs) → dashed ps ≡ dashed qs

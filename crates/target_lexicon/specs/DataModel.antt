@@ -1,17 +1,9 @@
 -- The sizes of C's types in each data model.
-use Rattle.std.specs.Prelude.{ℕ}
-use Rattle.target_lexicon.specs.declared.data_model.Size.{Size}
-use Rattle.target_lexicon.specs.declared.data_model.Size.TheVariants as size
-use Rattle.target_lexicon.specs.declared.data_model.Size.TheVariants.{U16, U32, U64}
+use Rattle.std.specs.Prelude.{ℕ, ◌*◌}
+use Rattle.target_lexicon.specs.{declared.data_model.Size.Size, declared.data_model.Size.TheVariants.U16, declared.data_model.Size.TheVariants.U32, declared.data_model.Size.TheVariants.U64}
 use Rattle.target_lexicon.specs.declared.data_model.CDataModel.{CDataModel}
+use Rattle.target_lexicon.specs.declared.data_model.Size.TheVariants as size
 use Rattle.target_lexicon.specs.declared.data_model.CDataModel.TheVariants as model
-
--- how many bits a size is
-abbrev pub size_bits : Size → ℕ
-size_bits size.U8 = 8
-size_bits size.U16 = 16
-size_bits size.U32 = 32
-size_bits size.U64 = 64
 
 -- how many bytes a size is
 abbrev pub size_bytes : Size → ℕ
@@ -19,6 +11,10 @@ size_bytes size.U8 = 1
 size_bytes size.U16 = 2
 size_bytes size.U32 = 4
 size_bytes size.U64 = 8
+
+-- how many bits it is
+abbrev pub size_bits : Size → ℕ
+size_bits size = 8 * size_bytes size
 
 -- a size for each type
 pub record Sizes : Type 0 where

@@ -1,15 +1,13 @@
 -- The five families of triples that are another triple, or none, when they are printed and read again.
 use Rattle.std.specs.Prelude.{◌≡◌, ◌≢◌, ◌⊎◌, true, false, codes}
-use Rattle.lexicon_fields.specs.declared.architecture.Architecture.TheVariants as architecture
-use Rattle.lexicon_fields.specs.declared.architecture.arm.ArmArchitecture.TheVariants as arm
-use Rattle.lexicon_fields.specs.declared.architecture.riscv.Riscv32Architecture.TheVariants as riscv32
-use Rattle.lexicon_fields.specs.declared.operating_system.OperatingSystem.TheVariants as operating_system
-use Rattle.lexicon_fields.specs.declared.environment.Environment.TheVariants as environment
-use Rattle.lexicon_fields.specs.declared.binary_format.BinaryFormat.TheVariants as binary_format
-use Rattle.lexicon_fields.specs.ArchitectureQueries.{is_clever}
-use Rattle.lexicon_fields.specs.declared.known_vendor.KnownVendor.TheVariants.{Nintendo, Espressif}
-use Rattle.lexicon_fields.specs.Vendor.{Known, Custom, is_plain}
-use Rattle.target_lexicon.specs.Values.{Values, values}
+use Rattle.lexicon_fields.specs.{ArchitectureQueries.is_clever, declared.known_vendor.KnownVendor.TheVariants.Nintendo, declared.known_vendor.KnownVendor.TheVariants.Espressif, Vendor.is_plain}
+use Rattle.target_lexicon.specs.Values.{Known, Custom, Values, values}
+use Rattle.target_lexicon.specs.Values.architecture
+use Rattle.target_lexicon.specs.Values.arm
+use Rattle.target_lexicon.specs.Values.riscv32
+use Rattle.target_lexicon.specs.Values.operating_system
+use Rattle.target_lexicon.specs.Values.environment
+use Rattle.target_lexicon.specs.Values.binary_format
 
 -- the fields by which a triple prints `armv6k-nintendo-3ds`
 pub record IsNintendo3ds (t : Values) : Type 0 where
@@ -45,11 +43,7 @@ pub record ShowsNoneAlone (t : Values) : Type 0 where
   pub operating_system : t.operating_system ≡ operating_system.Unknown
   pub environment : t.environment ≡ environment.None
 
--- no text reads with this vendor
-abbrev pub IsNotPlain : Values → Type 0
-IsNotPlain t = is_plain t.vendor ≡ false
-
--- the triple is in one of the families
+-- the triple is in one of the families, of which the last are those whose vendor no text reads as
 abbrev pub IsInSomeFamily : Values → Type 0
 IsInSomeFamily t =
-    PrintsAsSpecial t ⊎ (HidesNewlib t ⊎ (PrintsTheEspIdfText t ⊎ (ShowsNoneAlone t ⊎ IsNotPlain t)))
+    PrintsAsSpecial t ⊎ (HidesNewlib t ⊎ (PrintsTheEspIdfText t ⊎ (ShowsNoneAlone t ⊎ (is_plain t.vendor ≡ false))))

@@ -1,14 +1,8 @@
--- Laws of rounds, in which a triple is printed and its text read again: which triples come back, and what the others become.
-use Rattle.std.specs.Prelude.{ℕ, List, ◌≡◌, ◌↔◌, ◌⊎◌, true}
-use Rattle.lexicon_fields.specs.Laws.{HasVersionInRange}
-use Rattle.lexicon_fields.specs.Vendor.{is_plain}
-use Rattle.target_lexicon.specs.Families.{IsInSomeFamily}
-use Rattle.target_lexicon.specs.Laws.{OneOutcomeEach, ComesBack}
-use Rattle.target_lexicon.specs.NormalStep.{normal_step}
-use Rattle.target_lexicon.specs.Printing.{text_of}
-use Rattle.target_lexicon.specs.QueryLaws.{QueriesKept}
-use Rattle.target_lexicon.specs.Reading.{ReadsAs}
-use Rattle.target_lexicon.specs.Values.{Values}
+-- Laws of rounds, in which a triple is printed and its text read again: which come back, what the others become, how long texts are.
+use Rattle.std.specs.Prelude.{ℕ, ◌+◌, ◌≤◌, List, length, ◌≡◌, ◌↔◌, ◌⊎◌, true}
+use Rattle.target_lexicon.specs.{Reading.IsRefusedAs, Reading.ReadsAs, Refusal.Refusal, Families.IsInSomeFamily, Laws.OneOutcomeEach, Laws.ComesBack, NormalStep.normal_step, Printing.text_of}
+use Rattle.target_lexicon.specs.{QueryLaws.QueriesKept, Values.Values}
+use Rattle.lexicon_fields.specs.{Laws.HasVersionInRange, Vendor.is_plain}
 
 -- a triple with a plain vendor, whose version, if its system holds one, is in range, as it is by the types of the code
 pub record IsPlainTriple (t : Values) : Type 0 where
@@ -36,6 +30,10 @@ FixedExactlyOutsideFamilies = (t : Values) → HasVersionInRange t.operating_sys
 abbrev pub settled : Values → Values
 settled t = normal_step (normal_step t)
 
+-- the printed text of the settled triple
+abbrev pub settled_text : Values → List ℕ
+settled_text t = text_of (settled t)
+
 -- a second step changes no triple
 abbrev pub SecondStepChangesNone : Type 0
 SecondStepChangesNone = (t : Values) → settled t ≡ normal_step t
@@ -43,11 +41,10 @@ SecondStepChangesNone = (t : Values) → settled t ≡ normal_step t
 -- a settled plain triple comes back, and no other such triple has its text
 pub record SettledTextsAreKeys : Type 0 where
   pub comes_back : (t : Values) → IsPlainTriple t → ComesBack (settled t)
-  pub own : (t u : Values) → IsPlainTriple t → IsPlainTriple u → text_of (settled t) ≡ text_of (settled u) → settled t ≡ settled u
+  pub own : (t u : Values) → IsPlainTriple t → IsPlainTriple u → settled_text t ≡ settled_text u → settled t ≡ settled u
 
--- the laws of rounds as one: every text is read or refused in one way, a triple comes back exactly outside the families,
--- a round of a plain triple succeeds and is the normal step, which keeps the four queries, no triple takes two
--- steps, and settled texts are keys
+-- the laws of rounds as one: every text is read or refused in one way, a triple comes back exactly outside the families, a round of a
+-- plain triple succeeds and is the normal step, which keeps the four queries, no triple takes two steps, and settled texts are keys
 pub record RoundsAreKnown : Type 0 where
   pub texts : OneOutcomeEach
   pub fixed : FixedExactlyOutsideFamilies
@@ -55,3 +52,19 @@ pub record RoundsAreKnown : Type 0 where
   pub queries : QueriesKept
   pub steps : SecondStepChangesNone
   pub keys : SettledTextsAreKeys
+
+-- so many bytes longer than a text is at most what is printed of it, as `aarch64-unknown-unknown-elf` than `arm64`
+abbrev pub longer : ℕ
+longer = 22
+
+-- the text that a triple prints is that much longer at most than each text that reads as it
+abbrev pub PrintedTextsAreLittleLonger : Type 0
+PrintedTextsAreLittleLonger = (text : List ℕ) (t : Values) → ReadsAs text t → length (text_of t) ≤ length text + longer
+
+-- so is the text of the settled triple
+abbrev pub SettledTextsAreLittleLonger : Type 0
+SettledTextsAreLittleLonger = (text : List ℕ) (t : Values) → ReadsAs text t → length (settled_text t) ≤ length text + longer
+
+-- a refused part is no longer than the text
+abbrev pub RefusedPartsAreNoLonger : Type 0
+RefusedPartsAreNoLonger = (text : List ℕ) (refusal : Refusal) → IsRefusedAs text refusal → length refusal.part ≤ length text

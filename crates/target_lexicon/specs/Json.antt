@@ -1,18 +1,13 @@
 -- The JSON values of triples and of lists of triples, and what a JSON value reads as.
-use Rattle.std.specs.Prelude.{◌≡◌, ◌↔◌, ℕ, ◌<◌, List, [], ◌∷◌, ◌++◌, map, All, Option, None, MatchOption, codes, decimal}
+use Rattle.std.specs.Prelude.{◌≡◌, ℕ, ◌<◌, List, [], ◌∷◌, ◌++◌, map, Option, None, MatchOption, codes, decimal}
 use Rattle.std.specs.Option.{option_map_or}
 use Rattle.serde_json.specs.Data.{Data, string, array, Items, no_items, item}
 use Rattle.serde_json.specs.Find.{as_str, as_array, get_item}
 use Rattle.serde_json.specs.View.{items_of}
-use Rattle.target_lexicon.specs.declared.json_error.JsonError.{JsonError}
+use Rattle.target_lexicon.specs.{declared.json_error.JsonError.JsonError, declared.list_error.ListError.ListError, Printing.text_of, Reading.ReadsAs, Reading.IsRefusedAs, Reading.MayWantMemory}
+use Rattle.target_lexicon.specs.{Refusal.Refusal, Refusal.refusal_of, Refusal.refusal_line, Values.Values}
 use Rattle.target_lexicon.specs.declared.json_error.JsonError.TheVariants as json_error
-use Rattle.target_lexicon.specs.declared.list_error.ListError.{ListError}
 use Rattle.target_lexicon.specs.declared.list_error.ListError.TheVariants as list_error
-use Rattle.target_lexicon.specs.Laws.{ComesBack}
-use Rattle.target_lexicon.specs.Printing.{text_of}
-use Rattle.target_lexicon.specs.Reading.{ReadsAs, IsRefusedAs, MayWantMemory}
-use Rattle.target_lexicon.specs.Refusal.{Refusal, refusal_of, refusal_line}
-use Rattle.target_lexicon.specs.Values.{Values}
 
 -- the value of a triple: the string of its printed text
 abbrev pub json_of : Values → Data
@@ -87,7 +82,3 @@ abbrev pub list_fault_line : ListFault → List ℕ
 list_fault_line NotList = codes "Not a list"
 list_fault_line (Element i fault) = codes "Element " ++ (decimal i ++ (codes ": " ++ json_fault_line fault))
 list_fault_line OutOfMemory = codes "Out of memory"
-
--- a list of triples that come back, written and read, is itself and no other
-abbrev pub ListsReadBack : Type 0
-ListsReadBack = (ts us : List Values) → All ComesBack ts → ListReadsAs (list_json_of ts) us ↔ (us ≡ ts)

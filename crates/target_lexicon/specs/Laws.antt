@@ -1,12 +1,7 @@
 -- Laws of reading and printing.
-use Rattle.std.specs.Prelude.{◌≡◌, ◌↔◌, ℕ, suc, List, true, Ok, Err, take, ◌⊎◌}
+use Rattle.std.specs.Prelude.{◌≡◌, ◌↔◌, ℕ, List, true, Ok, Err, ◌⊎◌}
 use Rattle.lexicon_fields.specs.Vendor.{is_plain}
-use Rattle.target_lexicon.specs.Field.{Field}
-use Rattle.target_lexicon.specs.Placement.{IsLeast, HasPlacement}
-use Rattle.target_lexicon.specs.Printing.{text_of}
-use Rattle.target_lexicon.specs.Reading.{ReadsAs, IsRefusedAs, IsRefused}
-use Rattle.target_lexicon.specs.ReadingByFields.{reading}
-use Rattle.target_lexicon.specs.Refusal.{Refusal}
+use Rattle.target_lexicon.specs.{Field.Field, Placement.IsLeast, Printing.text_of, Reading.ReadsAs, Reading.IsRead, Reading.IsRefusedAs, Reading.IsRefused, ReadingByFields.reading, Refusal.Refusal}
 use Rattle.target_lexicon.specs.Values.{Values}
 
 -- the parts have exactly one least placement
@@ -15,13 +10,9 @@ pub record HasOneLeast (parts : List (List ℕ)) : Type 0 where
   pub least : IsLeast parts fields
   pub only : (others : List Field) → IsLeast parts others → others ≡ fields
 
--- parts that have a placement have exactly one least, and so has each front of them
-abbrev pub OneLeastPlacement : Type 0
-OneLeastPlacement = (parts : List (List ℕ)) → HasPlacement parts → HasOneLeast parts × ((n : ℕ) → HasOneLeast (take (suc n) parts))
-
 -- a text is read or refused, in one way, and not both
 pub record HasOneOutcome (text : List ℕ) : Type 0 where
-  pub some : ((t : Values) × ReadsAs text t) ⊎ IsRefused text
+  pub some : IsRead text ⊎ IsRefused text
   pub values : (t u : Values) → ReadsAs text t → ReadsAs text u → t ≡ u
   pub refusal : (x y : Refusal) → IsRefusedAs text x → IsRefusedAs text y → x ≡ y
   pub apart : (t : Values) → ReadsAs text t → IsRefused text → ⊥

@@ -1,15 +1,11 @@
-pub mod ComputedAnswers
 pub mod DataModel
 pub mod Families
 pub mod Field
 pub mod FixedPoints
-pub mod Host
 pub mod ImpliedFormat
 pub mod Json
 pub mod Laws
-pub mod Lengths
 pub mod NormalStep
-pub mod Parts
 pub mod PartsLeft
 pub mod Placement
 pub mod Printing
@@ -20,5 +16,4 @@ pub mod Reading
 pub mod ReadingByFields
 pub mod Refusal
 pub mod SpecialTexts
-pub mod Upstream
 pub mod Values

@@ -1,19 +1,14 @@
 -- What a triple with a plain vendor becomes by a round, that is when it is printed and read again.
 use Rattle.std.specs.Prelude.{Bool, true, false, not, ◌&&◌, codes, if◌then◌else◌}
 use Rattle.std.specs.Str.{bytes_eq}
-use Rattle.lexicon_fields.specs.declared.architecture.Architecture.{Architecture}
-use Rattle.lexicon_fields.specs.declared.architecture.Architecture.TheVariants as architecture
-use Rattle.lexicon_fields.specs.declared.architecture.arm.ArmArchitecture.TheVariants as arm
-use Rattle.lexicon_fields.specs.declared.architecture.riscv.Riscv32Architecture.TheVariants as riscv32
-use Rattle.lexicon_fields.specs.declared.operating_system.OperatingSystem.{OperatingSystem}
-use Rattle.lexicon_fields.specs.declared.operating_system.OperatingSystem.TheVariants as operating_system
-use Rattle.lexicon_fields.specs.declared.environment.Environment.{Environment}
-use Rattle.lexicon_fields.specs.declared.environment.Environment.TheVariants as environment
-use Rattle.lexicon_fields.specs.declared.binary_format.BinaryFormat.{BinaryFormat}
-use Rattle.lexicon_fields.specs.declared.binary_format.BinaryFormat.TheVariants as binary_format
-use Rattle.lexicon_fields.specs.declared.known_vendor.KnownVendor.TheVariants.{Nintendo, Espressif}
-use Rattle.lexicon_fields.specs.Vendor.{VendorValue, Known, Custom, is_plain}
-use Rattle.target_lexicon.specs.Values.{Values}
+use Rattle.target_lexicon.specs.Values.{Architecture, OperatingSystem, Environment, BinaryFormat, VendorValue, Known, Custom, Values}
+use Rattle.lexicon_fields.specs.{declared.known_vendor.KnownVendor.TheVariants.Nintendo, declared.known_vendor.KnownVendor.TheVariants.Espressif, Vendor.is_plain}
+use Rattle.target_lexicon.specs.Values.architecture
+use Rattle.target_lexicon.specs.Values.arm
+use Rattle.target_lexicon.specs.Values.riscv32
+use Rattle.target_lexicon.specs.Values.operating_system
+use Rattle.target_lexicon.specs.Values.environment
+use Rattle.target_lexicon.specs.Values.binary_format
 
 -- the tests of the families but the last, one for each, with its name
 

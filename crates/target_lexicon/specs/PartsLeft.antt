@@ -1,12 +1,8 @@
 -- What is left of a text while it is read, for the contracts of private functions, which no public contract cites.
 use Rattle.std.specs.Prelude.{ℕ, List, [], ◌∷◌, Option, Some, None}
-use Rattle.target_lexicon.specs.declared.part.Part.{Part}
-use Rattle.target_lexicon.specs.declared.read.Field.{Field as Taker}
-use Rattle.target_lexicon.specs.declared.read.Field.TheVariants as taker
-use Rattle.target_lexicon.specs.declared.read.Rest.{Rest}
+use Rattle.target_lexicon.specs.{declared.part.Part.Part, declared.read.Field.Field as Taker, declared.read.Rest.Rest, Private.parts_behind_dash, ReadingByFields.Taken}
 use Rattle.target_lexicon.specs.Field.{Field, Architecture, Vendor, OperatingSystem, Environment, BinaryFormat}
-use Rattle.target_lexicon.specs.Private.{parts_behind_dash}
-use Rattle.target_lexicon.specs.ReadingByFields.{Taken}
+use Rattle.target_lexicon.specs.declared.read.Field.TheVariants as taker
 
 -- the parts that are left, of which the first is cut off
 abbrev pub parts_left : Option Part → List (List ℕ)

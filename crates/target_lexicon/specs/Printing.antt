@@ -1,25 +1,16 @@
 -- What a triple prints: the names of the fields that are shown, joined by dashes, or a special text.
-use Rattle.std.specs.Prelude.{ℕ, Bool, true, false, not, ◌&&◌, ◌||◌, List, [], ◌∷◌, unwrap_or}
+use Rattle.std.specs.Prelude.{◌≡◌, ◌≢◌, ◌↔◌, ℕ, Bool, true, false, not, ◌&&◌, ◌||◌, List, [], ◌∷◌, None, unwrap_or}
 use Rattle.std.specs.List.{join_with_byte}
-use Rattle.lexicon_fields.specs.declared.architecture.Architecture.{Architecture}
-use Rattle.lexicon_fields.specs.declared.architecture.Architecture.TheVariants as architecture
-use Rattle.lexicon_fields.specs.declared.architecture.arm.ArmArchitecture.{ArmArchitecture}
-use Rattle.lexicon_fields.specs.declared.architecture.arm.ArmArchitecture.TheVariants as arm
-use Rattle.lexicon_fields.specs.declared.operating_system.OperatingSystem.{OperatingSystem}
-use Rattle.lexicon_fields.specs.declared.operating_system.OperatingSystem.TheVariants as operating_system
-use Rattle.lexicon_fields.specs.declared.environment.Environment.{Environment}
-use Rattle.lexicon_fields.specs.declared.environment.Environment.TheVariants as environment
-use Rattle.lexicon_fields.specs.declared.binary_format.BinaryFormat.{BinaryFormat}
-use Rattle.lexicon_fields.specs.declared.binary_format.BinaryFormat.TheVariants as binary_format
-use Rattle.lexicon_fields.specs.Architecture.{architecture_name}
+use Rattle.target_lexicon.specs.Values.{Architecture, OperatingSystem, Environment, BinaryFormat, VendorValue, Known, Values}
+use Rattle.target_lexicon.specs.{ImpliedFormat.implied, SpecialTexts.special_text}
+use Rattle.lexicon_fields.specs.{declared.architecture.arm.ArmArchitecture.ArmArchitecture, Architecture.architecture_name, OperatingSystem.operating_system_name, Vendor.vendor_name}
 use Rattle.lexicon_fields.specs.declared.known_vendor.KnownVendor.TheVariants.{Unknown, Nintendo, Espressif}
-use Rattle.lexicon_fields.specs.Vendor.{VendorValue, Known, vendor_name}
-use Rattle.lexicon_fields.specs.OperatingSystem.{operating_system_name}
-use Rattle.lexicon_fields.specs.Environment.{environment_name}
-use Rattle.lexicon_fields.specs.BinaryFormat.{binary_format_name}
-use Rattle.target_lexicon.specs.ImpliedFormat.{implied}
-use Rattle.target_lexicon.specs.SpecialTexts.{special_text}
-use Rattle.target_lexicon.specs.Values.{Values}
+use Rattle.lexicon_fields.specs.{Environment.environment_name, BinaryFormat.binary_format_name}
+use Rattle.target_lexicon.specs.Values.architecture
+use Rattle.target_lexicon.specs.Values.arm
+use Rattle.target_lexicon.specs.Values.operating_system
+use Rattle.target_lexicon.specs.Values.environment
+use Rattle.target_lexicon.specs.Values.binary_format
 
 -- the Arm architectures whose triples without a system name no vendor
 abbrev pub is_bare_arm : ArmArchitecture → Bool
@@ -140,3 +131,14 @@ text_of t = text_by (shows_unknowns t.environment t.binary_format (implied t)) t
 -- the text that upstream prints, which shows neither for the sake of an unknown format
 unfoldable pub upstream_text_of : Values → List ℕ
 upstream_text_of t = text_by false t
+
+-- environment and format are unknown, another format is implied, and no special text is printed
+pub record ShowsUnknowns (t : Values) : Type 0 where
+  pub implied : implied t ≢ binary_format.Unknown
+  pub environment : t.environment ≡ environment.Unknown
+  pub binary_format : t.binary_format ≡ binary_format.Unknown
+  pub special : special_text t.operating_system t.vendor t.architecture ≡ None
+
+-- the texts of these triples, and of no others, aren't upstream's
+abbrev pub OtherTextsThanUpstream : Type 0
+OtherTextsThanUpstream = (t : Values) → (text_of t ≢ upstream_text_of t) ↔ ShowsUnknowns t

@@ -1,21 +1,15 @@
 -- What a code generator asks of a triple: byte order, pointer width, calling convention and data model. No vendor and no
 -- binary format has a part in it.
 use Rattle.std.specs.Prelude.{Bool, true, false, Option, Some, None}
-use Rattle.lexicon_fields.specs.declared.architecture.Architecture.{Architecture}
-use Rattle.lexicon_fields.specs.declared.architecture.Architecture.TheVariants as architecture
-use Rattle.lexicon_fields.specs.declared.operating_system.OperatingSystem.{OperatingSystem}
-use Rattle.lexicon_fields.specs.declared.operating_system.OperatingSystem.TheVariants as operating_system
-use Rattle.lexicon_fields.specs.declared.environment.Environment.{Environment}
-use Rattle.lexicon_fields.specs.declared.environment.Environment.TheVariants as environment
-use Rattle.lexicon_fields.specs.declared.width.Endianness.{Endianness}
-use Rattle.lexicon_fields.specs.declared.width.PointerWidth.{PointerWidth}
-use Rattle.lexicon_fields.specs.declared.width.PointerWidth.TheVariants.{U16, U32, U64}
-use Rattle.lexicon_fields.specs.ArchitectureQueries.{architecture_endianness, architecture_width}
-use Rattle.target_lexicon.specs.declared.calling_convention.CallingConvention.{CallingConvention}
-use Rattle.target_lexicon.specs.declared.calling_convention.CallingConvention.TheVariants.{SystemV, WasmBasicCAbi, WindowsFastcall, AppleAarch64}
+use Rattle.target_lexicon.specs.{Values.Architecture, Values.OperatingSystem, Values.Environment, Values.Values, declared.calling_convention.CallingConvention.CallingConvention}
 use Rattle.target_lexicon.specs.declared.data_model.CDataModel.{CDataModel}
+use Rattle.target_lexicon.specs.declared.calling_convention.CallingConvention.TheVariants.{SystemV, WasmBasicCAbi, WindowsFastcall, AppleAarch64}
 use Rattle.target_lexicon.specs.declared.data_model.CDataModel.TheVariants.{ILP32, LLP64, LP64}
-use Rattle.target_lexicon.specs.Values.{Values}
+use Rattle.lexicon_fields.specs.{declared.width.Endianness.Endianness, declared.width.PointerWidth.PointerWidth, ArchitectureQueries.architecture_endianness, ArchitectureQueries.architecture_width}
+use Rattle.lexicon_fields.specs.declared.width.PointerWidth.TheVariants.{U16, U32, U64}
+use Rattle.target_lexicon.specs.Values.architecture
+use Rattle.target_lexicon.specs.Values.operating_system
+use Rattle.target_lexicon.specs.Values.environment
 
 -- whether an environment has pointers of 32 bits on every architecture
 abbrev pub is_ilp32 : Environment → Bool

@@ -1,31 +1,19 @@
 -- Laws of the four queries, and of sizes.
-use Rattle.std.specs.Prelude.{◌≡◌, ◌≢◌, ◌≤◌, Some, option_map}
+use Rattle.std.specs.Prelude.{◌≡◌, ◌≤◌, Some, option_map}
 use Rattle.lexicon_fields.specs.Width.{width_bits}
-use Rattle.target_lexicon.specs.declared.data_model.CDataModel.{CDataModel}
-use Rattle.target_lexicon.specs.declared.data_model.CDataModel.TheVariants.{LP32, ILP64}
-use Rattle.target_lexicon.specs.DataModel.{size_bits, sizes_of}
-use Rattle.target_lexicon.specs.NormalStep.{normal_step}
+use Rattle.target_lexicon.specs.{declared.data_model.CDataModel.CDataModel, DataModel.size_bits, DataModel.sizes_of, NormalStep.normal_step, Values.Values}
 use Rattle.target_lexicon.specs.Queries.{endianness, pointer_width, calling_convention, data_model}
-use Rattle.target_lexicon.specs.Values.{Values}
 
 -- where a triple has a model, its pointers have the width of the model's
 abbrev pub ModelWidth : Type 0
 ModelWidth = (t : Values) (model : CDataModel) → data_model t ≡ Some model
     → option_map width_bits (pointer_width t) ≡ Some (size_bits (sizes_of model).pointer)
 
--- no triple has the model of 16-bit Windows, nor that of the first 64-bit Unixes
-abbrev pub NoRareModel : Type 0
-NoRareModel = (t : Values) → (data_model t ≢ Some LP32) × (data_model t ≢ Some ILP64)
-
 -- in a model no integer type is narrower than the one before it
 pub record IntegersGrow (model : CDataModel) : Type 0 where
   pub short_int : size_bits (sizes_of model).short ≤ size_bits (sizes_of model).int
   pub int_long : size_bits (sizes_of model).int ≤ size_bits (sizes_of model).long
   pub long_long_long : size_bits (sizes_of model).long ≤ size_bits (sizes_of model).long_long
-
--- so it is in every model
-abbrev pub IntegersGrowInEach : Type 0
-IntegersGrowInEach = (model : CDataModel) → IntegersGrow model
 
 -- both have the same architecture, and each query has the same answer, or none
 pub record AnswersAlike (t u : Values) : Type 0 where

@@ -1,24 +1,14 @@
 -- What a text reads as, and how it is refused.
 use Rattle.std.specs.Prelude.{◌≡◌, ℕ, ◌<◌, suc, List, [], ◌∷◌, Option, Some, None, take, slice_get, if◌then◌else◌, ◌==◌, IfSome, MatchOption, ◌⊎◌}
-use Rattle.lexicon_fields.specs.declared.architecture.Architecture.TheVariants as architecture
-use Rattle.lexicon_fields.specs.declared.operating_system.OperatingSystem.TheVariants as operating_system
-use Rattle.lexicon_fields.specs.declared.environment.Environment.TheVariants as environment
-use Rattle.lexicon_fields.specs.Architecture.{architecture_of}
+use Rattle.lexicon_fields.specs.{Architecture.architecture_of, Vendor.IsCustom, Vendor.vendor_of, OperatingSystem.operating_system_of, Environment.environment_of, BinaryFormat.binary_format_of}
+use Rattle.target_lexicon.specs.{declared.parse_error.ParseError.ParseError, Field.Field, Field.place, ImpliedFormat.implied, Placement.ArePartsOf, Placement.IsLeast, Placement.HasPlacement}
+use Rattle.target_lexicon.specs.{Refusal.Lack, Refusal.Lacks, Refusal.LacksAnyField, Refusal.Refusal, Refusal.refusal_of, SpecialTexts.special_values, Values.Values}
+use Rattle.target_lexicon.specs.Values.architecture
+use Rattle.target_lexicon.specs.Values.operating_system
+use Rattle.target_lexicon.specs.Values.environment
 use Rattle.lexicon_fields.specs.declared.known_vendor.KnownVendor.TheVariants as known_vendor
 use Rattle.lexicon_fields.specs.Vendor as vendor
-use Rattle.lexicon_fields.specs.Vendor.{IsCustom, vendor_of}
-use Rattle.lexicon_fields.specs.OperatingSystem.{operating_system_of}
-use Rattle.lexicon_fields.specs.Environment.{environment_of}
-use Rattle.lexicon_fields.specs.BinaryFormat.{binary_format_of}
-use Rattle.target_lexicon.specs.declared.parse_error.ParseError.{ParseError}
 use Rattle.target_lexicon.specs.Field as field
-use Rattle.target_lexicon.specs.Field.{Field, place}
-use Rattle.target_lexicon.specs.ImpliedFormat.{implied}
-use Rattle.target_lexicon.specs.Parts.{ArePartsOf}
-use Rattle.target_lexicon.specs.Placement.{IsLeast, HasPlacement}
-use Rattle.target_lexicon.specs.Refusal.{Lack, Lacks, LacksAnyField, Refusal, refusal_of}
-use Rattle.target_lexicon.specs.SpecialTexts.{special_values}
-use Rattle.target_lexicon.specs.Values.{Values}
 
 -- the part that a placement gives to the field, if any
 abbrev pub part_at : Field → List (List ℕ) → List Field → Option (List ℕ)
@@ -82,6 +72,10 @@ pub record IsRefusal (parts : List (List ℕ)) (refusal : Refusal) : Type 0 wher
 abbrev pub IsRefusedAs : List ℕ → Refusal → Type 0
 IsRefusedAs text refusal =
     (special_values text ≡ None) × ((parts : List (List ℕ)) × ArePartsOf text parts × IsRefusal parts refusal)
+
+-- the text reads as a triple
+abbrev pub IsRead : List ℕ → Type 0
+IsRead text = (t : Values) × ReadsAs text t
 
 -- some part of the text is refused
 abbrev pub IsRefused : List ℕ → Type 0

@@ -1,25 +1,14 @@
--- Reading as a function, by which the rule of the least placement can be computed: one field after the other takes the
--- first part that is left, if that reads as it.
-use Rattle.std.specs.Prelude.{ℕ, List, [], ◌∷◌, Option, Some, None, Result, Ok, Err}
-use Rattle.lexicon_fields.specs.declared.architecture.Architecture.{Architecture}
-use Rattle.lexicon_fields.specs.declared.operating_system.OperatingSystem.{OperatingSystem}
-use Rattle.lexicon_fields.specs.declared.operating_system.OperatingSystem.TheVariants as operating_system
-use Rattle.lexicon_fields.specs.declared.environment.Environment.{Environment}
-use Rattle.lexicon_fields.specs.declared.environment.Environment.TheVariants as environment
-use Rattle.lexicon_fields.specs.Architecture.{architecture_of}
-use Rattle.lexicon_fields.specs.declared.known_vendor.KnownVendor.TheVariants.{Unknown}
-use Rattle.lexicon_fields.specs.Vendor.{VendorValue, Known, vendor_of}
-use Rattle.lexicon_fields.specs.OperatingSystem.{operating_system_of}
-use Rattle.lexicon_fields.specs.Environment.{environment_of}
-use Rattle.lexicon_fields.specs.BinaryFormat.{binary_format_of}
+-- Reading as a function, by which the least placement can be computed: one field after the other takes the first part that is
+-- left, if that reads as it. And what a call that reads a text answers, by that function.
+use Rattle.std.specs.Prelude.{◌≡◌, ℕ, List, [], ◌∷◌, Option, Some, None, Result, Ok, Err, IfOk, IfErr, IfSome}
+use Rattle.lexicon_fields.specs.{Vendor.IsCustom, Vendor.vendor_of, Architecture.architecture_of, declared.known_vendor.KnownVendor.TheVariants.Unknown, Environment.environment_of}
+use Rattle.lexicon_fields.specs.{OperatingSystem.operating_system_of, BinaryFormat.binary_format_of}
+use Rattle.target_lexicon.specs.{declared.parse_error.ParseError.ParseError, declared.triple.Triple.Triple, Reading.ReadsAs, Reading.IsFaultOf, Reading.lack_behind, Field.Field, Placement.parts_of}
+use Rattle.target_lexicon.specs.{Refusal.refusal_of, Refusal.Lacks, Refusal.Refusal, Refusal.refused, ImpliedFormat.implied_format, SpecialTexts.special_values}
+use Rattle.target_lexicon.specs.Values.{values_of, Architecture, OperatingSystem, Environment, VendorValue, Known, Values, values}
+use Rattle.target_lexicon.specs.Values.operating_system
+use Rattle.target_lexicon.specs.Values.environment
 use Rattle.target_lexicon.specs.Field as field
-use Rattle.target_lexicon.specs.Field.{Field}
-use Rattle.target_lexicon.specs.ImpliedFormat.{implied_format}
-use Rattle.target_lexicon.specs.Parts.{parts_of}
-use Rattle.target_lexicon.specs.Reading.{lack_behind}
-use Rattle.target_lexicon.specs.Refusal.{Lacks, Refusal, refused}
-use Rattle.target_lexicon.specs.SpecialTexts.{special_values}
-use Rattle.target_lexicon.specs.Values.{Values, values}
 
 -- the value of a field, the last field that took a part, and the parts that are left
 abbrev pub Taken : Type 0 → Type 0
@@ -72,3 +61,16 @@ read_unless_special None text = read_parts (parts_of text)
 -- what a text reads as, or how it is refused
 unfoldable pub reading : List ℕ → Result Values Refusal
 reading text = read_unless_special (special_values text) text
+
+-- the triple or the refusal that was found; in its place want of memory, which names no refusal, but never of a triple with
+-- a known vendor
+abbrev pub IsAnswerOf : Result Values Refusal → Result Triple ParseError → Type 0
+IsAnswerOf (Ok t) (Ok triple) = values_of triple ≡ t
+IsAnswerOf (Ok t) (Err error) = (refusal_of error ≡ None) × IsCustom t.vendor
+IsAnswerOf (Err refusal) (Ok triple) = ⊥
+IsAnswerOf (Err refusal) (Err error) = IfSome (refusal_of error) (λ named. named ≡ refusal)
+
+-- a result that tells what the text reads as, or its fault, is the answer that `reading` gives
+abbrev pub AnswersAreComputed : Type 0
+AnswersAreComputed = (text : List ℕ) (result : Result Triple ParseError)
+    → IfOk result (λ triple. ReadsAs text (values_of triple)) → IfErr result (λ error. IsFaultOf text error) → IsAnswerOf (reading text) result

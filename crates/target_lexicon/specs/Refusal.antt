@@ -1,10 +1,9 @@
 -- How a text is refused, and what an error says of it.
 use Rattle.std.specs.Prelude.{ℕ, List, ◌++◌, Option, Some, None, codes, string_bytes}
 use Rattle.std.specs.Option.{option_map_or}
-use Rattle.target_lexicon.specs.declared.parse_error.ParseError.{ParseError}
+use Rattle.target_lexicon.specs.{declared.parse_error.ParseError.ParseError, Field.Field}
 use Rattle.target_lexicon.specs.declared.parse_error.ParseError.TheVariants as error
 use Rattle.target_lexicon.specs.Field as field
-use Rattle.target_lexicon.specs.Field.{Field}
 
 -- what a refused part lacks: a field that it would read as, or any field at all
 pub data Lack : Type 0 where

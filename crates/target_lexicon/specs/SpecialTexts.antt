@@ -1,17 +1,13 @@
 -- The two texts that have a triple of their own.
 use Rattle.std.specs.Prelude.{ℕ, List, [], ◌∷◌, codes, Option, Some, None}
-use Rattle.lexicon_fields.specs.declared.architecture.Architecture.{Architecture}
-use Rattle.lexicon_fields.specs.declared.architecture.Architecture.TheVariants as architecture
-use Rattle.lexicon_fields.specs.declared.architecture.arm.ArmArchitecture.TheVariants as arm
-use Rattle.lexicon_fields.specs.declared.architecture.riscv.Riscv32Architecture.TheVariants as riscv32
-use Rattle.lexicon_fields.specs.declared.operating_system.OperatingSystem.{OperatingSystem}
-use Rattle.lexicon_fields.specs.declared.operating_system.OperatingSystem.TheVariants as operating_system
-use Rattle.lexicon_fields.specs.declared.environment.Environment.TheVariants as environment
-use Rattle.lexicon_fields.specs.declared.binary_format.BinaryFormat.TheVariants as binary_format
-use Rattle.lexicon_fields.specs.Names.{Pair, value_of}
-use Rattle.lexicon_fields.specs.declared.known_vendor.KnownVendor.TheVariants.{Nintendo, Espressif}
-use Rattle.lexicon_fields.specs.Vendor.{VendorValue, Known}
-use Rattle.target_lexicon.specs.Values.{Values, values}
+use Rattle.target_lexicon.specs.Values.{Architecture, OperatingSystem, VendorValue, Known, Values, values}
+use Rattle.lexicon_fields.specs.{Names.value_of, declared.known_vendor.KnownVendor.TheVariants.Nintendo, declared.known_vendor.KnownVendor.TheVariants.Espressif}
+use Rattle.target_lexicon.specs.Values.architecture
+use Rattle.target_lexicon.specs.Values.arm
+use Rattle.target_lexicon.specs.Values.riscv32
+use Rattle.target_lexicon.specs.Values.operating_system
+use Rattle.target_lexicon.specs.Values.environment
+use Rattle.target_lexicon.specs.Values.binary_format
 
 abbrev pub nintendo_3ds_text : List ℕ
 nintendo_3ds_text = codes "armv6k-nintendo-3ds"
@@ -25,12 +21,9 @@ esp_idf_text = codes "riscv32imc-esp-espidf"
 abbrev pub esp_idf : Values
 esp_idf = values (architecture.Riscv32 riscv32.Riscv32imc) (Known Espressif) operating_system.Espidf environment.Newlib binary_format.Elf
 
-abbrev pub special_pairs : List (Pair Values)
-special_pairs = (nintendo_3ds_text, nintendo_3ds) ∷ (esp_idf_text, esp_idf) ∷ []
-
 -- the values that a special text gives
 unfoldable pub special_values : List ℕ → Option Values
-special_values text = value_of special_pairs text
+special_values text = value_of ((nintendo_3ds_text, nintendo_3ds) ∷ (esp_idf_text, esp_idf) ∷ []) text
 
 -- the special text that a triple prints, by three of its fields, whatever its environment and its format
 unfoldable pub special_text : OperatingSystem → VendorValue → Architecture → Option (List ℕ)

@@ -11,7 +11,7 @@ use std::alloc::{AllocError, Global};
 pub struct DefaultToHost(pub Triple);
 
 impl Default for DefaultToHost {
-    ghost use Rattle.target_lexicon.specs.Host.{host_values};
+    ghost use Rattle.target_lexicon.specs.Values.{host_values};
 
     ghost is_default = { λ it. values_of it.0 ≡ host_values };
 

@@ -1,7 +1,6 @@
 //! The triple that stands for the machine.
 ghost use Rattle.std.specs.Prelude.{◌≡◌};
-ghost use Rattle.target_lexicon.specs.Host.{host_values};
-ghost use Rattle.target_lexicon.specs.Values.{values_of};
+ghost use Rattle.target_lexicon.specs.Values.{host_values, values_of};
 
 use crate::triple::Triple;
 use lexicon_fields::{Architecture, BinaryFormat, Environment, OperatingSystem, Vendor};

@@ -1,16 +1,17 @@
 //! Laws over the definitions alone: each function's contract is one, and it does nothing.
-ghost use Rattle.std.specs.Prelude.{◌≡◌, ◌↔◌, true};
-ghost use Rattle.target_lexicon.specs.ComputedAnswers.{AnswersAreComputed};
-ghost use Rattle.target_lexicon.specs.Laws.{OneLeastPlacement, OneOutcomeEach, ReadingIsComputed, ReadVendorsArePlain, EqualTextsEqualTriples};
-ghost use Rattle.lexicon_fields.specs.Hashing.{FeedsOfTell, FeedsTell};
-ghost use Rattle.lexicon_fields.specs.Laws.{ComparesByValue, CopiesAreTheirSources, HasVersionInRange};
-ghost use Rattle.target_lexicon.specs.FixedPoints.{ReadTriplesArePlain, FixedExactlyOutsideFamilies, RoundIsNormalStep, SecondStepChangesNone, SettledTextsAreKeys, RoundsAreKnown};
-ghost use Rattle.target_lexicon.specs.Json.{ListsReadBack, json_fault_of, list_fault_of};
-ghost use Rattle.target_lexicon.specs.Lengths.{PrintedTextsAreLittleLonger, SettledTextsAreLittleLonger, RefusedPartsAreNoLonger};
-ghost use Rattle.target_lexicon.specs.QueryLaws.{ModelWidth, NoRareModel, IntegersGrowInEach, QueriesKept};
+ghost use Rattle.std.specs.Prelude.{◌≡◌, ◌≢◌, ◌↔◌, ℕ, suc, true, List, All, take};
+ghost use Rattle.target_lexicon.specs.ReadingByFields.{AnswersAreComputed};
+ghost use Rattle.target_lexicon.specs.Laws.{ComesBack, HasOneLeast, OneOutcomeEach, ReadingIsComputed, ReadVendorsArePlain, EqualTextsEqualTriples};
+ghost use Rattle.lexicon_fields.specs.Laws.{FeedsOfTell, FeedsTell, ComparesByValue, CopiesAreTheirSources, HasVersionInRange};
+ghost use Rattle.target_lexicon.specs.FixedPoints.{ReadTriplesArePlain, FixedExactlyOutsideFamilies, RoundIsNormalStep, SecondStepChangesNone, SettledTextsAreKeys, RoundsAreKnown, PrintedTextsAreLittleLonger, SettledTextsAreLittleLonger, RefusedPartsAreNoLonger};
+ghost use Rattle.target_lexicon.specs.Json.{ListReadsAs, list_json_of, json_fault_of, list_fault_of};
+ghost use Rattle.target_lexicon.specs.Placement.{HasPlacement};
+ghost use Rattle.target_lexicon.specs.Queries.{data_model};
+ghost use Rattle.target_lexicon.specs.QueryLaws.{ModelWidth, IntegersGrow, QueriesKept};
 ghost use Rattle.target_lexicon.specs.Refusal.{refusal_of};
-ghost use Rattle.target_lexicon.specs.Upstream.{OtherTextsThanUpstream};
-ghost use Rattle.target_lexicon.specs.Values.{values_of};
+ghost use Rattle.target_lexicon.specs.Printing.{OtherTextsThanUpstream};
+ghost use Rattle.target_lexicon.specs.Values.{Values, values_of};
+ghost use Rattle.target_lexicon.specs.declared.data_model.CDataModel.{CDataModel};
 ghost use Rattle.target_lexicon.specs.declared.json_error.JsonError.{JsonError};
 ghost use Rattle.target_lexicon.specs.declared.list_error.ListError.{ListError};
 ghost use Rattle.target_lexicon.specs.declared.parse_error.ParseError.{ParseError};
@@ -31,7 +32,7 @@ use std::hash::Hash;
 /// Parts that have a placement have exactly one least, and so has each front of them.
 #[tactic(auto, using(crate::proofs::Greedy::placement_front, crate::proofs::Greedy::placement_least))]
 pub fn one_least_placement()
-    ensures { OneLeastPlacement }
+    ensures { (parts : List (List ℕ)) → HasPlacement parts → HasOneLeast parts × ((n : ℕ) → HasOneLeast (take (suc n) parts)) }
 {}
 
 /// Every text is read or refused, in one way, and not both.
@@ -105,12 +106,12 @@ pub fn model_width()
 /// No triple has the data model `LP32` or `ILP64`.
 #[tactic(auto, using(crate::proofs::ModelsKnown::one_of_three))]
 pub fn no_rare_model()
-    ensures { NoRareModel }
+    ensures { (t : Values) → (data_model t ≢ Some CDataModel.LP32) × (data_model t ≢ Some CDataModel.ILP64) }
 {}
 
 /// In each data model `short`, `int`, `long` and `long long` don't decrease.
 pub fn integers_grow_in_each()
-    ensures { IntegersGrowInEach }
+    ensures { (model : CDataModel) → IntegersGrow model }
 {}
 
 /// The normal step keeps the architecture of a triple, and what the four queries answer or refuse.
@@ -188,7 +189,7 @@ pub fn other_texts_than_upstream()
 
 /// A list of triples that come back when they are printed and read, written as JSON and read, is itself and no other.
 pub fn lists_read_back()
-    ensures { ListsReadBack }
+    ensures { (ts us : List Values) → All ComesBack ts → ListReadsAs (list_json_of ts) us ↔ (us ≡ ts) }
 {
     one_outcome_each();
 }

@@ -1,7 +1,7 @@
 //! The parts of a text, each looked up once in the table of names.
 ghost use Rattle.std.specs.Prelude.{◌≡◌, ◌∷◌};
 ghost use Rattle.std.specs.Option.{ForSome};
-ghost use Rattle.target_lexicon.specs.Parts.{parts_of};
+ghost use Rattle.target_lexicon.specs.Placement.{parts_of};
 ghost use Rattle.target_lexicon.specs.Private.{IsLookedUp, TellsDashes, parts_behind_dash};
 
 use crate::dashes::{dash_in, dashes_at_end};

@@ -3,11 +3,10 @@ ghost use Rattle.std.specs.Prelude.{◌≡◌, Some, true, IfOk, IfErr, IfSome, 
 ghost use Rattle.lexicon_fields.specs.declared.known_vendor.KnownVendor.TheVariants.{Unknown};
 ghost use Rattle.lexicon_fields.specs.declared.vendor.Vendor.TheVariants as any_vendor;
 ghost use Rattle.lexicon_fields.specs.Vendor.{IsCustom, Known, OwnsCustomText, vendor_of, vendor_value, is_plain};
-ghost use Rattle.target_lexicon.specs.ComputedAnswers.{IsAnswerOf};
+ghost use Rattle.target_lexicon.specs.ReadingByFields.{IsAnswerOf, take_part, read_parts};
 ghost use Rattle.target_lexicon.specs.Field as field;
 ghost use Rattle.target_lexicon.specs.PartsLeft.{field_of, parts_left, taken_of};
 ghost use Rattle.target_lexicon.specs.Reading.{ReadsAs, IsFaultOf, lack_behind};
-ghost use Rattle.target_lexicon.specs.ReadingByFields.{take_part, read_parts};
 ghost use Rattle.target_lexicon.specs.Refusal.{refused, refusal_of};
 ghost use Rattle.target_lexicon.specs.Values.{values_of};
 

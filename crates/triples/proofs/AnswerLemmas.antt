@@ -14,14 +14,9 @@ use Rattle.std.proofs.lemmas.Cmp.{nat_cmp_total, tied_itself}
 use Rattle.std.proofs.lemmas.Map.Text.{is_eq-slice_cmp}
 use Rattle.std.specs.declared.cmp.Ordering.{Ordering}
 use Rattle.std.specs.declared.cmp.Ordering.TheVariants.{Less, Equal, Greater}
-use Rattle.target_lexicon.specs.Reading.{ReadsAs, IsFaultOf}
-use Rattle.target_lexicon.specs.Refusal.{error_line}
-use Rattle.target_lexicon.specs.Values.{Values}
-use Rattle.target_lexicon.specs.declared.parse_error.ParseError.{ParseError}
+use Rattle.target_lexicon.specs.{Reading.ReadsAs, Reading.IsFaultOf, Refusal.error_line, Values.Values, declared.parse_error.ParseError.ParseError}
 use Rattle.target_lexicon.specs.declared.parse_error.ParseError.TheVariants.{OutOfMemory}
-use Rattle.triples.specs.declared.matrix.Marked.{Marked}
-use Rattle.triples.specs.declared.mode.Mode.{Mode}
-use Rattle.triples.specs.declared.mode.Mode.TheVariants.{Matrix}
+use Rattle.triples.specs.{declared.matrix.Marked.Marked, declared.mode.Mode.Mode, declared.mode.Mode.TheVariants.Matrix}
 use Rattle.triples.specs.Output.{Answer, Shown, Refused, IsAnswer, AreAnswers, AreAnswered, shows, shown_in, stays_behind, staying_behind, matrix_of, kept_in, answer_bytes, written}
 use Rattle.triples.specs.Private.{mark_of, text_cmp, has_text, HasOneMore, is_left_out, is_repeated, AddsAnswer}
 

@@ -6,10 +6,8 @@ use Rattle.serde_json.specs.Read.{read}
 use Rattle.serde_json.specs.View.{items_of}
 use Rattle.serde_json.specs.Written.{items_have_float}
 use Rattle.serde_json.proofs.OnLiterals.{serde_json_on_literals}
-use Rattle.target_lexicon.specs.Json.{json_of}
-use Rattle.target_lexicon.specs.Values.{Values}
-use Rattle.triples.specs.JsonOutput.{IsJsonAnswerFault, IsJsonInputFault}
-use Rattle.triples.specs.declared.run_error.RunError.{RunError}
+use Rattle.target_lexicon.specs.{Json.json_of, Values.Values}
+use Rattle.triples.specs.{JsonOutput.IsJsonAnswerFault, JsonOutput.IsJsonInputFault, declared.run_error.RunError.RunError}
 use Rattle.triples.specs.declared.run_error.RunError.TheVariants as run_error
 
 -- a list of texts holds no float

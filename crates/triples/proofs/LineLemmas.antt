@@ -7,7 +7,7 @@ use Rattle.std.proofs.lemmas.List.Splits.{slice_split_first, slice_split_none, l
 use Rattle.std.proofs.lemmas.Simd.{bitmask_splat, first_set_mask_l, length-chunk, run_in_chunk_fails, run_in_chunk_le, run_in_chunk_stops}
 use lib.Count.{count_trailing_zeros}
 use lib.Lanes.{chunk, mask_l, top, zip2}
-use Rattle.triples.specs.Lines.{without_empty_last, lines_of}
+use Rattle.triples.specs.Output.{without_empty_last, lines_of}
 
 abbrev pub is_line_feed : ℕ → Bool
 is_line_feed b = b == 10

@@ -1,16 +1,12 @@
 -- What mode `show` writes of a triple: its text and four words.
 use Rattle.std.specs.Prelude.{ℕ, List, ◌∷◌, ◌++◌, codes, Option, Some, None}
-use Rattle.lexicon_fields.specs.declared.width.Endianness.{Endianness}
-use Rattle.lexicon_fields.specs.declared.width.Endianness.TheVariants.{Little, Big}
+use Rattle.lexicon_fields.specs.{declared.width.Endianness.Endianness, declared.width.Endianness.TheVariants.Little, declared.width.Endianness.TheVariants.Big}
 use Rattle.lexicon_fields.specs.declared.width.PointerWidth.{PointerWidth}
 use Rattle.lexicon_fields.specs.declared.width.PointerWidth.TheVariants.{U16, U32, U64}
-use Rattle.target_lexicon.specs.declared.calling_convention.CallingConvention.{CallingConvention}
+use Rattle.target_lexicon.specs.{declared.calling_convention.CallingConvention.CallingConvention, declared.data_model.CDataModel.CDataModel, Printing.text_of, Values.Values}
 use Rattle.target_lexicon.specs.declared.calling_convention.CallingConvention.TheVariants.{SystemV, WasmBasicCAbi, WindowsFastcall, AppleAarch64}
-use Rattle.target_lexicon.specs.declared.data_model.CDataModel.{CDataModel}
 use Rattle.target_lexicon.specs.declared.data_model.CDataModel.TheVariants.{LP32, ILP32, LLP64, LP64, ILP64}
-use Rattle.target_lexicon.specs.Printing.{text_of}
 use Rattle.target_lexicon.specs.Queries.{endianness, pointer_width, calling_convention, data_model}
-use Rattle.target_lexicon.specs.Values.{Values}
 
 -- the word of each answer, and `-` where there is none
 abbrev pub endianness_word : Option Endianness → List ℕ

@@ -1,7 +1,5 @@
-pub mod Device
 pub mod Facts
 pub mod JsonOutput
-pub mod Lines
 pub mod MatrixLaws
 pub mod Output
 pub mod Private

@@ -1,10 +1,8 @@
 -- Laws of mode `matrix`.
 use Rattle.std.specs.Prelude.{ℕ, ◌≡◌, ◌↔◌, Bool, true, false, not, List, [], ◌∷◌, ◌++◌, take, map}
 use Rattle.std.specs.List.{filter}
-use Rattle.target_lexicon.specs.FixedPoints.{settled}
-use Rattle.target_lexicon.specs.Reading.{ReadsAs}
-use Rattle.target_lexicon.specs.Values.{Values}
-use Rattle.triples.specs.Output.{Answer, Shown, Refused, IsAnswer, AreAnswers, shows, matrix_of, settled_text, answer_bytes}
+use Rattle.target_lexicon.specs.{FixedPoints.settled, FixedPoints.settled_text, Reading.ReadsAs, Values.Values}
+use Rattle.triples.specs.Output.{Answer, Shown, Refused, IsAnswer, AreAnswers, shows, matrix_of, answer_bytes}
 
 -- mode `settle` writes the same entry for two lines
 abbrev pub ShareAnEntry : List ℕ → List ℕ → Type 0
@@ -27,10 +25,6 @@ is_refusal (Refused told) = true
 pub record KeepsEntriesOnce (lines : List Answer) : Type 0 where
   pub entries : (text : List ℕ) → entries_of text (matrix_of lines) ≡ take 1 (entries_of text lines)
   pub refusals : filter is_refusal (matrix_of lines) ≡ filter is_refusal lines
-
--- so it does whatever the lines are
-abbrev pub EntriesAreKeptOnce : Type 0
-EntriesAreKeptOnce = (lines : List Answer) → KeepsEntriesOnce lines
 
 -- A line that comes behind others is added to their matrix, at its end, where it tells a refusal or is the first entry of its text;
 -- an entry whose text has one before adds nothing.

@@ -1,23 +1,22 @@
 -- What a mode writes for an input.
-use Rattle.std.specs.Prelude.{ℕ, ◌≡◌, ◌<◌, Bool, true, false, not, if◌then◌else◌, List, length, [], ◌∷◌, ◌++◌, codes}
-use Rattle.std.specs.List.{AllZip, list_any}
+use Rattle.std.specs.Prelude.{ℕ, ◌≡◌, ◌<◌, ◌==◌, Bool, true, false, not, if◌then◌else◌, List, length, [], ◌∷◌, ◌++◌, codes}
+use Rattle.std.specs.List.{AllZip, list_any, slice_split}
 use Rattle.std.specs.Str.{bytes_eq}
-use Rattle.target_lexicon.specs.FixedPoints.{settled}
-use Rattle.target_lexicon.specs.Printing.{text_of}
-use Rattle.target_lexicon.specs.Reading.{ReadsAs, IsRefusedAs}
-use Rattle.target_lexicon.specs.Refusal.{Refusal, refusal_line}
-use Rattle.target_lexicon.specs.Values.{Values}
-use Rattle.triples.specs.declared.mode.Mode.{Mode}
+use Rattle.target_lexicon.specs.{FixedPoints.settled_text, Printing.text_of, Reading.ReadsAs, Reading.IsRefusedAs, Refusal.Refusal, Refusal.refusal_line, Values.Values}
+use Rattle.triples.specs.{declared.mode.Mode.Mode, declared.run_error.RunError.RunError, declared.run_error.RunError.TheVariants.OutOfMemory, Facts.facts_of}
 use Rattle.triples.specs.declared.mode.Mode.TheVariants.{Print, Show, Settle, Json, Matrix}
-use Rattle.triples.specs.declared.run_error.RunError.{RunError}
-use Rattle.triples.specs.declared.run_error.RunError.TheVariants.{OutOfMemory}
-use Rattle.triples.specs.Facts.{facts_of}
 use Rattle.triples.specs.JsonOutput.{IsJsonOutput, IsJsonInputFault}
-use Rattle.triples.specs.Lines.{lines_of}
 
--- the printed text of the settled triple
-abbrev pub settled_text : Values → List ℕ
-settled_text t = text_of (settled t)
+-- the parts but an empty last one
+abbrev pub without_empty_last : List (List ℕ) → List (List ℕ)
+without_empty_last [] = []
+without_empty_last ([] ∷ []) = []
+without_empty_last ((b ∷ bs) ∷ []) = (b ∷ bs) ∷ []
+without_empty_last (part ∷ next ∷ parts) = part ∷ without_empty_last (next ∷ parts)
+
+-- the input cut at its line feeds; nothing is trimmed, and a last line feed begins no line
+abbrev pub lines_of : List ℕ → List (List ℕ)
+lines_of input = without_empty_last (slice_split (λ b. b == 10) input)
 
 -- what a mode shows of a triple
 abbrev pub shown_in : Mode → Values → List ℕ

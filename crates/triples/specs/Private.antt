@@ -7,9 +7,7 @@ use Rattle.std.specs.List.{fold, list_any}
 use Rattle.std.specs.Str.{bytes_eq}
 use Rattle.std.specs.Ordering.{nat_cmp, ordering_then}
 use Rattle.std.specs.declared.cmp.Ordering.{Ordering}
-use Rattle.triples.specs.declared.matrix.Marked.{Marked}
-use Rattle.triples.specs.declared.mode.Mode.{Mode}
-use Rattle.triples.specs.declared.mode.Mode.TheVariants.{Matrix}
+use Rattle.triples.specs.{declared.matrix.Marked.Marked, declared.mode.Mode.Mode, declared.mode.Mode.TheVariants.Matrix}
 use Rattle.triples.specs.Output.{Answer, Shown, Refused, IsAnswer, shown_in, shows, written}
 
 -- the mark of a text that is one byte longer

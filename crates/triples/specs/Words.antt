@@ -1,17 +1,14 @@
 -- The words of the modes, the lines of the faults, and how the program ends.
 use Rattle.std.specs.Prelude.{ℕ, List, [], ◌∷◌, ◌++◌, Option, Some, None, codes, Result, Ok, Err}
-use Rattle.lexicon_fields.specs.Names.{Pair, value_of}
-use Rattle.triples.specs.declared.mode.Mode.{Mode}
+use Rattle.lexicon_fields.specs.Names.{value_of}
+use Rattle.triples.specs.{declared.mode.Mode.Mode, declared.run_error.RunError.RunError}
 use Rattle.triples.specs.declared.mode.Mode.TheVariants.{Print, Show, Settle, Json, Matrix}
-use Rattle.triples.specs.declared.run_error.RunError.{RunError}
 use Rattle.triples.specs.declared.run_error.RunError.TheVariants.{Read, Write, NotUtf8, NotJson, NotList, OutOfMemory}
 
 -- the mode that a word names
-abbrev pub modes : List (Pair Mode)
-modes = (codes "print", Print) ∷ (codes "show", Show) ∷ (codes "settle", Settle) ∷ (codes "json", Json) ∷ (codes "matrix", Matrix) ∷ []
-
 unfoldable pub mode_named : List ℕ → Option Mode
-mode_named word = value_of modes word
+mode_named word =
+    value_of ((codes "print", Print) ∷ (codes "show", Show) ∷ (codes "settle", Settle) ∷ (codes "json", Json) ∷ (codes "matrix", Matrix) ∷ []) word
 
 -- the line that tells a fault
 abbrev pub line_of : RunError → List ℕ

@@ -1,8 +1,7 @@
 //! What the program says at its end.
-ghost use Rattle.std.specs.Prelude.{◌≡◌, ◌++◌, codes};
+ghost use Rattle.std.specs.Prelude.{◌≡◌, ◌++◌, codes, OnOk, IfErr};
 ghost use Rattle.std.specs.Io.KnownBytes.{Appends};
-ghost use Rattle.triples.specs.Device.{device, failures};
-ghost use Rattle.triples.specs.Run.{AppendsFront};
+ghost use Rattle.triples.specs.Run.{device, failures, AppendsFront};
 ghost use Rattle.triples.specs.Words.{status_of, closing_words};
 
 use crate::counted::Counted;
@@ -36,6 +35,8 @@ pub fn conclude<W: Write>(end: Option<Result<(), RunError>>, w: &mut Counted<W>)
 fn say<W: Write>(w: &mut Counted<W>, front: &str, back: &str) -> Result<(), RunError>
     ensures said { failures w.new ≡ failures w.old → Appends (W.contents (device w.old)) (W.contents (device w.new)) (front.now ++ (back.now ++ codes "\n")) }
     ensures begun { AppendsFront (W.contents (device w.old)) (W.contents (device w.new)) (front.now ++ (back.now ++ codes "\n")) }
+    ensures unfailed { OnOk result (failures w.new ≡ failures w.old) }
+    ensures only { IfErr result (λ e. e ≡ RunError.Write) }
 {
     write_all(w, front.as_bytes())?;
     write_all(w, back.as_bytes())?;

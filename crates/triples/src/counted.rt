@@ -16,7 +16,7 @@ pub struct Counted<D> {
 }
 
 impl<D> Counted<D> {
-    ghost use Rattle.triples.specs.Device.{device, failures};
+    ghost use Rattle.triples.specs.Run.{device, failures};
 
     /// The device with no failure counted.
     pub fn new(of: D) -> Self
@@ -42,7 +42,7 @@ impl<D> Counted<D> {
 }
 
 impl<R: Read> Counted<R> {
-    ghost use Rattle.triples.specs.Device.{device, failures, failures_of};
+    ghost use Rattle.triples.specs.Run.{device, failures, failures_of};
 
     /// One read of the device; the count rises by one exactly where it fails.
     pub fn read(&mut self, buf: &mut [u8]) -> io::Result<usize>
@@ -59,7 +59,7 @@ impl<R: Read> Counted<R> {
 }
 
 impl<W: Write> Counted<W> {
-    ghost use Rattle.triples.specs.Device.{device, failures, failures_of, write_failures_of};
+    ghost use Rattle.triples.specs.Run.{device, failures, failures_of, write_failures_of};
 
     /// One write of the device; the count rises by one exactly where it fails, or takes none of a piece that is
     /// not empty.

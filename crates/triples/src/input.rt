@@ -1,8 +1,7 @@
 //! The whole of an input, and the whole of an output.
 ghost use Rattle.std.specs.Prelude.{◌≡◌, ◌<◌, ◌≤◌, ◌↔◌, ◌⊎◌, IsErrOf, IfOk, OnOk, IfErr, OnErr, IfSome};
 ghost use Rattle.std.specs.Io.KnownBytes.{Appends, Consumes, IsAtEnd};
-ghost use Rattle.triples.specs.Device.{device, failures};
-ghost use Rattle.triples.specs.Run.{AppendsFront, ConsumesSome};
+ghost use Rattle.triples.specs.Run.{device, failures, AppendsFront, ConsumesSome};
 
 use crate::counted::Counted;
 use crate::run_error::RunError;

@@ -1,6 +1,8 @@
 //! Laws over the definitions alone: each function's contract is one, and it does nothing.
+ghost use Rattle.std.specs.Prelude.{List};
 ghost use Rattle.lexicon_fields.specs.Laws.{ComparesByValue};
-ghost use Rattle.triples.specs.MatrixLaws.{EntriesAreSettledTriples, EntriesAreKeptOnce, FirstEntriesStayInOrder, EachSettledTripleIsThere, MatricesAreTheirOwn};
+ghost use Rattle.triples.specs.MatrixLaws.{EntriesAreSettledTriples, KeepsEntriesOnce, FirstEntriesStayInOrder, EachSettledTripleIsThere, MatricesAreTheirOwn};
+ghost use Rattle.triples.specs.Output.{Answer};
 ghost use Rattle.triples.specs.declared.mode.Mode.{Mode};
 ghost use Rattle.triples.specs.declared.run_error.RunError.{RunError};
 
@@ -24,7 +26,7 @@ pub fn entries_are_settled_triples()
 
 /// The matrix keeps one entry of each text, and every refusal.
 pub fn entries_are_kept_once()
-    ensures { EntriesAreKeptOnce }
+    ensures { (lines : List Answer) → KeepsEntriesOnce lines }
 {}
 
 /// The matrix goes line by line, in their order: each refusal stays in its place, and so does the first entry of each text; a later

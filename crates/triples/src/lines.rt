@@ -1,7 +1,7 @@
 //! The lines of a text.
 ghost use Rattle.std.specs.Prelude.{◌≡◌, ◌<◌, ◌≤◌, ◌+◌, ◌==◌, ◌∷◌, length, take, drop};
 ghost use Rattle.std.specs.List.{position_or_len};
-ghost use Rattle.triples.specs.Lines.{lines_of};
+ghost use Rattle.triples.specs.Output.{lines_of};
 
 use std::simd::prelude::*;
 

@@ -3,8 +3,7 @@ ghost use Rattle.std.specs.Prelude.{◌≡◌, ◌<◌, ◌++◌, ◌∷◌, [],
 ghost use Rattle.lexicon_fields.specs.Vendor.{is_plain, vendor_value};
 ghost use Rattle.target_lexicon.specs.Refusal.{error_line};
 ghost use Rattle.target_lexicon.specs.Values.{values_of};
-ghost use Rattle.triples.specs.Lines.{lines_of};
-ghost use Rattle.triples.specs.Output.{AreAnswered, IsOutput, IsInputFault, shown_in};
+ghost use Rattle.triples.specs.Output.{lines_of, AreAnswered, IsOutput, IsInputFault, shown_in};
 ghost use Rattle.triples.specs.Private.{AddsAnswer, HasOneMore, is_left_out};
 
 use crate::facts::push_facts;

@@ -1,10 +1,9 @@
 //! A run, from a reader to a writer.
 ghost use Rattle.std.specs.Prelude.{◌≡◌, ◌≢◌, ◌<◌, ◌≤◌, ◌↔◌, IsErrOf, OnOk, IfErr, IfSome};
 ghost use Rattle.std.specs.Str.{IsUtf8};
-ghost use Rattle.std.specs.Io.KnownBytes.{Keeps, IsAtEnd};
-ghost use Rattle.triples.specs.Device.{device, failures};
+ghost use Rattle.std.specs.Io.KnownBytes.{Appends, Keeps, IsAtEnd};
+ghost use Rattle.triples.specs.Run.{device, failures, AppendsFront, ConsumesSome, WritesOutput};
 ghost use Rattle.triples.specs.JsonOutput.{IsOfJson, IsJsonInputFault};
-ghost use Rattle.triples.specs.Run.{ConsumesSome, WritesOutput, WritesOutputFront};
 
 use crate::counted::Counted;
 use crate::input::{read_all, write_and_flush};
@@ -39,7 +38,7 @@ pub fn run<R: Read, W: Write>(
 ) -> Result<(), RunError>
     // Success: the whole input was read, and its output was written.
     ensures whole { OnOk result (IsAtEnd (R.remaining (device r.new))) }
-    ensures ok { OnOk result (WritesOutput mode (R.remaining (device r.old)) (W.contents (device w.old)) (W.contents (device w.new))) }
+    ensures ok { OnOk result (WritesOutput Appends mode (R.remaining (device r.old)) (W.contents (device w.old)) (W.contents (device w.new))) }
 
     // A fault of the reader or the writer is told exactly where there was one.
     ensures read { IsErrOf result RunError.Read ↔ (failures r.old < failures r.new) }
@@ -50,7 +49,7 @@ pub fn run<R: Read, W: Write>(
     ensures writer { failures w.old ≤ failures w.new }
 
     // What was written by then.
-    ensures begun { IsErrOf result RunError.Write → WritesOutputFront mode (R.remaining (device r.old)) (W.contents (device w.old)) (W.contents (device w.new)) }
+    ensures begun { IsErrOf result RunError.Write → WritesOutput AppendsFront mode (R.remaining (device r.old)) (W.contents (device w.old)) (W.contents (device w.new)) }
     ensures nothing { IfErr result (λ e. e ≢ RunError.Write → Keeps (W.contents (device w.old)) (W.contents (device w.new))) }
 
     // Faults of the input, and want of memory.

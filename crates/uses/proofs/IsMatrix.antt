@@ -1,9 +1,7 @@
 -- What a matrix of texts is; and that each triple comes back, so that equal texts are equal triples.
 use Rattle.std.proofs.Common.{List, [], All}
 use Rattle.std.specs.List.{AllPairs, FoldsTo}
-use Rattle.target_lexicon.specs.declared.triple.Triple.{Triple}
-use Rattle.target_lexicon.specs.Laws.{ComesBack}
-use Rattle.target_lexicon.specs.Values.{values_of}
+use Rattle.target_lexicon.specs.{declared.triple.Triple.Triple, Laws.ComesBack, Values.values_of}
 use Rattle.uses.specs.Matrix.{Text, IsOneMore, IsCovered, HaveOtherTexts}
 
 abbrev pub IsMatrix : List Text → List Triple → Type 0

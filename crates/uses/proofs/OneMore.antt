@@ -6,9 +6,7 @@ use Rattle.std.proofs.lemmas.Fn.{FoldsTo-push}
 use Rattle.std.proofs.lemmas.List.{get_or_default}
 use Rattle.std.proofs.lemmas.List.Elements.{All-push, All-weaker}
 use Rattle.std.proofs.lemmas.List.Quantifiers.{all_pairs_push}
-use Rattle.target_lexicon.specs.declared.triple.Triple.{Triple}
-use Rattle.target_lexicon.specs.Laws.{ComesBack, EqualTextsEqualTriples}
-use Rattle.target_lexicon.specs.Values.{Values, values_of}
+use Rattle.target_lexicon.specs.{declared.triple.Triple.Triple, Laws.ComesBack, Laws.EqualTextsEqualTriples, Values.Values, Values.values_of}
 use Rattle.uses.specs.Matrix.{Text, Has, IsAdded, SettlesAs, IsOneMore, IsCovered, HaveOtherTexts}
 use Rattle.uses.proofs.IsMatrix.{IsMatrix}
 

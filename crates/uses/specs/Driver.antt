@@ -1,16 +1,14 @@
 -- What a compiler's driver makes of a triple: the format of its object files, and how a linker is called.
 use Rattle.std.specs.Prelude.{Option, Some, None}
-use Rattle.lexicon_fields.specs.declared.architecture.Architecture.{Architecture}
-use Rattle.lexicon_fields.specs.declared.architecture.Architecture.TheVariants as architecture
-use Rattle.lexicon_fields.specs.declared.operating_system.OperatingSystem.{OperatingSystem}
-use Rattle.lexicon_fields.specs.declared.operating_system.OperatingSystem.TheVariants as operating_system
-use Rattle.lexicon_fields.specs.declared.environment.Environment.{Environment}
-use Rattle.lexicon_fields.specs.declared.environment.Environment.TheVariants as environment
+use Rattle.lexicon_fields.specs.{declared.architecture.Architecture.Architecture, declared.operating_system.OperatingSystem.OperatingSystem, declared.environment.Environment.Environment}
 use Rattle.lexicon_fields.specs.declared.binary_format.BinaryFormat.{BinaryFormat}
-use Rattle.lexicon_fields.specs.declared.binary_format.BinaryFormat.TheVariants as binary_format
 use Rattle.target_lexicon.specs.Values.{Values}
 use Rattle.uses.specs.declared.driver.Linker.{Linker}
 use Rattle.uses.specs.declared.driver.Linker.TheVariants.{Gnu, Ld64, Link, WasmLd, Aix}
+use Rattle.lexicon_fields.specs.declared.architecture.Architecture.TheVariants as architecture
+use Rattle.lexicon_fields.specs.declared.operating_system.OperatingSystem.TheVariants as operating_system
+use Rattle.lexicon_fields.specs.declared.environment.Environment.TheVariants as environment
+use Rattle.lexicon_fields.specs.declared.binary_format.BinaryFormat.TheVariants as binary_format
 
 -- the format that LLVM writes for a machine without a system
 abbrev pub bare_format : Architecture → BinaryFormat

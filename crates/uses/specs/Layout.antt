@@ -1,17 +1,10 @@
 -- How a code generator lays out C's types.
 use Rattle.std.specs.Prelude.{ℕ, Option, option_map, if◌then◌else◌}
-use Rattle.lexicon_fields.specs.declared.architecture.Architecture.{Architecture}
+use Rattle.lexicon_fields.specs.{declared.architecture.Architecture.Architecture, declared.operating_system.OperatingSystem.OperatingSystem, OperatingSystem.is_like_darwin}
+use Rattle.target_lexicon.specs.{declared.data_model.CDataModel.CDataModel, declared.data_model.Size.Size, DataModel.size_bytes, DataModel.sizes_of, Queries.data_model, Values.Values}
+use Rattle.uses.specs.{declared.layout.TypeLayout.TypeLayout, declared.layout.CLayout.CLayout}
 use Rattle.lexicon_fields.specs.declared.architecture.Architecture.TheVariants as architecture
-use Rattle.lexicon_fields.specs.declared.operating_system.OperatingSystem.{OperatingSystem}
 use Rattle.lexicon_fields.specs.declared.operating_system.OperatingSystem.TheVariants as operating_system
-use Rattle.lexicon_fields.specs.OperatingSystem.{is_like_darwin}
-use Rattle.target_lexicon.specs.declared.data_model.CDataModel.{CDataModel}
-use Rattle.target_lexicon.specs.declared.data_model.Size.{Size}
-use Rattle.target_lexicon.specs.DataModel.{size_bytes, sizes_of}
-use Rattle.target_lexicon.specs.Queries.{data_model}
-use Rattle.target_lexicon.specs.Values.{Values}
-use Rattle.uses.specs.declared.layout.TypeLayout.{TypeLayout}
-use Rattle.uses.specs.declared.layout.CLayout.{CLayout}
 
 -- the bytes to which a `long long` is aligned: 4 on 32-bit x86 but Windows, and on 32-bit Arm of Apple but watchOS
 abbrev pub long_long_alignment : Architecture → OperatingSystem → ℕ

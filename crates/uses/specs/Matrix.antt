@@ -2,13 +2,8 @@
 use Rattle.std.specs.Prelude.{◌≡◌, ◌≢◌, ◌<◌, ◌⊎◌, ℕ, List, [], ◌∷◌, ◌++◌, length, take, All, String, string_bytes}
 use Rattle.std.specs.List.{HoldsAt}
 use Rattle.std.specs.declared.alloc.Global.{Global}
-use Rattle.target_lexicon.specs.declared.triple.Triple.{Triple}
-use Rattle.target_lexicon.specs.FixedPoints.{settled}
-use Rattle.target_lexicon.specs.Printing.{text_of}
-use Rattle.target_lexicon.specs.Reading.{ReadsAs, IsFaultOf}
-use Rattle.target_lexicon.specs.Values.{Values, values_of}
-use Rattle.uses.specs.declared.matrix.MatrixError.{MatrixError}
-use Rattle.uses.specs.declared.matrix.MatrixError.TheVariants.{Refused, OutOfMemory}
+use Rattle.target_lexicon.specs.{declared.triple.Triple.Triple, FixedPoints.settled, Printing.text_of, Reading.ReadsAs, Reading.IsRead, Reading.IsFaultOf, Values.Values, Values.values_of}
+use Rattle.uses.specs.{declared.matrix.MatrixError.MatrixError, declared.matrix.MatrixError.TheVariants.Refused, declared.matrix.MatrixError.TheVariants.OutOfMemory}
 
 -- a text is that of a `String`
 abbrev pub Text : Type 0
@@ -39,11 +34,7 @@ IsCovered triples text = (t : Values) × SettlesAs text t × Has triples t
 abbrev pub HaveOtherTexts : Triple → Triple → Type 0
 HaveOtherTexts x y = text_of (values_of x) ≢ text_of (values_of y)
 
--- the text reads
-abbrev pub Reads : Text → Type 0
-Reads text = (t : Values) × ReadsAs (string_bytes text) t
-
 -- why a list has no matrix: the text at i has this fault, and each before it reads; or the list itself wants memory
 abbrev pub IsMatrixFault : List Text → MatrixError → Type 0
-IsMatrixFault texts (Refused i error) = (i < length texts) × HoldsAt (λ text. IsFaultOf (string_bytes text) error) texts i × All Reads (take i texts)
+IsMatrixFault texts (Refused i error) = (i < length texts) × HoldsAt (λ text. IsFaultOf (string_bytes text) error) texts i × All (λ text. IsRead (string_bytes text)) (take i texts)
 IsMatrixFault texts OutOfMemory = 0 < length texts

@@ -2,9 +2,7 @@
 use Rattle.std.specs.Prelude.{◌≡◌, Option, None, MatchOption, IsSome, codes}
 use Rattle.serde_json.specs.Data.{Data}
 use Rattle.serde_json.specs.Find.{get, as_object, as_str}
-use Rattle.target_lexicon.specs.Json.{JsonReadsAs}
-use Rattle.target_lexicon.specs.Reading.{IsFaultOf}
-use Rattle.target_lexicon.specs.Values.{Values}
+use Rattle.target_lexicon.specs.{Json.JsonReadsAs, Reading.IsFaultOf, Values.Values}
 use Rattle.uses.specs.declared.target_file.TargetFileError.{TargetFileError}
 use Rattle.uses.specs.declared.target_file.TargetFileError.TheVariants.{NoObject, NoKey, NoText, Refused}
 

@@ -1,9 +1,8 @@
 //! Texts that are known when the program is written: the checker computes what the library makes of them.
 ghost use Rattle.std.specs.Prelude.{◌≡◌, codes, IfOk, IfErr, IsOkAnd, IsErrAnd, Some, None, IfSome, string_bytes};
 ghost use Rattle.target_lexicon.specs.Field.{OperatingSystem};
-ghost use Rattle.target_lexicon.specs.Host.{host_values};
+ghost use Rattle.target_lexicon.specs.Values.{host_values, values_of};
 ghost use Rattle.target_lexicon.specs.Refusal.{Lacks, refused, refusal_of};
-ghost use Rattle.target_lexicon.specs.Values.{values_of};
 
 use std::alloc::Global;
 use target_lexicon::{ParseError, Triple, laws};

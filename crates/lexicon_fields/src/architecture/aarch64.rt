@@ -2,7 +2,7 @@
 ghost use Rattle.std.specs.Prelude.{◌≡◌, false, Some};
 ghost use Rattle.std.specs.Cow.{cow_str_bytes, IsBorrowedStr};
 ghost use Rattle.lexicon_fields.specs.Names.{Answers};
-ghost use Rattle.lexicon_fields.specs.Architecture.{aarch64_of};
+ghost use Rattle.lexicon_fields.specs.Architecture.{as_aarch64, sub_architecture_of};
 ghost use Rattle.lexicon_fields.specs.SubArchitecture.{aarch64_name};
 ghost use Rattle.lexicon_fields.specs.ArchitectureQueries.{aarch64_endianness};
 
@@ -48,7 +48,7 @@ impl Aarch64Architecture {
 
     /// The value whose name the text is, and `Aarch64` for `arm64`; every other text is refused.
     pub fn from_str(s: &str) -> Result<Self, ()>
-        ensures { Answers (aarch64_of s.now) result }
+        ensures { Answers (sub_architecture_of as_aarch64 s.now) result }
     {
         match Architecture::from_str(s) {
             Ok(Architecture::Aarch64(sub)) => Ok(sub),
@@ -77,7 +77,7 @@ impl Aarch64Architecture {
 impl FromStr for Aarch64Architecture {
     type Err = ();
 
-    ghost from_str_gives = { λ s. Answers (aarch64_of s) };
+    ghost from_str_gives = { λ s. Answers (sub_architecture_of as_aarch64 s) };
 
     fn from_str(s: &str) -> Result<Aarch64Architecture, ()> {
         Aarch64Architecture::from_str(s)

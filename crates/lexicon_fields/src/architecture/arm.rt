@@ -2,7 +2,7 @@
 ghost use Rattle.std.specs.Prelude.{◌≡◌, Some};
 ghost use Rattle.std.specs.Cow.{cow_str_bytes, IsBorrowedStr};
 ghost use Rattle.lexicon_fields.specs.Names.{Answers};
-ghost use Rattle.lexicon_fields.specs.Architecture.{arm_of};
+ghost use Rattle.lexicon_fields.specs.Architecture.{as_arm, sub_architecture_of};
 ghost use Rattle.lexicon_fields.specs.SubArchitecture.{arm_name};
 ghost use Rattle.lexicon_fields.specs.ArchitectureQueries.{is_thumb, arm_endianness};
 
@@ -110,7 +110,7 @@ impl ArmArchitecture {
 
     /// The value whose name the text is; every other text is refused.
     pub fn from_str(s: &str) -> Result<Self, ()>
-        ensures { Answers (arm_of s.now) result }
+        ensures { Answers (sub_architecture_of as_arm s.now) result }
     {
         match Architecture::from_str(s) {
             Ok(Architecture::Arm(sub)) => Ok(sub),
@@ -179,7 +179,7 @@ impl ArmArchitecture {
 impl FromStr for ArmArchitecture {
     type Err = ();
 
-    ghost from_str_gives = { λ s. Answers (arm_of s) };
+    ghost from_str_gives = { λ s. Answers (sub_architecture_of as_arm s) };
 
     fn from_str(s: &str) -> Result<ArmArchitecture, ()> {
         ArmArchitecture::from_str(s)

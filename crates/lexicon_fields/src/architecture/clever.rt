@@ -2,7 +2,7 @@
 ghost use Rattle.std.specs.Prelude.{◌≡◌, Some};
 ghost use Rattle.std.specs.Cow.{cow_str_bytes, IsBorrowedStr};
 ghost use Rattle.lexicon_fields.specs.Names.{Answers};
-ghost use Rattle.lexicon_fields.specs.Architecture.{clever_of};
+ghost use Rattle.lexicon_fields.specs.Architecture.{as_clever, sub_architecture_of};
 ghost use Rattle.lexicon_fields.specs.SubArchitecture.{clever_name};
 
 use crate::architecture::Architecture;
@@ -21,7 +21,7 @@ pub enum CleverArchitecture {
 impl CleverArchitecture {
     /// The value whose name the text is; every other text is refused.
     pub fn from_str(s: &str) -> Result<Self, ()>
-        ensures { Answers (clever_of s.now) result }
+        ensures { Answers (sub_architecture_of as_clever s.now) result }
     {
         match Architecture::from_str(s) {
             Ok(Architecture::Clever(sub)) => Ok(sub),
@@ -50,7 +50,7 @@ impl CleverArchitecture {
 impl FromStr for CleverArchitecture {
     type Err = ();
 
-    ghost from_str_gives = { λ s. Answers (clever_of s) };
+    ghost from_str_gives = { λ s. Answers (sub_architecture_of as_clever s) };
 
     fn from_str(s: &str) -> Result<CleverArchitecture, ()> {
         CleverArchitecture::from_str(s)

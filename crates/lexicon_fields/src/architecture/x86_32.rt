@@ -2,7 +2,7 @@
 ghost use Rattle.std.specs.Prelude.{◌≡◌, Some};
 ghost use Rattle.std.specs.Cow.{cow_str_bytes, IsBorrowedStr};
 ghost use Rattle.lexicon_fields.specs.Names.{Answers};
-ghost use Rattle.lexicon_fields.specs.Architecture.{x86_32_of};
+ghost use Rattle.lexicon_fields.specs.Architecture.{as_x86_32, sub_architecture_of};
 ghost use Rattle.lexicon_fields.specs.SubArchitecture.{x86_32_name};
 
 use crate::architecture::Architecture;
@@ -21,7 +21,7 @@ pub enum X86_32Architecture {
 impl X86_32Architecture {
     /// The value whose name the text is; every other text is refused.
     pub fn from_str(s: &str) -> Result<Self, ()>
-        ensures { Answers (x86_32_of s.now) result }
+        ensures { Answers (sub_architecture_of as_x86_32 s.now) result }
     {
         match Architecture::from_str(s) {
             Ok(Architecture::X86_32(sub)) => Ok(sub),
@@ -51,7 +51,7 @@ impl X86_32Architecture {
 impl FromStr for X86_32Architecture {
     type Err = ();
 
-    ghost from_str_gives = { λ s. Answers (x86_32_of s) };
+    ghost from_str_gives = { λ s. Answers (sub_architecture_of as_x86_32 s) };
 
     fn from_str(s: &str) -> Result<X86_32Architecture, ()> {
         X86_32Architecture::from_str(s)

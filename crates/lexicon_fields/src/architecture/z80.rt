@@ -2,7 +2,7 @@
 ghost use Rattle.std.specs.Prelude.{◌≡◌, Some};
 ghost use Rattle.std.specs.Cow.{cow_str_bytes, IsBorrowedStr};
 ghost use Rattle.lexicon_fields.specs.Names.{Answers};
-ghost use Rattle.lexicon_fields.specs.Architecture.{z80_of};
+ghost use Rattle.lexicon_fields.specs.Architecture.{as_z80, sub_architecture_of};
 ghost use Rattle.lexicon_fields.specs.SubArchitecture.{z80_name};
 
 use crate::architecture::Architecture;
@@ -31,7 +31,7 @@ pub enum Z80Architecture {
 impl Z80Architecture {
     /// The value whose name the text is; every other text is refused.
     pub fn from_str(s: &str) -> Result<Self, ()>
-        ensures { Answers (z80_of s.now) result }
+        ensures { Answers (sub_architecture_of as_z80 s.now) result }
     {
         match Architecture::from_str(s) {
             Ok(Architecture::Z80(sub)) => Ok(sub),
@@ -68,7 +68,7 @@ impl Z80Architecture {
 impl FromStr for Z80Architecture {
     type Err = ();
 
-    ghost from_str_gives = { λ s. Answers (z80_of s) };
+    ghost from_str_gives = { λ s. Answers (sub_architecture_of as_z80 s) };
 
     fn from_str(s: &str) -> Result<Z80Architecture, ()> {
         Z80Architecture::from_str(s)

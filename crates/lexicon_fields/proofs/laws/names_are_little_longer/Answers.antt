@@ -1,15 +1,13 @@
 use Rattle.std.proofs.Common.{◌≡◌, ◌∷◌, codes, length, nat_le, ◌+◌, refl, sym, ap}
 use Rattle.std.proofs.lemmas.Bool.{leb-true}
 use Rattle.std.proofs.lemmas.Option.{MatchOption-at_some, cond_some}
-use Rattle.lexicon_fields.specs.declared.architecture.Architecture.TheVariants as architecture
-use Rattle.lexicon_fields.specs.declared.architecture.aarch64.Aarch64Architecture.TheVariants as aarch64
-use Rattle.lexicon_fields.specs.Architecture.{architecture_name, architecture_values, architecture_of}
+use Rattle.lexicon_fields.specs.{Architecture.architecture_name, Architecture.architecture_values, Architecture.architecture_of, Names.named}
 use Rattle.lexicon_fields.specs.BinaryFormat.{binary_format_name, binary_format_values, binary_format_of}
 use Rattle.lexicon_fields.specs.Environment.{environment_name, environment_values, environment_of}
-use Rattle.lexicon_fields.specs.Names.{named}
 use Rattle.lexicon_fields.specs.Vendor.{Known, Custom, known_name, known_vendors, known_vendor_of, custom_of, is_admitted, vendor_name, vendor_of}
-use Rattle.lexicon_fields.proofs.LookUps.{value_of-all, value_of-named, holds-if_read, option_map-holds, option_or-holds}
-use Rattle.lexicon_fields.proofs.SystemsRead.{operating_system-longer}
+use Rattle.lexicon_fields.proofs.{LookUps.value_of-all, LookUps.value_of-named, LookUps.holds-if_read, LookUps.option_map-holds, LookUps.option_or-holds, SystemsRead.operating_system-longer}
+use Rattle.lexicon_fields.specs.declared.architecture.Architecture.TheVariants as architecture
+use Rattle.lexicon_fields.specs.declared.architecture.aarch64.Aarch64Architecture.TheVariants as aarch64
 use Rattle.lexicon_fields.proofs.laws.names_are_little_longer.Goals as goal
 
 pub returns-clause-vendor : goal.returns-clause-vendor

@@ -1,5 +1,4 @@
-use Rattle.lexicon_fields.proofs.RowTexts.{length-row_texts, row_texts_sorted}
-use Rattle.lexicon_fields.proofs.RowsHold.{rows-hold}
+use Rattle.lexicon_fields.proofs.{RowTexts.length-row_texts, RowTexts.row_texts_sorted, RowsHold.rows-hold}
 use Rattle.lexicon_fields.proofs.laws.rows_are_sorted_and_whole.Goals as goal
 
 pub returns : goal.returns

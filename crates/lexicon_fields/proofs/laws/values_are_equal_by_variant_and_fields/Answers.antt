@@ -1,6 +1,7 @@
 use Rattle.std.proofs.Common.{rules}
 use Rattle.std.proofs.lemmas.Bool.Decides.{Decides-like, Decides-and}
 use Rattle.std.proofs.lemmas.Slice.Eq.{bytes_eq-Decides}
+use Rattle.lexicon_fields.proofs.EqualByValue.{bare-Decides, bare_field-Decides, enum-Decides, one_field-Decides, option_eq-Decides, version-Decides}
 use Rattle.lexicon_fields.specs.contracts.architecture.Architecture as architecture
 use Rattle.lexicon_fields.specs.contracts.operating_system.OperatingSystem as operating_system
 use Rattle.lexicon_fields.specs.contracts.architecture.arm.ArmArchitecture as arm
@@ -15,7 +16,6 @@ use Rattle.lexicon_fields.specs.contracts.architecture.z80.Z80Architecture as z8
 use Rattle.lexicon_fields.specs.contracts.known_vendor.KnownVendor as known_vendor
 use Rattle.lexicon_fields.specs.contracts.environment.Environment as environment
 use Rattle.lexicon_fields.specs.contracts.binary_format.BinaryFormat as binary_format
-use Rattle.lexicon_fields.proofs.EqualByValue.{bare-Decides, bare_field-Decides, enum-Decides, one_field-Decides, option_eq-Decides, version-Decides}
 use Rattle.lexicon_fields.proofs.laws.values_are_equal_by_variant_and_fields.Goals as goal
 
 pub returns-clause-architecture : goal.returns-clause-architecture

@@ -1,10 +1,11 @@
 use Rattle.std.proofs.Common.{◌≡◌, ◌++◌, ◌∙◌, Option, Some, None, IfSome, arith, refl, sym, ap}
 use Rattle.std.specs.Hash.{HashWrites, le_bytes, option, usize, str}
 use Rattle.lexicon_fields.specs.declared.architecture.Architecture.TheVariants.{Arm, Aarch64, X86_32, Mips32, Mips64, Riscv32, Riscv64, Clever, Z80}
-use Rattle.lexicon_fields.specs.declared.deployment_target.DeploymentTarget.{DeploymentTarget}
+use Rattle.lexicon_fields.specs.{declared.deployment_target.DeploymentTarget.DeploymentTarget, declared.vendor.CustomVendor.CustomVendor, declared.vendor.Vendor.Vendor}
 use Rattle.lexicon_fields.specs.declared.operating_system.OperatingSystem.TheVariants.{Darwin, IOS, MacOSX, TvOS, VisionOS, WatchOS, XROS}
-use Rattle.lexicon_fields.specs.declared.vendor.CustomVendor.{CustomVendor}
-use Rattle.lexicon_fields.specs.declared.vendor.Vendor.{Vendor}
+use Rattle.lexicon_fields.specs.{Laws.FeedsOfTell, Laws.IsVersionInRange, Vendor.VendorValue, Vendor.Known, Vendor.Custom, Vendor.custom_text, Vendor.vendor_value}
+use Rattle.lexicon_fields.proofs.Feeds.{Tells, behind_first, first_write, first_byte, same_u16, feeds_of_tell, bare_feeds, enum_feeds, variants_tell, one_field}
+use denote.Enum.Declared.{tag_of}
 use Rattle.lexicon_fields.specs.declared.vendor.Vendor.TheVariants as vendors
 use Rattle.lexicon_fields.specs.contracts.vendor.VendorHash.TheImpl as vendor_hash
 use Rattle.lexicon_fields.specs.contracts.operating_system.OperatingSystemHash.TheImpl as operating_system_hash
@@ -26,12 +27,7 @@ use Rattle.lexicon_fields.specs.contracts.width.PointerWidth as pointer_width
 use Rattle.lexicon_fields.specs.contracts.known_vendor.KnownVendor as known_vendor
 use Rattle.lexicon_fields.specs.contracts.operating_system.OperatingSystem as operating_system
 use Rattle.lexicon_fields.specs.contracts.vendor.Vendor as vendor
-use Rattle.lexicon_fields.specs.Hashing.{FeedsOfTell}
-use Rattle.lexicon_fields.specs.Laws.{IsVersionInRange}
-use Rattle.lexicon_fields.specs.Vendor.{VendorValue, Known, Custom, custom_text, vendor_value}
-use Rattle.lexicon_fields.proofs.Feeds.{Tells, behind_first, first_write, first_byte, same_u16, feeds_of_tell, bare_feeds, enum_feeds, variants_tell, one_field}
 use Rattle.lexicon_fields.proofs.laws.values_feed_by_variant_and_fields.Goals as goal
-use denote.Enum.Declared.{tag_of}
 
 pub returns-clause-arm : goal.returns-clause-arm
 returns-clause-arm c = bare_feeds arm.enum tt (omega arith)

@@ -1,7 +1,6 @@
 use Rattle.std.proofs.Common.{sym, ◌∙◌, ap, option_map}
 use Rattle.lexicon_fields.specs.Vendor.{Known}
-use Rattle.lexicon_fields.proofs.RowsHold.{row-stands, row_reads_by_name}
-use Rattle.lexicon_fields.proofs.VendorsReadBack.{row_read}
+use Rattle.lexicon_fields.proofs.{RowsHold.row-stands, RowsHold.row_reads_by_name, VendorsReadBack.row_read}
 use Rattle.lexicon_fields.proofs.table.row_at.Goals as goal
 
 pub returns : goal.returns

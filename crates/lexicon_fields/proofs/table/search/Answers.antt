@@ -1,9 +1,7 @@
 use Rattle.std.proofs.Common.{arith, sym, ◌+◌, ◌/◌}
-use Rattle.lexicon_fields.proofs.Halving.{halved-first, halved-middle, halved-next}
-use Rattle.lexicon_fields.proofs.RowsHold.{no_row-between}
-use Rattle.lexicon_fields.proofs.RowTexts.{rows_below, rows_above, row_text-is}
-use Rattle.lexicon_fields.proofs.table.search.Goals as goal
+use Rattle.lexicon_fields.proofs.{Halving.halved-first, Halving.halved-middle, Halving.halved-next, RowsHold.no_row-between, RowTexts.rows_below, RowTexts.rows_above, RowTexts.row_text-is}
 use Rattle.lexicon_fields.proofs.table.search.Goals.{in-Less, in-Greater}
+use Rattle.lexicon_fields.proofs.table.search.Goals as goal
 
 pub returns-in-Equal-clause-row : goal.returns-in-Equal-clause-row
 returns-in-Equal-clause-row c = (omega arith, row_text-is 127 _ (sym c.in-Equal.ensures.order))

@@ -2,8 +2,7 @@
 use Rattle.std.proofs.Common.{◌≡◌, true, map, take, All}
 use Rattle.serde_json.specs.View.{items_view}
 use Rattle.lexicon_fields.specs.Vendor.{OwnsCustomText, is_plain, vendor_value}
-use Rattle.target_lexicon.specs.Json.{ElementsReadAs}
-use Rattle.target_lexicon.specs.Values.{values_of}
+use Rattle.target_lexicon.specs.{Json.ElementsReadAs, Values.values_of}
 use Rattle.target_lexicon.proofs.json.list_from_json.Given as goal
 
 abbrev pub invariant-loop-i : goal.invariant-loop-i

@@ -1,8 +1,8 @@
 use Rattle.std.proofs.Common.{arith}
+use Rattle.target_lexicon.proofs.FeedsTogether.{bare_feeds}
 use Rattle.target_lexicon.specs.contracts.data_model.Size as size
 use Rattle.target_lexicon.specs.contracts.data_model.CDataModel as data_model
 use Rattle.target_lexicon.specs.contracts.calling_convention.CallingConvention as calling_convention
-use Rattle.target_lexicon.proofs.FeedsTogether.{bare_feeds}
 use Rattle.target_lexicon.proofs.laws.answers_feed_by_variant.Goals as goal
 
 pub returns-clause-size : goal.returns-clause-size

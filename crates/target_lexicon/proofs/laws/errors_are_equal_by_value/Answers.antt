@@ -6,8 +6,8 @@ use Rattle.std.specs.Option.{option_map_or}
 use Rattle.std.proofs.lemmas.Bool.{false≢true}
 use Rattle.std.proofs.lemmas.Bool.Decides.{Decides-like}
 use Rattle.std.proofs.lemmas.Slice.Eq.{bytes_eq-Decides}
-use Rattle.target_lexicon.specs.Field as field
 use Rattle.target_lexicon.specs.Refusal.{Lack, Lacks, LacksAnyField, Refusal, refused}
+use Rattle.target_lexicon.specs.Field as field
 use Rattle.target_lexicon.specs.declared.parse_error.ParseError.TheVariants as error
 use Rattle.target_lexicon.proofs.laws.errors_are_equal_by_value.Goals as goal
 

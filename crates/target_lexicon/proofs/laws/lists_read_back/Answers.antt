@@ -1,9 +1,6 @@
 use Rattle.std.proofs.Common.{◌≡◌, ◌∙◌, zero, suc, List, [], ◌∷◌, map, All, refl, ap, subst, sym, arith}
 use Rattle.serde_json.specs.View.{items_of}
-use Rattle.target_lexicon.specs.Json.{ElementsReadAs, json_of}
-use Rattle.target_lexicon.specs.Laws.{ComesBack, OneOutcomeEach}
-use Rattle.target_lexicon.specs.Printing.{text_of}
-use Rattle.target_lexicon.specs.Values.{Values}
+use Rattle.target_lexicon.specs.{Json.ElementsReadAs, Json.json_of, Laws.ComesBack, Laws.OneOutcomeEach, Printing.text_of, Values.Values}
 use Rattle.target_lexicon.proofs.laws.lists_read_back.Goals as goal
 
 list-reads : (ts : List Values) → All ComesBack ts → ElementsReadAs (items_of (map json_of ts)) ts

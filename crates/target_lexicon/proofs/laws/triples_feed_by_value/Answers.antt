@@ -1,6 +1,5 @@
 use Rattle.std.proofs.Common.{ap}
-use Rattle.target_lexicon.specs.Values.{Values, values}
-use Rattle.target_lexicon.specs.declared.triple.Triple.{Triple}
+use Rattle.target_lexicon.specs.{Values.Values, Values.values, declared.triple.Triple.Triple}
 use Rattle.target_lexicon.proofs.FeedsTogether.{both_tell}
 use Rattle.target_lexicon.proofs.laws.triples_feed_by_value.Goals as goal
 

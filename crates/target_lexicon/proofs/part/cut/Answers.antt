@@ -2,8 +2,7 @@ use Rattle.std.proofs.Common.{◌∙◌, ◌+◌, ℕ, Bor, List, sym, subst, ar
 use Rattle.std.proofs.lemmas.Option.{same_Some}
 use Rattle.std.proofs.lemmas.Str.{IsCharBoundary-before_ascii, lead_after_ascii}
 use Rattle.target_lexicon.specs.Private.{TellsDashes}
-use Rattle.target_lexicon.proofs.DashBits.{tells_behind}
-use Rattle.target_lexicon.proofs.Cuts.{dash_at, cut-found, cut-whole}
+use Rattle.target_lexicon.proofs.{DashBits.tells_behind, Cuts.dash_at, Cuts.cut-found, Cuts.cut-whole}
 use Rattle.target_lexicon.proofs.part.cut.Goals as goal
 
 pub range-requires-clause-end_boundary : goal.range-requires-clause-end_boundary

@@ -2,7 +2,7 @@
 use Rattle.std.proofs.Common.{length, string_bytes, ◌≤◌}
 use denote.Text.{Utf8}
 use denote.Shadow.{shadow}
-use Rattle.triples.specs.Lines.{lines_of}
+use Rattle.triples.specs.Output.{lines_of}
 use Rattle.triples.proofs.AnswerLemmas.{IsSoFar}
 use Rattle.triples.proofs.output.answers.Given as goal
 

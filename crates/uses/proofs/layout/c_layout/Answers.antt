@@ -1,6 +1,5 @@
 use Rattle.std.proofs.Common.{◌∙◌, Some, ap, sym}
-use Rattle.target_lexicon.specs.DataModel.{size_bits}
-use Rattle.target_lexicon.specs.Values.{values_of}
+use Rattle.target_lexicon.specs.{DataModel.size_bits, Values.values_of}
 use Rattle.uses.proofs.layout.c_layout.Goals as goal
 
 pub returns-clause-width : goal.returns-clause-width

@@ -1,8 +1,6 @@
 use Rattle.std.proofs.Common.{◌≡◌, Ok, Err, codes}
 use Rattle.std.specs.Prelude.{IfSome, IsErrAnd}
-use Rattle.target_lexicon.specs.ComputedAnswers.{IsAnswerOf}
-use Rattle.target_lexicon.specs.Field.{OperatingSystem}
-use Rattle.target_lexicon.specs.Refusal.{Lacks, refused, refusal_of}
+use Rattle.target_lexicon.specs.{ReadingByFields.IsAnswerOf, Field.OperatingSystem, Refusal.Lacks, Refusal.refused, Refusal.refusal_of}
 use Rattle.target_lexicon.proofs.OnLiterals.{target_lexicon_on_literals}
 use Rattle.uses.proofs.literals.refused_text.Goals as goal
 

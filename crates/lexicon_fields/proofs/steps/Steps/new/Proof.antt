@@ -13,9 +13,9 @@ use denote.RattleType.{owns}
 use denote.Shadow.{pure_i}
 use denote.Triple.Entry.{alive}
 use denote.Triple.Walked.{says, Stays, walk_of, ends_at}
+use Rattle.lexicon_fields.proofs.steps.Steps.new.Statement.{statement}
 use Rattle.lexicon_fields.specs.contracts.steps.Steps.new as f
 use Rattle.lexicon_fields.specs.contracts.steps.Steps as made
-use Rattle.lexicon_fields.proofs.steps.Steps.new.Statement.{statement}
 use Rattle.lexicon_fields.proofs.steps.Steps.new.Code as code
 
 abbrev stayed : Stays (f.ended).signature.params (f.ended).kept

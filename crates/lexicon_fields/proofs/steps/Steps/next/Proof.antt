@@ -18,9 +18,9 @@ use denote.Shadow.{pure_i}
 use denote.Signature.{plain, types_at}
 use denote.Triple.Entry.{alive}
 use denote.Triple.Walked.{says, stay_none_ref, Stays, walk_of, ends_at, Goes-none_ref}
+use Rattle.lexicon_fields.proofs.steps.Steps.next.Statement.{statement}
 use Rattle.lexicon_fields.specs.contracts.steps.Steps.next as f
 use Rattle.lexicon_fields.specs.contracts.steps.Steps as steps
-use Rattle.lexicon_fields.proofs.steps.Steps.next.Statement.{statement}
 use Rattle.lexicon_fields.proofs.steps.Steps.next.Code as code
 
 abbrev stayed : Stays (f.ended).signature.params (f.ended).kept

@@ -1,9 +1,5 @@
 use Rattle.std.proofs.Common.{arith}
-use Rattle.lexicon_fields.specs.Architecture.{architecture_of}
-use Rattle.lexicon_fields.specs.Vendor.{known_vendor_of}
-use Rattle.lexicon_fields.specs.OperatingSystem.{fixed_operating_system_of}
-use Rattle.lexicon_fields.specs.Environment.{environment_of}
-use Rattle.lexicon_fields.specs.BinaryFormat.{binary_format_of}
+use Rattle.lexicon_fields.specs.{Architecture.architecture_of, Vendor.known_vendor_of, OperatingSystem.fixed_operating_system_of, Environment.environment_of, BinaryFormat.binary_format_of}
 use Rattle.lexicon_fields.proofs.RowReads.{rows-length, column-is}
 use Rattle.lexicon_fields.proofs.table.rows.row.Goals as goal
 

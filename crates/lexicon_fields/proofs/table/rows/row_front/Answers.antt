@@ -1,7 +1,6 @@
 use Rattle.std.proofs.Common.{◌∙◌, ℕ, List, [], ap, arith, get_or, length}
 use Rattle.std.proofs.lemmas.List.{get_or-map, length-map}
-use Rattle.lexicon_fields.specs.FixedRow.{row_texts}
-use Rattle.lexicon_fields.specs.Private.{front_of}
+use Rattle.lexicon_fields.specs.{FixedRow.row_texts, Private.front_of}
 use Rattle.lexicon_fields.proofs.RowTexts.{length-row_texts}
 use Rattle.lexicon_fields.proofs.table.rows.row_front.Goals as goal
 

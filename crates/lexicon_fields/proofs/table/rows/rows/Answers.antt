@@ -1,9 +1,5 @@
 use Rattle.std.proofs.Common.{refl}
-use Rattle.lexicon_fields.specs.FixedRow.{row_texts}
-use Rattle.lexicon_fields.specs.Architecture.{architecture_of}
-use Rattle.lexicon_fields.specs.Vendor.{known_vendor_of}
-use Rattle.lexicon_fields.specs.OperatingSystem.{fixed_operating_system_of}
-use Rattle.lexicon_fields.specs.Environment.{environment_of}
+use Rattle.lexicon_fields.specs.{FixedRow.row_texts, Architecture.architecture_of, Vendor.known_vendor_of, OperatingSystem.fixed_operating_system_of, Environment.environment_of}
 use Rattle.lexicon_fields.specs.BinaryFormat.{binary_format_of}
 use Rattle.lexicon_fields.proofs.table.rows.rows.Goals as goal
 

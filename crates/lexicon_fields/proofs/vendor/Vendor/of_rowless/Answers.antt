@@ -1,7 +1,6 @@
 use Rattle.std.proofs.Common.{rules, sym, ap, ◌∙◌, not, Some}
 use Rattle.lexicon_fields.specs.Vendor.{Custom}
-use Rattle.lexicon_fields.proofs.RowsHold.{nowhere}
-use Rattle.lexicon_fields.proofs.VendorsReadBack.{admitted_without_row, custom_read, none_read, formless_read}
+use Rattle.lexicon_fields.proofs.{RowsHold.nowhere, VendorsReadBack.admitted_without_row, VendorsReadBack.custom_read, VendorsReadBack.none_read, VendorsReadBack.formless_read}
 use Rattle.lexicon_fields.proofs.vendor.Vendor.of_rowless.Goals as goal
 
 pub returns-then-not-has_vendor_form-clause-err : goal.returns-then-not-has_vendor_form-clause-err

@@ -1,7 +1,6 @@
 use Rattle.std.proofs.Common.{◌∙◌, Some, ap, sym, option_map}
-use Rattle.lexicon_fields.specs.Vendor.{Known}
-use Rattle.target_lexicon.proofs.LookedUp.{rowless}
-use Rattle.target_lexicon.proofs.Vendors.{owns_custom_text}
+use Rattle.target_lexicon.specs.Values.{Known}
+use Rattle.target_lexicon.proofs.{LookedUp.rowless, Vendors.owns_custom_text}
 use Rattle.target_lexicon.proofs.part.Part.vendor.Goals as goal
 
 pub returns-in-Some-vendor-clause-ok : goal.returns-in-Some-vendor-clause-ok

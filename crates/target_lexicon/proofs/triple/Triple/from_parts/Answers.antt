@@ -1,14 +1,9 @@
 use Rattle.std.proofs.Common.{◌≡◌, ℕ, List, [], ◌∷◌, Result, Ok, Err, refl, sym, ◌∙◌, subst}
 use Rattle.std.specs.Prelude.{IsErrAnd}
-use Rattle.lexicon_fields.specs.declared.known_vendor.KnownVendor.TheVariants.{Unknown}
-use Rattle.lexicon_fields.specs.Vendor.{IsCustom, Known, vendor_of}
-use Rattle.target_lexicon.specs.ComputedAnswers.{IsAnswerOf}
-use Rattle.target_lexicon.specs.Field.{Field, Architecture, Vendor}
-use Rattle.target_lexicon.specs.ReadingByFields.{finish, take_part}
-use Rattle.target_lexicon.specs.Values.{Values}
-use Rattle.target_lexicon.specs.declared.parse_error.ParseError.{ParseError}
+use Rattle.lexicon_fields.specs.{declared.known_vendor.KnownVendor.TheVariants.Unknown, Vendor.IsCustom, Vendor.vendor_of}
+use Rattle.target_lexicon.specs.{Values.Known, Values.Values, ReadingByFields.IsAnswerOf, ReadingByFields.finish, ReadingByFields.take_part, Field.Field, Field.Architecture, Field.Vendor}
+use Rattle.target_lexicon.specs.{declared.parse_error.ParseError.ParseError, declared.triple.Triple.Triple}
 use Rattle.target_lexicon.specs.declared.parse_error.ParseError.TheVariants as error
-use Rattle.target_lexicon.specs.declared.triple.Triple.{Triple}
 use Rattle.target_lexicon.proofs.triple.Triple.from_parts.Goals as goal
 
 -- want of memory answers for a triple with a custom vendor, and for a refusal

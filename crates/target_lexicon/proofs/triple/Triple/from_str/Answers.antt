@@ -1,14 +1,9 @@
 use Rattle.std.proofs.Common.{◌≡◌, ℕ, List, Option, Some, None, Result, Ok, Err, refl, sym, inl, inr}
 use Rattle.std.specs.Prelude.{IfOk, IfErr, IfSome, MatchOption}
 use Rattle.std.proofs.lemmas.Result.{IfOk-weaker}
-use Rattle.target_lexicon.specs.declared.parse_error.ParseError.{ParseError}
-use Rattle.target_lexicon.specs.declared.triple.Triple.{Triple}
-use Rattle.target_lexicon.specs.ComputedAnswers.{IsAnswerOf}
-use Rattle.target_lexicon.specs.Reading.{ReadsAs, IsRefusedAs, MayWantMemory, IsFaultOf}
-use Rattle.target_lexicon.specs.Refusal.{Refusal, refusal_of}
-use Rattle.target_lexicon.specs.Values.{Values, values_of}
-use Rattle.target_lexicon.proofs.Computed.{Holds, parts-hold}
-use Rattle.target_lexicon.proofs.ReadValues.{read_plain}
+use Rattle.target_lexicon.specs.{declared.parse_error.ParseError.ParseError, declared.triple.Triple.Triple, ReadingByFields.IsAnswerOf, Refusal.Refusal, Refusal.refusal_of}
+use Rattle.target_lexicon.specs.{Reading.ReadsAs, Reading.IsRefusedAs, Reading.MayWantMemory, Reading.IsFaultOf, Values.Values, Values.values_of}
+use Rattle.target_lexicon.proofs.{Computed.Holds, Computed.parts-hold, ReadValues.read_plain}
 use Rattle.target_lexicon.proofs.triple.Triple.from_str.Goals as goal
 
 -- the answer that is computed tells what the text reads as, or its fault

@@ -1,11 +1,10 @@
 use Rattle.std.proofs.Common.{◌≡◌, ◌∙◌}
 use Rattle.std.specs.Bool.{Decides}
 use Rattle.std.proofs.lemmas.Bool.Decides.{Decides-at}
-use Rattle.target_lexicon.specs.NormalStep.{normal_step}
-use Rattle.target_lexicon.specs.Values.{values_of}
+use Rattle.target_lexicon.specs.{NormalStep.normal_step, Values.values_of}
 use Rattle.target_lexicon.proofs.SettlesAs.{and_then, and_else, alike, settles_alike}
-use Rattle.target_lexicon.proofs.triple.Triple.settles_as.Goals as goal
 use Rattle.target_lexicon.proofs.triple.Triple.settles_as.Goals.{then-eq, else-eq, then-eq-2, else-eq-2, then-eq-3, else-eq-3, then-eq-4, else-eq-4}
+use Rattle.target_lexicon.proofs.triple.Triple.settles_as.Goals as goal
 
 pub returns : goal.returns
 returns c =
