@@ -10,3 +10,6 @@ returns-in_err-output-clause-err c =
 pub returns-in_err-push-clause-err : goal.returns-in_err-push-clause-err
 returns-in_err-push-clause-err c =
     search (rules, read-some c.args.input.now (view c.in-Ok.value) c.in-Ok.ensures.ok)
+
+pub returns-in-Err-clause-err : goal.returns-in-Err-clause-err
+returns-in-Err-clause-err c = c.in-Err.ensures.err (λ is. let memory = c.if-is_memory.ensures.1 is in absurd cc)
