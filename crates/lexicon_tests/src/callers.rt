@@ -1,11 +1,16 @@
-//! Each call of `uses`, run once.
+//! Each call of `uses`, run once; those of two targets stand in `same_targets`.
 
+use crate::fixtures::{
+    OfTriple, OfValue, Question, QuestionOf, check_rows, is_found, prints, writes,
+};
+use crate::reading::{has_values, is_answer, is_host};
 use serde_json::Value;
 use std::alloc::{AllocError, Global};
+use std::process::Abort;
 use target_lexicon::{BinaryFormat, ParseError, Triple};
 use uses::{
-    CacheKey, Linker, MatrixError, TargetFileError, TypeLayout, c_layout, host_by_text, link_plan,
-    llvm_target, refused_text, release_matrix, share_key, wasi_text,
+    CacheKey, Linker, MatrixError, TargetFileError, c_layout, host_by_text, link_plan, llvm_target,
+    refused_text, release_matrix, wasi_text,
 };
 
 /// Targets whose objects LLVM 14 doesn't write in the format that the triple has, and behind `=` the format that it writes.
@@ -37,57 +42,62 @@ fn has_other_format(alloc: Global, text: &str, format: BinaryFormat) -> bool {
 }
 
 /// Objects for the target are of the format of this name, which isn't that of its triple.
-fn is_planned(alloc: Global, text: &str, name: &str) -> bool {
-    match link_plan(alloc, text) {
-        Ok((format, _)) => {
-            BinaryFormat::from_str(name) == Ok(format) && has_other_format(alloc, text, format)
+struct IsPlanned;
+
+impl Question for IsPlanned {
+    fn holds(alloc: Global, text: &str, name: &str) -> bool {
+        match link_plan(alloc, text) {
+            Ok((format, _)) => writes(&format, name) && has_other_format(alloc, text, format),
+            Err(_) => false,
         }
-        Err(_) => false,
     }
 }
 
 #[test]
 fn formats_are_those_of_llvm(rt: HostRuntime) {
-    for line in OTHER_FORMATS.split('\n') {
-        let (text, name) = line.split_once('=').unwrap_or((line, ""));
-        assert!(rt; is_planned(rt.alloc(), text, name), "{line}");
-    }
+    check_rows::<IsPlanned>(&rt, rt.alloc(), OTHER_FORMATS);
 }
 
-/// Whether a target is linked so.
-fn is_linked(alloc: Global, text: &str, linker: Linker) -> bool {
+/// The target is linked so.
+fn check_linker(rt: &impl Abort, alloc: Global, text: &str, linker: Linker) {
     match link_plan(alloc, text) {
-        Ok((_, planned)) => planned == Some(linker),
-        Err(_) => false,
+        Ok((_, planned)) => assert!(rt; planned == Some(linker), "{text}"),
+        Err(_) => panic!(rt; "{text}"),
     }
 }
 
 #[test]
 fn linkers_follow_the_format(rt: HostRuntime) {
-    assert!(rt; is_linked(rt.alloc(), "x86_64-pc-windows-msvc", Linker::Link));
-    assert!(rt; is_linked(rt.alloc(), "x86_64-pc-cygwin", Linker::Gnu));
-    assert!(rt; is_linked(rt.alloc(), "aarch64-apple-visionos", Linker::Ld64));
-    assert!(rt; is_linked(rt.alloc(), "wasm32-wasip1", Linker::WasmLd));
+    check_linker(&rt, rt.alloc(), "x86_64-pc-windows-msvc", Linker::Link);
+    check_linker(&rt, rt.alloc(), "x86_64-pc-cygwin", Linker::Gnu);
+    check_linker(&rt, rt.alloc(), "aarch64-apple-visionos", Linker::Ld64);
+    check_linker(&rt, rt.alloc(), "wasm32-wasip1", Linker::WasmLd);
 }
 
-/// Whether a `long long` on the target has eight bytes at this alignment, or where it is 0 no layout that is known.
-fn is_aligned(alloc: Global, text: &str, alignment: u8) -> bool {
-    let wanted = match alignment {
-        0 => None,
-        _ => Some(TypeLayout { size: 8, alignment }),
-    };
-    match Triple::from_str(alloc, text) {
-        Ok(triple) => c_layout(&triple).map(|layout| layout.long_long) == wanted,
-        Err(_) => false,
+/// A target, and behind `=` the bytes and the alignment of its `long long`, or `-` where no layout is known.
+const LAYOUTS: &str = "\
+i686-unknown-linux-gnu=8 4
+armv7s-apple-ios=8 4
+i686-pc-windows-msvc=8 8
+avr-unknown-unknown=-";
+
+struct HasLayout;
+
+impl QuestionOf<Triple> for HasLayout {
+    fn holds(_alloc: Global, triple: &Triple, want: &str) -> bool {
+        match c_layout(triple) {
+            Some(layout) => {
+                let (size, alignment) = (layout.long_long.size, layout.long_long.alignment);
+                writes(&format_args!("{size} {alignment}"), want)
+            }
+            None => want == "-",
+        }
     }
 }
 
 #[test]
 fn types_have_their_layout(rt: HostRuntime) {
-    assert!(rt; is_aligned(rt.alloc(), "i686-unknown-linux-gnu", 4));
-    assert!(rt; is_aligned(rt.alloc(), "armv7s-apple-ios", 4));
-    assert!(rt; is_aligned(rt.alloc(), "i686-pc-windows-msvc", 8));
-    assert!(rt; is_aligned(rt.alloc(), "avr-unknown-unknown", 0));
+    check_rows::<OfTriple<HasLayout>>(&rt, rt.alloc(), LAYOUTS);
 }
 
 /// The words, each a text of its own.
@@ -99,100 +109,97 @@ fn texts_of(alloc: Global, words: &str) -> Result<Vec<String>, AllocError> {
     Ok(texts)
 }
 
+/// The matrix of the texts has two targets, of which the second prints so; or the text of a place is refused so.
+fn is_matrix(alloc: Global, texts: &[String], want: &str) -> bool {
+    match release_matrix(alloc, texts) {
+        Ok(matrix) => matrix.len() == 2 && prints(&matrix[1], want),
+        Err(MatrixError::Refused(place, error)) => writes(&format_args!("{place}: {error}"), want),
+        Err(MatrixError::OutOfMemory) => false,
+    }
+}
+
+struct HasMatrix;
+
+impl Question for HasMatrix {
+    fn holds(alloc: Global, words: &str, want: &str) -> bool {
+        match texts_of(alloc, words) {
+            Ok(texts) => is_matrix(alloc, &texts, want),
+            Err(_) => false,
+        }
+    }
+}
+
+const MATRICES: &str = "\
+x86_64-linux wasm32-wasi x86_64-unknown-linux=wasm32-wasi
+x86_64-linux wasm32-wasi x86_64-unknown-linux foo=3: Unrecognized architecture: foo";
+
+#[test]
+fn a_matrix_has_each_target_once(rt: HostRuntime) {
+    check_rows::<HasMatrix>(&rt, rt.alloc(), MATRICES);
+}
+
+/// A target file, and behind `=` the five values of its triple, or `-` where it has no key for it.
+const TARGET_FILES: &str = "\
+{\"llvm-target\": \"avr-none\"}=Avr Unknown None_ Unknown Unknown
+{\"cpu\": \"m4\"}=-";
+
+struct NamesTriple;
+
+impl QuestionOf<Value> for NamesTriple {
+    fn holds(alloc: Global, file: &Value, want: &str) -> bool {
+        match llvm_target(alloc, file) {
+            Ok(triple) => has_values(&triple, want),
+            Err(TargetFileError::NoKey) => want == "-",
+            Err(_) => false,
+        }
+    }
+}
+
+#[test]
+fn a_target_file_names_its_triple(rt: HostRuntime) {
+    check_rows::<OfValue<NamesTriple>>(&rt, rt.alloc(), TARGET_FILES);
+}
+
 /// The text is found, and is this one.
-fn is_text(found: Result<String, AllocError>, wanted: &str) -> bool {
+fn is_text<E: Drop>(found: Result<String, E>, wanted: &str) -> bool {
     match found {
         Ok(text) => text.as_str() == wanted,
         Err(_) => false,
     }
 }
 
-/// The matrix of the texts has two targets, of which the second prints so.
-fn has_two(alloc: Global, texts: &[String], second: &str) -> bool {
-    match release_matrix(alloc, texts) {
-        Ok(matrix) => matrix.len() == 2 && is_text(matrix[1].to_text(alloc), second),
-        Err(_) => false,
+/// A text, and behind `=` the text of its key.
+const KEYS: &str = "\
+x86_64-apple-darwin23.6=x86_64-apple-darwin23.6.0
+x86_64-apple-darwin23.6.0=x86_64-apple-darwin23.6.0";
+
+struct HasKey;
+
+impl QuestionOf<CacheKey> for HasKey {
+    fn holds(alloc: Global, key: &CacheKey, print: &str) -> bool {
+        is_text(key.to_text(alloc), print)
     }
 }
 
-/// The text of this number names no architecture, and no text in front of it is refused.
-fn is_refused_at(alloc: Global, texts: &[String], place: usize) -> bool {
-    match release_matrix(alloc, texts) {
-        Ok(_) => false,
-        Err(error) => matches!(
-            &error,
-            MatrixError::Refused(i, ParseError::UnrecognizedArchitecture(_)) if *i == place
-        ),
-    }
-}
-
-#[test]
-fn a_matrix_has_each_target_once(rt: HostRuntime) -> Result<(), AllocError> {
-    let texts = texts_of(rt.alloc(), "x86_64-linux wasm32-wasi x86_64-unknown-linux")?;
-    assert!(rt; has_two(rt.alloc(), &texts, "wasm32-wasi"));
-    let texts = texts_of(
-        rt.alloc(),
-        "x86_64-linux wasm32-wasi x86_64-unknown-linux foo",
-    )?;
-    assert!(rt; is_refused_at(rt.alloc(), &texts, 3));
-    Ok(())
-}
-
-/// Whether the file names a triple, or else whether it has no key for it.
-fn names_triple(alloc: Global, text: &str) -> Option<bool> {
-    let file = Value::from_str(alloc, text).ok()?;
-    match llvm_target(alloc, &file) {
-        Ok(_) => Some(true),
-        Err(TargetFileError::NoKey) => Some(false),
-        Err(_) => None,
-    }
-}
-
-#[test]
-fn a_target_file_names_its_triple(rt: HostRuntime) {
-    assert!(rt; names_triple(rt.alloc(), "{\"llvm-target\": \"avr-none\"}") == Some(true));
-    assert!(rt; names_triple(rt.alloc(), "{\"cpu\": \"m4\"}") == Some(false));
-}
-
-/// The key of the text prints so.
-fn has_key_text(alloc: Global, text: &str, print: &str) -> bool {
-    match CacheKey::read(alloc, text) {
-        Ok(key) => is_text(key.to_text(alloc), print),
-        Err(_) => false,
-    }
-}
-
-fn have_one_key(alloc: Global, first: &str, second: &str) -> bool {
-    match (
-        Triple::from_str(alloc, first),
-        Triple::from_str(alloc, second),
-    ) {
-        (Ok(one), Ok(other)) => share_key(one, other),
-        _ => false,
+impl Question for HasKey {
+    fn holds(alloc: Global, text: &str, print: &str) -> bool {
+        is_found::<HasKey, CacheKey, ParseError>(alloc, CacheKey::read(alloc, text), print)
     }
 }
 
 #[test]
 fn keys_are_settled_triples(rt: HostRuntime) {
-    let print = "x86_64-apple-darwin23.6.0";
-    assert!(rt; has_key_text(rt.alloc(), "x86_64-apple-darwin23.6", print));
-    assert!(rt; has_key_text(rt.alloc(), print, print));
-    let other = "x86_64-unknown-linux-unknown-elf";
-    assert!(rt; have_one_key(rt.alloc(), "x86_64-linux", other));
-}
-
-fn is_host(read: &Result<Triple, ParseError>) -> bool {
-    matches!(read, Ok(triple) if *triple == Triple::host())
-}
-
-fn is_wasi(found: &Result<String, ParseError>) -> bool {
-    matches!(found, Ok(text) if text.as_str() == "wasm32-wasi")
+    check_rows::<HasKey>(&rt, rt.alloc(), KEYS);
 }
 
 #[test]
 fn literals_are_computed(rt: HostRuntime) {
-    assert!(rt; is_host(&host_by_text(rt.alloc())));
-    assert!(rt; is_wasi(&wasi_text(rt.alloc())));
-    let refused = refused_text(rt.alloc());
-    assert!(rt; matches!(&refused, Err(ParseError::UnrecognizedOperatingSystem(_))));
+    assert!(rt; is_host(host_by_text(rt.alloc())));
+    assert!(rt; is_text(wasi_text(rt.alloc()), "wasm32-wasi"));
+    assert!(rt;
+        is_answer(
+            refused_text(rt.alloc()),
+            "Unrecognized operating system: bar"
+        )
+    );
 }

@@ -1,14 +1,18 @@
 //! The two wrappers with a default.
 
-use crate::fixtures::{custom_vendor, fed, prints, shows};
+use crate::fixtures::{check_line, fed, shows, with_vendor};
 use std::alloc::Global;
 use std::process::Abort;
-use target_lexicon::{DefaultToHost, DefaultToUnknown, Environment, Triple};
+use target_lexicon::{DefaultToHost, DefaultToUnknown, Triple};
 
 #[test]
 fn defaults_are_the_host_and_the_unknown_triple(rt: HostRuntime) {
-    assert!(rt; prints(&DefaultToHost::default().0, "x86_64-unknown-linux-gnu"));
-    assert!(rt; prints(&DefaultToUnknown::default().0, "unknown-unknown-unknown"));
+    check_line(&rt, DefaultToHost::default().0, "x86_64-unknown-linux-gnu");
+    check_line(
+        &rt,
+        DefaultToUnknown::default().0,
+        "unknown-unknown-unknown",
+    );
 }
 
 /// A clone is equal, and has this vendor, as `{:?}` writes it.
@@ -44,14 +48,17 @@ fn a_clone_keeps_a_custom_vendor(rt: HostRuntime) {
     assert!(rt; unknown_keeps(rt.alloc(), &unknown, vendor));
 }
 
-fn feed_alike(first: &Triple, second: &Triple) -> bool {
-    first == second && fed(first) == fed(second)
+/// The triple is equal to that of the text with a fixed custom vendor, and feeds a hasher as that does.
+fn feeds_as(alloc: Global, triple: &Triple, text: &str, vendor: &'static str) -> bool {
+    match with_vendor(alloc, text, vendor) {
+        Some(fixed) => *triple == fixed && fed(triple) == fed(&fixed),
+        None => false,
+    }
 }
 
 #[test]
 fn equal_triples_feed_a_hasher_alike(rt: HostRuntime) {
-    let mut fixed = Triple::host();
-    fixed.vendor = custom_vendor("customvendor");
-    fixed.environment = Environment::Unknown;
-    assert!(rt; feed_alike(&fixed, &customized(&rt, rt.alloc())));
+    let text = "x86_64-unknown-linux-unknown-elf";
+    let triple = customized(&rt, rt.alloc());
+    assert!(rt; feeds_as(rt.alloc(), &triple, text, "customvendor"));
 }

@@ -1,13 +1,15 @@
 //! What the tests walk their rows by, build triples from, and look at values by.
 
+use serde_json::Value;
 use std::alloc::{AllocError, Global};
 use std::fmt;
 use std::fmt::{Debug, Display, Write as _};
 use std::hash::{DefaultHasher, Hash, Hasher};
+use std::marker::PhantomData;
 use std::process::Abort;
 use target_lexicon::{
-    Architecture, BinaryFormat, CDataModel, CallingConvention, CustomVendor, Endianness,
-    Environment, OperatingSystem, PointerWidth, Triple, Vendor,
+    CDataModel, CallingConvention, CustomVendor, Endianness, ParseError, PointerWidth, Triple,
+    Vendor,
 };
 
 /// What is asked of a text beside what stands behind it in its row.
@@ -15,30 +17,71 @@ pub(crate) trait Question {
     fn holds(alloc: Global, text: &str, want: &str) -> bool;
 }
 
-/// The question holds of each line of the rows: of what stands before its first `=`, and of what stands behind it.
-pub(crate) fn check_rows<Q: Question>(rt: &impl Abort, alloc: Global, rows: &str) {
-    for row in rows.lines() {
-        match row.split_once("=") {
-            Some((text, want)) => assert!(rt; Q::holds(alloc, text, want), "{row}"),
-            None => panic!(rt; "{row}"),
-        }
+/// What is asked of a value of which a row has the text.
+pub(crate) trait QuestionOf<T> {
+    fn holds(alloc: Global, value: &T, want: &str) -> bool;
+}
+
+/// Something was found, and the question holds of it.
+pub(crate) fn is_found<Q: QuestionOf<T>, T: Drop, E: Drop>(
+    alloc: Global,
+    found: Result<T, E>,
+    want: &str,
+) -> bool {
+    match found {
+        Ok(value) => Q::holds(alloc, &value, want),
+        Err(_) => false,
     }
 }
 
-/// The question holds of each of the words, beside itself. The answer is how many they are.
-pub(crate) fn check_words<Q: Question>(rt: &impl Abort, alloc: Global, words: &str) -> u32 {
+/// The text reads as a triple of which the question holds.
+pub(crate) struct OfTriple<Q>(PhantomData<Q>);
+
+impl<Q: QuestionOf<Triple>> Question for OfTriple<Q> {
+    fn holds(alloc: Global, text: &str, want: &str) -> bool {
+        is_found::<Q, Triple, ParseError>(alloc, Triple::from_str(alloc, text), want)
+    }
+}
+
+/// The text is of a JSON value of which the question holds.
+pub(crate) struct OfValue<Q>(PhantomData<Q>);
+
+impl<Q: QuestionOf<Value>> Question for OfValue<Q> {
+    fn holds(alloc: Global, text: &str, want: &str) -> bool {
+        is_found::<Q, Value, serde_json::Error>(alloc, Value::from_str(alloc, text), want)
+    }
+}
+
+/// The question holds of each line of the rows: of what stands before its first `=`, and of what stands behind it.
+pub(crate) fn check_rows<Q: Question>(rt: &impl Abort, alloc: Global, rows: &str) {
+    for row in rows.lines() {
+        let (text, want) = row.split_once("=").expect(rt, row);
+        assert!(rt; Q::holds(alloc, text, want), "{row}");
+    }
+}
+
+/// The question holds of each of the words, beside itself, and they are so many.
+pub(crate) fn check_words<Q: Question>(rt: &impl Abort, alloc: Global, words: &str, many: u32) {
     let mut count = 0u32;
     for word in words.split_whitespace() {
         assert!(rt; Q::holds(alloc, word, word), "{word}");
         count = count.saturating_add(1);
     }
-    count
+    assert!(rt; count == many);
 }
 
 /// The rows, with a thousand of this digit or dash for each star.
-pub(crate) fn lengthened(alloc: Global, rows: &str, mark: &str) -> Result<String, AllocError> {
+fn lengthened(alloc: Global, rows: &str, mark: &str) -> Result<String, AllocError> {
     let many = mark.repeat(alloc, 1000)?;
     rows.replace(alloc, "*", many.as_str())
+}
+
+/// The question holds of each line of the rows, with a thousand of this digit or dash for each star.
+pub(crate) fn check_long_rows<Q: Question>(rt: &impl Abort, alloc: Global, rows: &str, mark: &str) {
+    match lengthened(alloc, rows, mark) {
+        Ok(rows) => check_rows::<Q>(rt, alloc, rows.as_str()),
+        Err(_) => panic!(rt; "out of memory"),
+    }
 }
 
 /// What the value feeds a hasher.
@@ -50,15 +93,8 @@ pub(crate) fn fed<T: Hash>(value: &T) -> u64 {
 
 /// What is left of a text that is to be written.
 #[derive(Drop)]
-pub(crate) struct Left<'a> {
-    pub(crate) text: &'a str,
-}
-
-impl Left<'_> {
-    /// Whether the value, as `{:?}` writes it, and this mark are what comes next.
-    pub(crate) fn goes_on<T: Debug>(&mut self, value: &T, mark: &str) -> bool {
-        write!(self, "{value:?}{mark}").is_ok()
-    }
+struct Left<'a> {
+    text: &'a str,
 }
 
 impl fmt::Write for Left<'_> {
@@ -123,33 +159,20 @@ pub(crate) fn prints<T: Display>(value: &T, text: &str) -> bool {
     writes(&format_args!("{value:*>60}"), text) && tells_each_fault(value)
 }
 
-pub(crate) fn custom_vendor(text: &'static str) -> Vendor {
-    Vendor::Custom(CustomVendor::Static(text))
+/// The value prints this line.
+pub(crate) fn check_line<T: Display + Drop>(rt: &impl Abort, value: T, line: &str) {
+    assert!(rt; prints(&value, line), "{line}");
 }
 
-/// The vendor of a name, or behind a quote a custom vendor with this text, whatever it is.
-fn vendor(alloc: Global, text: &'static str) -> Option<Vendor> {
-    match text.strip_prefix("'") {
-        Some(text) => Some(custom_vendor(text)),
-        None => Vendor::from_str(alloc, text).ok(),
+/// The triple that the text reads as, with a custom vendor of this name, whatever it is.
+pub(crate) fn with_vendor(alloc: Global, text: &str, name: &'static str) -> Option<Triple> {
+    match Triple::from_str(alloc, text) {
+        Ok(triple) => Some(Triple {
+            vendor: Vendor::Custom(CustomVendor::Static(name)),
+            ..triple
+        }),
+        Err(_) => None,
     }
-}
-
-/// The triple of these five names.
-pub(crate) fn built(alloc: Global, names: &'static str) -> Option<Triple> {
-    let mut words = names.split_whitespace();
-    let architecture = Architecture::from_str(words.next()?).ok()?;
-    let text = words.next()?;
-    let operating_system = OperatingSystem::from_str(words.next()?).ok()?;
-    let environment = Environment::from_str(words.next()?).ok()?;
-    let binary_format = BinaryFormat::from_str(words.next()?).ok()?;
-    Some(Triple {
-        architecture,
-        vendor: vendor(alloc, text)?,
-        operating_system,
-        environment,
-        binary_format,
-    })
 }
 
 /// The triple prints this text, and has it.

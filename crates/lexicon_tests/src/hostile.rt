@@ -1,9 +1,8 @@
 //! Texts that were made to mislead a reader, to be long, or to hold what no name holds.
 
-use crate::fixtures::{check_rows, lengthened};
+use crate::fixtures::{OfTriple, check_long_rows, check_rows};
 use crate::printing::Prints;
 use crate::reading::IsRefused;
-use std::alloc::AllocError;
 use std::process::Abort;
 
 /// A text, and behind `=` the line that tells why it is refused.
@@ -41,18 +40,14 @@ x86_64-apple-ios1.0.*=Unrecognized operating system: ios1.0.*
 x86_64-apple-ios1.2.3.*=Unrecognized operating system: ios1.2.3.*";
 
 #[test]
-fn a_number_may_be_too_long(rt: HostRuntime) -> Result<(), AllocError> {
-    let rows = lengthened(rt.alloc(), NINES, "9")?;
-    check_rows::<IsRefused>(&rt, rt.alloc(), rows.as_str());
-    Ok(())
+fn a_number_may_be_too_long(rt: HostRuntime) {
+    check_long_rows::<IsRefused>(&rt, rt.alloc(), NINES, "9");
 }
 
 /// An Apple system with a thousand zeros for each star, and what its triple prints.
 const ZEROS: &str = "x86_64-apple-darwin*23.*=x86_64-apple-darwin23.0.0";
 
 #[test]
-fn zeros_may_stand_in_front(rt: HostRuntime) -> Result<(), AllocError> {
-    let rows = lengthened(rt.alloc(), ZEROS, "0")?;
-    check_rows::<Prints>(&rt, rt.alloc(), rows.as_str());
-    Ok(())
+fn zeros_may_stand_in_front(rt: HostRuntime) {
+    check_long_rows::<OfTriple<Prints>>(&rt, rt.alloc(), ZEROS, "0");
 }

@@ -1,10 +1,9 @@
 //! JSON strings and lists, both ways.
 
-use crate::fixtures::{Question, check_rows, prints, shows};
-use crate::reading::has_values;
+use crate::fixtures::{OfValue, QuestionOf, check_line, check_rows, prints, shows};
+use crate::reading::is_answer;
 use serde_json::Value;
 use std::alloc::{AllocError, Global};
-use std::fmt::Display;
 use std::process::Abort;
 use target_lexicon::{JsonError, ListError, ParseError, Triple, list_from_json, list_to_json};
 
@@ -38,28 +37,18 @@ true=Not a text
 {}=Not a text
 [\"x86_64\"]=Not a text";
 
-fn is_answer(alloc: Global, value: &Value, want: &str) -> bool {
-    match Triple::from_json(alloc, value) {
-        Ok(triple) => has_values(&triple, want),
-        Err(error) => prints(&error, want),
-    }
-}
-
-/// The JSON text is of a value with this answer.
+/// The value has this answer.
 struct ValueAnswers;
 
-impl Question for ValueAnswers {
-    fn holds(alloc: Global, text: &str, want: &str) -> bool {
-        match Value::from_str(alloc, text) {
-            Ok(value) => is_answer(alloc, &value, want),
-            Err(_) => false,
-        }
+impl QuestionOf<Value> for ValueAnswers {
+    fn holds(alloc: Global, value: &Value, want: &str) -> bool {
+        is_answer(Triple::from_json(alloc, value), want)
     }
 }
 
 #[test]
 fn values_are_read_or_refused(rt: HostRuntime) {
-    check_rows::<ValueAnswers>(&rt, rt.alloc(), VALUES);
+    check_rows::<OfValue<ValueAnswers>>(&rt, rt.alloc(), VALUES);
 }
 
 /// A JSON text, and behind `=` what its list of triples is written as, or the line that tells why it is none.
@@ -77,71 +66,62 @@ null=Not a list
 [[\"x86_64\"]]=Element 0: Not a text
 [\"x86_64\",18446744073709551616]=Element 1: Not a text";
 
-fn is_list_answer(alloc: Global, value: &Value, want: &str) -> bool {
-    match list_from_json(alloc, value) {
-        Ok(triples) => is_written(list_to_json(alloc, &triples), want),
-        Err(error) => prints(&error, want),
-    }
-}
-
-/// The JSON text is of a list with this answer.
+/// The list has this answer.
 struct ListAnswers;
 
-impl Question for ListAnswers {
-    fn holds(alloc: Global, text: &str, want: &str) -> bool {
-        match Value::from_str(alloc, text) {
-            Ok(value) => is_list_answer(alloc, &value, want),
-            Err(_) => false,
+impl QuestionOf<Value> for ListAnswers {
+    fn holds(alloc: Global, value: &Value, want: &str) -> bool {
+        match list_from_json(alloc, value) {
+            Ok(triples) => is_written(list_to_json(alloc, &triples), want),
+            Err(error) => prints(&error, want),
         }
     }
 }
 
 #[test]
 fn lists_are_read_and_written_or_refused(rt: HostRuntime) {
-    check_rows::<ListAnswers>(&rt, rt.alloc(), LISTS);
+    check_rows::<OfValue<ListAnswers>>(&rt, rt.alloc(), LISTS);
 }
 
 /// The value is no list of triples, for this reason, as `{:?}` writes it.
-fn is_refusal(alloc: Global, value: &Value, want: &str) -> bool {
-    match list_from_json(alloc, value) {
-        Ok(_) => false,
-        Err(error) => shows(&error, want),
+struct IsRefusedAs;
+
+impl QuestionOf<Value> for IsRefusedAs {
+    fn holds(alloc: Global, value: &Value, want: &str) -> bool {
+        match list_from_json(alloc, value) {
+            Ok(_) => false,
+            Err(error) => shows(&error, want),
+        }
     }
 }
 
-/// The JSON text is no list of triples, for this reason, as `{:?}` writes it.
-fn is_refused_as(alloc: Global, text: &str, want: &str) -> bool {
-    match Value::from_str(alloc, text) {
-        Ok(value) => is_refusal(alloc, &value, want),
-        Err(_) => false,
-    }
-}
+const REFUSED: &str = "\
+[\"x86_64\",7,\"foo\"]=Element(1, NotText)
+{}=NotList";
 
 #[test]
 fn an_element_is_refused_with_its_place(rt: HostRuntime) {
-    assert!(rt; is_refused_as(rt.alloc(), "[\"x86_64\",7,\"foo\"]", "Element(1, NotText)"));
-    assert!(rt; is_refused_as(rt.alloc(), "{}", "NotList"));
-}
-
-/// The error prints this line.
-fn says<T: Display + Drop>(error: T, line: &str) -> bool {
-    prints(&error, line)
+    check_rows::<OfValue<IsRefusedAs>>(&rt, rt.alloc(), REFUSED);
 }
 
 #[test]
 fn errors_have_their_lines(rt: HostRuntime) {
-    assert!(rt; says(ParseError::OutOfMemory, "Out of memory"));
-    assert!(rt; says(JsonError::Parse(ParseError::OutOfMemory), "Out of memory"));
-    assert!(rt; says(JsonError::NotText, "Not a text"));
-    assert!(rt; says(ListError::NotList, "Not a list"));
-    assert!(rt; says(ListError::OutOfMemory, "Out of memory"));
+    check_line(&rt, ParseError::OutOfMemory, "Out of memory");
+    check_line(
+        &rt,
+        JsonError::Parse(ParseError::OutOfMemory),
+        "Out of memory",
+    );
+    check_line(&rt, JsonError::NotText, "Not a text");
+    check_line(&rt, ListError::NotList, "Not a list");
+    check_line(&rt, ListError::OutOfMemory, "Out of memory");
     let last = ListError::Element(usize::MAX, JsonError::NotText);
-    assert!(rt; says(last, "Element 18446744073709551615: Not a text"));
+    check_line(&rt, last, "Element 18446744073709551615: Not a text");
     let memory = ListError::Element(190, JsonError::Parse(ParseError::OutOfMemory));
-    assert!(rt; says(memory, "Element 190: Out of memory"));
+    check_line(&rt, memory, "Element 190: Out of memory");
 }
 
-fn differ(first: ListError, second: ListError) -> bool {
+fn differ<T: PartialEq + Drop>(first: T, second: T) -> bool {
     first != second
 }
 

@@ -1,7 +1,7 @@
 //! The known triples, from upstream's own test of round trips: each is read, its architecture is known, and it prints
 //! as itself and comes back.
 
-use crate::fixtures::{Question, check_words, prints};
+use crate::fixtures::{OfTriple, QuestionOf, check_words, prints};
 use std::alloc::Global;
 use std::process::Abort;
 use target_lexicon::{Architecture, Triple};
@@ -88,21 +88,14 @@ const OTHER_TRIPLES: &str = "x86_64-apple-ios-gnu-elf x86_64-customvendor-xros65
 /// The architecture is known, and the triple comes back and prints so.
 struct IsKnown;
 
-impl Question for IsKnown {
-    fn holds(alloc: Global, text: &str, print: &str) -> bool {
-        match Triple::from_str(alloc, text) {
-            Ok(triple) => {
-                triple.architecture != Architecture::Unknown
-                    && triple.comes_back()
-                    && prints(&triple, print)
-            }
-            Err(_) => false,
-        }
+impl QuestionOf<Triple> for IsKnown {
+    fn holds(_alloc: Global, triple: &Triple, print: &str) -> bool {
+        triple.architecture != Architecture::Unknown && triple.comes_back() && prints(triple, print)
     }
 }
 
 #[test]
 fn known_triples_print_as_themselves(rt: HostRuntime) {
-    assert!(rt; check_words::<IsKnown>(&rt, rt.alloc(), KNOWN_TRIPLES) == 260);
-    check_words::<IsKnown>(&rt, rt.alloc(), OTHER_TRIPLES);
+    check_words::<OfTriple<IsKnown>>(&rt, rt.alloc(), KNOWN_TRIPLES, 260);
+    check_words::<OfTriple<IsKnown>>(&rt, rt.alloc(), OTHER_TRIPLES, 2);
 }

@@ -212,20 +212,15 @@ macho=Macho
 wasm=Wasm
 xcoff=Xcoff";
 
-/// The name reads as this value, which prints it.
-fn is_named<T: Debug + Display + Drop + FromStr<Err = ()>>(name: &str, want: &str) -> bool {
-    match name.parse::<T>() {
-        Ok(value) => prints(&value, name) && shows(&value, want),
-        Err(()) => false,
-    }
-}
-
-/// A name reads as a value of this type, which prints it.
+/// The name reads as this value of a type, which prints it.
 struct IsNamed<T>(PhantomData<T>);
 
 impl<T: Debug + Display + Drop + FromStr<Err = ()>> Question for IsNamed<T> {
     fn holds(_alloc: Global, name: &str, want: &str) -> bool {
-        is_named::<T>(name, want)
+        match name.parse::<T>() {
+            Ok(value) => prints(&value, name) && shows(&value, want),
+            Err(()) => false,
+        }
     }
 }
 
@@ -238,15 +233,15 @@ fn every_value_has_its_name(rt: HostRuntime) {
 
 #[test]
 fn architectures_of_each_type_have_their_names(rt: HostRuntime) {
-    assert!(rt; is_named::<ArmArchitecture>("arm", "Arm"));
-    assert!(rt; is_named::<Aarch64Architecture>("aarch64", "Aarch64"));
-    assert!(rt; is_named::<X86_32Architecture>("i686", "I686"));
-    assert!(rt; is_named::<Mips32Architecture>("mips", "Mips"));
-    assert!(rt; is_named::<Mips64Architecture>("mips64", "Mips64"));
-    assert!(rt; is_named::<Riscv32Architecture>("riscv32", "Riscv32"));
-    assert!(rt; is_named::<Riscv64Architecture>("riscv64", "Riscv64"));
-    assert!(rt; is_named::<CleverArchitecture>("clever", "Clever"));
-    assert!(rt; is_named::<Z80Architecture>("z80", "Z80"));
+    check_rows::<IsNamed<ArmArchitecture>>(&rt, rt.alloc(), "arm=Arm");
+    check_rows::<IsNamed<Aarch64Architecture>>(&rt, rt.alloc(), "aarch64=Aarch64");
+    check_rows::<IsNamed<X86_32Architecture>>(&rt, rt.alloc(), "i686=I686");
+    check_rows::<IsNamed<Mips32Architecture>>(&rt, rt.alloc(), "mips=Mips");
+    check_rows::<IsNamed<Mips64Architecture>>(&rt, rt.alloc(), "mips64=Mips64");
+    check_rows::<IsNamed<Riscv32Architecture>>(&rt, rt.alloc(), "riscv32=Riscv32");
+    check_rows::<IsNamed<Riscv64Architecture>>(&rt, rt.alloc(), "riscv64=Riscv64");
+    check_rows::<IsNamed<CleverArchitecture>>(&rt, rt.alloc(), "clever=Clever");
+    check_rows::<IsNamed<Z80Architecture>>(&rt, rt.alloc(), "z80=Z80");
 }
 
 /// What an architecture is besides its byte order and width.

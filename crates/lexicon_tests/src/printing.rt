@@ -1,21 +1,17 @@
 //! What triples print, read or built, and the lines of errors.
 
-use crate::fixtures::{Question, built, check_rows, is_printed, prints};
-use std::alloc::{AllocError, Global};
+use crate::fixtures::{OfTriple, QuestionOf, check_rows, is_printed, with_vendor, writes};
+use crate::reading::is_answer;
+use std::alloc::Global;
 use std::process::Abort;
-use target_lexicon::{
-    BinaryFormat, CustomVendor, Environment, OperatingSystem, Triple, Vendor, default_binary_format,
-};
+use target_lexicon::{Triple, default_binary_format};
 
-/// The triple that the text reads as prints this.
+/// The triple prints this.
 pub(crate) struct Prints;
 
-impl Question for Prints {
-    fn holds(alloc: Global, text: &str, print: &str) -> bool {
-        match Triple::from_str(alloc, text) {
-            Ok(triple) => is_printed(alloc, &triple, print),
-            Err(_) => false,
-        }
+impl QuestionOf<Triple> for Prints {
+    fn holds(alloc: Global, triple: &Triple, print: &str) -> bool {
+        is_printed(alloc, triple, print)
     }
 }
 
@@ -56,92 +52,78 @@ x86_64-unknown-linux-unknown=x86_64-unknown-linux";
 
 #[test]
 fn read_triples_print(rt: HostRuntime) {
-    check_rows::<Prints>(&rt, rt.alloc(), READ);
+    check_rows::<OfTriple<Prints>>(&rt, rt.alloc(), READ);
 }
 
-/// The triple of these names prints this.
-fn is_built(alloc: Global, names: &'static str, print: &str) -> bool {
-    match built(alloc, names) {
-        Some(triple) => is_printed(alloc, &triple, print),
+/// As above, of texts with all five fields.
+const BUILT: &str = "\
+armv7a-unknown-none-eabihf-elf=armv7a-none-eabihf
+clever-pc-unknown-gnu-elf=clever-pc-gnu-elf
+wasm32-unknown-wasi-unknown-unknown=wasm32-wasi-unknown-unknown
+armv6k-nintendo-horizon-newlib-elf=armv6k-nintendo-3ds
+riscv32imc-espressif-espidf-gnu-coff=riscv32imc-esp-espidf
+aarch64-nintendo-horizon-unknown-elf=aarch64-nintendo-horizon
+clever-unknown-unknown-none-elf=clever-unknown-none-elf
+x86_64-apple-ios-gnu-elf=x86_64-apple-ios-gnu-elf";
+
+/// The triple of the text, with this vendor, prints this, and comes back or doesn't.
+fn is_built(alloc: Global, text: &str, vendor: &'static str, print: &str, is_back: bool) -> bool {
+    match with_vendor(alloc, text, vendor) {
+        Some(triple) => triple.comes_back() == is_back && is_printed(alloc, &triple, print),
         None => false,
     }
 }
-
-/// The five names of a triple, and behind `=` what it prints. A custom vendor stands behind a quote.
-const BUILT: &str = "\
-armv7a unknown none eabihf elf=armv7a-none-eabihf
-clever pc unknown gnu elf=clever-pc-gnu-elf
-wasm32 unknown wasi unknown unknown=wasm32-wasi-unknown-unknown
-x86_64 'customvendor linux unknown elf=x86_64-customvendor-linux
-armv6k nintendo horizon newlib elf=armv6k-nintendo-3ds
-riscv32imc espressif espidf gnu coff=riscv32imc-esp-espidf
-aarch64 nintendo horizon unknown elf=aarch64-nintendo-horizon
-clever unknown unknown none elf=clever-unknown-none-elf
-x86_64 apple ios gnu elf=x86_64-apple-ios-gnu-elf";
 
 #[test]
 fn built_triples_print(rt: HostRuntime) {
-    for row in BUILT.lines() {
-        let (names, print) = row.split_once('=').unwrap_or((row, ""));
-        assert!(rt; is_built(rt.alloc(), names, print), "{row}");
+    check_rows::<OfTriple<Prints>>(&rt, rt.alloc(), BUILT);
+    let text = "x86_64-unknown-linux-unknown-elf";
+    let print = "x86_64-customvendor-linux";
+    assert!(rt; is_built(rt.alloc(), text, "customvendor", print, true));
+}
+
+/// The name of the format that the other fields of the triple imply.
+struct Implies;
+
+impl QuestionOf<Triple> for Implies {
+    fn holds(_alloc: Global, triple: &Triple, format: &str) -> bool {
+        writes(&default_binary_format(triple), format)
     }
 }
 
-#[test]
-fn an_owned_custom_vendor_prints(rt: HostRuntime) -> Result<(), AllocError> {
-    let owned = Box::new(rt.alloc(), String::from_str(rt.alloc(), "owned")?)?;
-    assert!(rt; prints(&Vendor::Custom(CustomVendor::Owned(owned)), "owned"));
-    Ok(())
-}
+/// A text, and behind `=` the format that its other fields imply, and not the one that it has.
+const IMPLIED: &str = "\
+x86_64-unknown-linux-gnu-coff=elf
+x86_64-unknown-xros-gnu-coff=macho
+x86_64-unknown-none-gnu-coff=unknown
+x86_64-unknown-none-eabi-coff=elf";
 
-/// The other fields decide it, and not the format that the triple has.
 #[test]
 fn the_implied_format_is_of_the_other_fields(rt: HostRuntime) {
-    let mut triple = Triple::host();
-    triple.binary_format = BinaryFormat::Coff;
-    assert!(rt; default_binary_format(&triple) == BinaryFormat::Elf);
-    triple.operating_system = OperatingSystem::XROS(None);
-    assert!(rt; default_binary_format(&triple) == BinaryFormat::Macho);
-    triple.operating_system = OperatingSystem::None_;
-    assert!(rt; default_binary_format(&triple) == BinaryFormat::Unknown);
-    triple.environment = Environment::Eabi;
-    assert!(rt; default_binary_format(&triple) == BinaryFormat::Elf);
+    check_rows::<OfTriple<Implies>>(&rt, rt.alloc(), IMPLIED);
 }
 
-/// Built triples whose vendor isn't plain; what each prints; and what that reads as or why it is refused.
+/// A vendor that isn't plain, and a text; what the text's triple prints with that vendor; and what that reads as or why it
+/// is refused.
 const NOT_PLAIN: &str = "\
-x86_64 'a-b linux unknown elf=x86_64-a-b-linux=Unrecognized operating system: b
-x86_64 ' linux unknown elf=x86_64--linux=Unrecognized vendor:\u{20}
-x86_64 'apple darwin unknown macho=x86_64-apple-darwin=x86_64 apple darwin unknown macho
-x86_64 'pc windows msvc coff=x86_64-pc-windows-msvc=x86_64 pc windows msvc coff
-x86_64 'unknown-linux unknown unknown elf=x86_64-unknown-linux-unknown-elf=x86_64 unknown linux unknown elf
-x86_64 'none linux unknown elf=x86_64-none-linux=Unrecognized environment: linux";
+a-b x86_64-unknown-linux-unknown-elf=x86_64-a-b-linux=Unrecognized operating system: b
+ x86_64-unknown-linux-unknown-elf=x86_64--linux=Unrecognized vendor:\u{20}
+apple x86_64-unknown-darwin-unknown-macho=x86_64-apple-darwin=X86_64 Apple Darwin(None) Unknown Macho
+pc x86_64-unknown-windows-msvc-coff=x86_64-pc-windows-msvc=X86_64 Pc Windows Msvc Coff
+unknown-linux x86_64-unknown-unknown-unknown-elf=x86_64-unknown-linux-unknown-elf=X86_64 Unknown Linux Unknown Elf
+none x86_64-unknown-linux-unknown-elf=x86_64-none-linux=Unrecognized environment: linux";
 
-/// The triple of these names prints this, and doesn't come back.
-fn is_changed(alloc: Global, names: &'static str, print: &str) -> bool {
-    match built(alloc, names) {
-        Some(triple) => !triple.comes_back() && is_printed(alloc, &triple, print),
-        None => false,
-    }
-}
-
-/// What the text reads as, or the line that tells why it is refused.
-fn is_answer(alloc: Global, text: &str, want: &'static str) -> bool {
-    match Triple::from_str(alloc, text) {
-        Ok(read) => built(alloc, want) == Some(read),
-        Err(error) => prints(&error, want),
-    }
-}
-
-fn is_not_plain(alloc: Global, names: &'static str, rest: &'static str) -> bool {
+/// The triple of a vendor and a text prints and is read so, and doesn't come back.
+fn is_not_plain(alloc: Global, names: &'static str, rest: &str) -> bool {
+    let (vendor, text) = names.split_once(' ').unwrap_or((names, ""));
     let (print, want) = rest.split_once('=').unwrap_or((rest, ""));
-    is_changed(alloc, names, print) && is_answer(alloc, print, want)
+    is_built(alloc, text, vendor, print, false) && is_answer(Triple::from_str(alloc, print), want)
 }
 
 #[test]
 fn no_triple_comes_back_whose_vendor_is_not_plain(rt: HostRuntime) {
     for row in NOT_PLAIN.lines() {
-        let (names, rest) = row.split_once('=').unwrap_or((row, ""));
+        let (names, rest) = row.split_once('=').expect(&rt, row);
         assert!(rt; is_not_plain(rt.alloc(), names, rest), "{row}");
     }
 }

@@ -1,7 +1,7 @@
 //! What triples and data models answer.
 
 use crate::fixtures::{
-    Question, check_rows, convention_word, model_word, order_word, width_word, writes,
+    OfTriple, QuestionOf, check_rows, convention_word, model_word, order_word, width_word, writes,
 };
 use std::alloc::Global;
 use std::process::Abort;
@@ -58,30 +58,22 @@ unknown-pc-windows-gnu_ilp32=- 32 WindowsFastcall ILP32
 x86_64-customvendor-linux=little 64 SystemV LP64";
 
 /// The triple answers so.
-fn has_answers(triple: &Triple, want: &str) -> bool {
-    let order = order_word(triple.endianness());
-    let width = width_word(triple.pointer_width());
-    let convention = convention_word(triple.default_calling_convention());
-    let model = model_word(triple.data_model());
-    writes(&format_args!("{order} {width} {convention} {model}"), want)
-}
+struct HasAnswers;
 
-/// The triple that the text reads as answers so.
-struct IsAnswered;
-
-impl Question for IsAnswered {
-    fn holds(alloc: Global, text: &str, want: &str) -> bool {
-        match Triple::from_str(alloc, text) {
-            Ok(triple) => has_answers(&triple, want),
-            Err(_) => false,
-        }
+impl QuestionOf<Triple> for HasAnswers {
+    fn holds(_alloc: Global, triple: &Triple, want: &str) -> bool {
+        let order = order_word(triple.endianness());
+        let width = width_word(triple.pointer_width());
+        let convention = convention_word(triple.default_calling_convention());
+        let model = model_word(triple.data_model());
+        writes(&format_args!("{order} {width} {convention} {model}"), want)
     }
 }
 
 #[test]
 fn triples_answer(rt: HostRuntime) {
-    check_rows::<IsAnswered>(&rt, rt.alloc(), ANSWERS);
-    assert!(rt; has_answers(&Triple::unknown(), "- - - -"));
+    check_rows::<OfTriple<HasAnswers>>(&rt, rt.alloc(), ANSWERS);
+    assert!(rt; HasAnswers::holds(rt.alloc(), &Triple::unknown(), "- - - -"));
 }
 
 #[test]

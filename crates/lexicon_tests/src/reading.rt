@@ -1,19 +1,34 @@
 //! Texts that read as a triple, and texts that are refused.
 
-use crate::fixtures::{Left, Question, check_rows, lengthened, prints, tells_each_fault};
-use std::alloc::{AllocError, Global};
+use crate::fixtures::{
+    OfTriple, Question, QuestionOf, check_long_rows, check_rows, prints, tells_each_fault, writes,
+};
+use std::alloc::Global;
+use std::fmt::Display;
 use std::process::Abort;
 use target_lexicon::{JsonError, ListError, ParseError, Triple, triple};
 
 /// The five values of the triple are these, as `{:?}` writes each.
 pub(crate) fn has_values(triple: &Triple, want: &str) -> bool {
-    let mut left = Left { text: want };
-    left.goes_on(&triple.architecture, " ")
-        && left.goes_on(&triple.vendor, " ")
-        && left.goes_on(&triple.operating_system, " ")
-        && left.goes_on(&triple.environment, " ")
-        && left.goes_on(&triple.binary_format, "")
-        && left.text.is_empty()
+    writes(
+        &format_args!(
+            "{:?} {:?} {:?} {:?} {:?}",
+            triple.architecture,
+            triple.vendor,
+            triple.operating_system,
+            triple.environment,
+            triple.binary_format
+        ),
+        want,
+    )
+}
+
+/// What was read has these values, or the line tells why nothing was.
+pub(crate) fn is_answer<E: Display + Drop>(read: Result<Triple, E>, want: &str) -> bool {
+    match read {
+        Ok(triple) => has_values(&triple, want),
+        Err(error) => prints(&error, want),
+    }
 }
 
 /// A clone of the triple is equal to it, and has these values.
@@ -24,15 +39,12 @@ fn is_cloned(alloc: Global, triple: &Triple, want: &str) -> bool {
     }
 }
 
-/// The text reads as a triple of these values.
+/// The triple has these values, and so does a clone.
 struct ReadsAs;
 
-impl Question for ReadsAs {
-    fn holds(alloc: Global, text: &str, want: &str) -> bool {
-        match Triple::from_str(alloc, text) {
-            Ok(triple) => has_values(&triple, want) && is_cloned(alloc, &triple, want),
-            Err(_) => false,
-        }
+impl QuestionOf<Triple> for ReadsAs {
+    fn holds(alloc: Global, triple: &Triple, want: &str) -> bool {
+        has_values(triple, want) && is_cloned(alloc, triple, want)
     }
 }
 
@@ -80,7 +92,7 @@ wasm32-wasi=Wasm32 Unknown Wasi Unknown Wasm";
 
 #[test]
 fn texts_read_as_triples(rt: HostRuntime) {
-    check_rows::<ReadsAs>(&rt, rt.alloc(), READ);
+    check_rows::<OfTriple<ReadsAs>>(&rt, rt.alloc(), READ);
 }
 
 /// A clone of the error is equal to it, and prints this line.
@@ -168,25 +180,20 @@ x86_64*****=Unrecognized vendor:
 x86_64-unknown-linux-gnu-elf*****=Unrecognized field: ";
 
 #[test]
-fn dashes_may_be_many(rt: HostRuntime) -> Result<(), AllocError> {
-    let rows = lengthened(rt.alloc(), DASHES, "-")?;
-    check_rows::<IsRefused>(&rt, rt.alloc(), rows.as_str());
-    Ok(())
+fn dashes_may_be_many(rt: HostRuntime) {
+    check_long_rows::<IsRefused>(&rt, rt.alloc(), DASHES, "-");
 }
 
-fn is_host(read: &Result<Triple, ParseError>) -> bool {
-    matches!(read, Ok(triple) if *triple == Triple::host())
-}
-
-/// The text is refused as no architecture.
-fn has_no_architecture(read: &Result<Triple, ParseError>, text: &str) -> bool {
-    matches!(read, Err(ParseError::UnrecognizedArchitecture(part)) if part.as_str() == text)
+pub(crate) fn is_host(read: Result<Triple, ParseError>) -> bool {
+    match read {
+        Ok(triple) => triple == Triple::host(),
+        Err(_) => false,
+    }
 }
 
 #[test]
 fn the_macro_reads_its_text(rt: HostRuntime) {
-    let host = triple!(rt.alloc(), "x86_64-unknown-linux-gnu");
-    assert!(rt; is_host(&host));
+    assert!(rt; is_host(triple!(rt.alloc(), "x86_64-unknown-linux-gnu")));
     let refused = triple!(rt.alloc(), "foo",);
-    assert!(rt; has_no_architecture(&refused, "foo"));
+    assert!(rt; is_answer(refused, "Unrecognized architecture: foo"));
 }

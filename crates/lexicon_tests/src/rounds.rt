@@ -1,6 +1,6 @@
 //! Rounds: what a triple prints, read again; its normal step; and the triple that it settles as.
 
-use crate::fixtures::{Question, check_rows, custom_vendor, is_printed, shows};
+use crate::fixtures::{Question, check_rows, is_printed, shows, with_vendor};
 use std::alloc::Global;
 use std::process::Abort;
 use target_lexicon::Triple;
@@ -22,54 +22,42 @@ riscv32imc-esp-espidf-unknown=riscv32imc-esp-espidf riscv32imc-esp-espidf
 aarch64-nintendo-horizon-newlib-coff=aarch64-nintendo-horizon-coff aarch64-nintendo-horizon-coff
 clever1.0-pc-unknown-none-coff=clever1.0-pc-none-coff clever1.0-pc-none-coff";
 
-/// The text's triple prints so, and its normal step is this round.
-fn has_round(alloc: Global, text: &str, print: &str, round: &Triple) -> bool {
+/// What was read is this.
+fn is_read<T: PartialEq + Drop, E: Drop>(read: Result<T, E>, wanted: &T) -> bool {
+    match read {
+        Ok(value) => value == *wanted,
+        Err(_) => false,
+    }
+}
+
+/// The text's triple prints so, comes back exactly where that reads as it, and has what that reads as as its normal step.
+fn is_step(alloc: Global, text: &str, print: &str) -> bool {
     let Ok(triple) = Triple::from_str(alloc, text) else {
         return false;
     };
-    if !is_printed(alloc, &triple, print) || triple.comes_back() != (triple == *round) {
-        return false;
-    }
-    triple.normal() == *round
+    let is_back = is_read(Triple::from_str(alloc, print), &triple);
+    let is_printed = is_printed(alloc, &triple, print) && triple.comes_back() == is_back;
+    is_read(Triple::from_str(alloc, print), &triple.normal()) && is_printed
 }
 
-/// The text's triple prints so, and what that reads as is its normal step.
-fn is_step(alloc: Global, text: &str, print: &str) -> bool {
-    match Triple::from_str(alloc, print) {
-        Ok(round) => has_round(alloc, text, print, &round),
-        Err(_) => false,
-    }
-}
-
-/// The text's triple settles as this one.
-fn settles_as(alloc: Global, text: &str, settled: &Triple) -> bool {
-    match Triple::from_str(alloc, text) {
-        Ok(triple) => triple.settle() == *settled,
-        Err(_) => false,
-    }
-}
-
-/// The text's triple settles as that of the last print, which comes back.
+/// The text's triple settles as that of the last print.
 fn ends_at(alloc: Global, text: &str, last: &str) -> bool {
-    match Triple::from_str(alloc, last) {
-        Ok(settled) => settled.comes_back() && settles_as(alloc, text, &settled),
+    match Triple::from_str(alloc, text) {
+        Ok(triple) => is_read(Triple::from_str(alloc, last), &triple.settle()),
         Err(_) => false,
     }
 }
 
-/// The prints are those of the text's triple and of its steps.
+/// The prints are those of the text's triple and of its steps, and the last comes back.
 struct HasRounds;
 
 impl Question for HasRounds {
     fn holds(alloc: Global, text: &str, prints: &str) -> bool {
-        match prints.split_once(" ") {
-            Some((print, last)) => {
-                is_step(alloc, text, print)
-                    && is_step(alloc, print, last)
-                    && ends_at(alloc, text, last)
-            }
-            None => is_step(alloc, text, prints) && ends_at(alloc, text, prints),
-        }
+        let (print, last) = prints.split_once(" ").unwrap_or((prints, prints));
+        is_step(alloc, text, print)
+            && is_step(alloc, print, last)
+            && is_step(alloc, last, last)
+            && ends_at(alloc, text, last)
     }
 }
 
@@ -79,21 +67,18 @@ fn each_step_is_a_round(rt: HostRuntime) {
 }
 
 /// What the triple settles as has this vendor, as `{:?}` writes it.
-fn settles_with(triple: Triple, vendor: &str) -> bool {
-    if !triple.vendor.is_plain() {
-        return false;
+fn settles_with(triple: Option<Triple>, vendor: &str) -> bool {
+    match triple {
+        Some(triple) if triple.vendor.is_plain() => shows(&triple.settle().vendor, vendor),
+        _ => false,
     }
-    shows(&triple.settle().vendor, vendor)
 }
 
 /// The vendor that is kept is owned or fixed, as it was.
 #[test]
 fn a_vendor_that_is_kept_stays_owned(rt: HostRuntime) {
-    match Triple::from_str(rt.alloc(), "x86_64-foo-linux") {
-        Ok(triple) => assert!(rt; settles_with(triple, "Custom(Owned(\"foo\"))")),
-        Err(_) => panic!(rt; "refused"),
-    }
-    let mut fixed = Triple::host();
-    fixed.vendor = custom_vendor("foo");
+    let owned = Triple::from_str(rt.alloc(), "x86_64-foo-linux").ok();
+    assert!(rt; settles_with(owned, "Custom(Owned(\"foo\"))"));
+    let fixed = with_vendor(rt.alloc(), "x86_64-unknown-linux-gnu", "foo");
     assert!(rt; settles_with(fixed, "Custom(Static(\"foo\"))"));
 }

@@ -1,12 +1,14 @@
 //! Texts that name one target, and texts that don't.
 
+use crate::fixtures::{Question, check_rows};
 use std::alloc::Global;
 use std::process::Abort;
 use target_lexicon::Triple;
-use uses::{names_target, settled_text};
+use uses::{names_target, settled_text, share_key};
 
 /// Two spellings of one target each: aliases, a custom vendor, and each family that doesn't come back.
 const SAME: &str = "\
+x86_64-linux=x86_64-unknown-linux-unknown-elf
 x86_64-linux-gnu=x86_64-unknown-linux-gnu
 x86_64-apple-darwin23.6=x86_64-apple-darwin+23.6.0
 x86_64-customvendor-linux=x86_64-customvendor-linux-unknown-elf
@@ -44,27 +46,35 @@ fn are_told(alloc: Global, first: &str, second: &str, is_same: bool) -> bool {
         Triple::from_str(alloc, second),
     ) {
         (Ok(one), Ok(other)) => {
-            one.settles_as(&other) == is_same
+            let is_told = one.settles_as(&other) == is_same
                 && other.settles_as(&one) == is_same
-                && is_named(alloc, first, &other) == Some(is_same)
+                && is_named(alloc, first, &other) == Some(is_same);
+            share_key(one, other) == is_same && is_told
         }
         _ => false,
     }
 }
 
-fn check(rt: &impl Abort, alloc: Global, rows: &str, is_same: bool) {
-    for line in rows.lines() {
-        let (first, second) = line.split_once('=').unwrap_or((line, ""));
-        assert!(rt; are_told(alloc, first, second, is_same), "{line}");
-        assert!(rt;
-            have_one_text(alloc, first, second) == Some(is_same),
-            "{line}"
-        );
+/// The two texts are spellings of one target.
+struct NameOneTarget;
+
+impl Question for NameOneTarget {
+    fn holds(alloc: Global, first: &str, second: &str) -> bool {
+        are_told(alloc, first, second, true) && have_one_text(alloc, first, second) == Some(true)
+    }
+}
+
+/// The two texts are spellings of two targets.
+struct NameTwoTargets;
+
+impl Question for NameTwoTargets {
+    fn holds(alloc: Global, first: &str, second: &str) -> bool {
+        are_told(alloc, first, second, false) && have_one_text(alloc, first, second) == Some(false)
     }
 }
 
 #[test]
 fn spellings_of_one_target_settle_as_one(rt: HostRuntime) {
-    check(&rt, rt.alloc(), SAME, true);
-    check(&rt, rt.alloc(), OTHER, false);
+    check_rows::<NameOneTarget>(&rt, rt.alloc(), SAME);
+    check_rows::<NameTwoTargets>(&rt, rt.alloc(), OTHER);
 }

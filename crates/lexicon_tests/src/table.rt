@@ -76,16 +76,17 @@ impl Question for IsAsScanned {
 
 #[test]
 fn holds_what_a_scan_finds(rt: HostRuntime) {
-    assert!(rt; check_words::<IsAsScanned>(&rt, rt.alloc(), ARCHITECTURES) == 108);
-    assert!(rt; check_words::<IsAsScanned>(&rt, rt.alloc(), VENDORS) == 15);
-    assert!(rt; check_words::<IsAsScanned>(&rt, rt.alloc(), OPERATING_SYSTEMS) == 33);
-    assert!(rt; check_words::<IsAsScanned>(&rt, rt.alloc(), ENVIRONMENTS) == 35);
-    assert!(rt; check_words::<IsAsScanned>(&rt, rt.alloc(), BINARY_FORMATS) == 6);
+    check_words::<IsAsScanned>(&rt, rt.alloc(), ARCHITECTURES, 108);
+    check_words::<IsAsScanned>(&rt, rt.alloc(), VENDORS, 15);
+    check_words::<IsAsScanned>(&rt, rt.alloc(), OPERATING_SYSTEMS, 33);
+    check_words::<IsAsScanned>(&rt, rt.alloc(), ENVIRONMENTS, 35);
+    check_words::<IsAsScanned>(&rt, rt.alloc(), BINARY_FORMATS, 6);
     assert!(rt; IsAsScanned::holds(rt.alloc(), "", ""));
     check_words::<IsAsScanned>(
         &rt,
         rt.alloc(),
         "\0 a A zz é ios17 darwin AARCH64 aarch6 aarch64~ pc~ zkasm~ zkasn",
+        13,
     );
 }
 
