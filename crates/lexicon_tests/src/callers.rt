@@ -149,8 +149,7 @@ impl QuestionOf<Value> for NamesTriple {
     fn holds(alloc: Global, file: &Value, want: &str) -> bool {
         match llvm_target(alloc, file) {
             Ok(triple) => has_values(&triple, want),
-            Err(TargetFileError::NoKey) => want == "-",
-            Err(_) => false,
+            Err(error) => matches!(&error, TargetFileError::NoKey) && want == "-",
         }
     }
 }

@@ -1,7 +1,7 @@
 //! The two wrappers with a default.
 
-use crate::fixtures::{check_line, fed, shows, with_vendor};
-use std::alloc::Global;
+use crate::fixtures::{QuestionOf, check_line, feed_alike, shows, with_vendor};
+use std::alloc::{AllocError, Global};
 use std::process::Abort;
 use target_lexicon::{DefaultToHost, DefaultToUnknown, Triple};
 
@@ -15,18 +15,30 @@ fn defaults_are_the_host_and_the_unknown_triple(rt: HostRuntime) {
     );
 }
 
-/// A clone is equal, and has this vendor, as `{:?}` writes it.
-fn host_keeps(alloc: Global, host: &DefaultToHost, vendor: &str) -> bool {
-    match host.clone(alloc) {
-        Ok(copy) => copy == *host && shows(&copy.0.vendor, vendor),
-        Err(_) => false,
+/// The vendor, as `{:?}` writes it.
+struct HasVendor;
+
+impl QuestionOf<DefaultToHost> for HasVendor {
+    fn holds(_alloc: Global, host: &DefaultToHost, vendor: &str) -> bool {
+        shows(&host.0.vendor, vendor)
     }
 }
 
-/// A clone is equal, and has this vendor, as `{:?}` writes it.
-fn unknown_keeps(alloc: Global, unknown: &DefaultToUnknown, vendor: &str) -> bool {
-    match unknown.clone(alloc) {
-        Ok(copy) => copy == *unknown && shows(&copy.0.vendor, vendor),
+impl QuestionOf<DefaultToUnknown> for HasVendor {
+    fn holds(_alloc: Global, unknown: &DefaultToUnknown, vendor: &str) -> bool {
+        shows(&unknown.0.vendor, vendor)
+    }
+}
+
+/// The copy is equal to the value, and has this vendor.
+fn is_copy<Q: QuestionOf<T>, T: PartialEq + Drop>(
+    alloc: Global,
+    copy: Result<T, AllocError>,
+    value: T,
+    vendor: &str,
+) -> bool {
+    match copy {
+        Ok(copy) => copy == value && Q::holds(alloc, &copy, vendor),
         Err(_) => false,
     }
 }
@@ -43,22 +55,20 @@ fn customized(rt: &impl Abort, alloc: Global) -> Triple {
 fn a_clone_keeps_a_custom_vendor(rt: HostRuntime) {
     let vendor = "Custom(Owned(\"customvendor\"))";
     let host = DefaultToHost(customized(&rt, rt.alloc()));
-    assert!(rt; host_keeps(rt.alloc(), &host, vendor));
+    let copy = host.clone(rt.alloc());
+    assert!(rt; is_copy::<HasVendor, DefaultToHost>(rt.alloc(), copy, host, vendor));
     let unknown = DefaultToUnknown(customized(&rt, rt.alloc()));
-    assert!(rt; unknown_keeps(rt.alloc(), &unknown, vendor));
-}
-
-/// The triple is equal to that of the text with a fixed custom vendor, and feeds a hasher as that does.
-fn feeds_as(alloc: Global, triple: &Triple, text: &str, vendor: &'static str) -> bool {
-    match with_vendor(alloc, text, vendor) {
-        Some(fixed) => *triple == fixed && fed(triple) == fed(&fixed),
-        None => false,
-    }
+    let copy = unknown.clone(rt.alloc());
+    assert!(rt; is_copy::<HasVendor, DefaultToUnknown>(rt.alloc(), copy, unknown, vendor));
 }
 
 #[test]
 fn equal_triples_feed_a_hasher_alike(rt: HostRuntime) {
-    let text = "x86_64-unknown-linux-unknown-elf";
     let triple = customized(&rt, rt.alloc());
-    assert!(rt; feeds_as(rt.alloc(), &triple, text, "customvendor"));
+    let fixed = with_vendor(
+        rt.alloc(),
+        "x86_64-unknown-linux-unknown-elf",
+        "customvendor",
+    );
+    assert!(rt; feed_alike(Some(triple), fixed));
 }

@@ -22,6 +22,14 @@ pub(crate) trait QuestionOf<T> {
     fn holds(alloc: Global, value: &T, want: &str) -> bool;
 }
 
+/// What was read is this.
+pub(crate) fn is_read<T: PartialEq + Drop, E: Drop>(read: Result<T, E>, wanted: &T) -> bool {
+    match read {
+        Ok(value) => value == *wanted,
+        Err(_) => false,
+    }
+}
+
 /// Something was found, and the question holds of it.
 pub(crate) fn is_found<Q: QuestionOf<T>, T: Drop, E: Drop>(
     alloc: Global,
@@ -85,10 +93,15 @@ pub(crate) fn check_long_rows<Q: Question>(rt: &impl Abort, alloc: Global, rows:
 }
 
 /// What the value feeds a hasher.
-pub(crate) fn fed<T: Hash>(value: &T) -> u64 {
+fn fed<T: Hash>(value: &T) -> u64 {
     let mut hasher = DefaultHasher::new();
     value.hash(&mut hasher);
     hasher.finish()
+}
+
+/// Two values are equal, and feed a hasher alike.
+pub(crate) fn feed_alike<T: Hash + PartialEq + Drop>(first: T, second: T) -> bool {
+    first == second && fed(&first) == fed(&second)
 }
 
 /// What is left of a text that is to be written.

@@ -83,8 +83,8 @@ fn hosts_are_fixed(rt: HostRuntime) {
 }
 
 /// The bits of short, int, long, long long, pointer, float and double.
-fn sizes(model: CDataModel) -> [u8; 7] {
-    [
+fn check_sizes(rt: &impl Abort, model: CDataModel, bits: [u8; 7]) {
+    let sizes = [
         model.short_size().bits(),
         model.int_size().bits(),
         model.long_size().bits(),
@@ -92,16 +92,17 @@ fn sizes(model: CDataModel) -> [u8; 7] {
         model.pointer_width().bits(),
         model.float_size().bits(),
         model.double_size().bits(),
-    ]
+    ];
+    assert!(rt; sizes == bits);
 }
 
 #[test]
 fn models_have_sizes(rt: HostRuntime) {
-    assert!(rt; sizes(CDataModel::LP32) == [16, 16, 32, 64, 32, 32, 64]);
-    assert!(rt; sizes(CDataModel::ILP32) == [16, 32, 32, 64, 32, 32, 64]);
-    assert!(rt; sizes(CDataModel::LLP64) == [16, 32, 32, 64, 64, 32, 64]);
-    assert!(rt; sizes(CDataModel::LP64) == [16, 32, 64, 64, 64, 32, 64]);
-    assert!(rt; sizes(CDataModel::ILP64) == [16, 64, 64, 64, 64, 32, 64]);
+    check_sizes(&rt, CDataModel::LP32, [16, 16, 32, 64, 32, 32, 64]);
+    check_sizes(&rt, CDataModel::ILP32, [16, 32, 32, 64, 32, 32, 64]);
+    check_sizes(&rt, CDataModel::LLP64, [16, 32, 32, 64, 64, 32, 64]);
+    check_sizes(&rt, CDataModel::LP64, [16, 32, 64, 64, 64, 32, 64]);
+    check_sizes(&rt, CDataModel::ILP64, [16, 64, 64, 64, 64, 32, 64]);
 }
 
 #[test]

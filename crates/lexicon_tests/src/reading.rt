@@ -1,7 +1,8 @@
 //! Texts that read as a triple, and texts that are refused.
 
 use crate::fixtures::{
-    OfTriple, Question, QuestionOf, check_long_rows, check_rows, prints, tells_each_fault, writes,
+    OfTriple, Question, QuestionOf, check_long_rows, check_rows, is_read, prints, tells_each_fault,
+    writes,
 };
 use std::alloc::Global;
 use std::fmt::Display;
@@ -185,10 +186,7 @@ fn dashes_may_be_many(rt: HostRuntime) {
 }
 
 pub(crate) fn is_host(read: Result<Triple, ParseError>) -> bool {
-    match read {
-        Ok(triple) => triple == Triple::host(),
-        Err(_) => false,
-    }
+    is_read(read, &Triple::host())
 }
 
 #[test]

@@ -1,6 +1,6 @@
 //! Rounds: what a triple prints, read again; its normal step; and the triple that it settles as.
 
-use crate::fixtures::{Question, check_rows, is_printed, shows, with_vendor};
+use crate::fixtures::{Question, check_rows, is_printed, is_read, shows, with_vendor};
 use std::alloc::Global;
 use std::process::Abort;
 use target_lexicon::Triple;
@@ -21,14 +21,6 @@ x86_64-apple-ios1.2-unknown-unknown=x86_64-apple-ios1.2.0-unknown-unknown
 riscv32imc-esp-espidf-unknown=riscv32imc-esp-espidf riscv32imc-esp-espidf
 aarch64-nintendo-horizon-newlib-coff=aarch64-nintendo-horizon-coff aarch64-nintendo-horizon-coff
 clever1.0-pc-unknown-none-coff=clever1.0-pc-none-coff clever1.0-pc-none-coff";
-
-/// What was read is this.
-fn is_read<T: PartialEq + Drop, E: Drop>(read: Result<T, E>, wanted: &T) -> bool {
-    match read {
-        Ok(value) => value == *wanted,
-        Err(_) => false,
-    }
-}
 
 /// The text's triple prints so, comes back exactly where that reads as it, and has what that reads as as its normal step.
 fn is_step(alloc: Global, text: &str, print: &str) -> bool {
