@@ -351,7 +351,7 @@ fn texts_read_in_each_type(rt: HostRuntime) {
 
 #[test]
 fn widths_in_bits_and_bytes(rt: HostRuntime) {
-    assert!(rt; PointerWidth::U16.bits() == 16 && PointerWidth::U16.bytes() == 2);
-    assert!(rt; PointerWidth::U32.bits() == 32 && PointerWidth::U32.bytes() == 4);
-    assert!(rt; PointerWidth::U64.bits() == 64 && PointerWidth::U64.bytes() == 8);
+    let (narrow, middle, wide) = (PointerWidth::U16, PointerWidth::U32, PointerWidth::U64);
+    assert!(rt; [narrow.bits(), middle.bits(), wide.bits()] == [16, 32, 64]);
+    assert!(rt; [narrow.bytes(), middle.bytes(), wide.bytes()] == [2, 4, 8]);
 }

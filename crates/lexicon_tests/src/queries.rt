@@ -107,8 +107,18 @@ fn models_have_sizes(rt: HostRuntime) {
 
 #[test]
 fn sizes_in_bits_and_bytes(rt: HostRuntime) {
-    assert!(rt; Size::U8.bits() == 8 && Size::U8.bytes() == 1);
-    assert!(rt; Size::U16.bits() == 16 && Size::U16.bytes() == 2);
-    assert!(rt; Size::U32.bits() == 32 && Size::U32.bytes() == 4);
-    assert!(rt; Size::U64.bits() == 64 && Size::U64.bytes() == 8);
+    let bits = [
+        Size::U8.bits(),
+        Size::U16.bits(),
+        Size::U32.bits(),
+        Size::U64.bits(),
+    ];
+    assert!(rt; bits == [8, 16, 32, 64]);
+    let bytes = [
+        Size::U8.bytes(),
+        Size::U16.bytes(),
+        Size::U32.bytes(),
+        Size::U64.bytes(),
+    ];
+    assert!(rt; bytes == [1, 2, 4, 8]);
 }
