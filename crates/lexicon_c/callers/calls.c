@@ -18,7 +18,14 @@ struct row { int call; const char *text; uint32_t field, status; const char *tol
 
 static const struct row rows[] = {
     {PRINT, "wasm32-unknown-wasi", 0, LEXICON_OK, "wasm32-wasi"},
+    {PRINT, "avr-pc-linux-gnu", 0, LEXICON_OK, "avr-pc-linux-gnu"},
+    {PRINT, "x86_64-unknown-linux-gnu", 0, LEXICON_OK, "x86_64-unknown-linux-gnu"},
     {PRINT, "x86_64-foo-bar", 0, LEXICON_NO_OPERATING_SYSTEM, "bar"},
+    {PRINT, "arm64-apple-ios1.", 0, LEXICON_NO_OPERATING_SYSTEM, "ios1."},
+    {PRINT, "x86_64-linux-gnuu", 0, LEXICON_NO_ENVIRONMENT, "gnuu"},
+    {PRINT, "x86_64-gnu-linux", 0, LEXICON_NO_BINARY_FORMAT, "linux"},
+    {PRINT, "x86_64-elf-linux", 0, LEXICON_NO_FIELD, "linux"},
+    {PRINT, "x86_64-", 0, LEXICON_NO_VENDOR, ""},
     {PRINT, "\xff", 0, LEXICON_NOT_UTF8, ""},
     {PRINT, "", 0, LEXICON_NO_ARCHITECTURE, ""},
     {SETTLE, "riscv32imc-esp-espidf-elf", 0, LEXICON_OK, "riscv32imc-esp-espidf"},
@@ -92,6 +99,8 @@ static void try_all_facts(void) {
   struct lexicon_facts none = {0, 0, 0, 0, 0, 0, 0, 0, 0, 0};
   try_facts("aarch64-apple-ios17.2.1-gnu-elf", LEXICON_OK, ios);
   try_facts("s390x-unknown-linux-unknown-unknown", LEXICON_OK, mainframe);
+  mainframe.binary_format = LEXICON_WASM;
+  try_facts("s390x-ibm-linux-wasm", LEXICON_OK, mainframe);
   try_facts("x86_64-apple-darwin23.6", LEXICON_OK, mac);
   try_facts("aarch64-apple-ios17.4-gnu_ilp32", LEXICON_OK, narrow);
   try_facts("unknown", LEXICON_OK, none);

@@ -11,7 +11,6 @@ use Rattle.lexicon_c.specs.declared.facts.LexiconFacts.{LexiconFacts}
 use Rattle.lexicon_fields.specs.declared.binary_format.BinaryFormat.TheVariants as binary_format
 
 -- the number of each answer; 0 where there is none
-
 abbrev pub endianness_number : Option Endianness → ℕ
 endianness_number None = 0
 endianness_number (Some Little) = 1

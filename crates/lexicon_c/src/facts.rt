@@ -14,7 +14,7 @@ use target_lexicon::{
 
 /// What C asks of a triple. Each number is 0 where there is no answer.
 #[repr(C)]
-#[derive(Clone, Copy, PartialEq, Eq, Debug)]
+#[derive(Clone, Copy)]
 pub struct LexiconFacts {
     /// The byte order: 1 is little, 2 big.
     pub endianness: u32,
@@ -42,16 +42,7 @@ pub struct LexiconFacts {
 pub(crate) fn facts_of(triple: &Triple) -> LexiconFacts
     ensures { AreFactsOf result (values_of triple.now) }
 {
-    let version = version_of(triple.operating_system);
-    let DeploymentTarget {
-        major,
-        minor,
-        patch,
-    } = version.unwrap_or(DeploymentTarget {
-        major: 0,
-        minor: 0,
-        patch: 0,
-    });
+    let (has_version, major, minor, patch) = version_numbers(triple.operating_system);
     LexiconFacts {
         endianness: endianness_number(triple),
         pointer_bits: pointer_bits(triple),
@@ -59,10 +50,10 @@ pub(crate) fn facts_of(triple: &Triple) -> LexiconFacts
         data_model: model_number(triple),
         binary_format: format_number(triple.binary_format),
         implied_format: format_number(default_binary_format(triple)),
-        has_version: u32::from(version.is_some()),
-        major: u32::from(major),
-        minor: u32::from(minor),
-        patch: u32::from(patch),
+        has_version,
+        major,
+        minor,
+        patch,
     }
 }
 
@@ -122,6 +113,24 @@ fn format_number(format: BinaryFormat) -> u32
         BinaryFormat::Macho => 3,
         BinaryFormat::Wasm => 4,
         BinaryFormat::Xcoff => 5,
+    }
+}
+
+/// The version that an operating system holds: 1 and its three numbers; four times 0 where it holds none.
+fn version_numbers(system: OperatingSystem) -> (u32, u32, u32, u32)
+    ensures held { result.0 ≡ option_map_or (λ _. 1) (version_held system) 0 }
+    ensures major { result.1 ≡ option_map_or (λ v. v.major) (version_held system) 0 }
+    ensures minor { result.2 ≡ option_map_or (λ v. v.minor) (version_held system) 0 }
+    ensures patch { result.3 ≡ option_map_or (λ v. v.patch) (version_held system) 0 }
+{
+    match version_of(system) {
+        Some(version) => (
+            1,
+            u32::from(version.major),
+            u32::from(version.minor),
+            u32::from(version.patch),
+        ),
+        None => (0, 0, 0, 0),
     }
 }
 

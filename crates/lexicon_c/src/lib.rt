@@ -5,8 +5,6 @@ mod facts;
 mod names;
 mod read;
 mod status;
-#[cfg(test)]
-mod tests;
 mod told;
 mod utf8;
 
@@ -30,7 +28,7 @@ use status::{DONE, NO_SUCH_FIELD, NOT_UTF8, OUT_OF_MEMORY, tell_error, tell_line
 use std::alloc::Global;
 use target_lexicon::Triple;
 use target_lexicon::laws::printed_texts_are_little_longer;
-use told::{tell, tell_system};
+use told::{tell, tell_name};
 use utf8::from_utf8;
 
 /// Reads a text as a triple, and tells its printed text, or the refused part. A buffer that is `longer` bytes longer than the text
@@ -118,16 +116,9 @@ pub extern "C" fn lexicon_field(
     let Ok(text) = from_utf8(text) else {
         return NOT_UTF8;
     };
-    let triple = match Triple::from_str(alloc, text) {
-        Ok(triple) => triple,
-        Err(error) => return tell_error(&error, out, length),
-    };
-    match field {
-        0 => tell(DONE, triple.architecture.into_str().as_str(), out, length),
-        1 => tell(DONE, triple.vendor.as_str(), out, length),
-        2 => tell_system(alloc, triple.operating_system, out, length),
-        3 => tell(DONE, triple.environment.into_str().as_str(), out, length),
-        _ => tell(DONE, triple.binary_format.into_str().as_str(), out, length),
+    match Triple::from_str(alloc, text) {
+        Ok(triple) => tell_name(alloc, &triple, field, out, length),
+        Err(error) => tell_error(&error, out, length),
     }
 }
 

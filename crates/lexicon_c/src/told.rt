@@ -1,11 +1,14 @@
 //! A text on its way out.
-ghost use Rattle.std.specs.Prelude.{◌≡◌, ◌<◌, IsSome};
+ghost use Rattle.std.specs.Prelude.{◌≡◌, ◌<◌, ◌≤◌, IsSome};
 ghost use Rattle.lexicon_fields.specs.OperatingSystem.{operating_system_name, version_held};
+ghost use Rattle.target_lexicon.specs.Field.{Field, place};
+ghost use Rattle.target_lexicon.specs.Values.{values_of};
+ghost use Rattle.lexicon_c.specs.Names.{name_in, HoldsVersion};
 ghost use Rattle.lexicon_c.specs.Told.{IsTold, IsNothingTold};
 
 use crate::status::{DONE, OUT_OF_MEMORY};
 use std::alloc::Global;
-use target_lexicon::OperatingSystem;
+use target_lexicon::{OperatingSystem, Triple};
 
 /// Tells the length of a text, and the text itself where the buffer has room for all of it; answers the status.
 pub(crate) fn tell(status: u32, text: &str, out: &mut [u8], length: &mut usize) -> u32
@@ -36,5 +39,26 @@ pub(crate) fn tell_system(
             *length = 0;
             OUT_OF_MEMORY
         }
+    }
+}
+
+/// Tells the name of a triple's value in the field of this number. A version wants memory.
+pub(crate) fn tell_name(
+    alloc: Global,
+    triple: &Triple,
+    field: u32,
+    out: &mut [u8],
+    length: &mut usize,
+) -> u32
+    requires { field ≤ 4 }
+    ensures done { result ≡ 0 → (f : Field) × (place f ≡ field) × IsTold (name_in (values_of triple.now) f) out.old out.new length.new }
+    ensures memory { 0 < result → (result ≡ 8) × (field ≡ 2) × HoldsVersion triple.now.operating_system × IsNothingTold out.old out.new length.new }
+{
+    match field {
+        0 => tell(DONE, triple.architecture.into_str().as_str(), out, length),
+        1 => tell(DONE, triple.vendor.as_str(), out, length),
+        2 => tell_system(alloc, triple.operating_system, out, length),
+        3 => tell(DONE, triple.environment.into_str().as_str(), out, length),
+        _ => tell(DONE, triple.binary_format.into_str().as_str(), out, length),
     }
 }
