@@ -1,5 +1,5 @@
 -- What a compiler's driver makes of a triple: the format of its object files, and how a linker is called.
-use Rattle.std.specs.Prelude.{Option, Some, None}
+use Rattle.std.specs.Prelude.{Bool, true, false, Option, Some, None}
 use Rattle.lexicon_fields.specs.{declared.architecture.Architecture.Architecture, declared.operating_system.OperatingSystem.OperatingSystem, declared.environment.Environment.Environment}
 use Rattle.lexicon_fields.specs.declared.binary_format.BinaryFormat.{BinaryFormat}
 use Rattle.target_lexicon.specs.Values.{Values}
@@ -10,22 +10,22 @@ use Rattle.lexicon_fields.specs.declared.operating_system.OperatingSystem.TheVar
 use Rattle.lexicon_fields.specs.declared.environment.Environment.TheVariants as environment
 use Rattle.lexicon_fields.specs.declared.binary_format.BinaryFormat.TheVariants as binary_format
 
--- the format that LLVM writes for a machine without a system
-abbrev pub bare_format : Architecture → BinaryFormat
-bare_format architecture.Wasm32 = binary_format.Wasm
-bare_format architecture.Wasm64 = binary_format.Wasm
-bare_format a = binary_format.Elf
+-- whether the machine is WebAssembly's
+abbrev pub is_wasm : Architecture → Bool
+is_wasm architecture.Wasm32 = true
+is_wasm architecture.Wasm64 = true
+is_wasm a = false
 
 -- the format that LLVM writes: WebAssembly has its own, Cygwin that of Windows, and a machine without a system has one too
-abbrev pub format_for : BinaryFormat → Architecture → OperatingSystem → BinaryFormat
-format_for binary_format.Elf architecture.Wasm32 s = binary_format.Wasm
-format_for binary_format.Elf architecture.Wasm64 s = binary_format.Wasm
-format_for binary_format.Elf a operating_system.Cygwin = binary_format.Coff
-format_for binary_format.Unknown a operating_system.None_ = bare_format a
-format_for f a s = f
+abbrev pub format_for : BinaryFormat → Bool → OperatingSystem → BinaryFormat
+format_for binary_format.Elf true s = binary_format.Wasm
+format_for binary_format.Elf false operating_system.Cygwin = binary_format.Coff
+format_for binary_format.Unknown true operating_system.None_ = binary_format.Wasm
+format_for binary_format.Unknown false operating_system.None_ = binary_format.Elf
+format_for f w s = f
 
 abbrev pub object_format : Values → BinaryFormat
-object_format t = format_for t.binary_format t.architecture t.operating_system
+object_format t = format_for t.binary_format (is_wasm t.architecture) t.operating_system
 
 -- objects of Windows are linked as Microsoft's or as GNU's, by the environment
 abbrev pub coff_linker : OperatingSystem → Environment → Linker

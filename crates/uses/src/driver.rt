@@ -2,7 +2,7 @@
 ghost use Rattle.std.specs.Prelude.{◌≡◌, IfOk, IfErr};
 ghost use Rattle.target_lexicon.specs.Reading.{ReadsAs, IsFaultOf};
 ghost use Rattle.target_lexicon.specs.Values.{Values, values_of};
-ghost use Rattle.uses.specs.Driver.{bare_format, object_format, coff_linker, linker_for, linker};
+ghost use Rattle.uses.specs.Driver.{is_wasm, object_format, coff_linker, linker_for, linker};
 
 use std::alloc::Global;
 use target_lexicon::{
@@ -41,28 +41,24 @@ pub fn link_plan(alloc: Global, text: &str) -> Result<(BinaryFormat, Option<Link
 fn object_format(triple: &Triple) -> BinaryFormat
     ensures { result ≡ object_format (values_of triple.now) }
 {
-    match triple.binary_format {
-        BinaryFormat::Elf => match (triple.architecture, triple.operating_system) {
-            (Architecture::Wasm32 | Architecture::Wasm64, _) => BinaryFormat::Wasm,
-            (_, OperatingSystem::Cygwin) => BinaryFormat::Coff,
-            _ => BinaryFormat::Elf,
-        },
-        BinaryFormat::Unknown => match triple.operating_system {
-            OperatingSystem::None_ => bare_format(triple.architecture),
-            _ => BinaryFormat::Unknown,
-        },
-        own => own,
+    match (
+        triple.binary_format,
+        is_wasm(triple.architecture),
+        triple.operating_system,
+    ) {
+        (BinaryFormat::Elf, true, _) => BinaryFormat::Wasm,
+        (BinaryFormat::Elf, false, OperatingSystem::Cygwin) => BinaryFormat::Coff,
+        (BinaryFormat::Unknown, true, OperatingSystem::None_) => BinaryFormat::Wasm,
+        (BinaryFormat::Unknown, false, OperatingSystem::None_) => BinaryFormat::Elf,
+        (own, _, _) => own,
     }
 }
 
-/// The format in which LLVM writes objects for a machine without a system.
-fn bare_format(architecture: Architecture) -> BinaryFormat
-    ensures { result ≡ bare_format architecture }
+/// Whether the machine is WebAssembly's.
+fn is_wasm(architecture: Architecture) -> bool
+    ensures { result ≡ is_wasm architecture }
 {
-    match architecture {
-        Architecture::Wasm32 | Architecture::Wasm64 => BinaryFormat::Wasm,
-        _ => BinaryFormat::Elf,
-    }
+    matches!(architecture, Architecture::Wasm32 | Architecture::Wasm64)
 }
 
 /// The linker for objects of this format.
