@@ -10,13 +10,15 @@ use Rattle.target_lexicon.specs.Values.operating_system
 use Rattle.target_lexicon.specs.Values.environment
 use Rattle.target_lexicon.specs.Values.binary_format
 
--- the tests of the families but the last, one for each, with its name
+-- whether environment and format are those with which a special text reads
+abbrev pub are_newlib_elf : Environment → BinaryFormat → Bool
+are_newlib_elf environment.Newlib binary_format.Elf = true
+are_newlib_elf e f = false
 
+-- the tests of the families but the last, one for each, with its name
 abbrev pub prints_as_special : OperatingSystem → VendorValue → Architecture → Environment → BinaryFormat → Bool
-prints_as_special operating_system.Horizon (Known Nintendo) (architecture.Arm arm.Armv6k) environment.Newlib binary_format.Elf = false
-prints_as_special operating_system.Horizon (Known Nintendo) (architecture.Arm arm.Armv6k) e f = true
-prints_as_special operating_system.Espidf (Known Espressif) (architecture.Riscv32 riscv32.Riscv32imc) environment.Newlib binary_format.Elf = false
-prints_as_special operating_system.Espidf (Known Espressif) (architecture.Riscv32 riscv32.Riscv32imc) e f = true
+prints_as_special operating_system.Horizon (Known Nintendo) (architecture.Arm arm.Armv6k) e f = not (are_newlib_elf e f)
+prints_as_special operating_system.Espidf (Known Espressif) (architecture.Riscv32 riscv32.Riscv32imc) e f = not (are_newlib_elf e f)
 prints_as_special _ _ _ e f = false
 
 abbrev pub hides_newlib : Environment → OperatingSystem → VendorValue → Architecture → Bool

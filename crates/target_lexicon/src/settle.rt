@@ -5,7 +5,7 @@ ghost use Rattle.lexicon_fields.specs.Vendor.{is_plain, vendor_value};
 ghost use Rattle.lexicon_fields.specs.declared.vendor.Vendor.TheVariants.{Espressif};
 ghost use Rattle.target_lexicon.specs.FixedPoints.{settled};
 ghost use Rattle.target_lexicon.specs.Laws.{ComesBack};
-ghost use Rattle.target_lexicon.specs.NormalStep.{normal_step, prints_as_special, hides_newlib, prints_the_esp_idf_text, shows_none_alone, elf_if_unknown, is_in_no_family};
+ghost use Rattle.target_lexicon.specs.NormalStep.{normal_step, are_newlib_elf, prints_as_special, hides_newlib, prints_the_esp_idf_text, shows_none_alone, elf_if_unknown, is_in_no_family};
 ghost use Rattle.target_lexicon.specs.Printing.{text_of};
 ghost use Rattle.target_lexicon.specs.Reading.{ReadsAs};
 ghost use Rattle.target_lexicon.specs.Values.{values_of};
@@ -112,10 +112,7 @@ impl Triple {
         ensures { result ≡ prints_as_special self.now.operating_system (vendor_value self.now.vendor) self.now.architecture
             self.now.environment self.now.binary_format }
     {
-        match (self.environment, self.binary_format) {
-            (Environment::Newlib, BinaryFormat::Elf) => false,
-            _ => self.special_text().is_some(),
-        }
+        self.special_text().is_some() && !are_newlib_elf(self.environment, self.binary_format)
     }
 
     /// Whether `Newlib` isn't shown, and the text isn't special.
@@ -164,6 +161,16 @@ impl Triple {
             _ => false,
         }
     }
+}
+
+/// Whether environment and format are those with which a special text reads.
+fn are_newlib_elf(environment: Environment, binary_format: BinaryFormat) -> bool
+    ensures { result ≡ are_newlib_elf environment binary_format }
+{
+    matches!(
+        (environment, binary_format),
+        (Environment::Newlib, BinaryFormat::Elf)
+    )
 }
 
 /// The format, or `Elf` for an unknown one.
