@@ -1,6 +1,6 @@
 -- How a text goes out, into a buffer that the caller lends, with its length beside it; and how a refusal does, with a status.
 use Rattle.std.specs.Prelude.{◌≡◌, ◌⊎◌, ℕ, suc, ◌+◌, ◌≤◌, ◌<◌, List, ◌++◌, length, drop}
-use Rattle.target_lexicon.specs.{FixedPoints.longer, Reading.IsRead, Reading.IsRefusedAs, Field.place, Refusal.Lack, Refusal.Lacks, Refusal.LacksAnyField, Refusal.Refusal, Refusal.refusal_line}
+use Rattle.target_lexicon.specs.{FixedPoints.longer, Reading.IsRead, Reading.IsRefusedAs, Field.place, Refusal.Lack, Refusal.Lacks, Refusal.LacksAnyField, Refusal.Refusal}
 
 -- the text is told: its whole length always; its bytes at the front of the buffer where they all fit, the bytes behind them and a
 -- buffer that is too small being left as they were
