@@ -1,9 +1,8 @@
 //! Each call of `uses`, run once; those of two targets stand in `same_targets`.
 
-use crate::fixtures::{
-    OfTriple, OfValue, Question, QuestionOf, check_rows, is_found, prints, writes,
-};
+use crate::fixtures::{OfTriple, OfValue, QuestionOf, is_found};
 use crate::reading::{has_values, is_answer, is_host};
+use field_tests::{Question, check_rows, prints, writes};
 use serde_json::Value;
 use std::alloc::{AllocError, Global};
 use std::process::Abort;
@@ -55,7 +54,7 @@ impl Question for IsPlanned {
 
 #[test]
 fn formats_are_those_of_llvm(rt: HostRuntime) {
-    check_rows::<IsPlanned>(&rt, rt.alloc(), OTHER_FORMATS);
+    assert_eq!(rt; check_rows::<IsPlanned>(rt.alloc(), OTHER_FORMATS), Ok(()));
 }
 
 /// The target is linked so.
@@ -97,7 +96,10 @@ impl QuestionOf<Triple> for HasLayout {
 
 #[test]
 fn types_have_their_layout(rt: HostRuntime) {
-    check_rows::<OfTriple<HasLayout>>(&rt, rt.alloc(), LAYOUTS);
+    assert_eq!(rt;
+        check_rows::<OfTriple<HasLayout>>(rt.alloc(), LAYOUTS),
+        Ok(())
+    );
 }
 
 /// The words, each a text of its own.
@@ -135,7 +137,7 @@ x86_64-linux wasm32-wasi x86_64-unknown-linux foo=3: Unrecognized architecture: 
 
 #[test]
 fn a_matrix_has_each_target_once(rt: HostRuntime) {
-    check_rows::<HasMatrix>(&rt, rt.alloc(), MATRICES);
+    assert_eq!(rt; check_rows::<HasMatrix>(rt.alloc(), MATRICES), Ok(()));
 }
 
 /// A target file, and behind `=` the five values of its triple, or `-` where it has no key for it.
@@ -156,7 +158,10 @@ impl QuestionOf<Value> for NamesTriple {
 
 #[test]
 fn a_target_file_names_its_triple(rt: HostRuntime) {
-    check_rows::<OfValue<NamesTriple>>(&rt, rt.alloc(), TARGET_FILES);
+    assert_eq!(rt;
+        check_rows::<OfValue<NamesTriple>>(rt.alloc(), TARGET_FILES),
+        Ok(())
+    );
 }
 
 /// The text is found, and is this one.
@@ -188,7 +193,7 @@ impl Question for HasKey {
 
 #[test]
 fn keys_are_settled_triples(rt: HostRuntime) {
-    check_rows::<HasKey>(&rt, rt.alloc(), KEYS);
+    assert_eq!(rt; check_rows::<HasKey>(rt.alloc(), KEYS), Ok(()));
 }
 
 #[test]

@@ -1,6 +1,7 @@
 //! The two wrappers with a default.
 
-use crate::fixtures::{QuestionOf, check_line, feed_alike, shows, with_vendor};
+use crate::fixtures::{QuestionOf, check_line, with_vendor};
+use field_tests::{feed_alike, shows};
 use std::alloc::{AllocError, Global};
 use std::process::Abort;
 use target_lexicon::{DefaultToHost, DefaultToUnknown, Triple};

@@ -1,8 +1,9 @@
 //! Texts that were made to mislead a reader, to be long, or to hold what no name holds.
 
-use crate::fixtures::{OfTriple, check_long_rows, check_rows};
+use crate::fixtures::OfTriple;
 use crate::printing::Prints;
 use crate::reading::IsRefused;
+use field_tests::{check_rows, lengthened};
 use std::process::Abort;
 
 /// A text, and behind `=` the line that tells why it is refused.
@@ -29,7 +30,7 @@ armv6k-nintendo-3ds\0=Unrecognized operating system: 3ds\0";
 
 #[test]
 fn misleading_texts_are_refused(rt: HostRuntime) {
-    check_rows::<IsRefused>(&rt, rt.alloc(), REFUSED);
+    assert_eq!(rt; check_rows::<IsRefused>(rt.alloc(), REFUSED), Ok(()));
 }
 
 /// Apple systems with a thousand nines for each star, and the lines that tell why they are refused.
@@ -41,7 +42,8 @@ x86_64-apple-ios1.2.3.*=Unrecognized operating system: ios1.2.3.*";
 
 #[test]
 fn a_number_may_be_too_long(rt: HostRuntime) {
-    check_long_rows::<IsRefused>(&rt, rt.alloc(), NINES, "9");
+    let rows = lengthened(rt.alloc(), NINES, "9").expect(&rt, "memory");
+    assert_eq!(rt; check_rows::<IsRefused>(rt.alloc(), rows.as_str()), Ok(()));
 }
 
 /// An Apple system with a thousand zeros for each star, and what its triple prints.
@@ -49,5 +51,9 @@ const ZEROS: &str = "x86_64-apple-darwin*23.*=x86_64-apple-darwin23.0.0";
 
 #[test]
 fn zeros_may_stand_in_front(rt: HostRuntime) {
-    check_long_rows::<OfTriple<Prints>>(&rt, rt.alloc(), ZEROS, "0");
+    let rows = lengthened(rt.alloc(), ZEROS, "0").expect(&rt, "memory");
+    assert_eq!(rt;
+        check_rows::<OfTriple<Prints>>(rt.alloc(), rows.as_str()),
+        Ok(())
+    );
 }

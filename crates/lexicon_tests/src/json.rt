@@ -1,7 +1,8 @@
 //! JSON strings and lists, both ways.
 
-use crate::fixtures::{OfValue, QuestionOf, check_line, check_rows, prints, shows};
+use crate::fixtures::{OfValue, QuestionOf, check_line};
 use crate::reading::is_answer;
+use field_tests::{check_rows, prints, shows};
 use serde_json::Value;
 use std::alloc::{AllocError, Global};
 use std::process::Abort;
@@ -48,7 +49,10 @@ impl QuestionOf<Value> for ValueAnswers {
 
 #[test]
 fn values_are_read_or_refused(rt: HostRuntime) {
-    check_rows::<OfValue<ValueAnswers>>(&rt, rt.alloc(), VALUES);
+    assert_eq!(rt;
+        check_rows::<OfValue<ValueAnswers>>(rt.alloc(), VALUES),
+        Ok(())
+    );
 }
 
 /// A JSON text, and behind `=` what its list of triples is written as, or the line that tells why it is none.
@@ -80,7 +84,10 @@ impl QuestionOf<Value> for ListAnswers {
 
 #[test]
 fn lists_are_read_and_written_or_refused(rt: HostRuntime) {
-    check_rows::<OfValue<ListAnswers>>(&rt, rt.alloc(), LISTS);
+    assert_eq!(rt;
+        check_rows::<OfValue<ListAnswers>>(rt.alloc(), LISTS),
+        Ok(())
+    );
 }
 
 /// The value is no list of triples, for this reason, as `{:?}` writes it.
@@ -101,7 +108,10 @@ const REFUSED: &str = "\
 
 #[test]
 fn an_element_is_refused_with_its_place(rt: HostRuntime) {
-    check_rows::<OfValue<IsRefusedAs>>(&rt, rt.alloc(), REFUSED);
+    assert_eq!(rt;
+        check_rows::<OfValue<IsRefusedAs>>(rt.alloc(), REFUSED),
+        Ok(())
+    );
 }
 
 #[test]

@@ -1,7 +1,8 @@
 //! The known triples, from upstream's own test of round trips: each is read, its architecture is known, and it prints
 //! as itself and comes back.
 
-use crate::fixtures::{OfTriple, QuestionOf, check_words, prints};
+use crate::fixtures::{OfTriple, QuestionOf};
+use field_tests::{check_words, prints};
 use std::alloc::Global;
 use std::process::Abort;
 use target_lexicon::{Architecture, Triple};
@@ -96,6 +97,12 @@ impl QuestionOf<Triple> for IsKnown {
 
 #[test]
 fn known_triples_print_as_themselves(rt: HostRuntime) {
-    check_words::<OfTriple<IsKnown>>(&rt, rt.alloc(), KNOWN_TRIPLES, 260);
-    check_words::<OfTriple<IsKnown>>(&rt, rt.alloc(), OTHER_TRIPLES, 2);
+    assert_eq!(rt;
+        check_words::<OfTriple<IsKnown>>(rt.alloc(), KNOWN_TRIPLES),
+        Ok(260)
+    );
+    assert_eq!(rt;
+        check_words::<OfTriple<IsKnown>>(rt.alloc(), OTHER_TRIPLES),
+        Ok(2)
+    );
 }

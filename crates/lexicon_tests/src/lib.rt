@@ -1,5 +1,5 @@
-//! Tests of the public calls of `lexicon_fields`, `target_lexicon` and `uses`. They stand in a crate of their own, so that these
-//! aren't proved once more with them.
+//! Tests of the public calls of `target_lexicon` and `uses`. They stand in a crate of their own, so that these aren't proved once more
+//! with them.
 #![tactic(auto)]
 
 #[cfg(test)]
@@ -15,8 +15,6 @@ mod json;
 #[cfg(test)]
 mod known_triples;
 #[cfg(test)]
-mod names;
-#[cfg(test)]
 mod printing;
 #[cfg(test)]
 mod queries;
@@ -26,9 +24,3 @@ mod reading;
 mod rounds;
 #[cfg(test)]
 mod same_targets;
-#[cfg(test)]
-mod systems;
-#[cfg(test)]
-mod table;
-#[cfg(test)]
-mod vendors;

@@ -1,7 +1,8 @@
 //! What triples print, read or built, and the lines of errors.
 
-use crate::fixtures::{OfTriple, QuestionOf, check_rows, is_printed, with_vendor, writes};
+use crate::fixtures::{OfTriple, QuestionOf, is_printed, with_vendor};
 use crate::reading::is_answer;
+use field_tests::{check_rows, writes};
 use std::alloc::Global;
 use std::process::Abort;
 use target_lexicon::{Triple, default_binary_format};
@@ -59,7 +60,7 @@ x86_64-apple-ios-gnu-elf=x86_64-apple-ios-gnu-elf";
 
 #[test]
 fn read_triples_print(rt: HostRuntime) {
-    check_rows::<OfTriple<Prints>>(&rt, rt.alloc(), READ);
+    assert_eq!(rt; check_rows::<OfTriple<Prints>>(rt.alloc(), READ), Ok(()));
 }
 
 /// The triple of the text, with this vendor, prints this, and comes back or doesn't.
@@ -95,7 +96,10 @@ x86_64-unknown-none-eabi-coff=elf";
 
 #[test]
 fn the_implied_format_is_of_the_other_fields(rt: HostRuntime) {
-    check_rows::<OfTriple<Implies>>(&rt, rt.alloc(), IMPLIED);
+    assert_eq!(rt;
+        check_rows::<OfTriple<Implies>>(rt.alloc(), IMPLIED),
+        Ok(())
+    );
 }
 
 /// A vendor that isn't plain, and a text; what the text's triple prints with that vendor; and what that reads as or why it

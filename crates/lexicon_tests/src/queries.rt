@@ -1,8 +1,7 @@
 //! What triples and data models answer.
 
-use crate::fixtures::{
-    OfTriple, QuestionOf, check_rows, convention_word, model_word, order_word, width_word, writes,
-};
+use crate::fixtures::{OfTriple, QuestionOf, convention_word, model_word};
+use field_tests::{check_rows, order_word, width_word, writes};
 use std::alloc::Global;
 use std::process::Abort;
 use target_lexicon::{Architecture, CDataModel, OperatingSystem, Size, Triple};
@@ -72,7 +71,10 @@ impl QuestionOf<Triple> for HasAnswers {
 
 #[test]
 fn triples_answer(rt: HostRuntime) {
-    check_rows::<OfTriple<HasAnswers>>(&rt, rt.alloc(), ANSWERS);
+    assert_eq!(rt;
+        check_rows::<OfTriple<HasAnswers>>(rt.alloc(), ANSWERS),
+        Ok(())
+    );
     assert!(rt; HasAnswers::holds(rt.alloc(), &Triple::unknown(), "- - - -"));
 }
 

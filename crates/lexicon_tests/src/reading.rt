@@ -1,9 +1,7 @@
 //! Texts that read as a triple, and texts that are refused.
 
-use crate::fixtures::{
-    OfTriple, Question, QuestionOf, check_long_rows, check_rows, is_read, prints, tells_each_fault,
-    writes,
-};
+use crate::fixtures::{OfTriple, QuestionOf, is_read};
+use field_tests::{Question, check_rows, lengthened, prints, tells_each_fault, writes};
 use std::alloc::Global;
 use std::fmt::Display;
 use std::process::Abort;
@@ -93,7 +91,7 @@ wasm32-wasi=Wasm32 Unknown Wasi Unknown Wasm";
 
 #[test]
 fn texts_read_as_triples(rt: HostRuntime) {
-    check_rows::<OfTriple<ReadsAs>>(&rt, rt.alloc(), READ);
+    assert_eq!(rt; check_rows::<OfTriple<ReadsAs>>(rt.alloc(), READ), Ok(()));
 }
 
 /// A clone of the error is equal to it, and prints this line.
@@ -171,7 +169,7 @@ x86_64-pc-linux-gnu-elf-foo=Unrecognized field: foo";
 
 #[test]
 fn other_texts_are_refused(rt: HostRuntime) {
-    check_rows::<IsRefused>(&rt, rt.alloc(), REFUSED);
+    assert_eq!(rt; check_rows::<IsRefused>(rt.alloc(), REFUSED), Ok(()));
 }
 
 /// Texts with a thousand dashes for each star: behind nothing, behind an architecture, and behind all five fields.
@@ -182,7 +180,8 @@ x86_64-unknown-linux-gnu-elf*****=Unrecognized field: ";
 
 #[test]
 fn dashes_may_be_many(rt: HostRuntime) {
-    check_long_rows::<IsRefused>(&rt, rt.alloc(), DASHES, "-");
+    let rows = lengthened(rt.alloc(), DASHES, "-").expect(&rt, "memory");
+    assert_eq!(rt; check_rows::<IsRefused>(rt.alloc(), rows.as_str()), Ok(()));
 }
 
 pub(crate) fn is_host(read: Result<Triple, ParseError>) -> bool {

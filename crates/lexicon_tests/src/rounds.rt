@@ -1,6 +1,7 @@
 //! Rounds: what a triple prints, read again; its normal step; and the triple that it settles as.
 
-use crate::fixtures::{Question, check_rows, is_printed, is_read, shows, with_vendor};
+use crate::fixtures::{is_printed, is_read, with_vendor};
+use field_tests::{Question, check_rows, shows};
 use std::alloc::Global;
 use std::process::Abort;
 use target_lexicon::Triple;
@@ -55,7 +56,7 @@ impl Question for HasRounds {
 
 #[test]
 fn each_step_is_a_round(rt: HostRuntime) {
-    check_rows::<HasRounds>(&rt, rt.alloc(), ROUNDS);
+    assert_eq!(rt; check_rows::<HasRounds>(rt.alloc(), ROUNDS), Ok(()));
 }
 
 /// What the triple settles as has this vendor, as `{:?}` writes it.

@@ -1,6 +1,6 @@
 //! Texts that name one target, and texts that don't.
 
-use crate::fixtures::{Question, check_rows};
+use field_tests::{Question, check_rows};
 use std::alloc::Global;
 use std::process::Abort;
 use target_lexicon::Triple;
@@ -75,6 +75,6 @@ impl Question for NameTwoTargets {
 
 #[test]
 fn spellings_of_one_target_settle_as_one(rt: HostRuntime) {
-    check_rows::<NameOneTarget>(&rt, rt.alloc(), SAME);
-    check_rows::<NameTwoTargets>(&rt, rt.alloc(), OTHER);
+    assert_eq!(rt; check_rows::<NameOneTarget>(rt.alloc(), SAME), Ok(()));
+    assert_eq!(rt; check_rows::<NameTwoTargets>(rt.alloc(), OTHER), Ok(()));
 }

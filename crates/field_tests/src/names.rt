@@ -1,18 +1,18 @@
 //! The names of all values without a version, and what architectures answer: as a Rust program printed them that asks
 //! target-lexicon 0.13.5 for each of its values.
 
-use crate::fixtures::{Question, check_rows, order_word, prints, shows, width_word, writes};
+use crate::rows::{Question, check_rows, order_word, prints, shows, width_word, writes};
+use lexicon_fields::{
+    Aarch64Architecture, Architecture, ArmArchitecture, BinaryFormat, CleverArchitecture,
+    Environment, Mips32Architecture, Mips64Architecture, OperatingSystem, PointerWidth,
+    Riscv32Architecture, Riscv64Architecture, X86_32Architecture, Z80Architecture,
+};
 use std::alloc::Global;
 use std::borrow::CowStr;
 use std::fmt::{Debug, Display};
 use std::marker::PhantomData;
 use std::process::Abort;
 use std::str::FromStr;
-use target_lexicon::{
-    Aarch64Architecture, Architecture, ArmArchitecture, BinaryFormat, CleverArchitecture,
-    Environment, Mips32Architecture, Mips64Architecture, OperatingSystem, PointerWidth,
-    Riscv32Architecture, Riscv64Architecture, X86_32Architecture, Z80Architecture,
-};
 
 /// The name, and behind `=` the value, its byte order and pointer width, and whether it is Thumb or Clever.
 const ARCHITECTURES: &str = "\
@@ -226,22 +226,58 @@ impl<T: Debug + Display + Drop + FromStr<Err = ()>> Question for IsNamed<T> {
 
 #[test]
 fn every_value_has_its_name(rt: HostRuntime) {
-    check_rows::<IsNamed<OperatingSystem>>(&rt, rt.alloc(), OPERATING_SYSTEMS);
-    check_rows::<IsNamed<Environment>>(&rt, rt.alloc(), ENVIRONMENTS);
-    check_rows::<IsNamed<BinaryFormat>>(&rt, rt.alloc(), BINARY_FORMATS);
+    assert_eq!(rt;
+        check_rows::<IsNamed<OperatingSystem>>(rt.alloc(), OPERATING_SYSTEMS),
+        Ok(())
+    );
+    assert_eq!(rt;
+        check_rows::<IsNamed<Environment>>(rt.alloc(), ENVIRONMENTS),
+        Ok(())
+    );
+    assert_eq!(rt;
+        check_rows::<IsNamed<BinaryFormat>>(rt.alloc(), BINARY_FORMATS),
+        Ok(())
+    );
 }
 
 #[test]
 fn architectures_of_each_type_have_their_names(rt: HostRuntime) {
-    check_rows::<IsNamed<ArmArchitecture>>(&rt, rt.alloc(), "arm=Arm");
-    check_rows::<IsNamed<Aarch64Architecture>>(&rt, rt.alloc(), "aarch64=Aarch64");
-    check_rows::<IsNamed<X86_32Architecture>>(&rt, rt.alloc(), "i686=I686");
-    check_rows::<IsNamed<Mips32Architecture>>(&rt, rt.alloc(), "mips=Mips");
-    check_rows::<IsNamed<Mips64Architecture>>(&rt, rt.alloc(), "mips64=Mips64");
-    check_rows::<IsNamed<Riscv32Architecture>>(&rt, rt.alloc(), "riscv32=Riscv32");
-    check_rows::<IsNamed<Riscv64Architecture>>(&rt, rt.alloc(), "riscv64=Riscv64");
-    check_rows::<IsNamed<CleverArchitecture>>(&rt, rt.alloc(), "clever=Clever");
-    check_rows::<IsNamed<Z80Architecture>>(&rt, rt.alloc(), "z80=Z80");
+    assert_eq!(rt;
+        check_rows::<IsNamed<ArmArchitecture>>(rt.alloc(), "arm=Arm"),
+        Ok(())
+    );
+    assert_eq!(rt;
+        check_rows::<IsNamed<Aarch64Architecture>>(rt.alloc(), "aarch64=Aarch64"),
+        Ok(())
+    );
+    assert_eq!(rt;
+        check_rows::<IsNamed<X86_32Architecture>>(rt.alloc(), "i686=I686"),
+        Ok(())
+    );
+    assert_eq!(rt;
+        check_rows::<IsNamed<Mips32Architecture>>(rt.alloc(), "mips=Mips"),
+        Ok(())
+    );
+    assert_eq!(rt;
+        check_rows::<IsNamed<Mips64Architecture>>(rt.alloc(), "mips64=Mips64"),
+        Ok(())
+    );
+    assert_eq!(rt;
+        check_rows::<IsNamed<Riscv32Architecture>>(rt.alloc(), "riscv32=Riscv32"),
+        Ok(())
+    );
+    assert_eq!(rt;
+        check_rows::<IsNamed<Riscv64Architecture>>(rt.alloc(), "riscv64=Riscv64"),
+        Ok(())
+    );
+    assert_eq!(rt;
+        check_rows::<IsNamed<CleverArchitecture>>(rt.alloc(), "clever=Clever"),
+        Ok(())
+    );
+    assert_eq!(rt;
+        check_rows::<IsNamed<Z80Architecture>>(rt.alloc(), "z80=Z80"),
+        Ok(())
+    );
 }
 
 /// What an architecture is besides its byte order and width.
@@ -271,7 +307,10 @@ impl Question for IsArchitecture {
 
 #[test]
 fn every_architecture_has_its_name_and_answers(rt: HostRuntime) {
-    check_rows::<IsArchitecture>(&rt, rt.alloc(), ARCHITECTURES);
+    assert_eq!(rt;
+        check_rows::<IsArchitecture>(rt.alloc(), ARCHITECTURES),
+        Ok(())
+    );
 }
 
 /// A type and a text, and behind `=` the name of the value that it reads as, or `-`.
@@ -346,7 +385,7 @@ impl Question for ReadsInType {
 
 #[test]
 fn texts_read_in_each_type(rt: HostRuntime) {
-    check_rows::<ReadsInType>(&rt, rt.alloc(), READ);
+    assert_eq!(rt; check_rows::<ReadsInType>(rt.alloc(), READ), Ok(()));
 }
 
 #[test]

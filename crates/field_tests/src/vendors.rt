@@ -1,9 +1,9 @@
 //! Vendors: known, custom and none.
 
-use crate::fixtures::{Question, check_rows, feed_alike, prints, shows};
+use crate::rows::{Question, check_rows, feed_alike, prints, shows};
+use lexicon_fields::{CustomVendor, Vendor, VendorError};
 use std::alloc::Global;
 use std::process::Abort;
-use target_lexicon::{CustomVendor, Vendor, VendorError};
 
 /// The name of each known vendor, and behind `=` the vendor; and custom vendors that are read.
 const READ: &str = "\
@@ -61,7 +61,7 @@ impl Question for ReadsAs {
 
 #[test]
 fn vendors_are_read_and_named(rt: HostRuntime) {
-    check_rows::<ReadsAs>(&rt, rt.alloc(), READ);
+    assert_eq!(rt; check_rows::<ReadsAs>(rt.alloc(), READ), Ok(()));
 }
 
 /// Texts of other fields, texts of another form, and letters that only look like those of a vendor, or can't be seen.

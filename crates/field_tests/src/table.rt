@@ -3,11 +3,11 @@
 ghost use Rattle.std.specs.Prelude.{◌<◌};
 ghost use Rattle.lexicon_fields.specs.FixedRow.{row_count};
 
-use crate::fixtures::{Question, check_words};
+use crate::rows::{Question, check_words};
+use lexicon_fields::{FixedRow, KnownVendor, ROW_COUNT, Steps, fixed_row, row_order};
 use std::alloc::Global;
 use std::cmp::Ordering;
 use std::process::Abort;
-use target_lexicon::{FixedRow, KnownVendor, ROW_COUNT, Steps, fixed_row, row_order};
 
 // The fixed names of each field, in the order in which target-lexicon 0.13.5 declares its values; behind those of the
 // architectures stands the alias `arm64`.
@@ -76,17 +76,30 @@ impl Question for IsAsScanned {
 
 #[test]
 fn holds_what_a_scan_finds(rt: HostRuntime) {
-    check_words::<IsAsScanned>(&rt, rt.alloc(), ARCHITECTURES, 108);
-    check_words::<IsAsScanned>(&rt, rt.alloc(), VENDORS, 15);
-    check_words::<IsAsScanned>(&rt, rt.alloc(), OPERATING_SYSTEMS, 33);
-    check_words::<IsAsScanned>(&rt, rt.alloc(), ENVIRONMENTS, 35);
-    check_words::<IsAsScanned>(&rt, rt.alloc(), BINARY_FORMATS, 6);
+    assert_eq!(rt;
+        check_words::<IsAsScanned>(rt.alloc(), ARCHITECTURES),
+        Ok(108)
+    );
+    assert_eq!(rt; check_words::<IsAsScanned>(rt.alloc(), VENDORS), Ok(15));
+    assert_eq!(rt;
+        check_words::<IsAsScanned>(rt.alloc(), OPERATING_SYSTEMS),
+        Ok(33)
+    );
+    assert_eq!(rt;
+        check_words::<IsAsScanned>(rt.alloc(), ENVIRONMENTS),
+        Ok(35)
+    );
+    assert_eq!(rt;
+        check_words::<IsAsScanned>(rt.alloc(), BINARY_FORMATS),
+        Ok(6)
+    );
     assert!(rt; IsAsScanned::holds(rt.alloc(), "", ""));
-    check_words::<IsAsScanned>(
-        &rt,
-        rt.alloc(),
-        "\0 a A zz é ios17 darwin AARCH64 aarch6 aarch64~ pc~ zkasm~ zkasn",
-        13,
+    assert_eq!(rt;
+        check_words::<IsAsScanned>(
+            rt.alloc(),
+            "\0 a A zz é ios17 darwin AARCH64 aarch6 aarch64~ pc~ zkasm~ zkasn"
+        ),
+        Ok(13)
     );
 }
 

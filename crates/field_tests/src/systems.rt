@@ -1,10 +1,10 @@
 //! Operating systems: versions both ways.
 
-use crate::fixtures::{Question, check_long_rows, check_rows, prints};
+use crate::rows::{Question, check_rows, lengthened, prints};
+use lexicon_fields::{DeploymentTarget, OperatingSystem};
 use std::alloc::Global;
 use std::borrow::CowStr;
 use std::process::Abort;
-use target_lexicon::{DeploymentTarget, OperatingSystem};
 
 /// A text, and behind `=` the name of the system that it reads as, or nothing where it is refused; as upstream answers.
 const VERSIONS: &str = "\
@@ -111,7 +111,7 @@ impl Question for IsSystem {
 
 #[test]
 fn versions_are_read_and_named(rt: HostRuntime) {
-    check_rows::<IsSystem>(&rt, rt.alloc(), VERSIONS);
+    assert_eq!(rt; check_rows::<IsSystem>(rt.alloc(), VERSIONS), Ok(()));
 }
 
 /// As above, with a thousand zeros for each star.
@@ -121,7 +121,8 @@ tvos1.2.*256=";
 
 #[test]
 fn numbers_may_be_of_any_length(rt: HostRuntime) {
-    check_long_rows::<IsSystem>(&rt, rt.alloc(), LONG_VERSIONS, "0");
+    let rows = lengthened(rt.alloc(), LONG_VERSIONS, "0").expect(&rt, "memory");
+    assert_eq!(rt; check_rows::<IsSystem>(rt.alloc(), rows.as_str()), Ok(()));
 }
 
 fn version(major: u16, minor: u8, patch: u8) -> DeploymentTarget {
