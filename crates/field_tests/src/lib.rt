@@ -11,6 +11,8 @@ mod systems;
 mod table;
 #[cfg(test)]
 mod vendors;
+#[cfg(test)]
+mod walks;
 
 pub use rows::{
     Question, check_rows, check_words, feed_alike, lengthened, order_word, prints, shows,

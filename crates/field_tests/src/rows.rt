@@ -121,6 +121,7 @@ pub fn prints<T: Display>(value: &T, text: &str) -> bool {
     writes(&format_args!("{value:*>60}"), text) && tells_each_fault(value)
 }
 
+/// The byte order as rows write it, `-` for a refusal.
 pub fn order_word(answer: Result<Endianness, ()>) -> &'static str {
     match answer {
         Ok(Endianness::Little) => "little",
@@ -129,6 +130,7 @@ pub fn order_word(answer: Result<Endianness, ()>) -> &'static str {
     }
 }
 
+/// The pointer width in bits as rows write it, `-` for a refusal.
 pub fn width_word(answer: Result<PointerWidth, ()>) -> &'static str {
     match answer {
         Ok(PointerWidth::U16) => "16",

@@ -1,0 +1,57 @@
+//! The walks over rows name the row that doesn't hold, and each look at a value can fail.
+
+use crate::rows::{
+    Question, check_rows, check_words, feed_alike, prints, shows, tells_each_fault, writes,
+};
+use std::alloc::Global;
+use std::fmt;
+use std::fmt::{Display, Formatter, Write};
+use std::process::Abort;
+
+/// The text is what stands behind it.
+struct IsSame;
+
+impl Question for IsSame {
+    fn holds(_alloc: Global, text: &str, want: &str) -> bool {
+        text == want
+    }
+}
+
+/// The text has one byte.
+struct IsOneByte;
+
+impl Question for IsOneByte {
+    fn holds(_alloc: Global, text: &str, _want: &str) -> bool {
+        text.len() == 1
+    }
+}
+
+#[test]
+fn the_first_row_that_fails_is_named(rt: HostRuntime) {
+    let alloc = rt.alloc();
+    assert_eq!(rt; check_rows::<IsSame>(alloc, "a=a\nb=b"), Ok(()));
+    assert_eq!(rt; check_rows::<IsSame>(alloc, "a=a\nb=c\nd=e"), Err("b=c"));
+    assert_eq!(rt; check_rows::<IsSame>(alloc, "a=a\nb"), Err("b"));
+    assert_eq!(rt; check_words::<IsOneByte>(alloc, "a b"), Ok(2));
+    assert_eq!(rt; check_words::<IsOneByte>(alloc, "a bc def"), Err("bc"));
+}
+
+/// Says nothing of a fault.
+struct Deaf;
+
+impl Display for Deaf {
+    fn fmt<W: Write>(&self, f: &mut Formatter<W>) -> fmt::Result {
+        let _ = f.write_str("deaf");
+        Ok(())
+    }
+}
+
+#[test]
+fn what_isnt_so_is_seen(rt: HostRuntime) {
+    assert!(rt;
+        writes(&1u8, "1") && !writes(&1u8, "2") && !writes(&12u8, "1") && !writes(&1u8, "12")
+    );
+    assert!(rt; shows(&1u8, "1") && !shows(&1u8, "2"));
+    assert!(rt; feed_alike(1u8, 1u8) && !feed_alike(1u8, 2u8));
+    assert!(rt; writes(&Deaf, "deaf") && !tells_each_fault(&Deaf) && !prints(&Deaf, "deaf"));
+}
