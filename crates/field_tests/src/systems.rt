@@ -110,8 +110,8 @@ impl Question for IsSystem {
 }
 
 #[test]
-fn versions_are_read_and_named(rt: HostRuntime) {
-    assert_eq!(rt; check_rows::<IsSystem>(rt.alloc(), VERSIONS), Ok(()));
+fn versions_are_read_and_named(rt: HostRuntime) -> Result<(), &'static str> {
+    check_rows::<IsSystem>(rt.alloc(), VERSIONS)
 }
 
 /// As above, with a thousand zeros for each star.

@@ -74,33 +74,23 @@ impl Question for IsAsScanned {
     }
 }
 
+/// Texts without a row.
+const ROWLESS: &str = "\0 a A zz é ios17 darwin AARCH64 aarch6 aarch64~ pc~ zkasm~ zkasn";
+
 #[test]
 fn holds_what_a_scan_finds(rt: HostRuntime) {
-    assert_eq!(rt;
-        check_words::<IsAsScanned>(rt.alloc(), ARCHITECTURES),
-        Ok(108)
-    );
-    assert_eq!(rt; check_words::<IsAsScanned>(rt.alloc(), VENDORS), Ok(15));
-    assert_eq!(rt;
-        check_words::<IsAsScanned>(rt.alloc(), OPERATING_SYSTEMS),
-        Ok(33)
-    );
-    assert_eq!(rt;
-        check_words::<IsAsScanned>(rt.alloc(), ENVIRONMENTS),
-        Ok(35)
-    );
-    assert_eq!(rt;
-        check_words::<IsAsScanned>(rt.alloc(), BINARY_FORMATS),
-        Ok(6)
-    );
+    let texts = [
+        (ARCHITECTURES, 108),
+        (VENDORS, 15),
+        (OPERATING_SYSTEMS, 33),
+        (ENVIRONMENTS, 35),
+        (BINARY_FORMATS, 6),
+        (ROWLESS, 13),
+    ];
+    for (words, count) in texts {
+        assert_eq!(rt; check_words::<IsAsScanned>(rt.alloc(), words), Ok(count));
+    }
     assert!(rt; IsAsScanned::holds(rt.alloc(), "", ""));
-    assert_eq!(rt;
-        check_words::<IsAsScanned>(
-            rt.alloc(),
-            "\0 a A zz é ios17 darwin AARCH64 aarch6 aarch64~ pc~ zkasm~ zkasn"
-        ),
-        Ok(13)
-    );
 }
 
 #[test]

@@ -60,8 +60,8 @@ impl Question for ReadsAs {
 }
 
 #[test]
-fn vendors_are_read_and_named(rt: HostRuntime) {
-    assert_eq!(rt; check_rows::<ReadsAs>(rt.alloc(), READ), Ok(()));
+fn vendors_are_read_and_named(rt: HostRuntime) -> Result<(), &'static str> {
+    check_rows::<ReadsAs>(rt.alloc(), READ)
 }
 
 /// Texts of other fields, texts of another form, and letters that only look like those of a vendor, or can't be seen.

@@ -31,11 +31,17 @@ impl Question for IsOneByte {
 #[test]
 fn the_first_row_that_fails_is_named(rt: HostRuntime) {
     let alloc = rt.alloc();
-    assert_eq!(rt; check_rows::<IsSame>(alloc, "a=a\nb=b"), Ok(()));
-    assert_eq!(rt; check_rows::<IsSame>(alloc, "a=a\nb=c\nd=e"), Err("b=c"));
-    assert_eq!(rt; check_rows::<IsSame>(alloc, "a=a\nb"), Err("b"));
-    assert_eq!(rt; check_words::<IsOneByte>(alloc, "a b"), Ok(2));
-    assert_eq!(rt; check_words::<IsOneByte>(alloc, "a bc def"), Err("bc"));
+    let rows = [
+        check_rows::<IsSame>(alloc, "a=a\nb=b"),
+        check_rows::<IsSame>(alloc, "a=a\nb=c\nd=e"),
+        check_rows::<IsSame>(alloc, "a=a\nb"),
+    ];
+    assert!(rt; rows == [Ok(()), Err("b=c"), Err("b")]);
+    let words = [
+        check_words::<IsOneByte>(alloc, "a b"),
+        check_words::<IsOneByte>(alloc, "a bc def"),
+    ];
+    assert!(rt; words == [Ok(2), Err("bc")]);
 }
 
 /// Says nothing of a fault.
@@ -65,14 +71,24 @@ fn a_print_of_another_text_or_of_the_asked_width_is_seen(rt: HostRuntime) {
 }
 
 #[test]
-fn rows_are_lengthened_and_answers_have_their_words(rt: HostRuntime) {
+fn rows_are_lengthened(rt: HostRuntime) {
     let rows = lengthened(rt.alloc(), "a*=b", "-").expect(&rt, "memory");
     assert!(rt; rows.len() == 1003 && rows.starts_with("a---") && rows.ends_with("--=b"));
-    assert_eq!(rt; order_word(Ok(Endianness::Little)), "little");
-    assert_eq!(rt; order_word(Ok(Endianness::Big)), "big");
-    assert_eq!(rt; order_word(Err(())), "-");
-    assert_eq!(rt; width_word(Ok(PointerWidth::U16)), "16");
-    assert_eq!(rt; width_word(Ok(PointerWidth::U32)), "32");
-    assert_eq!(rt; width_word(Ok(PointerWidth::U64)), "64");
-    assert_eq!(rt; width_word(Err(())), "-");
+}
+
+#[test]
+fn answers_have_their_words(rt: HostRuntime) {
+    let orders = [
+        order_word(Ok(Endianness::Little)),
+        order_word(Ok(Endianness::Big)),
+        order_word(Err(())),
+    ];
+    assert!(rt; orders == ["little", "big", "-"]);
+    let widths = [
+        width_word(Ok(PointerWidth::U16)),
+        width_word(Ok(PointerWidth::U32)),
+        width_word(Ok(PointerWidth::U64)),
+        width_word(Err(())),
+    ];
+    assert!(rt; widths == ["16", "32", "64", "-"]);
 }

@@ -53,8 +53,8 @@ impl Question for IsPlanned {
 }
 
 #[test]
-fn formats_are_those_of_llvm(rt: HostRuntime) {
-    assert_eq!(rt; check_rows::<IsPlanned>(rt.alloc(), OTHER_FORMATS), Ok(()));
+fn formats_are_those_of_llvm(rt: HostRuntime) -> Result<(), &'static str> {
+    check_rows::<IsPlanned>(rt.alloc(), OTHER_FORMATS)
 }
 
 /// The target is linked so.
@@ -95,11 +95,8 @@ impl QuestionOf<Triple> for HasLayout {
 }
 
 #[test]
-fn types_have_their_layout(rt: HostRuntime) {
-    assert_eq!(rt;
-        check_rows::<OfTriple<HasLayout>>(rt.alloc(), LAYOUTS),
-        Ok(())
-    );
+fn types_have_their_layout(rt: HostRuntime) -> Result<(), &'static str> {
+    check_rows::<OfTriple<HasLayout>>(rt.alloc(), LAYOUTS)
 }
 
 /// The words, each a text of its own.
@@ -136,8 +133,8 @@ x86_64-linux wasm32-wasi x86_64-unknown-linux=wasm32-wasi
 x86_64-linux wasm32-wasi x86_64-unknown-linux foo=3: Unrecognized architecture: foo";
 
 #[test]
-fn a_matrix_has_each_target_once(rt: HostRuntime) {
-    assert_eq!(rt; check_rows::<HasMatrix>(rt.alloc(), MATRICES), Ok(()));
+fn a_matrix_has_each_target_once(rt: HostRuntime) -> Result<(), &'static str> {
+    check_rows::<HasMatrix>(rt.alloc(), MATRICES)
 }
 
 /// A target file, and behind `=` the five values of its triple, or `-` where it has no key for it.
@@ -157,11 +154,8 @@ impl QuestionOf<Value> for NamesTriple {
 }
 
 #[test]
-fn a_target_file_names_its_triple(rt: HostRuntime) {
-    assert_eq!(rt;
-        check_rows::<OfValue<NamesTriple>>(rt.alloc(), TARGET_FILES),
-        Ok(())
-    );
+fn a_target_file_names_its_triple(rt: HostRuntime) -> Result<(), &'static str> {
+    check_rows::<OfValue<NamesTriple>>(rt.alloc(), TARGET_FILES)
 }
 
 /// The text is found, and is this one.
@@ -192,8 +186,8 @@ impl Question for HasKey {
 }
 
 #[test]
-fn keys_are_settled_triples(rt: HostRuntime) {
-    assert_eq!(rt; check_rows::<HasKey>(rt.alloc(), KEYS), Ok(()));
+fn keys_are_settled_triples(rt: HostRuntime) -> Result<(), &'static str> {
+    check_rows::<HasKey>(rt.alloc(), KEYS)
 }
 
 #[test]

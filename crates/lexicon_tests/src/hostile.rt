@@ -29,8 +29,8 @@ x86_64-apple-ios1\0=Unrecognized operating system: ios1\0
 armv6k-nintendo-3ds\0=Unrecognized operating system: 3ds\0";
 
 #[test]
-fn misleading_texts_are_refused(rt: HostRuntime) {
-    assert_eq!(rt; check_rows::<IsRefused>(rt.alloc(), REFUSED), Ok(()));
+fn misleading_texts_are_refused(rt: HostRuntime) -> Result<(), &'static str> {
+    check_rows::<IsRefused>(rt.alloc(), REFUSED)
 }
 
 /// Apple systems with a thousand nines for each star, and the lines that tell why they are refused.

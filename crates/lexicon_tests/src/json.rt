@@ -48,11 +48,8 @@ impl QuestionOf<Value> for ValueAnswers {
 }
 
 #[test]
-fn values_are_read_or_refused(rt: HostRuntime) {
-    assert_eq!(rt;
-        check_rows::<OfValue<ValueAnswers>>(rt.alloc(), VALUES),
-        Ok(())
-    );
+fn values_are_read_or_refused(rt: HostRuntime) -> Result<(), &'static str> {
+    check_rows::<OfValue<ValueAnswers>>(rt.alloc(), VALUES)
 }
 
 /// A JSON text, and behind `=` what its list of triples is written as, or the line that tells why it is none.
@@ -83,11 +80,8 @@ impl QuestionOf<Value> for ListAnswers {
 }
 
 #[test]
-fn lists_are_read_and_written_or_refused(rt: HostRuntime) {
-    assert_eq!(rt;
-        check_rows::<OfValue<ListAnswers>>(rt.alloc(), LISTS),
-        Ok(())
-    );
+fn lists_are_read_and_written_or_refused(rt: HostRuntime) -> Result<(), &'static str> {
+    check_rows::<OfValue<ListAnswers>>(rt.alloc(), LISTS)
 }
 
 /// The value is no list of triples, for this reason, as `{:?}` writes it.
@@ -107,11 +101,8 @@ const REFUSED: &str = "\
 {}=NotList";
 
 #[test]
-fn an_element_is_refused_with_its_place(rt: HostRuntime) {
-    assert_eq!(rt;
-        check_rows::<OfValue<IsRefusedAs>>(rt.alloc(), REFUSED),
-        Ok(())
-    );
+fn an_element_is_refused_with_its_place(rt: HostRuntime) -> Result<(), &'static str> {
+    check_rows::<OfValue<IsRefusedAs>>(rt.alloc(), REFUSED)
 }
 
 #[test]

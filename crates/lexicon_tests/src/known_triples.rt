@@ -97,12 +97,10 @@ impl QuestionOf<Triple> for IsKnown {
 
 #[test]
 fn known_triples_print_as_themselves(rt: HostRuntime) {
-    assert_eq!(rt;
-        check_words::<OfTriple<IsKnown>>(rt.alloc(), KNOWN_TRIPLES),
-        Ok(260)
-    );
-    assert_eq!(rt;
-        check_words::<OfTriple<IsKnown>>(rt.alloc(), OTHER_TRIPLES),
-        Ok(2)
-    );
+    for (triples, count) in [(KNOWN_TRIPLES, 260), (OTHER_TRIPLES, 2)] {
+        assert_eq!(rt;
+            check_words::<OfTriple<IsKnown>>(rt.alloc(), triples),
+            Ok(count)
+        );
+    }
 }

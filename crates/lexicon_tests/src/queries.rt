@@ -70,11 +70,12 @@ impl QuestionOf<Triple> for HasAnswers {
 }
 
 #[test]
-fn triples_answer(rt: HostRuntime) {
-    assert_eq!(rt;
-        check_rows::<OfTriple<HasAnswers>>(rt.alloc(), ANSWERS),
-        Ok(())
-    );
+fn triples_answer(rt: HostRuntime) -> Result<(), &'static str> {
+    check_rows::<OfTriple<HasAnswers>>(rt.alloc(), ANSWERS)
+}
+
+#[test]
+fn the_unknown_triple_answers_nothing(rt: HostRuntime) {
     assert!(rt; HasAnswers::holds(rt.alloc(), &Triple::unknown(), "- - - -"));
 }
 

@@ -24,6 +24,17 @@ const NO_VENDORS: &str =
     ",9foo,_foo,.foo,Foo,foO,foo-bar,fo o,é,foé,x86_64,linux,gnu,elf,ios,darwin23.6.0,unknown-foo";
 
 pub(crate) fn tell_free(rt: &impl Print, alloc: Global) {
+    tell_texts(rt, alloc);
+    let refusal = ParseError::OutOfMemory;
+    tell(rt, "ParseError::clone", &refusal, &refusal.clone(alloc));
+    tell_custom(rt, alloc, &CustomVendor::Static("foo"));
+    tell_vendor(rt, alloc, &Vendor::Custom(CustomVendor::Static("foo")));
+    tell_clones(rt, alloc, Vendor::Nintendo);
+    tell_clones(rt, alloc, Vendor::Custom(CustomVendor::Static("foo")));
+}
+
+/// Of the texts of vendors and of operating systems.
+fn tell_texts(rt: &impl Print, alloc: Global) {
     for text in VENDORS.split(' ') {
         tell_known(rt, alloc, text);
     }
@@ -33,12 +44,6 @@ pub(crate) fn tell_free(rt: &impl Print, alloc: Global) {
     for text in SYSTEMS.split(' ') {
         tell_named(rt, alloc, text);
     }
-    let refusal = ParseError::OutOfMemory;
-    tell(rt, "ParseError::clone", &refusal, &refusal.clone(alloc));
-    tell_custom(rt, alloc, &CustomVendor::Static("foo"));
-    tell_vendor(rt, alloc, &Vendor::Custom(CustomVendor::Static("foo")));
-    tell_clones(rt, alloc, Vendor::Nintendo);
-    tell_clones(rt, alloc, Vendor::Custom(CustomVendor::Static("foo")));
 }
 
 fn tell_known(rt: &impl Print, alloc: Global, text: &str) {

@@ -27,7 +27,6 @@ impl Triple {
     /// - The text is `riscv32imc-esp-espidf`, but the vendor is the custom `esp`.
     /// - On Clever with an unknown system, the environment is `None`, which reads as the system.
     /// - The vendor isn't plain.
-    #[tactic(auto, using(crate::proofs::Fixed::back_by_tests, crate::proofs::Fixed::tests_by_back))]
     pub fn comes_back(&self) -> bool
         ensures { (result ≡ true) ↔ ComesBack (values_of self.now) }
     {

@@ -226,19 +226,29 @@ fn is_of_kind(error: Option<io::Error>, kind: ErrorKind) -> bool {
     }
 }
 
+/// Whether a read that fails is handed on, after one read of the device.
+fn hands_on_read(kind: ErrorKind) -> bool {
+    let mut reader = Counted::new(Drip::new(b"a", 0, Oddity::Error(kind)));
+    let is_told = is_of_kind(reader.read(&mut [0u8; 4]).err(), kind);
+    is_told && reader.into_inner().reads == 1
+}
+
+/// Whether a write and a flush that fail are handed on, after one of each.
+fn hands_on_write(alloc: Global, kind: ErrorKind) -> bool {
+    let mut gate = Gate::narrow(alloc, 0, Oddity::Error(kind));
+    gate.flushes = Err(kind);
+    let mut writer = Counted::new(gate);
+    let is_told = is_of_kind(writer.write(b"a").err(), kind);
+    let is_flush_told = is_of_kind(writer.flush().err(), kind);
+    let gate = writer.into_inner();
+    is_told && is_flush_told && gate.writes == 1 && gate.flushed == 1
+}
+
 #[test]
 fn counted_devices_answer_as_their_devices(rt: HostRuntime) {
     for kind in ERRORS {
-        let mut reader = Counted::new(Drip::new(b"a", 0, Oddity::Error(kind)));
-        assert!(rt; is_of_kind(reader.read(&mut [0u8; 4]).err(), kind));
-        assert!(rt; reader.into_inner().reads == 1);
-        let mut gate = Gate::narrow(rt.alloc(), 0, Oddity::Error(kind));
-        gate.flushes = Err(kind);
-        let mut writer = Counted::new(gate);
-        assert!(rt; is_of_kind(writer.write(b"a").err(), kind));
-        assert!(rt; is_of_kind(writer.flush().err(), kind));
-        let gate = writer.into_inner();
-        assert!(rt; gate.writes == 1 && gate.flushed == 1);
+        assert!(rt; hands_on_read(kind), "{kind:?}");
+        assert!(rt; hands_on_write(rt.alloc(), kind), "{kind:?}");
     }
 }
 

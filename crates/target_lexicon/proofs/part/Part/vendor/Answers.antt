@@ -13,5 +13,8 @@ returns-in-None-vendor-clause-ok c = sym (ap (option_map Known) c.in-None-vendor
 pub returns-in-Ok-clause-owned : goal.returns-in-Ok-clause-owned
 returns-in-Ok-clause-owned c = owns_custom_text c.args.self.now.text.now c.in-Ok.vendor c.in-Ok.ensures.ok c.in-Ok.ensures.owned
 
+pub returns-in-Err-OutOfMemory-clause-ok : goal.returns-in-Err-OutOfMemory-clause-ok
+returns-in-Err-OutOfMemory-clause-ok c = tt
+
 pub of_rowless-requires : goal.of_rowless-requires
 of_rowless-requires c = rowless c.args.self.now.text.now _ c.args.self.now.looked_up c.in-None.is

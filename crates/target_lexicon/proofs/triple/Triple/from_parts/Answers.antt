@@ -1,4 +1,4 @@
-use Rattle.std.proofs.Common.{◌≡◌, ℕ, List, [], ◌∷◌, Result, Ok, Err, refl, sym, ◌∙◌, subst}
+use Rattle.std.proofs.Common.{◌≡◌, ℕ, List, [], ◌∷◌, Result, Ok, Err, refl, sym, ◌∙◌, subst, rules}
 use Rattle.std.specs.Prelude.{IsErrAnd}
 use Rattle.lexicon_fields.specs.{declared.known_vendor.KnownVendor.TheVariants.Unknown, Vendor.IsCustom, Vendor.vendor_of}
 use Rattle.target_lexicon.specs.{Values.Known, Values.Values, ReadingByFields.IsAnswerOf, ReadingByFields.finish, ReadingByFields.take_part, Field.Field, Field.Architecture, Field.Vendor}
@@ -17,3 +17,12 @@ pub returns-in_err-vendor-clause-answer : goal.returns-in_err-vendor-clause-answ
 returns-in_err-vendor-clause-answer c =
     let custom = subst (λ parts. IsCustom (take_part Vendor vendor_of (Known Unknown) Architecture parts).0) c.next.ensures c.in_err-vendor.ensures.memory in
     rw (sym c.architecture.ensures ∙ c.in-Some.is) (memory_answers _ _ _ _ c.from_residual-in_err-vendor.ensures.1 custom)
+
+pub returns-in_err-part-2-clause-answer : goal.returns-in_err-part-2-clause-answer
+returns-in_err-part-2-clause-answer c = search rules
+
+pub returns-in-Some-parts-clause-answer : goal.returns-in-Some-parts-clause-answer
+returns-in-Some-parts-clause-answer c = search rules
+
+pub returns-clause-answer : goal.returns-clause-answer
+returns-clause-answer c = search rules

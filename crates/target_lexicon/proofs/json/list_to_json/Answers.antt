@@ -1,0 +1,6 @@
+use Rattle.std.proofs.Common.{arith}
+use Rattle.std.proofs.lemmas.Grind.{common_steps}
+use Rattle.target_lexicon.proofs.json.list_to_json.Goals as goal
+
+pub loop-triple-preserved : goal.loop-triple-preserved
+loop-triple-preserved c = grind (arith, common_steps)
