@@ -11,8 +11,7 @@ use Rattle.std.proofs.lemmas.Map.Text.{is_eq-slice_cmp}
 use Rattle.std.proofs.lemmas.Map.Views.{Contains-from_any, list_any-from_Contains}
 use Rattle.std.proofs.lemmas.Option.{get_or_from_slice_get, slice_get-get_or}
 use Rattle.std.proofs.lemmas.Slice.Eq.{bytes_eq-Decides}
-use Rattle.lexicon_fields.specs.{Names.named, Architecture.architecture_of, declared.known_vendor.KnownVendor.KnownVendor, Vendor.known_name, Vendor.known_vendors, Vendor.known_vendor_of}
-use Rattle.lexicon_fields.specs.{declared.operating_system.OperatingSystem.OperatingSystem, Environment.environment_of, BinaryFormat.binary_format_of}
+use Rattle.lexicon_fields.specs.{Names.named, Architecture.architecture_of, declared.known_vendor.KnownVendor.KnownVendor, Vendor.known_name, Vendor.known_vendors, Vendor.known_vendor_of, declared.operating_system.OperatingSystem.OperatingSystem, Environment.environment_of, BinaryFormat.binary_format_of}
 use Rattle.lexicon_fields.specs.OperatingSystem.{operating_system_name, operating_system_of, darwin_prefixes, darwin_like_by, fixed_operating_systems, fixed_operating_system_of}
 use Rattle.lexicon_fields.specs.FixedRow.{has_row, row_count, row_texts, row_text}
 use Rattle.lexicon_fields.proofs.{LookUps.value_of-passes, LookUps.option_or-none, LookUps.none_is, RowTexts.is_row_text, RowTexts.row_text-passes, RowTexts.length-row_texts}

@@ -2,15 +2,12 @@
 use Rattle.std.proofs.Common.{◌≡◌, ℕ, ◌≤◌, List, [], ◌∷◌, true, false, nat_eq, refl, ◌∙◌, ap, subst, Option, Some, None, Result, Ok, Err, arith, inl, inr, ◌↔◌, ◌⊎◌}
 use Rattle.std.specs.Prelude.{MatchResult, is_some}
 use Rattle.lexicon_fields.specs.{declared.architecture.Architecture.Architecture as AnyArchitecture, declared.operating_system.OperatingSystem.OperatingSystem as AnySystem, Environment.environment_of}
-use Rattle.lexicon_fields.specs.{declared.environment.Environment.Environment as AnyEnvironment, Architecture.architecture_of, declared.known_vendor.KnownVendor.TheVariants.Unknown, Vendor.vendor_of}
-use Rattle.lexicon_fields.specs.{OperatingSystem.operating_system_of, BinaryFormat.binary_format_of}
-use Rattle.target_lexicon.specs.{Values.VendorValue, Values.Known, Values.Values, Values.values, ImpliedFormat.implied_format, Laws.OneOutcomeEach, Laws.ReadingIsComputed, SpecialTexts.special_values}
-use Rattle.target_lexicon.specs.{Placement.parts_of, Placement.IsPlacedBehind, Refusal.Refusal, Refusal.refused}
+use Rattle.lexicon_fields.specs.{declared.environment.Environment.Environment as AnyEnvironment, Architecture.architecture_of, declared.known_vendor.KnownVendor.TheVariants.Unknown, Vendor.vendor_of, OperatingSystem.operating_system_of, BinaryFormat.binary_format_of}
+use Rattle.target_lexicon.specs.{Values.VendorValue, Values.Known, Values.Values, Values.values, ImpliedFormat.implied_format, Laws.OneOutcomeEach, Laws.ReadingIsComputed, SpecialTexts.special_values, Placement.parts_of, Placement.IsPlacedBehind, Refusal.Refusal, Refusal.refused}
 use Rattle.target_lexicon.specs.Field.{Field, Architecture, Vendor, OperatingSystem, Environment, BinaryFormat, place, reads}
 use Rattle.target_lexicon.specs.Reading.{part_at, IsValueOf, HoldsParts, ReadsAs, IsRefusal, IsRefusedAs, IsRefused, lack_behind, last_of}
 use Rattle.target_lexicon.specs.ReadingByFields.{taken, take_part, finish, read_binary_format, read_environment, read_operating_system, read_vendor, read_behind, read_parts, read_unless_special, reading}
-use Rattle.target_lexicon.proofs.{Cuts.parts_of-are, Cuts.parts_of-some, Greedy.Follows, Greedy.filled, Greedy.unread, Greedy.filled-placed, Greedy.behind_architecture, Greedy.greedy-least}
-use Rattle.target_lexicon.proofs.{Refused.first-refused, Refused.left-refused, Unique.values_unique, Unique.refusal_unique, Unique.read_not_refused}
+use Rattle.target_lexicon.proofs.{Cuts.parts_of-are, Cuts.parts_of-some, Greedy.Follows, Greedy.filled, Greedy.unread, Greedy.filled-placed, Greedy.behind_architecture, Greedy.greedy-least, Refused.first-refused, Refused.left-refused, Unique.values_unique, Unique.refusal_unique, Unique.read_not_refused}
 use Rattle.target_lexicon.specs.Values.operating_system
 use Rattle.target_lexicon.specs.Values.environment
 

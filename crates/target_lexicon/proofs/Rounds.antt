@@ -5,9 +5,8 @@ use Rattle.target_lexicon.specs.{Field.Field, ImpliedFormat.implied, ImpliedForm
 use Rattle.target_lexicon.specs.NormalStep.{normal_step, hides_newlib, prints_the_esp_idf_text, shows_none_alone, elf_if_unknown}
 use Rattle.target_lexicon.specs.Printing.{shows_vendor, goes_without_vendor, shows_operating_system, shows_environment, shows_binary_format, shows_unknowns, same_format, shown_parts, when}
 use Rattle.target_lexicon.specs.ReadingByFields.{read_parts, read_vendor, read_operating_system, read_environment}
-use Rattle.lexicon_fields.specs.{declared.architecture.clever.CleverArchitecture.CleverArchitecture, Architecture.architecture_name, Laws.HasVersionInRange, Vendor.vendor_name, Vendor.is_plain}
+use Rattle.lexicon_fields.specs.{declared.architecture.clever.CleverArchitecture.CleverArchitecture, Architecture.architecture_name, Laws.HasVersionInRange, Vendor.vendor_name, Vendor.is_plain, Environment.environment_name, BinaryFormat.binary_format_name}
 use Rattle.lexicon_fields.specs.declared.known_vendor.KnownVendor.TheVariants.{Unknown, Nintendo, Espressif}
-use Rattle.lexicon_fields.specs.{Environment.environment_name, BinaryFormat.binary_format_name}
 use Rattle.std.proofs.lemmas.Bool.{not-false, or_parts}
 use Rattle.std.proofs.lemmas.Bool.Decides.{not_from_Decides}
 use Rattle.target_lexicon.proofs.NamesAcross.{NamesAreRead, environment_of-format, operating_system_of-format, operating_system_of-environment, vendor_of-operating_system, system_as_vendor}

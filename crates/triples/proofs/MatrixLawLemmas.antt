@@ -8,8 +8,7 @@ use Rattle.std.proofs.lemmas.Slice.Eq.{bytes_eq-Decides}
 use Rattle.std.specs.Cmp.Lexicographic.{same_text}
 use Rattle.std.specs.List.{filter, list_any}
 use Rattle.std.specs.Str.{bytes_eq}
-use Rattle.target_lexicon.specs.{FixedPoints.ReadTriplesArePlain, FixedPoints.RoundIsNormalStep, FixedPoints.SettledTextsAreKeys, FixedPoints.settled, FixedPoints.settled_text, NormalStep.normal_step}
-use Rattle.target_lexicon.specs.{Laws.OneOutcomeEach, Printing.text_of, Reading.ReadsAs, Values.Values}
+use Rattle.target_lexicon.specs.{FixedPoints.ReadTriplesArePlain, FixedPoints.RoundIsNormalStep, FixedPoints.SettledTextsAreKeys, FixedPoints.settled, FixedPoints.settled_text, NormalStep.normal_step, Laws.OneOutcomeEach, Printing.text_of, Reading.ReadsAs, Values.Values}
 use Rattle.triples.specs.MatrixLaws.{EntriesAreSettledTriples, entries_of, is_refusal, FirstEntriesStayInOrder, EachSettledTripleIsThere, entries_alone, MatricesAreTheirOwn}
 use Rattle.triples.specs.Output.{Answer, Shown, Refused, IsAnswer, AreAnswers, shows, stays_behind, staying_behind, matrix_of, answer_bytes}
 use Rattle.triples.proofs.AnswerLemmas.{if_stays, push-any, staying-push}

@@ -1,9 +1,8 @@
 use Rattle.std.proofs.Common.{◌≡◌, ◌++◌, ◌∙◌, Option, Some, None, IfSome, arith, refl, sym, ap}
 use Rattle.std.specs.Hash.{HashWrites, le_bytes, option, usize, str}
 use Rattle.lexicon_fields.specs.declared.architecture.Architecture.TheVariants.{Arm, Aarch64, X86_32, Mips32, Mips64, Riscv32, Riscv64, Clever, Z80}
-use Rattle.lexicon_fields.specs.{declared.deployment_target.DeploymentTarget.DeploymentTarget, declared.vendor.CustomVendor.CustomVendor, declared.vendor.Vendor.Vendor}
+use Rattle.lexicon_fields.specs.{declared.deployment_target.DeploymentTarget.DeploymentTarget, declared.vendor.CustomVendor.CustomVendor, declared.vendor.Vendor.Vendor, Laws.FeedsOfTell, Laws.IsVersionInRange, Vendor.VendorValue, Vendor.Known, Vendor.Custom, Vendor.custom_text, Vendor.vendor_value}
 use Rattle.lexicon_fields.specs.declared.operating_system.OperatingSystem.TheVariants.{Darwin, IOS, MacOSX, TvOS, VisionOS, WatchOS, XROS}
-use Rattle.lexicon_fields.specs.{Laws.FeedsOfTell, Laws.IsVersionInRange, Vendor.VendorValue, Vendor.Known, Vendor.Custom, Vendor.custom_text, Vendor.vendor_value}
 use Rattle.lexicon_fields.proofs.Feeds.{Tells, behind_first, first_write, first_byte, same_u16, feeds_of_tell, bare_feeds, enum_feeds, variants_tell, one_field}
 use denote.Enum.Declared.{tag_of}
 use Rattle.lexicon_fields.specs.declared.vendor.Vendor.TheVariants as vendors

@@ -1,7 +1,6 @@
 use Rattle.std.proofs.Common.{◌≡◌, ℕ, List, Option, Some, None, Ok, Err, inl, inr, refl}
 use Rattle.std.specs.Prelude.{MatchOption}
-use Rattle.target_lexicon.specs.{declared.parse_error.ParseError.ParseError, ReadingByFields.AnswersAreComputed, ReadingByFields.IsAnswerOf, ReadingByFields.reading, Values.values_of}
-use Rattle.target_lexicon.specs.{Reading.IsRefusedAs, Reading.MayWantMemory, Refusal.Refusal, Refusal.refusal_of}
+use Rattle.target_lexicon.specs.{declared.parse_error.ParseError.ParseError, ReadingByFields.AnswersAreComputed, ReadingByFields.IsAnswerOf, ReadingByFields.reading, Values.values_of, Reading.IsRefusedAs, Reading.MayWantMemory, Refusal.Refusal, Refusal.refusal_of}
 use Rattle.target_lexicon.proofs.Computed.{reading_computed}
 use Rattle.target_lexicon.proofs.laws.answers_are_computed.Goals as goal
 

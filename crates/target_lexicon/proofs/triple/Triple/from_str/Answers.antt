@@ -1,8 +1,7 @@
 use Rattle.std.proofs.Common.{◌≡◌, ℕ, List, Option, Some, None, Result, Ok, Err, refl, sym, inl, inr}
 use Rattle.std.specs.Prelude.{IfOk, IfErr, IfSome, MatchOption}
 use Rattle.std.proofs.lemmas.Result.{IfOk-weaker}
-use Rattle.target_lexicon.specs.{declared.parse_error.ParseError.ParseError, declared.triple.Triple.Triple, ReadingByFields.IsAnswerOf, Refusal.Refusal, Refusal.refusal_of}
-use Rattle.target_lexicon.specs.{Reading.ReadsAs, Reading.IsRefusedAs, Reading.MayWantMemory, Reading.IsFaultOf, Values.Values, Values.values_of}
+use Rattle.target_lexicon.specs.{declared.parse_error.ParseError.ParseError, declared.triple.Triple.Triple, ReadingByFields.IsAnswerOf, Refusal.Refusal, Refusal.refusal_of, Reading.ReadsAs, Reading.IsRefusedAs, Reading.MayWantMemory, Reading.IsFaultOf, Values.Values, Values.values_of}
 use Rattle.target_lexicon.proofs.{Computed.Holds, Computed.parts-hold, ReadValues.read_plain}
 use Rattle.target_lexicon.proofs.triple.Triple.from_str.Goals as goal
 

@@ -1,0 +1,4 @@
+use Rattle.lexicon_fields.proofs.table.order_by_front.Goals as goal
+
+pub returns-clause-count : goal.returns-clause-count
+returns-clause-count c = c.tick.ensures
