@@ -1,4 +1,0 @@
-use Rattle.lexicon_fields.proofs.table.order_by_front.Goals as goal
-
-pub returns-clause-count : goal.returns-clause-count
-returns-clause-count c = c.tick.ensures
