@@ -1,5 +1,5 @@
 -- How much longer what is printed is than the text that was read, and that settling makes no text longer.
-use Rattle.std.proofs.Common.{◌≡◌, ℕ, zero, suc, ◌+◌, ◌≤◌, List, [], ◌∷◌, length, codes, Bool, true, false, ◌&&◌, ◌||◌, Option, Some, None, Ok, ◌⊎◌, inl, inr, unwrap_or, refl, sym, ap, subst, arith}
+use Rattle.std.proofs.Common.{◌≡◌, ℕ, zero, suc, ◌+◌, ◌≤◌, List, [], ◌∷◌, length, codes, Bool, true, false, true≢false, ◌&&◌, ◌||◌, Option, Some, None, Ok, ◌⊎◌, inl, inr, unwrap_or, refl, sym, ap, subst, arith}
 use Rattle.std.specs.List.{join_with_byte, slice_get}
 use Rattle.std.proofs.lemmas.List.{length-append}
 use Rattle.std.proofs.lemmas.List.Splits.{join_with_byte-slice_split}
@@ -233,7 +233,7 @@ clever-shows_vendor : (v : VendorValue) (a : Architecture) → is_clever a ≡ t
     → (shows_vendor v operating_system.None_ environment.Unknown a ≡ true) × (shows_vendor v operating_system.Unknown environment.None a ≡ true)
 unfolding shows_vendor
 clever-shows_vendor (Known Unknown) (architecture.Clever sub) is = (refl, refl)
-clever-shows_vendor (Known Unknown) _ is = absurd cc
+clever-shows_vendor (Known Unknown) _ is = absurd (true≢false (sym is))
 clever-shows_vendor _ a is = (refl, refl)
 
 clever-lighter : (a : Architecture) (v : VendorValue) (f : BinaryFormat) → is_clever a ≡ true
@@ -241,7 +241,7 @@ clever-lighter : (a : Architecture) (v : VendorValue) (f : BinaryFormat) → is_
 unfolding shown_parts shows_operating_system shows_environment shows_binary_format implied_format
 clever-lighter (architecture.Clever sub) v binary_format.Unknown is = let shows = clever-shows_vendor v (architecture.Clever sub) refl in rw (shows.0, shows.1) (omega arith)
 clever-lighter (architecture.Clever sub) v _ is = let shows = clever-shows_vendor v (architecture.Clever sub) refl in rw (shows.0, shows.1) (omega arith)
-clever-lighter _ v f is = absurd cc
+clever-lighter _ v f is = absurd (true≢false (sym is))
 
 none-no_longer : (t : Values) → ShowsNoneAlone t → IsNoLonger (values t.architecture t.vendor operating_system.None_ environment.Unknown t.binary_format) t
 unfolding special_text shown_parts shows_binary_format

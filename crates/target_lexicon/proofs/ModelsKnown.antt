@@ -1,5 +1,5 @@
 -- Which data models triples have.
-use Rattle.std.proofs.Common.{◌≡◌, ◌⊎◌, inl, inr, Option, Some, None, refl}
+use Rattle.std.proofs.Common.{◌≡◌, ◌⊎◌, inl, inr, Option, Some, None, is_none, true≢false, refl, ap}
 use Rattle.std.specs.Prelude.{option_map}
 use Rattle.target_lexicon.specs.{Values.Architecture, Values.OperatingSystem, Values.Values, declared.calling_convention.CallingConvention.CallingConvention, declared.data_model.CDataModel.CDataModel}
 use Rattle.target_lexicon.specs.DataModel.{size_bits, sizes_of}
@@ -15,13 +15,13 @@ other_64 : (c : Option CallingConvention) (a : Architecture) (m : CDataModel) �
 other_64 (Some SystemV) a m h = cc
 other_64 (Some AppleAarch64) a m h = cc
 other_64 _ Wasm64 m h = cc
-other_64 _ _ m h = absurd cc
+other_64 _ _ m h = absurd (true≢false (ap is_none h))
 
 -- the one model of 32-bit pointers off Windows
 other_32 : (c : Option CallingConvention) (a : Architecture) (m : CDataModel) → other_model_32 c a ≡ Some m → m ≡ ILP32
 other_32 (Some SystemV) a m h = cc
 other_32 _ Wasm32 m h = cc
-other_32 _ _ m h = absurd cc
+other_32 _ _ m h = absurd (true≢false (ap is_none h))
 
 -- the two models of 64-bit pointers
 at_64 : (s : OperatingSystem) (c : Option CallingConvention) (a : Architecture) (m : CDataModel) → model_64 s c a ≡ Some m

@@ -1,5 +1,5 @@
 -- The normal step keeps what the four queries answer.
-use Rattle.std.proofs.Common.{◌≡◌, ◌∙◌, sym, ap, refl, true, Some, inl, inr}
+use Rattle.std.proofs.Common.{◌≡◌, ◌∙◌, sym, ap, refl, true, true≢false, Some, inl, inr}
 use Rattle.target_lexicon.specs.Values.{Architecture, OperatingSystem, Environment, BinaryFormat, VendorValue, Values, values}
 use Rattle.target_lexicon.specs.{NormalStep.normal_step, Families.PrintsAsSpecial, Queries.width_in, Queries.convention_on, Queries.model_of, Queries.model_of_width, QueryLaws.AnswersAlike}
 use Rattle.lexicon_fields.specs.{declared.width.PointerWidth.TheVariants.U32, ArchitectureQueries.is_clever}
@@ -46,7 +46,7 @@ clever-alike (architecture.Clever sub) v f clever = record {
   calling_convention = refl;
   data_model = refl;
 }
-clever-alike _ v f clever = absurd cc
+clever-alike _ v f clever = absurd (true≢false (sym clever))
 
 pub kept : (t : Values) → AnswersAlike (normal_step t) t
 kept t =

@@ -7,7 +7,7 @@ use Rattle.target_lexicon.specs.Printing.{shows_vendor, goes_without_vendor, sho
 use Rattle.target_lexicon.specs.ReadingByFields.{read_parts, read_vendor, read_operating_system, read_environment}
 use Rattle.lexicon_fields.specs.{declared.architecture.clever.CleverArchitecture.CleverArchitecture, Architecture.architecture_name, Laws.HasVersionInRange, Vendor.vendor_name, Vendor.is_plain, Environment.environment_name, BinaryFormat.binary_format_name}
 use Rattle.lexicon_fields.specs.declared.known_vendor.KnownVendor.TheVariants.{Unknown, Nintendo, Espressif}
-use Rattle.std.proofs.lemmas.Bool.{not-false, or_parts}
+use Rattle.std.proofs.lemmas.Bool.{not-false, or_parts, false≢true, true≢false}
 use Rattle.std.proofs.lemmas.Bool.Decides.{not_from_Decides}
 use Rattle.target_lexicon.proofs.NamesAcross.{NamesAreRead, environment_of-format, operating_system_of-format, operating_system_of-environment, vendor_of-operating_system, system_as_vendor}
 use Rattle.target_lexicon.proofs.StepCases.{step_cases, hides_newlib-tells, prints_the_esp_idf_text-tells, shows_none_alone-tells}
@@ -29,7 +29,7 @@ same_format-is binary_format.Coff binary_format.Coff h = refl
 same_format-is binary_format.Macho binary_format.Macho h = refl
 same_format-is binary_format.Wasm binary_format.Wasm h = refl
 same_format-is binary_format.Xcoff binary_format.Xcoff h = refl
-same_format-is _ _ h = absurd cc
+same_format-is _ _ h = absurd (false≢true h)
 
 shown_by : (same too : Bool) (f g : BinaryFormat) → (same ≡ true → f ≡ g) → cond (not same || too) f g ≡ f
 shown_by true true f g h = refl
@@ -59,7 +59,7 @@ not_shown environment.Newlib operating_system.Horizon (Known Nintendo) (architec
 not_shown environment.Newlib operating_system.Horizon (Known Nintendo) _ none hidden = inr refl
 not_shown environment.Newlib operating_system.Espidf (Known Espressif) (architecture.Riscv32 riscv32.Riscv32imc) none hidden = absurd cc
 not_shown environment.Newlib operating_system.Espidf (Known Espressif) _ none hidden = inr refl
-not_shown _ _ _ a none hidden = absurd cc
+not_shown _ _ _ a none hidden = absurd (true≢false hidden)
 
 -- the format that is read where the environment isn't shown
 
@@ -79,16 +79,16 @@ unfolding shows_vendor
 hidden_vendor (Known Unknown) s environment.HermitKernel a h = absurd cc
 hidden_vendor (Known Unknown) s environment.LinuxKernel a h = absurd cc
 hidden_vendor (Known Unknown) s e a h = (refl, not-false (goes_without_vendor s e a) h)
-hidden_vendor _ s e a h = absurd cc
+hidden_vendor _ s e a h = absurd (true≢false h)
 
 no_vendor : (s : OperatingSystem) (e : Environment) (a : Architecture) → goes_without_vendor s e a ≡ true → system_as_vendor s ≡ None
-no_vendor operating_system.Unknown e a h = absurd cc
+no_vendor operating_system.Unknown e a h = absurd (false≢true h)
 no_vendor _ e a h = refl
 
 hidden_system : (s : OperatingSystem) (a : Architecture) → shows_operating_system s a ≡ false → (s ≡ operating_system.Unknown) × ((c : CleverArchitecture) × (a ≡ architecture.Clever c))
 unfolding shows_operating_system
 hidden_system operating_system.Unknown (architecture.Clever sub) h = (refl, (sub, refl))
-hidden_system _ _ h = absurd cc
+hidden_system _ _ h = absurd (true≢false h)
 
 -- where the system is shown
 shown_system : (e : Environment) (f i : BinaryFormat) (s : OperatingSystem) (a : Architecture) → (shows_unknowns e f i || shows_operating_system s a) ≡ true → shows_none_alone e s a ≡ false

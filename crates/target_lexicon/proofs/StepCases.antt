@@ -1,11 +1,11 @@
 -- The tests by which the step is written tell the families; so what holds in the case of each family, and outside them, holds of the step.
-use Rattle.std.proofs.Common.{◌≡◌, inl, inr, true, codes, refl, ap}
+use Rattle.std.proofs.Common.{◌≡◌, ◌≢◌, inl, inr, true, not, codes, refl, ap}
 use Rattle.std.specs.Bool.{Decides}
 use Rattle.std.proofs.lemmas.Slice.Eq.{bytes_eq-Decides}
 use Rattle.target_lexicon.specs.Values.{Architecture, OperatingSystem, Environment, BinaryFormat, VendorValue, Known, Custom, Values, values}
 use Rattle.target_lexicon.specs.Families.{PrintsAsSpecial, HidesNewlib, PrintsTheEspIdfText, ShowsNoneAlone}
-use Rattle.target_lexicon.specs.NormalStep.{prints_as_special, hides_newlib, prints_the_esp_idf_text, shows_none_alone, normal_step, elf_if_unknown}
-use Rattle.lexicon_fields.specs.declared.known_vendor.KnownVendor.TheVariants.{Nintendo, Espressif}
+use Rattle.target_lexicon.specs.NormalStep.{are_newlib_elf, prints_as_special, hides_newlib, prints_the_esp_idf_text, shows_none_alone, normal_step, elf_if_unknown}
+use Rattle.lexicon_fields.specs.{ArchitectureQueries.is_clever, declared.known_vendor.KnownVendor.TheVariants.Nintendo, declared.known_vendor.KnownVendor.TheVariants.Espressif}
 use Rattle.std.proofs.lemmas.Bool.{cond_both, false≢true}
 use Rattle.std.proofs.lemmas.Bool.Decides.{not_from_Decides}
 use Rattle.target_lexicon.specs.Values.architecture
@@ -17,35 +17,46 @@ use Rattle.target_lexicon.specs.Values.binary_format
 
 -- a special text is printed
 
-special-decides : (s : OperatingSystem) (v : VendorValue) (a : Architecture) (e : Environment) (f : BinaryFormat)
-    → Decides (prints_as_special s v a e f) (PrintsAsSpecial (values a v s e f))
-special-decides operating_system.Horizon (Known Nintendo) (architecture.Arm arm.Armv6k) environment.Newlib binary_format.Elf =
-    (λ h. absurd (false≢true h), λ is. absurd (is.others (refl, refl)))
-special-decides operating_system.Horizon (Known Nintendo) (architecture.Arm arm.Armv6k) _ _ =
-    (λ h. record { fields = inl (record { architecture = refl; vendor = refl; operating_system = refl }); others = λ is. cc }, λ is. refl)
-special-decides operating_system.Espidf (Known Espressif) (architecture.Riscv32 riscv32.Riscv32imc) environment.Newlib binary_format.Elf =
-    (λ h. absurd (false≢true h), λ is. absurd (is.others (refl, refl)))
-special-decides operating_system.Espidf (Known Espressif) (architecture.Riscv32 riscv32.Riscv32imc) _ _ =
-    (λ h. record { fields = inr (record { architecture = refl; vendor = refl; operating_system = refl }); others = λ is. cc }, λ is. refl)
-special-decides _ _ _ e f = (λ h. absurd (false≢true h), λ is. elim is.fields [ inl on ↦ cc | inr on ↦ cc ])
+not_newlib_elf : (e : Environment) (f : BinaryFormat) → ¬ ((e ≡ environment.Newlib) × (f ≡ binary_format.Elf)) → not (are_newlib_elf e f) ≡ true
+not_newlib_elf environment.Newlib binary_format.Elf others = absurd (others (refl, refl))
+not_newlib_elf _ _ others = refl
+
+special-fields : (s : OperatingSystem) (v : VendorValue) (a : Architecture) (e : Environment) (f : BinaryFormat) → prints_as_special s v a e f ≡ true → PrintsAsSpecial (values a v s e f)
+special-fields operating_system.Horizon (Known Nintendo) (architecture.Arm arm.Armv6k) e f h =
+    record { fields = inl (record { architecture = refl; vendor = refl; operating_system = refl }); others = λ is. false≢true (rw (is.0, is.1) at h) }
+special-fields operating_system.Espidf (Known Espressif) (architecture.Riscv32 riscv32.Riscv32imc) e f h =
+    record { fields = inr (record { architecture = refl; vendor = refl; operating_system = refl }); others = λ is. false≢true (rw (is.0, is.1) at h) }
+special-fields _ _ _ e f h = absurd (false≢true h)
 
 pub prints_as_special-tells : (t : Values) → Decides (prints_as_special t.operating_system t.vendor t.architecture t.environment t.binary_format) (PrintsAsSpecial t)
-prints_as_special-tells t = special-decides t.operating_system t.vendor t.architecture t.environment t.binary_format
+prints_as_special-tells t = (
+  special-fields t.operating_system t.vendor t.architecture t.environment t.binary_format,
+  λ is. elim is.fields [
+    | inl on ↦ rw (on.operating_system, on.vendor, on.architecture) (not_newlib_elf t.environment t.binary_format is.others)
+    | inr on ↦ rw (on.operating_system, on.vendor, on.architecture) (not_newlib_elf t.environment t.binary_format is.others)
+  ],
+)
 
 -- `Newlib` isn't shown
 
-newlib-decides : (e : Environment) (s : OperatingSystem) (v : VendorValue) (a : Architecture) (f : BinaryFormat)
-    → Decides (hides_newlib e s v a) (HidesNewlib (values a v s e f))
-newlib-decides environment.Newlib operating_system.Horizon (Known Nintendo) (architecture.Arm arm.Armv6k) f =
-    (λ h. absurd (false≢true h), λ is. elim is.1 [ inl on ↦ absurd (on.2 refl) | inr on ↦ cc ])
-newlib-decides environment.Newlib operating_system.Horizon (Known Nintendo) _ f = (λ h. (refl, inl (refl, refl, λ is. cc)), λ is. refl)
-newlib-decides environment.Newlib operating_system.Espidf (Known Espressif) (architecture.Riscv32 riscv32.Riscv32imc) f =
-    (λ h. absurd (false≢true h), λ is. elim is.1 [ inl on ↦ cc | inr on ↦ absurd (on.2 refl) ])
-newlib-decides environment.Newlib operating_system.Espidf (Known Espressif) _ f = (λ h. (refl, inr (refl, refl, λ is. cc)), λ is. refl)
-newlib-decides _ _ _ _ f = (λ h. absurd (false≢true h), λ is. elim is.1 [ inl on ↦ cc | inr on ↦ cc ])
+newlib-fields : (e : Environment) (s : OperatingSystem) (v : VendorValue) (a : Architecture) (f : BinaryFormat) → hides_newlib e s v a ≡ true → HidesNewlib (values a v s e f)
+newlib-fields environment.Newlib operating_system.Horizon (Known Nintendo) a f h = (refl, inl (refl, refl, λ is. false≢true (rw is at h)))
+newlib-fields environment.Newlib operating_system.Espidf (Known Espressif) a f h = (refl, inr (refl, refl, λ is. false≢true (rw is at h)))
+newlib-fields _ _ _ a f h = absurd (false≢true h)
+
+on_horizon : (a : Architecture) → a ≢ architecture.Arm arm.Armv6k → hides_newlib environment.Newlib operating_system.Horizon (Known Nintendo) a ≡ true
+on_horizon (architecture.Arm arm.Armv6k) other = absurd (other refl)
+on_horizon _ other = refl
+
+on_espidf : (a : Architecture) → a ≢ architecture.Riscv32 riscv32.Riscv32imc → hides_newlib environment.Newlib operating_system.Espidf (Known Espressif) a ≡ true
+on_espidf (architecture.Riscv32 riscv32.Riscv32imc) other = absurd (other refl)
+on_espidf _ other = refl
 
 pub hides_newlib-tells : (t : Values) → Decides (hides_newlib t.environment t.operating_system t.vendor t.architecture) (HidesNewlib t)
-hides_newlib-tells t = newlib-decides t.environment t.operating_system t.vendor t.architecture t.binary_format
+hides_newlib-tells t = (
+  newlib-fields t.environment t.operating_system t.vendor t.architecture t.binary_format,
+  λ is. elim is.1 [ inl on ↦ rw (is.0, on.0, on.1) (on_horizon t.architecture on.2) | inr on ↦ rw (is.0, on.0, on.1) (on_espidf t.architecture on.2) ],
+)
 
 -- the custom vendor `esp`
 
@@ -65,14 +76,19 @@ prints_the_esp_idf_text-tells t = (
 
 -- `none` alone, on Clever
 
-none-decides : (e : Environment) (s : OperatingSystem) (a : Architecture) (v : VendorValue) (f : BinaryFormat)
-    → Decides (shows_none_alone e s a) (ShowsNoneAlone (values a v s e f))
-none-decides environment.None operating_system.Unknown (architecture.Clever sub) v f =
-    (λ h. record { architecture = refl; operating_system = refl; environment = refl }, λ is. refl)
-none-decides _ _ _ v f = (λ h. absurd (false≢true h), λ is. cc)
+none-fields : (e : Environment) (s : OperatingSystem) (a : Architecture) (v : VendorValue) (f : BinaryFormat) → shows_none_alone e s a ≡ true → ShowsNoneAlone (values a v s e f)
+none-fields environment.None operating_system.Unknown (architecture.Clever sub) v f h = record { architecture = refl; operating_system = refl; environment = refl }
+none-fields _ _ _ v f h = absurd (false≢true h)
+
+on_clever : (a : Architecture) → is_clever a ≡ true → shows_none_alone environment.None operating_system.Unknown a ≡ true
+on_clever (architecture.Clever sub) clever = refl
+on_clever _ clever = absurd (false≢true clever)
 
 pub shows_none_alone-tells : (t : Values) → Decides (shows_none_alone t.environment t.operating_system t.architecture) (ShowsNoneAlone t)
-shows_none_alone-tells t = none-decides t.environment t.operating_system t.architecture t.vendor t.binary_format
+shows_none_alone-tells t = (
+  none-fields t.environment t.operating_system t.architecture t.vendor t.binary_format,
+  λ is. rw (is.environment, is.operating_system) (on_clever t.architecture is.architecture),
+)
 
 -- none of the four families in which a plain vendor's triple changes
 pub record IsOutside (t : Values) : Type 0 where

@@ -1,5 +1,5 @@
 -- The text of a triple with a plain vendor reads as its normal step.
-use Rattle.std.proofs.Common.{◌≡◌, ◌≢◌, ◌∙◌, ℕ, Bool, true, false, ◌||◌, cond, inl, inr, List, [], ◌∷◌, Option, Some, None, Ok, Err, codes, refl, sym, ap, subst}
+use Rattle.std.proofs.Common.{◌≡◌, ◌≢◌, ◌∙◌, ℕ, Bool, true, false, ◌||◌, cond, is_none, true≢false, inl, inr, List, [], ◌∷◌, Option, Some, None, Ok, Err, codes, refl, sym, ap, subst}
 use Rattle.std.specs.List.{list_all, join_with_byte}
 use Rattle.std.specs.Str.{bytes_eq}
 use Rattle.std.proofs.lemmas.Slice.Eq.{bytes_eq-Decides}
@@ -39,7 +39,7 @@ special-round operating_system.Horizon (Known Nintendo) (architecture.Arm arm.Ar
 special-round operating_system.Horizon (Known Nintendo) (architecture.Arm arm.Armv6k) _ _ text is = refl
 special-round operating_system.Espidf (Known Espressif) (architecture.Riscv32 riscv32.Riscv32imc) environment.Newlib binary_format.Elf text is = refl
 special-round operating_system.Espidf (Known Espressif) (architecture.Riscv32 riscv32.Riscv32imc) _ _ text is = refl
-special-round _ _ _ e f text is = absurd cc
+special-round _ _ _ e f text is = absurd (true≢false (ap is_none is))
 
 -- the triple that prints another's special text
 

@@ -1,5 +1,5 @@
 -- Where system and environment are shown for the sake of an unknown format, the text is longer than upstream's.
-use Rattle.std.proofs.Common.{◌≡◌, ◌≢◌, ℕ, Bool, true, false, List, [], ◌∷◌, Option, Some, None, codes, refl, sym, ap, ◌∙◌}
+use Rattle.std.proofs.Common.{◌≡◌, ◌≢◌, ℕ, Bool, true, false, true≢false, List, [], ◌∷◌, Option, Some, None, codes, refl, sym, ap, ◌∙◌}
 use Rattle.std.specs.List.{join_with_byte}
 use Rattle.std.proofs.lemmas.List.{append_cancel_left}
 use Rattle.target_lexicon.specs.Values.{Architecture, OperatingSystem, Environment, BinaryFormat, VendorValue, Values, values}
@@ -61,7 +61,7 @@ other_text t is same =
 are_unknown : (e : Environment) (f i : BinaryFormat) → shows_unknowns e f i ≡ true → (e ≡ environment.Unknown) × (f ≡ binary_format.Unknown) × (i ≢ binary_format.Unknown)
 are_unknown environment.Unknown binary_format.Unknown binary_format.Unknown shown = absurd cc
 are_unknown environment.Unknown binary_format.Unknown i shown = (refl, refl, λ is. cc)
-are_unknown _ _ i shown = absurd cc
+are_unknown _ _ i shown = absurd (true≢false (sym shown))
 
 shows_unknowns_by : (t : Values) (special : Option (List ℕ)) (b : Bool) → special_text t.operating_system t.vendor t.architecture ≡ special
     → shows_unknowns t.environment t.binary_format (implied t) ≡ b → text_of t ≢ upstream_text_of t → ShowsUnknowns t

@@ -54,6 +54,7 @@ pub(crate) fn row_front(i: usize) -> u64
 
 /// The rows, in the order of their texts.
 #[inline(always)]
+#[tactic(auto, unfolding(crate::specs::FixedRow::row_texts, crate::specs::Architecture::architecture_of, crate::specs::Vendor::known_vendor_of, crate::specs::OperatingSystem::fixed_operating_system_of, crate::specs::Environment::environment_of, crate::specs::BinaryFormat::binary_format_of))]
 fn rows() -> &'static [Row]
     ensures texts { map (λ r. r.0.now) result.now ≡ row_texts }
     ensures architectures { map (λ r. r.1) result.now ≡ map architecture_of row_texts }
@@ -67,6 +68,7 @@ fn rows() -> &'static [Row]
 
 /// The first eight bytes of each row's text as a number. They stand close together, since a search looks at them first.
 #[inline(always)]
+#[tactic(auto, unfolding(crate::specs::FixedRow::row_texts))]
 fn fronts() -> &'static [u64]
     ensures { result.now ≡ map (front_of 8) row_texts }
 {

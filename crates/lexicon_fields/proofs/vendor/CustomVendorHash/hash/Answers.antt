@@ -1,0 +1,5 @@
+use Rattle.std.proofs.Common.{rules}
+use Rattle.lexicon_fields.proofs.vendor.CustomVendorHash.hash.Goals as goal
+
+pub returns : goal.returns
+returns c = search rules
