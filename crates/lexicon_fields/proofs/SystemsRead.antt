@@ -146,8 +146,8 @@ operating_system-read text s is =
     MatchOption-at_some _ (IsSystemRead text) s is (option_or-holds _ (fixed_operating_system_of text) (darwin_like_by darwin_prefixes text) (fixed-read text)
     (darwin_like-read darwin_prefixes text ((refl, λ _. (refl, refl)), ((refl, λ _. (refl, refl)), ((refl, λ _. (refl, refl)), ((refl, λ _. (refl, refl)), ((refl, λ _. (refl, refl)), ((refl, λ _. (refl, refl)), ((refl, λ _. (refl, refl)), tt)))))))))
 
-pub version-in_range : (text : List ℕ) (s : OperatingSystem) → operating_system_of text ≡ Some s → HasVersionInRange s
-version-in_range text s is = (operating_system-read text s is).1
+pub version_in_range : (text : List ℕ) (s : OperatingSystem) → operating_system_of text ≡ Some s → HasVersionInRange s
+version_in_range text s is = (operating_system-read text s is).1
 
 pub operating_system-longer : (text : List ℕ) (s : OperatingSystem) → operating_system_of text ≡ Some s → length (operating_system_name s) ≤ length text + 4
 operating_system-longer text s is = (operating_system-read text s is).2

@@ -59,6 +59,7 @@ pub fn names_are_little_longer()
 {}
 
 /// The version of a system that a text reads as is in range.
+#[tactic(auto, using(crate::proofs::SystemsRead::version_in_range))]
 pub fn read_versions_are_in_range()
     ensures { (text : List ℕ) (s : OperatingSystem) → operating_system_of text ≡ Some s → HasVersionInRange s }
 {}
