@@ -1,10 +1,7 @@
 -- Equality tells exactly which values are the same.
 use Rattle.std.proofs.Common.{rules, ◌≡◌, ◌∙◌, Bool, false, List, [], ◌∷◌, Option, Some, None, inl, inr, refl, sym, ap}
-use Rattle.std.specs.Prelude.{Decides}
-use Rattle.std.specs.Cmp.Derive.{of_values}
-use Rattle.std.specs.Option.{option_eq}
-use Rattle.std.proofs.lemmas.Bool.{false≢true}
-use Rattle.std.proofs.lemmas.Bool.Decides.{Decides-like}
+use Rattle.std.specs.{Prelude.Decides, Cmp.Derive.of_values, Option.option_eq}
+use Rattle.std.proofs.{lemmas.Bool.false≢true, lemmas.Bool.Decides.Decides-like}
 use Rattle.lexicon_fields.specs.declared.deployment_target.DeploymentTarget.{DeploymentTarget}
 use denote.Struct.Field.{Field}
 use denote.Struct.Values.{Values}

@@ -1,9 +1,7 @@
 -- What values feed a hasher tells them apart.
 use Rattle.std.proofs.Common.{◌≡◌, ℕ, ◌<◌, ◌≤◌, ◌^◌, List, [], ◌∷◌, ◌++◌, ◌∙◌, refl, sym, ap, arith, length}
-use Rattle.std.specs.Hash.{HashWrites, le_bytes, usize}
-use Rattle.std.specs.Int.{w16, from_le_bytes}
-use Rattle.std.proofs.lemmas.List.{append_cancel_left}
-use Rattle.std.proofs.lemmas.Nat.{from_le_bytes-to_le_bytes_2}
+use Rattle.std.specs.{Hash.HashWrites, Hash.le_bytes, Hash.usize, Int.w16, Int.from_le_bytes}
+use Rattle.std.proofs.{lemmas.List.append_cancel_left, lemmas.Nat.from_le_bytes-to_le_bytes_2}
 use Rattle.lexicon_fields.specs.Laws.{FeedsOfTell, FeedsTell}
 use Rattle.lexicon_fields.proofs.Variants.{EachPair, variants_pair}
 use denote.Enum.Enum.{tag_below}

@@ -1,12 +1,7 @@
 -- Fronts order as texts do.
 use Rattle.std.proofs.Common.{◌≡◌, ℕ, zero, suc, ◌+◌, ◌*◌, ◌^◌, ◌<◌, ◌≤◌, List, [], ◌∷◌, arith, refl, sym, ap, ◌∙◌, Less, Equal, Greater, nat_cmp, inl, inr, get_or, length, take, drop, ◌-◌, ◌%◌, w32}
-use Rattle.std.specs.Cmp.Lexicographic.{slice_cmp}
-use Rattle.std.specs.Cmp.{nat_cmp_is}
-use Rattle.std.specs.Int.{from_be_bytes}
-use Rattle.std.specs.Ordering.{ordering_reverse}
-use Rattle.std.proofs.lemmas.Bool.{cases_order}
-use Rattle.std.proofs.lemmas.Cmp.{nat_list_cmp_total}
-use Rattle.std.proofs.Math.Nat.{mul-le-mul_right, pow-suc}
+use Rattle.std.specs.{Cmp.Lexicographic.slice_cmp, Cmp.nat_cmp_is, Int.from_be_bytes, Ordering.ordering_reverse}
+use Rattle.std.proofs.{lemmas.Bool.cases_order, lemmas.Cmp.nat_list_cmp_total, Math.Nat.mul-le-mul_right, Math.Nat.pow-suc}
 use Rattle.lexicon_fields.specs.Private.{front_of}
 
 abbrev pub AreBytes : List ℕ → Type 0

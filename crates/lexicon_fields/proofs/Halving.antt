@@ -1,7 +1,6 @@
 -- How much is left to a search after some of its eight steps.
 use Rattle.std.proofs.Common.{◌≡◌, ◌∙◌, ℕ, suc, ◌+◌, ◌-◌, ◌*◌, ◌/◌, ◌^◌, ◌<◌, ◌≤◌, arith, ap, inl, inr}
-use Rattle.std.proofs.lemmas.Bool.{cases_lt}
-use Rattle.std.proofs.Math.Nat.{pow-suc}
+use Rattle.std.proofs.{lemmas.Bool.cases_lt, Math.Nat.pow-suc}
 
 pub record IsHalved (old new left : ℕ) : Type 0 where
   pub counted : old ≤ new

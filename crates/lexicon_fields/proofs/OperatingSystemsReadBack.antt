@@ -1,9 +1,7 @@
 -- How the names of systems are read.
 use Rattle.std.proofs.Common.{[], ◌∷◌, Option, Some, IfSome, option_map, ◌≡◌, ◌≢◌, ◌∙◌, ℕ, List, ◌++◌, codes, take, drop, length, nat_eq, None, refl, sym, ap}
 use Rattle.std.specs.List.{starts_with}
-use Rattle.std.proofs.lemmas.Bool.{false_from_ne_true, cond-false}
-use Rattle.std.proofs.lemmas.List.{take-append-drop}
-use Rattle.std.proofs.lemmas.Slice.Eq.{bytes_eq-Decides}
+use Rattle.std.proofs.{lemmas.Bool.false_from_ne_true, lemmas.Bool.cond-false, lemmas.List.take-append-drop, lemmas.Slice.Eq.bytes_eq-Decides}
 use Rattle.lexicon_fields.specs.{declared.deployment_target.DeploymentTarget.DeploymentTarget, declared.operating_system.OperatingSystem.OperatingSystem, Laws.IsVersionInRange, Laws.HasVersionInRange}
 use Rattle.lexicon_fields.specs.Version.{version_of, version_name}
 use Rattle.lexicon_fields.specs.OperatingSystem.{operating_system_name, fixed_operating_system_of, operating_system_of, optional_version_of, version_suffix, behind_prefix, darwin_like_by, darwin_prefixes}

@@ -1,16 +1,9 @@
 -- The rows are those of exactly the texts that are a fixed name of some field.
 use Rattle.std.proofs.Common.{◌≡◌, ◌≢◌, ◌↔◌, ◌∙◌, ℕ, ◌<◌, ◌≤◌, List, [], true, false, Option, Some, None, is_some, refl, ap, sym, get_or, arith, Ordering, Less, Greater, nat_cmp, inl, inr, Contains}
-use Rattle.std.specs.Cmp.Lexicographic.{slice_cmp, nat_list_eq_equiv}
-use Rattle.std.specs.Str.{bytes_eq}
-use Rattle.std.specs.Option.{option_or}
-use Rattle.std.specs.Prelude.{is_none}
-use Rattle.std.proofs.lemmas.Bool.{or_parts, cases_lt, cases_Bool, false_from_ne_true}
-use Rattle.std.specs.Ordering.{is_eq}
-use Rattle.std.proofs.lemmas.List.Folds.{list_any_at}
-use Rattle.std.proofs.lemmas.Map.Text.{is_eq-slice_cmp}
-use Rattle.std.proofs.lemmas.Map.Views.{Contains-from_any, list_any-from_Contains}
-use Rattle.std.proofs.lemmas.Option.{get_or_from_slice_get, slice_get-get_or}
-use Rattle.std.proofs.lemmas.Slice.Eq.{bytes_eq-Decides}
+use Rattle.std.specs.{Cmp.Lexicographic.slice_cmp, Cmp.Lexicographic.nat_list_eq_equiv, Str.bytes_eq, Option.option_or, Prelude.is_none, Ordering.is_eq}
+use Rattle.std.proofs.{lemmas.Bool.or_parts, lemmas.Bool.cases_lt, lemmas.Bool.cases_Bool, lemmas.Bool.false_from_ne_true, lemmas.List.Folds.list_any_at}
+use Rattle.std.proofs.{lemmas.Map.Text.is_eq-slice_cmp, lemmas.Map.Views.Contains-from_any, lemmas.Map.Views.list_any-from_Contains}
+use Rattle.std.proofs.{lemmas.Option.get_or_from_slice_get, lemmas.Option.slice_get-get_or, lemmas.Slice.Eq.bytes_eq-Decides}
 use Rattle.lexicon_fields.specs.{Names.named, Architecture.architecture_of, declared.known_vendor.KnownVendor.KnownVendor, Vendor.known_name, Vendor.known_vendors, Vendor.known_vendor_of, declared.operating_system.OperatingSystem.OperatingSystem, Environment.environment_of, BinaryFormat.binary_format_of}
 use Rattle.lexicon_fields.specs.OperatingSystem.{operating_system_name, operating_system_of, darwin_prefixes, darwin_like_by, fixed_operating_systems, fixed_operating_system_of}
 use Rattle.lexicon_fields.specs.FixedRow.{has_row, row_count, row_texts, row_text}

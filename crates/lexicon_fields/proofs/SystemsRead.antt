@@ -1,16 +1,11 @@
 -- What reads as a system: the text holds no dash, a version that the system holds is in range, and its name is little longer than the text.
 use Rattle.std.proofs.Common.{◌≡◌, ◌∙◌, ℕ, ◌+◌, ◌^◌, ◌<◌, ◌≤◌, List, [], ◌∷◌, ◌++◌, length, take, drop, Bool, true, false, cond, nat_eq, nat_le, ◌&&◌, Option, Some, None, IfSome, is_none, option_and_then, refl, sym, ap, subst, arith}
-use Rattle.std.specs.Char.{is_ascii_digit}
-use Rattle.std.specs.List.{list_all, join_with_byte, starts_with}
-use Rattle.std.specs.Fmt.{decimal}
+use Rattle.std.specs.{Char.is_ascii_digit, List.list_all, List.join_with_byte, List.starts_with, Fmt.decimal}
 use Rattle.std.specs.Str.Parse.{digits_value, without_leading_plus}
 use Rattle.std.proofs.lemmas.Bool.{and_parts, eqb-true, ltb-true, leb-true, not-true}
-use Rattle.std.proofs.lemmas.Fmt.{length-decimal-le}
-use Rattle.std.proofs.lemmas.List.{length-append, length-drop, take-append-drop}
-use Rattle.std.proofs.lemmas.List.Folds.{list_any-append}
-use Rattle.std.proofs.lemmas.List.Splits.{join_with_byte-slice_split}
-use Rattle.std.proofs.lemmas.Option.{MatchOption-at_some, cond_some, same_Some}
-use Rattle.std.proofs.lemmas.Slice.Eq.{bytes_eq-Decides}
+use Rattle.std.proofs.{lemmas.Fmt.length-decimal-le, lemmas.List.length-append, lemmas.List.length-drop, lemmas.List.take-append-drop}
+use Rattle.std.proofs.{lemmas.List.Folds.list_any-append, lemmas.List.Splits.join_with_byte-slice_split}
+use Rattle.std.proofs.{lemmas.Option.MatchOption-at_some, lemmas.Option.cond_some, lemmas.Option.same_Some, lemmas.Slice.Eq.bytes_eq-Decides}
 use Rattle.std.proofs.lemmas.Str.Parse.{digits_value_short}
 use Rattle.lexicon_fields.specs.{declared.deployment_target.DeploymentTarget.DeploymentTarget, declared.operating_system.OperatingSystem.OperatingSystem, Names.Pair, Names.named, Names.is_dash_free}
 use Rattle.lexicon_fields.specs.Version.{piece_within, version_of_numbers, version_of_pieces, version_of, version_name, pieces_of}

@@ -1,10 +1,7 @@
 -- How vendors are read: every plain one reads back from its name, and no text that reads as one holds a dash.
 use Rattle.std.proofs.Common.{arith, [], ◌∷◌, not, ◌&&◌, ◌||◌, ap, ◌≡◌, ◌∙◌, ℕ, List, true, false, Option, Some, None, is_some, is_none, option_map, refl, sym}
-use Rattle.std.specs.List.{list_all}
-use Rattle.std.specs.Option.{option_or}
-use Rattle.std.proofs.Math.Bool.{and-true, and-false}
-use Rattle.std.proofs.lemmas.Bool.{and_parts}
-use Rattle.std.proofs.lemmas.Option.{MatchOption-at_some, cond_some}
+use Rattle.std.specs.{List.list_all, Option.option_or}
+use Rattle.std.proofs.{Math.Bool.and-true, Math.Bool.and-false, lemmas.Bool.and_parts, lemmas.Option.MatchOption-at_some, lemmas.Option.cond_some}
 use Rattle.lexicon_fields.specs.{declared.vendor.Vendor.Vendor, declared.known_vendor.KnownVendor.KnownVendor, declared.known_vendor.KnownVendor.TheVariants.Unknown, Names.named, Names.is_dash_free}
 use Rattle.lexicon_fields.specs.Vendor.{VendorValue, Known, Custom, known_name, known_vendors, custom_of, vendor_name, is_plain, is_free, is_lowercase_letter, is_vendor_character, has_vendor_form, vendor_of, vendor_value, owns_text, known_vendor_of, is_admitted}
 use Rattle.lexicon_fields.specs.{Architecture.architecture_of, declared.operating_system.OperatingSystem.OperatingSystem, Environment.environment_of, BinaryFormat.binary_format_of, FixedRow.has_row}

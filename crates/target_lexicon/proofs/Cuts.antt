@@ -2,9 +2,7 @@
 use Rattle.std.proofs.Common.{◌≡◌, ◌≢◌, ℕ, List, [], ◌∷◌, ◌++◌, ◌+◌, ◌-◌, take, drop, get_or, Bool, true, false, nat_eq, Some, None, refl, sym, length, ◌<◌, ◌∙◌, ap, arith, ◌≤◌, inl, inr}
 use Rattle.std.specs.List.{list_all, list_any, join_with_byte, onto_first, slice_range, position, position_or_len}
 use Rattle.std.specs.Prelude.{◌==◌, ◌||◌, not}
-use Rattle.std.proofs.lemmas.Bool.{and_parts, cases_Bool, eqb-true}
-use Rattle.std.proofs.lemmas.Grind.{common_steps}
-use Rattle.std.proofs.lemmas.List.Quantifiers.{position-Some}
+use Rattle.std.proofs.{lemmas.Bool.and_parts, lemmas.Bool.cases_Bool, lemmas.Bool.eqb-true, lemmas.Grind.common_steps, lemmas.List.Quantifiers.position-Some}
 use Rattle.std.proofs.lemmas.List.Sums.{fails_before_first, position_or_len_is}
 use Rattle.std.proofs.lemmas.List.Splits.{join_with_byte-slice_split, slice_split_first, slice_split_none}
 use Rattle.lexicon_fields.specs.Names.{is_dash_free}

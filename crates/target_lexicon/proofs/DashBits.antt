@@ -1,10 +1,8 @@
 -- Dashes by the bits of up to sixteen bytes.
 use Rattle.std.proofs.Common.{◌≡◌, ◌∙◌, ap, sym, refl, ℕ, zero, suc, ◌+◌, ◌-◌, ◌*◌, ◌/◌, ◌%◌, ◌^◌, ◌<◌, ◌≤◌, ◌==◌, Bool, true, false, not, cond, eqb, List, [], ◌∷◌, ◌++◌, map, take, drop, get_or, replicate, length, Some, None, w8, arith, inl, inr}
-use Rattle.std.specs.List.{position, position_or_len}
-use Rattle.std.specs.Simd.Lanes.{mask_l}
+use Rattle.std.specs.{List.position, List.position_or_len, Simd.Lanes.mask_l}
 use Rattle.std.proofs.Math.Nat.{pow-zero, pow-suc, mul_comm, div-one, zero-div, div-div-eq-div-mul}
-use Rattle.std.proofs.lemmas.Bool.{cases_lt}
-use Rattle.std.proofs.lemmas.Grind.{common_steps}
+use Rattle.std.proofs.{lemmas.Bool.cases_lt, lemmas.Grind.common_steps}
 use Rattle.std.proofs.lemmas.List.{drop-drop, drop-map, drop_at, length-drop, length-take-le, take_all}
 use Rattle.std.proofs.lemmas.List.Sums.{position_or_len_is}
 use Rattle.std.proofs.lemmas.Simd.{bitmask_splat, length-chunk, none_from_empty_mask, run_in_chunk_fails, run_in_chunk_le, run_in_chunk_stops, trailing_mask_l}

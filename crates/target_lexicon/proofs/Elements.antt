@@ -1,9 +1,7 @@
 -- The elements of a JSON array that were read so far.
 use Rattle.std.proofs.Common.{◌≡◌, ℕ, zero, suc, ◌+◌, ◌<◌, ◌≤◌, List, [], ◌∷◌, ◌++◌, Option, Some, MatchOption, All, length, get_or, take, map, add-one, arith, subst}
 use Rattle.std.proofs.lemmas.{List.map-append, List.Elements.All-append}
-use Rattle.serde_json.specs.Data.{Data, Items}
-use Rattle.serde_json.specs.View.{view, items_view}
-use Rattle.serde_json.specs.declared.value.Value.{Value}
+use Rattle.serde_json.specs.{Data.Data, Data.Items, View.view, View.items_view, declared.value.Value.Value}
 use Rattle.serde_json.proofs.Views.{get_item_within}
 use Rattle.target_lexicon.specs.{Json.JsonReadsAs, Json.ElementsReadAs, Json.ElementReads, Json.JsonFault, Json.IsJsonFault, Json.IsFirstFault, Values.Values, Values.values_of}
 use Rattle.target_lexicon.specs.declared.triple.Triple.{Triple}

@@ -1,11 +1,9 @@
 -- What the greedy placement leaves is refused.
 use Rattle.std.proofs.Common.{◌≡◌, ℕ, suc, ◌≤◌, List, [], ◌∷◌, ◌++◌, length, take, true, false, refl, sym, ap, subst, Some, arith, inl, inr}
-use Rattle.std.proofs.Math.Seq.{take-append_seam}
-use Rattle.std.proofs.lemmas.List.{take-append-le}
+use Rattle.std.proofs.{Math.Seq.take-append_seam, lemmas.List.take-append-le, lemmas.Bool.cases_Bool}
 use Rattle.std.specs.Prelude.{slice_get}
 use Rattle.target_lexicon.specs.{Field.Field, Field.Architecture, Field.reads, Placement.HasPlacement, Reading.IsRefusal, Reading.IsLackedBehind, Reading.lack_behind, Reading.last_of}
 use Rattle.target_lexicon.specs.Refusal.{Lacks, refused}
-use Rattle.std.proofs.lemmas.Bool.{cases_Bool}
 use Rattle.target_lexicon.proofs.Greedy.{filled, unread, behind_architecture, greedy-least, greedy-finds, placement_front}
 
 -- the parts that the fields take, and the part at which they stop

@@ -7,8 +7,7 @@ use Rattle.target_lexicon.specs.Printing.{shows_vendor, goes_without_vendor, sho
 use Rattle.target_lexicon.specs.ReadingByFields.{read_parts, read_vendor, read_operating_system, read_environment}
 use Rattle.lexicon_fields.specs.{declared.architecture.clever.CleverArchitecture.CleverArchitecture, Architecture.architecture_name, Laws.HasVersionInRange, Vendor.vendor_name, Vendor.is_plain, Environment.environment_name, BinaryFormat.binary_format_name}
 use Rattle.lexicon_fields.specs.declared.known_vendor.KnownVendor.TheVariants.{Unknown, Nintendo, Espressif}
-use Rattle.std.proofs.lemmas.Bool.{not-false, or_parts, false≢true, true≢false}
-use Rattle.std.proofs.lemmas.Bool.Decides.{not_from_Decides}
+use Rattle.std.proofs.{lemmas.Bool.not-false, lemmas.Bool.or_parts, lemmas.Bool.false≢true, lemmas.Bool.true≢false, lemmas.Bool.Decides.not_from_Decides}
 use Rattle.target_lexicon.proofs.NamesAcross.{NamesAreRead, environment_of-format, operating_system_of-format, operating_system_of-environment, vendor_of-operating_system, system_as_vendor}
 use Rattle.target_lexicon.proofs.StepCases.{step_cases, hides_newlib-tells, prints_the_esp_idf_text-tells, shows_none_alone-tells}
 use Rattle.target_lexicon.specs.Values.architecture

@@ -1,13 +1,11 @@
 -- The tests by which the step is written tell the families; so what holds in the case of each family, and outside them, holds of the step.
 use Rattle.std.proofs.Common.{◌≡◌, ◌≢◌, inl, inr, true, not, codes, refl, ap}
 use Rattle.std.specs.Bool.{Decides}
-use Rattle.std.proofs.lemmas.Slice.Eq.{bytes_eq-Decides}
+use Rattle.std.proofs.{lemmas.Slice.Eq.bytes_eq-Decides, lemmas.Bool.cond_both, lemmas.Bool.false≢true, lemmas.Bool.Decides.not_from_Decides}
 use Rattle.target_lexicon.specs.Values.{Architecture, OperatingSystem, Environment, BinaryFormat, VendorValue, Known, Custom, Values, values}
 use Rattle.target_lexicon.specs.Families.{PrintsAsSpecial, HidesNewlib, PrintsTheEspIdfText, ShowsNoneAlone}
 use Rattle.target_lexicon.specs.NormalStep.{are_newlib_elf, prints_as_special, hides_newlib, prints_the_esp_idf_text, shows_none_alone, normal_step, elf_if_unknown}
 use Rattle.lexicon_fields.specs.{ArchitectureQueries.is_clever, declared.known_vendor.KnownVendor.TheVariants.Nintendo, declared.known_vendor.KnownVendor.TheVariants.Espressif}
-use Rattle.std.proofs.lemmas.Bool.{cond_both, false≢true}
-use Rattle.std.proofs.lemmas.Bool.Decides.{not_from_Decides}
 use Rattle.target_lexicon.specs.Values.architecture
 use Rattle.target_lexicon.specs.Values.arm
 use Rattle.target_lexicon.specs.Values.riscv32

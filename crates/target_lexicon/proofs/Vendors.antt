@@ -1,7 +1,6 @@
 -- What reads as a vendor.
 use Rattle.std.proofs.Common.{◌≡◌, ◌⊎◌, inl, inr, ℕ, List, Bool, true, ◌&&◌, is_none, refl, sym, ◌∙◌, Option, Some, None}
-use Rattle.std.specs.Prelude.{option_map}
-use Rattle.std.specs.Option.{option_or}
+use Rattle.std.specs.{Prelude.option_map, Option.option_or}
 use Rattle.lexicon_fields.specs.{declared.known_vendor.KnownVendor.KnownVendor, declared.vendor.Vendor.Vendor}
 use Rattle.lexicon_fields.specs.Vendor.{known_vendor_of, is_admitted, custom_of, vendor_of, vendor_value, owns_text, is_plain, IsCustom, OwnsCustomText}
 use Rattle.target_lexicon.specs.Values.{VendorValue, Known, Custom}

@@ -1,8 +1,7 @@
 -- What is written part by part.
 use Rattle.std.proofs.Common.{◌≡◌, sym, subst, ℕ, true, List, [], ◌∷◌, Option, Some, None, option_map, Result}
 use Rattle.std.specs.Fmt.{WritesOnOk, WritesStyledOnOk, DisplaysStyledOnOk, HasWrittenStyled, IsDefaultSpec, IsFlush}
-use Rattle.std.specs.declared.fmt.Formatter.{Formatter}
-use Rattle.std.specs.declared.fmt.Error.{Error}
+use Rattle.std.specs.{declared.fmt.Formatter.Formatter, declared.fmt.Error.Error}
 use Rattle.std.proofs.Output.{has_written_styled_append}
 use Rattle.target_lexicon.specs.Private.{part_text}
 

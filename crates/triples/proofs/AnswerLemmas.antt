@@ -1,15 +1,9 @@
 -- The answers of an input's lines, one after another.
 use Rattle.std.proofs.Common.{◌≡◌, ◌≢◌, ℕ, Bool, true, false, ◌||◌, not, List, [], ◌∷◌, ◌++◌, codes, if◌then◌else◌, Result, Ok, Err, OnOk, refl, sym, ap, ◌∙◌, append_assoc}
-use Rattle.std.proofs.lemmas.{List.append-nil, Map.Text.is_eq-slice_cmp}
-use Rattle.std.proofs.Math.Bool.{or-false, or_comm, or_assoc}
-use Rattle.std.proofs.lemmas.List.Folds.{list_any-append}
-use Rattle.std.specs.BTreeMap.{is_at}
-use Rattle.std.specs.BTreeSet.{BTreeSet, insert_key}
-use Rattle.std.specs.Ordering.{nat_cmp, is_eq, ordering_then, match_ordering}
-use Rattle.std.specs.Cmp.Lexicographic.{slice_cmp, same_text}
-use Rattle.std.specs.{List.list_any, Str.bytes_eq}
-use Rattle.std.specs.String.{string_bytes, string_cmp}
-use Rattle.std.proofs.lemmas.Cmp.{nat_cmp_total, tied_itself}
+use Rattle.std.proofs.{lemmas.List.append-nil, lemmas.Map.Text.is_eq-slice_cmp, Math.Bool.or-false, Math.Bool.or_comm, Math.Bool.or_assoc}
+use Rattle.std.proofs.{lemmas.List.Folds.list_any-append, lemmas.Cmp.nat_cmp_total, lemmas.Cmp.tied_itself}
+use Rattle.std.specs.{BTreeMap.is_at, BTreeSet.BTreeSet, BTreeSet.insert_key, Ordering.nat_cmp, Ordering.is_eq, Ordering.ordering_then, Ordering.match_ordering}
+use Rattle.std.specs.{Cmp.Lexicographic.slice_cmp, Cmp.Lexicographic.same_text, List.list_any, Str.bytes_eq, String.string_bytes, String.string_cmp}
 use Rattle.std.specs.declared.cmp.Ordering.{Ordering}
 use Rattle.std.specs.declared.cmp.Ordering.TheVariants.{Less, Equal, Greater}
 use Rattle.target_lexicon.specs.{Reading.ReadsAs, Reading.IsFaultOf, Refusal.error_line, Values.Values, declared.parse_error.ParseError.ParseError}

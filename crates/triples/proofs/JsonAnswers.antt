@@ -1,9 +1,6 @@
 -- The answers of mode `json`.
 use Rattle.std.proofs.Common.{◌≡◌, ℕ, ◌<◌, false, List, [], ◌∷◌, Some, None, MatchOption, Option, map, length, refl, sym, subst, arith}
-use Rattle.serde_json.specs.{Data.Data, Read.read}
-use Rattle.serde_json.specs.Find.{as_array}
-use Rattle.serde_json.specs.View.{items_of}
-use Rattle.serde_json.specs.Written.{items_have_float}
+use Rattle.serde_json.specs.{Data.Data, Read.read, Find.as_array, View.items_of, Written.items_have_float}
 use Rattle.serde_json.proofs.OnLiterals.{serde_json_on_literals}
 use Rattle.target_lexicon.specs.{Json.json_of, Values.Values}
 use Rattle.triples.specs.{JsonOutput.IsJsonAnswerFault, JsonOutput.IsJsonInputFault, declared.run_error.RunError.RunError}

@@ -1,9 +1,7 @@
 -- Known bytes that grew by a beginning of a text.
 use Rattle.std.proofs.Common.{◌≡◌, ℕ, List, ◌++◌, length, take, drop, Option, sym, ap, ◌∙◌, append_assoc}
-use Rattle.std.proofs.lemmas.List.{append-nil, take-append-drop}
+use Rattle.std.proofs.{lemmas.List.append-nil, lemmas.List.take-append-drop, KnownBytes.Appends-trans, Math.Seq.take-append_seam}
 use Rattle.std.specs.Io.KnownBytes.{Appends}
-use Rattle.std.proofs.KnownBytes.{Appends-trans}
-use Rattle.std.proofs.Math.Seq.{take-append_seam}
 use Rattle.triples.specs.Run.{AppendsFront}
 
 pub AppendsFront-of : (u v : Option (List ℕ)) (a b c : List ℕ) → Appends u v a → c ≡ a ++ b → AppendsFront u v c

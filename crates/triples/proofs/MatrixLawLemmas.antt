@@ -1,13 +1,8 @@
 -- The laws of mode `matrix`.
 use Rattle.std.proofs.Common.{◌≡◌, ℕ, Bool, true, false, ◌||◌, not, List, [], ◌∷◌, ◌++◌, cond, map, take, if◌then◌else◌, refl, sym, ap, ◌∙◌, subst}
-use Rattle.std.proofs.lemmas.List.{append-nil}
-use Rattle.std.proofs.Math.Bool.{or-false, or-true}
-use Rattle.std.proofs.lemmas.Bool.{not-false}
-use Rattle.std.proofs.lemmas.List.Elements.{filter-append}
+use Rattle.std.proofs.{lemmas.List.append-nil, Math.Bool.or-false, Math.Bool.or-true, lemmas.Bool.not-false, lemmas.List.Elements.filter-append}
 use Rattle.std.proofs.lemmas.Slice.Eq.{bytes_eq-Decides}
-use Rattle.std.specs.Cmp.Lexicographic.{same_text}
-use Rattle.std.specs.List.{filter, list_any}
-use Rattle.std.specs.Str.{bytes_eq}
+use Rattle.std.specs.{Cmp.Lexicographic.same_text, List.filter, List.list_any, Str.bytes_eq}
 use Rattle.target_lexicon.specs.{FixedPoints.ReadTriplesArePlain, FixedPoints.RoundIsNormalStep, FixedPoints.SettledTextsAreKeys, FixedPoints.settled, FixedPoints.settled_text, NormalStep.normal_step, Laws.OneOutcomeEach, Printing.text_of, Reading.ReadsAs, Values.Values}
 use Rattle.triples.specs.MatrixLaws.{EntriesAreSettledTriples, entries_of, is_refusal, FirstEntriesStayInOrder, EachSettledTripleIsThere, entries_alone, MatricesAreTheirOwn}
 use Rattle.triples.specs.Output.{Answer, Shown, Refused, IsAnswer, AreAnswers, shows, stays_behind, staying_behind, matrix_of, answer_bytes}

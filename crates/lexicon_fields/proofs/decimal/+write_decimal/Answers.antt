@@ -1,6 +1,5 @@
 use Rattle.std.proofs.Common.{rules, arith, sym}
-use Rattle.std.proofs.Output.{has_written_styled_append, has_written_styled_of_eq}
-use Rattle.std.proofs.lemmas.Fmt.{decimal_step, decimal_digit}
+use Rattle.std.proofs.{Output.has_written_styled_append, Output.has_written_styled_of_eq, lemmas.Fmt.decimal_step, lemmas.Fmt.decimal_digit}
 use Rattle.lexicon_fields.proofs.decimal.+write_decimal.Goals as goal
 
 pub returns-then-n-lt10 : goal.returns-then-n-lt10

@@ -1,6 +1,5 @@
 use Rattle.std.proofs.Common.{◌≡◌, ◌∷◌, codes, length, nat_le, ◌+◌, refl, sym, ap}
-use Rattle.std.proofs.lemmas.Bool.{leb-true}
-use Rattle.std.proofs.lemmas.Option.{MatchOption-at_some, cond_some}
+use Rattle.std.proofs.{lemmas.Bool.leb-true, lemmas.Option.MatchOption-at_some, lemmas.Option.cond_some}
 use Rattle.lexicon_fields.specs.{Architecture.architecture_name, Architecture.architecture_values, Architecture.architecture_of, Names.named}
 use Rattle.lexicon_fields.specs.BinaryFormat.{binary_format_name, binary_format_values, binary_format_of}
 use Rattle.lexicon_fields.specs.Environment.{environment_name, environment_values, environment_of}

@@ -1,6 +1,5 @@
 use Rattle.std.proofs.Common.{◌≡◌, refl, ap}
-use Rattle.std.proofs.lemmas.Bool.{false≢true}
-use Rattle.std.proofs.lemmas.Slice.Eq.{bytes_eq-Decides}
+use Rattle.std.proofs.{lemmas.Bool.false≢true, lemmas.Slice.Eq.bytes_eq-Decides}
 use Rattle.lexicon_fields.specs.Vendor.{Custom, custom_text}
 use Rattle.lexicon_fields.specs.declared.vendor.Vendor.TheVariants as vendor
 use Rattle.lexicon_fields.proofs.laws.vendors_are_equal_by_value.Goals as goal

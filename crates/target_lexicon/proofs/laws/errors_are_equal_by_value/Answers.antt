@@ -1,11 +1,6 @@
 use Rattle.std.proofs.Common.{◌≡◌, ℕ, List, [], Option, Some, refl, ap}
-use Rattle.std.specs.Prelude.{string_bytes, option_map}
-use Rattle.std.specs.Bool.{Decides}
-use Rattle.std.specs.Str.{bytes_eq}
-use Rattle.std.specs.Option.{option_map_or}
-use Rattle.std.proofs.lemmas.Bool.{false≢true}
-use Rattle.std.proofs.lemmas.Bool.Decides.{Decides-like}
-use Rattle.std.proofs.lemmas.Slice.Eq.{bytes_eq-Decides}
+use Rattle.std.specs.{Prelude.string_bytes, Prelude.option_map, Bool.Decides, Str.bytes_eq, Option.option_map_or}
+use Rattle.std.proofs.{lemmas.Bool.false≢true, lemmas.Bool.Decides.Decides-like, lemmas.Slice.Eq.bytes_eq-Decides}
 use Rattle.target_lexicon.specs.Refusal.{Lack, Lacks, LacksAnyField, Refusal, refused}
 use Rattle.target_lexicon.specs.Field as field
 use Rattle.target_lexicon.specs.declared.parse_error.ParseError.TheVariants as error

@@ -1,7 +1,5 @@
 use Rattle.std.proofs.Common.{◌<◌, ◌++◌, length, take, arith, length-append}
-use Rattle.std.proofs.lemmas.Grind.{common_steps}
-use Rattle.std.proofs.lemmas.List.{length-take}
-use Rattle.std.proofs.KnownBytes.{Consumes-trans}
+use Rattle.std.proofs.{lemmas.Grind.common_steps, lemmas.List.length-take, KnownBytes.Consumes-trans}
 use Rattle.triples.proofs.input.read_all.Goals as goal
 
 pub returns-then-is_err-clause-memory : goal.returns-then-is_err-clause-memory

@@ -1,7 +1,5 @@
 use Rattle.std.proofs.Common.{◌++◌, take, arith}
-use Rattle.std.proofs.lemmas.Grind.{common_steps}
-use Rattle.std.proofs.lemmas.List.{take-append-drop}
-use Rattle.std.proofs.KnownBytes.{Appends-trans, Appends-kept}
+use Rattle.std.proofs.{lemmas.Grind.common_steps, lemmas.List.take-append-drop, KnownBytes.Appends-trans, KnownBytes.Appends-kept}
 use Rattle.triples.proofs.KnownBytes.{Appends-none, AppendsFront-of}
 use Rattle.triples.proofs.input.write_all.Goals as goal
 
