@@ -8,8 +8,8 @@ ghost use Rattle.target_lexicon.specs.Values.{values_of};
 ghost use Rattle.lexicon_c.specs.Facts.{AreFactsOf, endianness_number, convention_number, model_number, format_number};
 
 use target_lexicon::{
-    BinaryFormat, CDataModel, CallingConvention, DeploymentTarget, Endianness, OperatingSystem,
-    PointerWidth, Triple, default_binary_format,
+    BinaryFormat, CDataModel, CallingConvention, Endianness, OperatingSystem, PointerWidth, Triple,
+    default_binary_format,
 };
 
 /// What C asks of a triple. Each number is 0 where there is no answer.
@@ -123,7 +123,7 @@ fn version_numbers(system: OperatingSystem) -> (u32, u32, u32, u32)
     ensures minor { result.2 ≡ option_map_or (λ v. v.minor) (version_held system) 0 }
     ensures patch { result.3 ≡ option_map_or (λ v. v.patch) (version_held system) 0 }
 {
-    match version_of(system) {
+    match system.version() {
         Some(version) => (
             1,
             u32::from(version.major),
@@ -131,21 +131,5 @@ fn version_numbers(system: OperatingSystem) -> (u32, u32, u32, u32)
             u32::from(version.patch),
         ),
         None => (0, 0, 0, 0),
-    }
-}
-
-/// The version that an operating system holds.
-fn version_of(system: OperatingSystem) -> Option<DeploymentTarget>
-    ensures { result ≡ version_held system }
-{
-    match system {
-        OperatingSystem::Darwin(version)
-        | OperatingSystem::IOS(version)
-        | OperatingSystem::MacOSX(version)
-        | OperatingSystem::TvOS(version)
-        | OperatingSystem::VisionOS(version)
-        | OperatingSystem::WatchOS(version)
-        | OperatingSystem::XROS(version) => version,
-        _ => None,
     }
 }

@@ -201,8 +201,8 @@ impl OperatingSystem {
         }
     }
 
-    /// The version, where the system holds one.
-    fn version(self) -> Option<DeploymentTarget>
+    /// The version of the deployment target, where the system holds one; only one like Darwin does.
+    pub fn version(self) -> Option<DeploymentTarget>
         ensures { result ≡ version_held self }
     {
         match self {

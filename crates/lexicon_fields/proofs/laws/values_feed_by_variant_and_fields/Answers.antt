@@ -1,7 +1,7 @@
-use Rattle.std.proofs.Common.{◌≡◌, ◌++◌, ◌∙◌, Option, Some, None, IfSome, arith, refl, sym, ap}
+use Rattle.std.proofs.Common.{◌≡◌, ◌++◌, ◌∙◌, Option, Some, None, IfSome, length, arith, refl, sym, ap}
 use Rattle.std.specs.Hash.{HashWrites, le_bytes, option, usize, str}
 use Rattle.lexicon_fields.specs.declared.architecture.Architecture.TheVariants.{Arm, Aarch64, X86_32, Mips32, Mips64, Riscv32, Riscv64, Clever, Z80}
-use Rattle.lexicon_fields.specs.{declared.deployment_target.DeploymentTarget.DeploymentTarget, declared.vendor.CustomVendor.CustomVendor, declared.vendor.Vendor.Vendor, Laws.FeedsOfTell, Laws.IsVersionInRange, Vendor.VendorValue, Vendor.Known, Vendor.Custom, Vendor.custom_text, Vendor.vendor_value}
+use Rattle.lexicon_fields.specs.{declared.deployment_target.DeploymentTarget.DeploymentTarget, declared.vendor.CustomVendor.CustomVendor, declared.vendor.Vendor.Vendor, Laws.FeedsOfTell, Laws.IsVersionInRange, Vendor.VendorValue, Vendor.Known, Vendor.Custom, Vendor.known_vendors, Vendor.custom_text, Vendor.vendor_value}
 use Rattle.lexicon_fields.specs.declared.operating_system.OperatingSystem.TheVariants.{Darwin, IOS, MacOSX, TvOS, VisionOS, WatchOS, XROS}
 use Rattle.lexicon_fields.proofs.Feeds.{Tells, behind_first, first_write, first_byte, same_u16, feeds_of_tell, bare_feeds, enum_feeds, variants_tell, one_field}
 use denote.Enum.Declared.{tag_of}
@@ -120,7 +120,7 @@ custom_feeds = feeds_of_tell (λ x y a b _ _ same. (ap first_write same, ap behi
 -- what the vendor that a value stands for feeds
 abbrev value_feed : VendorValue → HashWrites
 value_feed (Known known) = usize (tag_of known_vendor.the_type known)
-value_feed (Custom text) = usize 15 ++ str text
+value_feed (Custom text) = usize (length known_vendors) ++ str text
 
 feeds_by_value : (x : Vendor) → vendor_hash.ghosts.hash_input x ≡ value_feed (vendor_value x)
 feeds_by_value (vendors.Custom custom) = refl
