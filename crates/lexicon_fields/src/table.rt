@@ -3,7 +3,6 @@ ghost use Rattle.std.specs.Prelude.{◌≡◌, ◌+◌, ◌<◌, ◌≤◌, fals
 ghost use Rattle.std.specs.Cmp.Lexicographic.{slice_cmp};
 ghost use Rattle.std.specs.Ordering.{nat_cmp};
 ghost use Rattle.lexicon_fields.specs.FixedRow.{has_row, IsRowOf, row_count, row_text};
-ghost use Rattle.lexicon_fields.specs.Private.{front_of};
 
 mod front;
 mod rows;
@@ -14,7 +13,7 @@ use crate::environment::Environment;
 use crate::known_vendor::KnownVendor;
 use crate::operating_system::OperatingSystem;
 use crate::steps::Steps;
-use rows::{row, row_front};
+use rows::row;
 use std::cmp::Ordering;
 
 /// How many texts have a row.
@@ -39,7 +38,7 @@ pub struct FixedRow {
 #[inline(always)]
 pub fn fixed_row(text: &str, steps: &mut Steps) -> Option<FixedRow>
     ensures row { MatchOption result (has_row text.now ≡ false) (IsRowOf text.now) }
-    ensures counted { steps.old.count ≤ steps.new.count }
+    ensures counted { steps.old.count < steps.new.count }
     ensures few { steps.new.count ≤ steps.old.count + 8 }
 {
     match row_number(text, steps) {
@@ -55,19 +54,9 @@ pub fn row_order(i: usize, text: &str, steps: &mut Steps) -> Ordering
     ensures order { result ≡ slice_cmp nat_cmp (row_text i) text.now }
     ensures count { steps.new.count ≡ steps.old.count + 1 }
 {
-    order_by_front(i, front::front(text), text, steps)
-}
-
-/// The same, for a text with this front.
-#[inline(always)]
-fn order_by_front(i: usize, wanted: u64, text: &str, steps: &mut Steps) -> Ordering
-    requires row { i < row_count }
-    requires front { wanted ≡ front_of 8 text.now }
-    ensures order { result ≡ slice_cmp nat_cmp (row_text i) text.now }
-    ensures count { steps.new.count ≡ steps.old.count + 1 }
-{
     steps.tick();
-    front::order(row_front(i), row(i).0, wanted, text)
+    let row = row(i);
+    front::order(row.1, row.0, front::front(text), text)
 }
 
 /// The number of the row that has the text. A text of at most eight bytes is compared without a call, which would cost
@@ -75,7 +64,7 @@ fn order_by_front(i: usize, wanted: u64, text: &str, steps: &mut Steps) -> Order
 #[inline(never)]
 fn row_number(text: &str, steps: &mut Steps) -> Option<usize>
     ensures row { MatchOption result (has_row text.now ≡ false) (λ i. (i < row_count) × (row_text i ≡ text.now)) }
-    ensures counted { steps.old.count ≤ steps.new.count }
+    ensures counted { steps.old.count < steps.new.count }
     ensures few { steps.new.count ≤ steps.old.count + 8 }
 {
     if text.len() <= 8 {
@@ -89,7 +78,7 @@ fn row_number(text: &str, steps: &mut Steps) -> Option<usize>
 #[inline(never)]
 fn row_number_of_long(text: &str, steps: &mut Steps) -> Option<usize>
     ensures row { MatchOption result (has_row text.now ≡ false) (λ i. (i < row_count) × (row_text i ≡ text.now)) }
-    ensures counted { steps.old.count ≤ steps.new.count }
+    ensures counted { steps.old.count < steps.new.count }
     ensures few { steps.new.count ≤ steps.old.count + 8 }
 {
     search(text, steps)
@@ -99,12 +88,11 @@ fn row_number_of_long(text: &str, steps: &mut Steps) -> Option<usize>
 #[inline(always)]
 fn search(text: &str, steps: &mut Steps) -> Option<usize>
     ensures row { MatchOption result (has_row text.now ≡ false) (λ i. (i < row_count) × (row_text i ≡ text.now)) }
-    ensures counted { steps.old.count ≤ steps.new.count }
+    ensures counted { steps.old.count < steps.new.count }
     ensures few { steps.new.count ≤ steps.old.count + 8 }
 {
-    let wanted = front::front(text);
     let mut low = ROW_COUNT - FOUND_BY_SEVEN;
-    match order_by_front(FOUND_BY_SEVEN, wanted, text, steps) {
+    match row_order(FOUND_BY_SEVEN, text, steps) {
         Ordering::Less => {}
         Ordering::Greater => low = 0,
         Ordering::Equal => return Some(FOUND_BY_SEVEN),
@@ -113,7 +101,7 @@ fn search(text: &str, steps: &mut Steps) -> Option<usize>
     while left > 0 {
         let middle = low + left / 2;
         left /= 2;
-        match order_by_front(middle, wanted, text, steps) {
+        match row_order(middle, text, steps) {
             Ordering::Less => low = middle + 1,
             Ordering::Greater => {}
             Ordering::Equal => return Some(middle),
@@ -131,10 +119,10 @@ fn row_at(i: usize) -> FixedRow
     let row = row(i);
     FixedRow {
         text: row.0,
-        architecture: row.1,
-        vendor: row.2,
-        operating_system: row.3,
-        environment: row.4,
-        binary_format: row.5,
+        architecture: row.2,
+        vendor: row.3,
+        operating_system: row.4,
+        environment: row.5,
+        binary_format: row.6,
     }
 }

@@ -27,6 +27,7 @@ pub(crate) fn order(own_front: u64, own: &str, wanted: u64, text: &str) -> Order
 }
 
 /// The first eight bytes as a number, the first one foremost; a missing byte counts as zero.
+#[inline(never)]
 pub(crate) fn front(text: &str) -> u64
     ensures { result ≡ front_of 8 text.now }
 {
