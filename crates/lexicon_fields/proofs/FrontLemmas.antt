@@ -59,19 +59,20 @@ order_of_same_front (suc k) (x ∷ xs) (y ∷ ys) p q n h = elim (cases_order x 
   ]
 ]
 
--- the front of four to seven bytes, by the first four and the last four; what both hold is shifted out of the last
-pub front_of_ends : (s head tail : List ℕ) (x y : ℕ) → AreBytes s → 4 ≤ length s → length s < 8 → head ≡ take 4 s → tail ≡ drop (length s - 4) s
+-- the front of four to eight bytes, by the first four and the last four; what both hold is shifted out of the last
+pub front_of_ends : (s head tail : List ℕ) (x y : ℕ) → AreBytes s → 4 ≤ length s → length s ≤ 8 → head ≡ take 4 s → tail ≡ drop (length s - 4) s
     → x ≡ from_be_bytes w32 head → y ≡ from_be_bytes w32 tail
     → x * 4294967296 + y * 2 ^ (64 - 8 * length s) % 18446744073709551616 % 4294967296 ≡ front_of 8 s
 front_of_ends s head tail x y h some few first last number rest = rw (number, rest, first, last) (by_length s h some few)
   where
-    by_length : (s : List ℕ) → AreBytes s → 4 ≤ length s → length s < 8
+    by_length : (s : List ℕ) → AreBytes s → 4 ≤ length s → length s ≤ 8
         → from_be_bytes w32 (take 4 s) * 4294967296 + from_be_bytes w32 (drop (length s - 4) s) * 2 ^ (64 - 8 * length s) % 18446744073709551616 % 4294967296 ≡ front_of 8 s
     by_length (a ∷ b ∷ c ∷ d ∷ []) h some few = omega (arith, h 0, h 1, h 2, h 3)
     by_length (a ∷ b ∷ c ∷ d ∷ e ∷ []) h some few = omega (arith, h 0, h 1, h 2, h 3, h 4)
     by_length (a ∷ b ∷ c ∷ d ∷ e ∷ f ∷ []) h some few = omega (arith, h 0, h 1, h 2, h 3, h 4, h 5)
     by_length (a ∷ b ∷ c ∷ d ∷ e ∷ f ∷ g ∷ []) h some few = omega (arith, h 0, h 1, h 2, h 3, h 4, h 5, h 6)
-    by_length (a ∷ b ∷ c ∷ d ∷ e ∷ f ∷ g ∷ i ∷ more) h some few = absurd (omega (arith, few))
+    by_length (a ∷ b ∷ c ∷ d ∷ e ∷ f ∷ g ∷ i ∷ []) h some few = omega (arith, h 0, h 1, h 2, h 3, h 4, h 5, h 6, h 7)
+    by_length (a ∷ b ∷ c ∷ d ∷ e ∷ f ∷ g ∷ i ∷ j ∷ more) h some few = absurd (omega (arith, few))
     by_length (a ∷ b ∷ c ∷ []) h some few = absurd (omega (arith, some))
     by_length (a ∷ b ∷ []) h some few = absurd (omega (arith, some))
     by_length (a ∷ []) h some few = absurd (omega (arith, some))

@@ -1,5 +1,5 @@
 //! Laws of names, queries and equality: a call does nothing, and its contract is the law.
-ghost use Rattle.std.specs.Prelude.{◌≡◌, ◌↔◌, true, ℕ, List, Some, length, Contains, Decides};
+ghost use Rattle.std.specs.Prelude.{◌≡◌, ◌↔◌, true, ℕ, List, Some, length, Contains, Decides, IsTrue};
 ghost use Rattle.std.specs.Cmp.Lexicographic.{slice_cmp};
 ghost use Rattle.std.specs.List.Sorted.{IsStrictlySortedBy};
 ghost use Rattle.std.specs.Ordering.{nat_cmp};
@@ -67,6 +67,12 @@ pub fn read_versions_are_in_range()
 /// Versions are ordered by major, then by minor, then by patch.
 pub fn versions_are_ordered()
     ensures { (x y : DeploymentTarget) → ⟦<DeploymentTarget as Ord>⟧.cmp x y ≡ version_cmp x y }
+{}
+
+/// Two custom vendors are equal exactly if their texts are, whoever owns them.
+pub fn custom_vendors_are_equal_by_text()
+    ensures { (x y : CustomVendor) →
+        IsTrue (⟦<CustomVendor as PartialEq>⟧.eq x y) ↔ (custom_text x ≡ custom_text y) }
 {}
 
 /// Known vendors are equal by variant, custom ones by text, and a custom one never equals a known one.

@@ -59,24 +59,36 @@ pub fn row_order(i: usize, text: &str, steps: &mut Steps) -> Ordering
     front::order(row.1, row.0, front::front(text), text)
 }
 
-/// The number of the row that has the text. A text of at most eight bytes is compared without a call, which would cost
-/// it saved registers, so that longer ones have a function of their own.
+/// The number of the row that has the text. Texts of these lengths have a search each, in which the front of the text is computed
+/// once; that from four to eight bytes, as most are, calls nothing.
 #[inline(never)]
 fn row_number(text: &str, steps: &mut Steps) -> Option<usize>
     ensures row { MatchOption result (has_row text.now ≡ false) (λ i. (i < row_count) × (row_text i ≡ text.now)) }
     ensures counted { steps.old.count < steps.new.count }
     ensures few { steps.new.count ≤ steps.old.count + 8 }
 {
-    if text.len() <= 8 {
+    if text.len() > 8 {
+        row_number_of_long(text, steps)
+    } else if text.len() >= 4 {
         search(text, steps)
     } else {
-        row_number_of_long(text, steps)
+        row_number_of_short(text, steps)
     }
 }
 
 /// The same, for a text of more than eight bytes.
 #[inline(never)]
 fn row_number_of_long(text: &str, steps: &mut Steps) -> Option<usize>
+    ensures row { MatchOption result (has_row text.now ≡ false) (λ i. (i < row_count) × (row_text i ≡ text.now)) }
+    ensures counted { steps.old.count < steps.new.count }
+    ensures few { steps.new.count ≤ steps.old.count + 8 }
+{
+    search(text, steps)
+}
+
+/// The same, for a text of at most three bytes.
+#[inline(never)]
+fn row_number_of_short(text: &str, steps: &mut Steps) -> Option<usize>
     ensures row { MatchOption result (has_row text.now ≡ false) (λ i. (i < row_count) × (row_text i ≡ text.now)) }
     ensures counted { steps.old.count < steps.new.count }
     ensures few { steps.new.count ≤ steps.old.count + 8 }

@@ -1,5 +1,5 @@
 //! The order of texts by their first eight bytes.
-ghost use Rattle.std.specs.Prelude.{◌≡◌};
+ghost use Rattle.std.specs.Prelude.{◌≡◌, ◌<◌, length};
 ghost use Rattle.std.specs.Cmp.Lexicographic.{slice_cmp};
 ghost use Rattle.std.specs.Ordering.{nat_cmp};
 ghost use Rattle.lexicon_fields.specs.Private.{front_of};
@@ -26,20 +26,33 @@ pub(crate) fn order(own_front: u64, own: &str, wanted: u64, text: &str) -> Order
     }
 }
 
-/// The first eight bytes as a number, the first one foremost; a missing byte counts as zero.
-#[inline(never)]
+/// The first eight bytes as a number, the first one foremost; a missing byte counts as zero. Where the length is known to be
+/// above eight, or from four to eight, no branch is left, so that a search computes it once.
+#[inline(always)]
 pub(crate) fn front(text: &str) -> u64
     ensures { result ≡ front_of 8 text.now }
 {
     let bytes = text.as_bytes();
-    if let Some(eight) = bytes.first_chunk::<8>() {
-        return u64::from_be_bytes(*eight);
+    if bytes.len() > 8 {
+        return match bytes.first_chunk::<8>() {
+            Some(eight) => u64::from_be_bytes(*eight),
+            None => unreachable!(),
+        };
     }
     if let (Some(head), Some(tail)) = (bytes.first_chunk::<4>(), bytes.last_chunk::<4>()) {
         let head = u64::from(u32::from_be_bytes(*head));
         let tail = u64::from(u32::from_be_bytes(*tail));
         return head * 0x1_0000_0000 + (tail << (64 - 8 * bytes.len())) % 0x1_0000_0000;
     }
+    front_of_few(bytes)
+}
+
+/// The same, for at most three bytes.
+#[inline(never)]
+fn front_of_few(bytes: &[u8]) -> u64
+    requires { length bytes.now < 4 }
+    ensures { result ≡ front_of 8 bytes.now }
+{
     match bytes {
         [a, b, c] => u64::from_be_bytes([*a, *b, *c, 0, 0, 0, 0, 0]),
         [a, b] => u64::from_be_bytes([*a, *b, 0, 0, 0, 0, 0, 0]),
