@@ -1,4 +1,4 @@
--- Equality tells exactly which values are the same.
+-- `==` is true exactly for the same values.
 use Rattle.std.proofs.Common.{rules, ◌≡◌, ◌∙◌, Bool, false, List, [], ◌∷◌, Option, Some, None, inl, inr, refl, sym, ap}
 use Rattle.std.specs.{Prelude.Decides, Cmp.Derive.of_values, Option.option_eq}
 use Rattle.std.proofs.{lemmas.Bool.false≢true, lemmas.Bool.Decides.Decides-like}
@@ -10,22 +10,22 @@ use denote.Enum.Compared.{Each, by}
 use denote.Enum.Bare.{Bare, sameb, same_true, true_same}
 use Rattle.lexicon_fields.specs.contracts.deployment_target.DeploymentTargetPartialEq.TheImpl as version
 
--- variants without fields are told apart by their places
+-- variants without fields are equal by their indices
 pub bare-Decides : (D : Declared) → Bare D.parts → (a b : D.D) → Decides (sameb D a b) (a ≡ b)
 bare-Decides D bare a b = (λ same. same_true D bare a b same, λ same. true_same D a b same)
 
--- two values that may be missing are the same where both are missing, or the same values are there
+-- two options are the same if both are `None`, or both have the same value
 pub option_eq-Decides : {V : Type 0} (eq : V → V → Bool) → ((a b : V) → Decides (eq a b) (a ≡ b))
     → (a b : Option V) → Decides (option_eq eq a b) (a ≡ b)
 option_eq-Decides eq decides None None = (λ _. refl, λ _. refl)
 option_eq-Decides eq decides (Some a) (Some b) = Decides-like (eq a b) (λ same. ap Some same) (λ same. let inner : a ≡ b = cc in inner) (decides a b)
 option_eq-Decides eq decides _ _ = (λ same. absurd cc, λ same. absurd cc)
 
--- versions are told apart by their numbers
+-- versions are equal by their numbers
 pub version-Decides : (a b : DeploymentTarget) → Decides (version.ghosts.eq a b) (a ≡ b)
 version-Decides a b = search rules
 
--- the fields of each variant are told apart
+-- the fields of each variant are equal by value
 abbrev pub EachDecides : (Fss : List (List Field)) → Each Bool Fss → Type 0
 EachDecides [] each = Unit {0}
 EachDecides (Fs ∷ Fss) each = ((x y : Values Fs) → Decides (each.0 x y) (x ≡ y)) × EachDecides Fss each.1

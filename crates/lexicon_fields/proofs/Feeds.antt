@@ -1,4 +1,4 @@
--- What values feed a hasher tells them apart.
+-- Different values feed a hasher differently.
 use Rattle.std.proofs.Common.{◌≡◌, ℕ, ◌<◌, ◌≤◌, ◌^◌, List, [], ◌∷◌, ◌++◌, ◌∙◌, refl, sym, ap, arith, length}
 use Rattle.std.specs.{Hash.HashWrites, Hash.le_bytes, Hash.usize, Int.w16, Int.from_le_bytes}
 use Rattle.std.proofs.{lemmas.List.append_cancel_left, lemmas.Nat.from_le_bytes-to_le_bytes_2}
@@ -19,16 +19,16 @@ abbrev pub first_write : HashWrites → List ℕ
 first_write [] = []
 first_write (write ∷ writes) = write
 
--- the writes behind the first
+-- the writes after the first
 abbrev pub behind_first : HashWrites → HashWrites
 behind_first [] = []
 behind_first (write ∷ writes) = writes
 
--- what two values feed, with more behind it, tells what they stand for, and what is behind
+-- from what two values feed, and what follows, one can tell what they represent, and what follows
 abbrev pub Tells : {V W : Type 0} → (V → Type 0) → (V → W) → (V → HashWrites) → V → V → Type 0
 Tells IsOfKind value feed x y = (a b : HashWrites) → IsOfKind x → IsOfKind y → feed x ++ a ≡ feed y ++ b → (value x ≡ value y) × (a ≡ b)
 
--- a kind of values feeds the same exactly where it is the same, if what is fed tells so whatever is behind it
+-- values feed the same exactly if they are the same, provided that this holds whatever follows
 pub feeds_of_tell : {V W : Type 0} {IsOfKind : V → Type 0} {value : V → W} {feed : V → HashWrites}
     → ((x y : V) → Tells IsOfKind value feed x y) → ((x y : V) → value x ≡ value y → feed x ≡ feed y) → FeedsOfTell IsOfKind value feed
 feeds_of_tell tells respects = record {
@@ -36,7 +36,7 @@ feeds_of_tell tells respects = record {
   with_more = tells;
 }
 
--- an enum of at most 256 variants, which feeds the place of the variant and then the fields
+-- an enum of at most 256 variants, which feeds the index of the variant and then the fields
 module _ (N : Record) (feed : N.D → HashWrites) (few : length (rowss N.parts) ≤ 256)
     (placed : (x : N.D) → feed x ≡ usize (tag_of (declared N) x) ++ behind_first (feed x)) where
   pub same_place : (x y : N.D) (a b : HashWrites) → feed x ++ a ≡ feed y ++ b → tag_of (declared N) x ≡ tag_of (declared N) y

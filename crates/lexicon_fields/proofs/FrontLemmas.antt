@@ -1,4 +1,4 @@
--- Fronts order as texts do.
+-- Prefix keys are ordered as their texts are.
 use Rattle.std.proofs.Common.{◌≡◌, ℕ, zero, suc, ◌+◌, ◌*◌, ◌^◌, ◌<◌, ◌≤◌, List, [], ◌∷◌, arith, refl, sym, ap, ◌∙◌, Less, Equal, Greater, nat_cmp, inl, inr, get_or, length, take, drop, ◌-◌, ◌%◌, w32}
 use Rattle.std.specs.{Cmp.Lexicographic.slice_cmp, Cmp.nat_cmp_is, Int.from_be_bytes, Ordering.ordering_reverse}
 use Rattle.std.proofs.{lemmas.Bool.cases_order, lemmas.Cmp.nat_list_cmp_total, Math.Nat.mul-le-mul_right, Math.Nat.pow-suc}
@@ -7,7 +7,7 @@ use Rattle.lexicon_fields.specs.Private.{front_of}
 abbrev pub AreBytes : List ℕ → Type 0
 AreBytes s = (i : ℕ) → get_or s i 0 < 256
 
--- the front is below a power
+-- the key is below a power of 256
 pub front_below : (k : ℕ) (s : List ℕ) → AreBytes s → front_of k s < 256 ^ k
 front_below zero s h = omega arith
 front_below (suc k) [] h = omega (arith, pow-suc 256 k, front_below k [] (λ i. omega arith))
@@ -19,7 +19,7 @@ is_less x y h = sym (nat_cmp_is x y Less h)
 is_equal : (x y : ℕ) → x ≡ y → nat_cmp x y ≡ Equal
 is_equal x y h = sym (nat_cmp_is x y Equal h)
 
--- the text with the lesser front comes first
+-- the text with the smaller key comes first
 pub less_by_front : (k : ℕ) (a b : List ℕ) → AreBytes a → AreBytes b → front_of k a < front_of k b → slice_cmp nat_cmp a b ≡ Less
 less_by_front zero a b _ _ h = absurd (omega (arith, h))
 less_by_front (suc k) [] [] _ _ h = absurd (omega (arith, h))
@@ -45,7 +45,7 @@ suc_cmp m n = elim (cases_order m n) [
   ]
 ]
 
--- of two texts with one front that holds the second, the shorter comes first
+-- of two texts with the same key, the second of at most that many bytes, the shorter comes first
 pub order_of_same_front : (k : ℕ) (a b : List ℕ) → AreBytes a → AreBytes b → length b ≤ k → front_of k a ≡ front_of k b → slice_cmp nat_cmp a b ≡ nat_cmp (length a) (length b)
 order_of_same_front k [] [] _ _ _ h = sym (is_equal 0 0 refl)
 order_of_same_front k [] (y ∷ ys) _ _ _ h = sym (is_less 0 (length (y ∷ ys)) (omega arith))
@@ -59,7 +59,7 @@ order_of_same_front (suc k) (x ∷ xs) (y ∷ ys) p q n h = elim (cases_order x 
   ]
 ]
 
--- the front of four to eight bytes, by the first four and the last four; what both hold is shifted out of the last
+-- the key of four to eight bytes, from the first four and the last four; bytes in both are shifted out of the last
 pub front_of_ends : (s head tail : List ℕ) (x y : ℕ) → AreBytes s → 4 ≤ length s → length s ≤ 8 → head ≡ take 4 s → tail ≡ drop (length s - 4) s
     → x ≡ from_be_bytes w32 head → y ≡ from_be_bytes w32 tail
     → x * 4294967296 + y * 2 ^ (64 - 8 * length s) % 18446744073709551616 % 4294967296 ≡ front_of 8 s

@@ -1,4 +1,4 @@
--- How much is left to a search after some of its eight steps.
+-- How many rows are left to a search after some of its eight steps.
 use Rattle.std.proofs.Common.{◌≡◌, ◌∙◌, ℕ, suc, ◌+◌, ◌-◌, ◌*◌, ◌/◌, ◌^◌, ◌<◌, ◌≤◌, arith, ap, inl, inr}
 use Rattle.std.proofs.{lemmas.Bool.cases_lt, Math.Nat.pow-suc}
 
@@ -13,7 +13,7 @@ halved-first old new one =
     let seven : old + 8 - new ≡ 7 = omega (arith, one) in
     record { counted = omega (arith, one); few = omega (arith, one); halved = rw seven (omega arith) }
 
--- while something is left, a step is left that halves it
+-- while rows are left, a step is left, which halves them
 halves : (old new left : ℕ) → IsHalved old new left → 0 < left → (new < old + 8) × (left + 1 ≡ 2 ^ (old + 8 - (new + 1)) * 2)
 halves old new left h some = elim (cases_lt new (old + 8)) [
   | inl lt ↦ (let more : old + 8 - new ≡ suc (old + 8 - (new + 1)) = omega arith in
@@ -22,7 +22,7 @@ halves old new left h some = elim (cases_lt new (old + 8)) [
       let one : left + 1 ≡ 1 = h.halved ∙ ap (λ n. 2 ^ n) none in omega arith)
 ]
 
--- what is left lies half before and half behind its middle
+-- half of what is left precedes the middle, and half follows it
 pub halved-middle : (old new left : ℕ) → IsHalved old new left → 0 < left → left / 2 + 1 + left / 2 ≡ left
 halved-middle old new left h some = let is = halves old new left h some in omega (arith, is.1)
 

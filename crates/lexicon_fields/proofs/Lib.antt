@@ -1,9 +1,9 @@
 -- RowTexts, FrontLemmas, Halving, RowsHold, RowReads: the table of names is in order, its search finds each row, and a row
--- holds what the lists of names say. LookUps: what a look-up in a list tells, and how names are shown to read back.
--- NamesReadBack, VersionsReadBack, OperatingSystemsReadBack, SystemsRead, VendorsReadBack: that the names of each type read
--- back as the values that bear them, and hold no dash, and that a version that is read is in range.
--- Variants: what holds of values of one variant. Feeds: that what values feed a hasher tells them apart. EqualByValue: that
--- `==` tells exactly which values are the same.
+-- has the values that the lists of names give. LookUps: what a look-up in a list gives, and how to show that names parse back.
+-- NamesReadBack, VersionsReadBack, OperatingSystemsReadBack, SystemsRead, VendorsReadBack: the names of each type parse back
+-- and have no dash, and a parsed version is in range.
+-- Variants: facts about values of one variant. Feeds: different values feed a hasher differently. EqualByValue: `==` is true
+-- exactly for the same values.
 pub mod EqualByValue
 pub mod Feeds
 pub mod FrontLemmas

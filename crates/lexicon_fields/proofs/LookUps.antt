@@ -1,11 +1,11 @@
--- What a look-up tells of the text, and how names are shown to read back.
+-- What a look-up says about the text, and how to show that names parse back.
 use Rattle.std.proofs.Common.{◌≡◌, ℕ, List, [], ◌∷◌, Bool, true, false, Option, Some, None, IfSome, is_none, option_map, option_and_then, refl, ap, sym, cond, not, nat_eq, All}
 use Rattle.std.specs.{Option.option_or, Str.bytes_eq, List.list_all}
 use Rattle.std.proofs.{lemmas.Bool.and_parts, lemmas.Bool.ne_eqb, lemmas.List.Folds.list_any_none, lemmas.List.Sums.AllPass-from_list_all}
 use Rattle.std.proofs.lemmas.Slice.Eq.{bytes_eq-Decides}
 use Rattle.lexicon_fields.specs.{Names.Pair, Names.value_of, Names.named, Names.is_dash_free, Laws.NamesOfReadBack}
 
--- a test that every pair passes holds of each text with the value that it reads as
+-- a test that every pair passes holds for each text and the value that it parses as
 pub value_of-all : {V : Type 0} (test : Pair V → Bool) (pairs : List (Pair V)) (text : List ℕ) (v : V) → list_all test pairs ≡ true → value_of pairs text ≡ Some v → test (text, v) ≡ true
 value_of-all test [] text v all found = cc
 value_of-all {V} test (pair ∷ pairs) text v all found =
@@ -19,17 +19,17 @@ value_of-all {V} test (pair ∷ pairs) text v all found =
       | false ↦ λ _ is. value_of-all test pairs text v parts.1 is
     ]) refl found
 
--- a text that a table holds passes what each text of the table passes
+-- a text in a table passes each test that all texts of the table pass
 pub value_of-passes : {V : Type 0} (test : List ℕ → Bool) (pairs : List (Pair V)) (text : List ℕ) (v : V) → list_all (λ pair. test pair.0) pairs ≡ true → value_of pairs text ≡ Some v → test text ≡ true
 value_of-passes test pairs text v all found = value_of-all (λ pair. test pair.0) pairs text v all found
 
--- a text that a table of names holds is the name of what it reads as
+-- a text in a table of names is the name of the value that it parses as
 pub value_of-named : {V : Type 0} (name : V → List ℕ) (values : List V) (text : List ℕ) (v : V)
     → list_all (λ pair. bytes_eq pair.0 (name pair.1)) (named name values) ≡ true → value_of (named name values) text ≡ Some v → name v ≡ text
 value_of-named name values text v all found =
     sym ((bytes_eq-Decides text (name v)).0 (value_of-all (λ pair. bytes_eq pair.0 (name pair.1)) (named name values) text v all found))
 
--- what holds of whatever is read: of a part and so of the whole that holds it, of what comes next, and of the first of two readings that reads
+-- a property of every parsed value carries over: from a part to the whole, to the next step, and to the first of two parsers that succeeds
 
 pub holds-if_read : {V : Type 0} (P : V → Type 0) (reading : Option V) → ((v : V) → reading ≡ Some v → P v) → IfSome reading P
 holds-if_read P (Some v) holds = holds v refl
@@ -55,7 +55,7 @@ pub none_is : {V : Type 0} (o : Option V) → is_none o ≡ true → o ≡ None
 none_is None none = refl
 none_is (Some v) none = absurd cc
 
--- where every byte of a text passes a test, none is a byte that does not, such as a dash
+-- if every byte of a text passes a test, none of them is a byte that fails it, such as a dash
 
 pub test_apart : (test : ℕ → Bool) (c x : ℕ) → test x ≡ false → test c ≡ true → nat_eq c x ≡ false
 test_apart test c x other passes = ne_eqb c x (λ same. let bad = rw same at passes in cc)
@@ -66,7 +66,7 @@ all_apart test x other text all = λ k d within. test_apart test _ x other (AllP
 pub all-dash_free : (test : ℕ → Bool) → test 45 ≡ false → (text : List ℕ) → list_all test text ≡ true → is_dash_free text ≡ true
 all-dash_free test other text all = ap not (list_any_none _ text (all_apart test 45 other text all))
 
--- names that read back hold no dash where no text that reads does
+-- names that parse back have no dash if no text that parses has one
 pub of_kind-read_back : {V : Type 0} (IsOfKind : V → Type 0) (name : V → List ℕ) (find : List ℕ → Option V)
     → ((v : V) → IsOfKind v → find (name v) ≡ Some v) → ((text : List ℕ) (v : V) → find text ≡ Some v → is_dash_free text ≡ true)
     → NamesOfReadBack IsOfKind name find

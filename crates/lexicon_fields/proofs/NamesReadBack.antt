@@ -1,4 +1,4 @@
--- Names of the types whose values are listed in tables: each reads back, and each text that reads is that of a row.
+-- Names of the types whose values are listed: each parses back, and each text that parses is that of a row.
 use Rattle.std.proofs.Common.{◌≡◌, ◌∙◌, ℕ, List, ◌∷◌, true, Option, Some, None, codes, refl, ap, option_and_then}
 use Rattle.lexicon_fields.specs.{declared.architecture.Architecture.Architecture, declared.environment.Environment.Environment, declared.binary_format.BinaryFormat.BinaryFormat, Names.named}
 use Rattle.lexicon_fields.specs.{Laws.NamesReadBack, Architecture.architecture_name, Architecture.architecture_values, Architecture.architecture_of, FixedRow.row_texts}
@@ -18,7 +18,7 @@ use Rattle.lexicon_fields.specs.declared.architecture.z80.Z80Architecture.TheVar
 use Rattle.lexicon_fields.specs.declared.environment.Environment.TheVariants as environment
 use Rattle.lexicon_fields.specs.declared.binary_format.BinaryFormat.TheVariants as binary_format
 
--- names read back where each reads as its value, and each text that reads is a row's
+-- names parse back if each parses as its value and each text that parses is that of a row
 pub each-read_back : {V : Type 0} (name : V → List ℕ) (find : List ℕ → Option V) → ((v : V) → find (name v) ≡ Some v)
     → ((text : List ℕ) (v : V) → find text ≡ Some v → is_row_text text ≡ true) → NamesReadBack name find
 each-read_back {V} name find reads row = of_kind-read_back (λ (v : V). Unit {0}) name find (λ v _. reads v) (λ text v found. row_text-dash_free text (row text v found))
@@ -58,7 +58,7 @@ pub architecture_of-row : (text : List ℕ) (a : Architecture) → architecture_
 unfolding architecture_of is_row_text row_texts
 architecture_of-row text a found = value_of-passes is_row_text ((codes "arm64", architecture.Aarch64 aarch64.Aarch64) ∷ named architecture_name architecture_values) text a refl found
 
--- a family of architectures: what is a part of an architecture, and the architecture of such a part
+-- a family of architectures: the sub-architecture of an architecture, and the architecture with a sub-architecture
 pub part-read_back : {V : Type 0} (whole : V → Architecture) (part : Architecture → Option V) → ((v : V) → part (whole v) ≡ Some v)
     → NamesReadBack (λ v. architecture_name (whole v)) (λ text. option_and_then part (architecture_of text))
 part-read_back {V} whole part is =

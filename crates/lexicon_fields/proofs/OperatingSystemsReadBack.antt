@@ -1,4 +1,4 @@
--- How the names of systems are read.
+-- How the names of systems are parsed.
 use Rattle.std.proofs.Common.{[], ◌∷◌, Option, Some, IfSome, option_map, ◌≡◌, ◌≢◌, ◌∙◌, ℕ, List, ◌++◌, codes, take, drop, length, nat_eq, None, refl, sym, ap}
 use Rattle.std.specs.List.{starts_with}
 use Rattle.std.proofs.{lemmas.Bool.false_from_ne_true, lemmas.Bool.cond-false, lemmas.List.take-append-drop, lemmas.Slice.Eq.bytes_eq-Decides}
@@ -8,7 +8,7 @@ use Rattle.lexicon_fields.specs.OperatingSystem.{operating_system_name, fixed_op
 use Rattle.lexicon_fields.proofs.VersionsReadBack.{version_of-name}
 use Rattle.lexicon_fields.specs.declared.operating_system.OperatingSystem.TheVariants as operating_system
 
--- a text that does not begin with a prefix has nothing behind it
+-- a text that does not begin with a prefix has no rest after it
 lacks_prefix : (prefix text : List ℕ) → ((rest : List ℕ) → text ≢ prefix ++ rest) → behind_prefix prefix text ≡ None
 lacks_prefix prefix text differs = cond-false (starts_with nat_eq text prefix) _ _ (false_from_ne_true _ (λ begins.
     let front = (bytes_eq-Decides prefix (take (length prefix) text)).0 begins in
@@ -30,9 +30,9 @@ no_darwin_prefix text darwin ios macosx tvos visionos watchos xros =
       lacks_prefix (codes "xros") text xros,
     ) refl
 
--- every system reads back from its name
+-- every system parses back from its name
 
--- a version that stands behind a prefix is there
+-- the text of a version after a prefix isn't empty
 some_version : (text : List ℕ) (v : DeploymentTarget) → version_of text ≡ Some v → optional_version_of text ≡ Some (Some v)
 unfolding version_of
 some_version [] v is = absurd cc

@@ -1,20 +1,20 @@
--- What a look at a row tells.
+-- What an index into the table gives.
 use Rattle.std.proofs.Common.{◌≡◌, ◌∙◌, ℕ, ◌<◌, List, [], ap, sym, map, length, get_or, arith}
 use Rattle.std.proofs.lemmas.List.{get_or-map, length-map}
 use Rattle.lexicon_fields.specs.FixedRow.{row_count, row_texts, row_text}
 use Rattle.lexicon_fields.proofs.RowTexts.{length-row_texts}
 
--- there are as many rows as texts
+-- the table has as many rows as there are texts
 pub rows-length : {X : Type 0} (text : X → List ℕ) (xs : List X) → map text xs ≡ row_texts → length xs ≡ row_count
 rows-length text xs texts = sym (length-map xs text) ∙ ap length texts ∙ length-row_texts
 
--- what two lists are read from alike, their elements are
+-- if two lists map to the same list, so do their elements at an index
 pub maps-agree : {X Y V : Type 0} (f : X → V) (g : Y → V) (xs : List X) (ys : List Y) (i : ℕ) (d : X) (e : Y)
     → i < length xs → i < length ys → map f xs ≡ map g ys → f (get_or xs i d) ≡ g (get_or ys i e)
 maps-agree {V = V} f g xs ys i d e in_xs in_ys same =
     sym (get_or-map f xs i d (f d) in_xs) ∙ ap (λ (vs : List V). get_or vs i (f d)) same ∙ get_or-map g ys i e (f d) in_ys
 
--- what a column reads from the texts of all rows, it reads from each
+-- a column that is a function of the texts of all rows is that function of the text of each row
 pub column-is : {X V : Type 0} (column : X → V) (find : List ℕ → V) (xs : List X) (i : ℕ) (d : X)
     → i < row_count → length xs ≡ row_count → map column xs ≡ map find row_texts → column (get_or xs i d) ≡ find (row_text i)
 column-is column find xs i d below long same =

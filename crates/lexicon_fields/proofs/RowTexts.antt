@@ -1,4 +1,4 @@
--- The texts of the rows: that they rise, and which texts are among them.
+-- The texts of the rows: they are in strictly increasing order, and which texts are among them.
 use Rattle.std.proofs.Common.{◌≡◌, ◌∙◌, ℕ, ◌+◌, ◌-◌, ◌<◌, ◌≤◌, List, [], ◌∷◌, Bool, true, refl, ap, sym, subst, length, arith, Ordering, Less, Equal, Greater, inl, inr, nat_cmp}
 use Rattle.std.specs.{Cmp.Lexicographic.slice_cmp, Str.bytes_eq, List.list_all, List.list_any, List.Sorted.IsStrictlySortedBy}
 use Rattle.std.specs.Ordering.{is_lt, is_eq, ordering_reverse}
@@ -11,7 +11,7 @@ pub length-row_texts : length row_texts ≡ row_count
 unfolding row_texts
 length-row_texts = refl
 
--- each text comes before the next one, by some dozen neighbours at a time
+-- each text precedes the next one, shown for 48 rows at a time
 
 abbrev rises_at : ℕ → Bool
 rises_at k = is_lt (slice_cmp nat_cmp (row_text k) (row_text (k + 1)))
@@ -33,7 +33,7 @@ rises_from_96 : (k : ℕ) → 96 ≤ k → k < 144 → rises_at k ≡ true
 unfolding row_texts
 rises_from_96 = rises_within 96 48 refl
 
--- the last row has none behind it
+-- no row follows the last one
 rises_from_144 : (k : ℕ) → 144 ≤ k → k + 1 < row_count → rises_at k ≡ true
 unfolding row_texts
 rises_from_144 k from to = rises_within 144 (row_count - 145) refl k from (omega (arith, to))
@@ -55,7 +55,7 @@ row_texts_sorted = sorted_from_all_adjacent nat_list_cmp_total row_texts [] (λ 
 row_less : (i j : ℕ) → i < j → j < row_count → slice_cmp nat_cmp (row_text i) (row_text j) ≡ Less
 row_less i j lt below = Less-from_sorted (slice_cmp nat_cmp) row_texts i j [] row_texts_sorted lt (omega (arith, length-row_texts))
 
--- the rows up to one that is before a text are before it
+-- if a row precedes a text, so do all earlier rows
 pub rows_below : (middle : ℕ) (s : List ℕ) → middle < row_count → slice_cmp nat_cmp (row_text middle) s ≡ Less → (k : ℕ) → k < middle + 1 → slice_cmp nat_cmp (row_text k) s ≡ Less
 rows_below middle s below is k lt = elim (cases_order k middle) [
   | inl same ↦ rw same is
@@ -68,7 +68,7 @@ rows_below middle s below is k lt = elim (cases_order k middle) [
 turned : (x y : List ℕ) (o : Ordering) → slice_cmp nat_cmp x y ≡ o → slice_cmp nat_cmp y x ≡ ordering_reverse o
 turned x y o h = nat_list_cmp_total.antisymm y x ∙ ap ordering_reverse h
 
--- the rows from one that is behind a text on are behind it
+-- if a row follows a text, so do all later rows
 pub rows_above : (middle : ℕ) (s : List ℕ) → slice_cmp nat_cmp (row_text middle) s ≡ Greater → (k : ℕ) → middle ≤ k → k < row_count → slice_cmp nat_cmp (row_text k) s ≡ Greater
 rows_above middle s is k le below = elim (cases_order k middle) [
   | inl same ↦ rw same is
@@ -82,7 +82,7 @@ rows_above middle s is k le below = elim (cases_order k middle) [
 unfoldable pub is_row_text : List ℕ → Bool
 is_row_text s = list_any (bytes_eq s) row_texts
 
--- what a test tells of each row's text, it tells of a text that is one of them
+-- a test that all texts of rows pass holds for each text that is one of them
 pub row_text-passes : (test : List ℕ → Bool) (s : List ℕ) → list_all test row_texts ≡ true → is_row_text s ≡ true → test s ≡ true
 unfolding is_row_text
 row_text-passes test s all found = passes row_texts all found
@@ -100,6 +100,6 @@ pub row_text-dash_free : (s : List ℕ) → is_row_text s ≡ true → is_dash_f
 unfolding row_texts
 row_text-dash_free s found = row_text-passes is_dash_free s refl found
 
--- the row that is told equal to a text has it
+-- a row that compares equal to a text has that text
 pub row_text-is : (i : ℕ) (s : List ℕ) → slice_cmp nat_cmp (row_text i) s ≡ Equal → row_text i ≡ s
 row_text-is i s same = (bytes_eq-Decides (row_text i) s).0 (sym (is_eq-slice_cmp (row_text i) s) ∙ ap is_eq same)

@@ -1,4 +1,4 @@
--- The rows are those of exactly the texts that are a fixed name of some field.
+-- The rows are exactly those of the texts that are a fixed name of some field.
 use Rattle.std.proofs.Common.{◌≡◌, ◌≢◌, ◌↔◌, ◌∙◌, ℕ, ◌<◌, ◌≤◌, List, [], true, false, Option, Some, None, is_some, refl, ap, sym, get_or, arith, Ordering, Less, Greater, nat_cmp, inl, inr, Contains}
 use Rattle.std.specs.{Cmp.Lexicographic.slice_cmp, Cmp.Lexicographic.nat_list_eq_equiv, Str.bytes_eq, Option.option_or, Prelude.is_none, Ordering.is_eq}
 use Rattle.std.proofs.{lemmas.Bool.or_parts, lemmas.Bool.cases_lt, lemmas.Bool.cases_Bool, lemmas.Bool.false_from_ne_true, lemmas.List.Folds.list_any_at}
@@ -18,7 +18,7 @@ pub fixed_operating_system_of-row : (text : List ℕ) (v : OperatingSystem) → 
 unfolding fixed_operating_system_of is_row_text row_texts
 fixed_operating_system_of-row text v found = value_of-passes is_row_text (named operating_system_name fixed_operating_systems) text v refl found
 
--- a text that is no row's reads as nothing
+-- a text that is in no row parses as no fixed name
 none_without_row : {V : Type 0} (find : List ℕ → Option V) → ((text : List ℕ) (v : V) → find text ≡ Some v → is_row_text text ≡ true)
     → (s : List ℕ) → is_row_text s ≡ false → find s ≡ None
 none_without_row {V} find row s none = by_reading (find s) refl
@@ -52,7 +52,7 @@ row-stands i below = row_text-stands (row_text i) (row_text-found i below)
 row_text-default : (i : ℕ) (d : List ℕ) → i < row_count → get_or row_texts i d ≡ row_text i
 row_text-default i d below = get_or_from_slice_get row_texts i (row_text i) d (slice_get-get_or row_texts i [] (omega (arith, length-row_texts)))
 
--- the row that a text is that of
+-- the row with a text
 row_text-at : (s : List ℕ) → is_row_text s ≡ true → (i : ℕ) × (i < row_count) × (row_text i ≡ s)
 unfolding is_row_text
 row_text-at s found =
@@ -63,7 +63,7 @@ row_text-at s found =
 apart : (x y : List ℕ) (o : Ordering) → is_eq o ≡ false → slice_cmp nat_cmp x y ≡ o → x ≢ y
 apart x y o other is same = let bad : true ≡ false = sym (is_eq-slice_cmp x y ∙ (bytes_eq-Decides x y).1 same) ∙ ap is_eq is ∙ other in cc
 
--- a text that all rows before a place are before, and all others behind, has no row
+-- a text that follows all rows before an index and precedes all others has no row
 pub no_row-between : (s : List ℕ) (place : ℕ) → ((k : ℕ) → k < place → slice_cmp nat_cmp (row_text k) s ≡ Less)
     → ((k : ℕ) → place ≤ k → k < row_count → slice_cmp nat_cmp (row_text k) s ≡ Greater) → has_row s ≡ false
 no_row-between s place below above = no_row s (false_from_ne_true (is_row_text s) (λ found.
@@ -73,7 +73,7 @@ no_row-between s place below above = no_row s (false_from_ne_true (is_row_text s
       | inr ge ↦ apart (row_text at.0) s Greater refl (above at.0 ge at.1) at.2
     ]))
 
--- the rows' texts are all that have a row
+-- the texts of the rows are all texts that have a row
 pub rows-hold : (s : List ℕ) → Contains row_texts s ↔ (has_row s ≡ true)
 unfolding is_row_text
 rows-hold s = (
@@ -97,12 +97,12 @@ nowhere s none =
     let vendor = or_parts (is_some (architecture_of s)) (is_some (known_vendor_of s)) system.0 in
     (missing _ vendor.0, missing _ vendor.1, missing _ system.1, missing _ environment.1, missing _ format.1)
 
--- no row's text reads as a system like Darwin
+-- no text of a row parses as a system like Darwin
 row_text-unlike_darwin : (s : List ℕ) → is_row_text s ≡ true → is_none (darwin_like_by darwin_prefixes s) ≡ true
 unfolding row_texts
 row_text-unlike_darwin s found = row_text-passes (λ text. is_none (darwin_like_by darwin_prefixes text)) s refl found
 
--- so a text that has a row reads as a system by its fixed name alone
+-- so a text with a row parses as a system only by its fixed name
 pub row_reads_by_name : (s : List ℕ) → has_row s ≡ true → operating_system_of s ≡ fixed_operating_system_of s
 unfolding operating_system_of
 row_reads_by_name s stands = elim (cases_Bool (is_row_text s)) [
@@ -110,12 +110,12 @@ row_reads_by_name s stands = elim (cases_Bool (is_row_text s)) [
   | inr none ↦ absurd (let bad : true ≡ false = sym stands ∙ no_row s none in cc)
 ]
 
--- and one without a row as a system like Darwin alone
+-- and a text without a row only as a system like Darwin
 pub rowless_is_like_darwin : (s : List ℕ) (like : Option OperatingSystem) → like ≡ darwin_like_by darwin_prefixes s → has_row s ≡ false → like ≡ operating_system_of s
 unfolding operating_system_of
 rowless_is_like_darwin s like is none = rw (nowhere s none).2 is
 
--- no fixed name begins as a system like Darwin does, so that it is one which of the two is asked first
+-- no fixed name begins with the prefix of a system like Darwin, so the order of the two look-ups doesn't matter
 
 either_way : {V : Type 0} (fixed like : Option V) → ((v : V) → fixed ≡ Some v → like ≡ None) → option_or fixed like ≡ option_or like fixed
 either_way None None apart = refl

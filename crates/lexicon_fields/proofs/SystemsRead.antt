@@ -1,4 +1,4 @@
--- What reads as a system: the text holds no dash, a version that the system holds is in range, and its name is little longer than the text.
+-- Texts that parse as a system: they have no dash, the system's version is in range, and its name is at most 4 bytes longer.
 use Rattle.std.proofs.Common.{◌≡◌, ◌∙◌, ℕ, ◌+◌, ◌^◌, ◌<◌, ◌≤◌, List, [], ◌∷◌, ◌++◌, length, take, drop, Bool, true, false, cond, nat_eq, nat_le, ◌&&◌, Option, Some, None, IfSome, is_none, option_and_then, refl, sym, ap, subst, arith}
 use Rattle.std.specs.{Char.is_ascii_digit, List.list_all, List.join_with_byte, List.starts_with, Fmt.decimal}
 use Rattle.std.specs.Str.Parse.{digits_value, without_leading_plus}
@@ -17,7 +17,7 @@ use Rattle.lexicon_fields.proofs.VersionsReadBack.{digits_model}
 is_dash_free-append : (s t : List ℕ) → is_dash_free s ≡ true → is_dash_free t ≡ true → is_dash_free (s ++ t) ≡ true
 is_dash_free-append s t first second = rw (list_any-append (λ b. nat_eq b 45) s t, not-true _ first) second
 
--- digits, with or without a plus in front
+-- digits, with or without a leading plus
 behind_plus : (plus : Bool) (c : ℕ) (cs : List ℕ) → nat_eq c 43 ≡ plus → list_all is_ascii_digit (drop (cond plus 1 0) (c ∷ cs)) ≡ true → is_dash_free (c ∷ cs) ≡ true
 behind_plus true c cs is digits = rw (eqb-true c 43 is) (all-dash_free is_ascii_digit refl cs digits)
 behind_plus false c cs is digits = all-dash_free is_ascii_digit refl (c ∷ cs) digits
@@ -26,7 +26,7 @@ signed_digits-dash_free : (piece : List ℕ) → list_all is_ascii_digit (withou
 signed_digits-dash_free [] digits = refl
 signed_digits-dash_free (c ∷ cs) digits = behind_plus (nat_eq c 43) c cs refl digits
 
--- a piece that gives a number, which is within the limit, and whose digits are no more than the piece has
+-- a piece that gives a number: the number is within the limit and has at most as many digits as the piece
 piece-read : (limit : ℕ) (piece : List ℕ) (n : ℕ) → limit ≤ 65535 → piece_within limit piece ≡ Some n → (is_dash_free piece ≡ true) × (n ≤ limit) × (length (decimal n) ≤ length piece)
 piece-read limit piece n small is =
     let ds = without_leading_plus piece in
@@ -38,7 +38,7 @@ piece-read limit piece n small is =
     let fewer : length (decimal n) ≤ length ds = length-decimal-le (length ds) n (ltb-true 0 _ digits.0) short (omega arith) in
     (signed_digits-dash_free piece digits.1, within, omega (arith, fewer, length-drop {A = ℕ}))
 
--- the numbers of a version are those that were found
+-- the numbers of a version are those of its pieces
 numbers-read : (major minor patch : Option ℕ) (v : DeploymentTarget) → version_of_numbers major minor patch ≡ Some v → (major ≡ Some v.major) × (minor ≡ Some v.minor) × (patch ≡ Some v.patch)
 numbers-read (Some major) (Some minor) (Some patch) v is =
     let same = same_Some _ v is in (ap (λ x. Some x.major) same, ap (λ x. Some x.minor) same, ap (λ x. Some x.patch) same)
@@ -85,12 +85,12 @@ version-read : (text : List ℕ) → IfSome (version_of text) (IsVersionRead tex
 unfolding version_of
 version-read text = holds-if_read _ (version_of text) (λ v is. subst (λ (t : List ℕ). IsVersionRead t v) (join_with_byte-slice_split 46 text) (pieces-read (pieces_of text) v is))
 
--- what stands behind a prefix
+-- the text after a prefix
 suffix-read : (text : List ℕ) → IfSome (optional_version_of text) (λ version. (is_dash_free text ≡ true) × IfSome version IsVersionInRange × (length (version_suffix version) ≤ length text + 4))
 suffix-read [] = (refl, tt, omega arith)
 suffix-read (c ∷ cs) = option_map-holds _ _ Some (version_of (c ∷ cs)) (version-read (c ∷ cs)) (λ v read. read)
 
--- a text is its prefix and what stands behind it
+-- a text is its prefix and the text after it
 behind_prefix-read : (prefix text : List ℕ) → IfSome (behind_prefix prefix text) (λ rest. text ≡ prefix ++ rest)
 behind_prefix-read prefix text = holds-if_read _ (behind_prefix prefix text) (λ rest is.
     let begins = cond_some (starts_with nat_eq text prefix) (drop (length prefix) text) rest is in
@@ -100,7 +100,7 @@ behind_prefix-read prefix text = holds-if_read _ (behind_prefix prefix text) (λ
 abbrev IsSystemRead : List ℕ → OperatingSystem → Type 0
 IsSystemRead text s = (is_dash_free text ≡ true) × HasVersionInRange s × (length (operating_system_name s) ≤ length text + 4)
 
--- a prefix holds no dash, and its systems hold the version behind it, and are named by both
+-- a prefix has no dash; its systems have the version after it, and their names are the prefix and the version
 abbrev IsPrefix : Pair (Option DeploymentTarget → OperatingSystem) → Type 0
 IsPrefix row =
     (is_dash_free row.0 ≡ true)
@@ -126,7 +126,7 @@ none_held : (version : Option DeploymentTarget) → is_none version ≡ true →
 none_held None none = tt
 none_held (Some v) none = absurd cc
 
--- a system with a fixed name holds no version
+-- a system with a fixed name has no version
 fixed-read : (text : List ℕ) → IfSome (fixed_operating_system_of text) (IsSystemRead text)
 unfolding fixed_operating_system_of
 fixed-read text = holds-if_read _ (fixed_operating_system_of text) (λ s is.

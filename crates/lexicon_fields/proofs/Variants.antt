@@ -1,11 +1,11 @@
--- What holds of every two values of an enum that are of one variant.
+-- Facts about two values of one variant of an enum.
 use Rattle.std.proofs.Common.{◌≡◌, subst, List, [], ◌∷◌, inl, inr, arith}
 use denote.Struct.Field.{Field}
 use denote.Struct.Values.{Values}
 use denote.Enum.Enum.{tag}
 use denote.Enum.Declared.{Record, Choice, declared, rowss, intoss, tag_of}
 
--- P holds of every two values of each variant that has fields
+-- P holds for every two values of each variant that has fields
 abbrev pub EachPair : (Fss : List (List Field)) → (Choice Fss → Choice Fss → Type 0) → Type 0
 EachPair [] P = Unit {0}
 EachPair ([] ∷ Fss) P = EachPair Fss (λ c d. P (inr c) (inr d))

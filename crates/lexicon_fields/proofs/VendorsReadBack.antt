@@ -1,4 +1,4 @@
--- How vendors are read: every plain one reads back from its name, and no text that reads as one holds a dash.
+-- How vendors are parsed: every plain one parses back from its name, and no text that parses as one has a dash.
 use Rattle.std.proofs.Common.{arith, [], ◌∷◌, not, ◌&&◌, ◌||◌, ap, ◌≡◌, ◌∙◌, ℕ, List, true, false, Option, Some, None, is_some, is_none, option_map, refl, sym}
 use Rattle.std.specs.{List.list_all, Option.option_or}
 use Rattle.std.proofs.{Math.Bool.and-true, Math.Bool.and-false, lemmas.Bool.and_parts, lemmas.Option.MatchOption-at_some, lemmas.Option.cond_some}
@@ -10,7 +10,7 @@ use Rattle.lexicon_fields.proofs.LookUps.{value_of-passes, holds-if_read, option
 use Rattle.lexicon_fields.proofs.{RowTexts.row_text-dash_free, RowsHold.known_vendor_of-row}
 use Rattle.lexicon_fields.specs.declared.vendor.Vendor.TheVariants as vendor
 
--- what is admitted: a text without a row that is no system like Darwin, in the form of a vendor
+-- a text is admitted if it has no row, is no system like Darwin, and has the form of a vendor
 
 free_is : {K A O E B : Type 0} (known : Option K) (architecture : Option A) (fixed like : Option O) (environment : Option E) (format : Option B)
     → (is_none known && is_none architecture && is_none (option_or fixed like) && is_none environment && is_none format)
@@ -29,14 +29,14 @@ admitted_without_row text like none form is = rw (admitted_is text, none, form, 
 pub row_not_admitted : (text : List ℕ) → has_row text ≡ true → is_admitted text ≡ false
 row_not_admitted text stands = rw (admitted_is text, stands) refl
 
--- how a text reads as a vendor
+-- how a text parses as a vendor
 
--- one that has a row, as the known vendor of that name alone
+-- one with a row: only as the known vendor of that name
 pub row_read : (text : List ℕ) → has_row text ≡ true → option_map Known (known_vendor_of text) ≡ vendor_of text
 unfolding vendor_of
 row_read text stands = rw (row_not_admitted text stands) (sym (option_or-none _))
 
--- a known vendor's name, as that vendor, which owns no text
+-- the name of a known vendor: as that vendor, which owns no text
 pub known_read : (text : List ℕ) (v : Vendor) (known : KnownVendor) → vendor_value v ≡ Known known → Some known ≡ known_vendor_of text → vendor_of text ≡ Some (vendor_value v)
 unfolding vendor_of
 known_read text v known is found = rw (is, ← found) refl
@@ -45,7 +45,7 @@ pub known_owns_nothing : (v : Vendor) (known : KnownVendor) → vendor_value v �
 known_owns_nothing (vendor.Custom custom) known is = absurd cc
 known_owns_nothing _ known is = refl
 
--- every other text, as a custom vendor where it is admitted
+-- every other text: as a custom vendor if it is admitted
 pub custom_read : (text : List ℕ) → known_vendor_of text ≡ None → is_admitted text ≡ true → vendor_of text ≡ Some (Custom text)
 unfolding vendor_of
 custom_read text none admitted = rw (none, admitted) refl
@@ -58,7 +58,7 @@ pub formless_not_admitted : (text : List ℕ) → has_vendor_form text ≡ false
 unfolding is_admitted
 formless_not_admitted text formless = rw formless (and-false (is_free text))
 
--- a known vendor's name has the form of a vendor
+-- the name of a known vendor has the form of a vendor
 known_form : (text : List ℕ) (known : Option KnownVendor) → known_vendor_of text ≡ known → has_vendor_form text ≡ false → known_vendor_of text ≡ None
 unfolding known_vendor_of
 known_form text None is formless = is
@@ -67,9 +67,9 @@ known_form text (Some v) is formless = absurd (let bad : true ≡ false = sym (v
 pub formless_read : (text : List ℕ) → has_vendor_form text ≡ false → vendor_of text ≡ None
 formless_read text formless = none_read text (known_form text (known_vendor_of text) refl formless) (formless_not_admitted text formless)
 
--- every plain vendor reads back from its name
+-- every plain vendor parses back from its name
 
--- an admitted text is no known vendor's name, and has the form of a vendor
+-- an admitted text is not the name of a known vendor, and has the form of a vendor
 admitted_parts : (text : List ℕ) → is_admitted text ≡ true → (is_none (known_vendor_of text) ≡ true) × (has_vendor_form text ≡ true)
 unfolding is_admitted
 admitted_parts text admitted =
@@ -82,7 +82,7 @@ vendor_of-name (Custom text) plain = rw (none_is (known_vendor_of text) (admitte
 vendor_of-name (Known Unknown) plain = refl
 vendor_of-name (Known _) plain = refl
 
--- no plain vendor's name holds a dash
+-- the name of a plain vendor has no dash
 
 form-dash_free : (text : List ℕ) → has_vendor_form text ≡ true → is_dash_free text ≡ true
 form-dash_free [] form = absurd cc

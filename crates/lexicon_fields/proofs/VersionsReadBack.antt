@@ -1,4 +1,4 @@
--- How version texts are read.
+-- How version texts are parsed.
 use Rattle.std.proofs.Common.{◌≡◌, ◌≢◌, is_some, ◌∙◌, ℕ, ◌+◌, ◌^◌, ◌<◌, ◌≤◌, nat_eq, nat_lt, nat_le, List, [], ◌∷◌, ◌++◌, length, Bool, true, false, ◌&&◌, cond, Option, Some, None, Result, Ok, Err, Bor, refl, sym, ap, rules, arith}
 use Rattle.std.specs.{Char.is_ascii_digit, List.list_all, List.before_first, List.after_first, List.position_or_len, Result.OkIff, Result.result_ok}
 use Rattle.std.specs.{Fmt.decimal, Str.Parse.IsNumeral, Str.Parse.ParsesUnsigned, Str.Parse.digits_value, Str.Parse.without_leading_plus}
@@ -10,18 +10,18 @@ use Rattle.lexicon_fields.specs.{declared.deployment_target.DeploymentTarget.Dep
 use Rattle.lexicon_fields.specs.Version.{number_within, piece_within, version_of_numbers, version_of_pieces, version_of, version_name, pieces_of}
 use Rattle.lexicon_fields.proofs.LookUps.{test_apart, all_apart}
 
--- the test by which a version's digits are told is that of `parse`
+-- the test for digits is that of `parse`
 pub digits_model : IsNumeralModel (λ ds. list_all is_ascii_digit ds ≡ true) (digits_value 10)
 digits_model = numerals_by_value _ (search rules)
 
--- an answer that is `Ok v` exactly where a test passes
+-- a result that is `Ok v` exactly if a test passes
 ok_by_test : {E : Type 0} (r : Result ℕ E) (b : Bool) (P : Type 0) (v : ℕ) → (P → b ≡ true) → (b ≡ true → P) → OkIff r P v → result_ok r ≡ cond b (Some v) None
 ok_by_test (Ok x) true P v to from is = ap Some is.1
 ok_by_test (Ok x) false P v to from is = absurd (let bad = to is.0 in cc)
 ok_by_test (Err e) true P v to from is = absurd (is (from refl))
 ok_by_test (Err e) false P v to from is = refl
 
--- `parse` at an unsigned type reads a piece within that type's limit
+-- `parse` at an unsigned type parses a piece within the limit of that type
 parse_piece : {E : Type 0} (k limit : ℕ) (piece : List ℕ) (r : Result ℕ E) → limit + 1 ≡ 2 ^ k → ParsesUnsigned k 10 piece r → result_ok r ≡ piece_within limit piece
 parse_piece k limit piece r fits parses =
     let ds = without_leading_plus piece in
@@ -32,19 +32,19 @@ parse_piece k limit piece r fits parses =
     ((ltb-true 0 (length ds) inner.0, digits_model.to ds inner.1), omega (arith, leb-true (digits_value 10 ds) limit outer.1)))
     parses
 
--- what `parse` read of a piece
+-- what `parse` gives for a piece
 pub number_read : {E : Type 0} (k limit : ℕ) (piece : List ℕ) (r : Result ℕ E) (o x : Option ℕ)
     → limit + 1 ≡ 2 ^ k → ParsesUnsigned k 10 piece r → o ≡ result_ok r → o ≡ x → piece_within limit piece ≡ x
 number_read k limit piece r o x fits parses taken is = sym (parse_piece k limit piece r fits parses) ∙ sym taken ∙ is
 
--- the pieces of a text behind its first dot, and of one without a dot
+-- the pieces of a text after its first dot, and those of a text without a dot
 pub pieces_of-first : (text piece rest : List ℕ) → piece ≡ before_first (λ c. nat_eq c 46) text → rest ≡ after_first (λ c. nat_eq c 46) text → position_or_len (λ c. nat_eq c 46) text < length text → pieces_of text ≡ piece ∷ pieces_of rest
 pieces_of-first text piece rest front back found = slice_split_first (λ c. nat_eq c 46) text 0 found ∙ cc
 
 pub pieces_of-whole : (text : List ℕ) → position_or_len (λ c. nat_eq c 46) text ≡ length text → pieces_of text ≡ text ∷ []
 pieces_of-whole text none = slice_split_none (λ c. nat_eq c 46) text (λ k d h. fails_before_first (λ c. nat_eq c 46) text k d (omega (arith, none, h)))
 
--- a piece with nothing behind it, and one with more pieces behind it
+-- a last piece, and a piece that others follow
 pub pieces-last : (pieces : List (List ℕ)) (p : List ℕ) (rest : Option (Bor (List ℕ))) → pieces ≡ p ∷ pieces_left rest → is_some rest ≡ false → pieces ≡ p ∷ []
 pieces-last pieces p None is none = is
 pieces-last pieces p (Some behind) is none = absurd cc
@@ -52,7 +52,7 @@ pieces-last pieces p (Some behind) is none = absurd cc
 pub pieces-more : (pieces : List (List ℕ)) (p : List ℕ) (rest : Option (Bor (List ℕ))) (behind : Bor (List ℕ)) (ps : List (List ℕ)) → pieces ≡ p ∷ pieces_left rest → rest ≡ Some behind → pieces_of behind.now ≡ ps → pieces ≡ p ∷ ps
 pieces-more pieces p rest behind ps is some more = is ∙ ap (λ x. p ∷ pieces_left x) some ∙ ap (λ x. p ∷ x) more
 
--- what is left of a text has a piece
+-- the rest of a text has a piece
 pub pieces_left-some : (rest : Option (Bor (List ℕ))) → is_some rest ≡ true → pieces_left rest ≢ []
 pieces_left-some None some none = cc
 pieces_left-some (Some behind) some none = let e = length-slice_split (λ c. nat_eq c 46) behind.now in let k = ap length none in omega arith
@@ -67,7 +67,7 @@ no_third None minor = refl
 no_third (Some major) None = refl
 no_third (Some major) (Some minor) = refl
 
--- what a text reads as by its pieces
+-- the version of a text by its pieces
 
 pub no_major : (text p : List ℕ) (ps : List (List ℕ)) → pieces_of text ≡ p ∷ ps → piece_within 65535 p ≡ None → version_of text ≡ None
 unfolding version_of
@@ -101,12 +101,12 @@ pub three_pieces : (text p q r : List ℕ) (major minor patch : ℕ) → pieces_
 unfolding version_of
 three_pieces text p q r major minor patch pieces first second third = ap version_of_pieces pieces ∙ rw (first, second, third) refl
 
--- the name of a version reads as that version
+-- the name of a version parses as that version
 
 decimal_digits : (n : ℕ) → n < 2 ^ 64 → list_all is_ascii_digit (decimal n) ≡ true
 decimal_digits n small = digits_model.from (decimal n) (decimal_is_IsNumeral n small).0.1
 
--- digits have no plus in front
+-- digits have no leading plus
 without_plus : (ds : List ℕ) → list_all is_ascii_digit ds ≡ true → without_leading_plus ds ≡ ds
 without_plus [] digits = refl
 without_plus (c ∷ cs) digits = rw (test_apart is_ascii_digit c 43 refl (and_parts _ (list_all is_ascii_digit cs) digits).0) refl

@@ -1,4 +1,4 @@
--- The names of the architectures, and what reads as which.
+-- The names of the architectures.
 use Rattle.std.specs.Prelude.{ℕ, List, ◌∷◌, ◌++◌, codes, map, Option, Some, None, option_and_then}
 use Rattle.lexicon_fields.specs.{declared.architecture.Architecture.Architecture, declared.architecture.arm.ArmArchitecture.ArmArchitecture, declared.architecture.z80.Z80Architecture.Z80Architecture}
 use Rattle.lexicon_fields.specs.{declared.architecture.aarch64.Aarch64Architecture.Aarch64Architecture, declared.architecture.x86_32.X86_32Architecture.X86_32Architecture, Names.value_of, Names.named}
@@ -9,7 +9,7 @@ use Rattle.lexicon_fields.specs.SubArchitecture.{arm_name, arm_values, aarch64_n
 use Rattle.lexicon_fields.specs.declared.architecture.Architecture.TheVariants as architecture
 use Rattle.lexicon_fields.specs.declared.architecture.aarch64.Aarch64Architecture.TheVariants as aarch64
 
--- the name of an architecture; one that holds a sub-architecture has its name
+-- the name of an architecture; one with a sub-architecture has that one's name
 abbrev pub architecture_name : Architecture → List ℕ
 architecture_name architecture.Unknown = codes "unknown"
 architecture_name architecture.AmdGcn = codes "amdgcn"
@@ -49,7 +49,7 @@ architecture_name (architecture.Riscv64 sub) = riscv64_name sub
 architecture_name (architecture.Clever sub) = clever_name sub
 architecture_name (architecture.Z80 sub) = z80_name sub
 
--- all of them
+-- all values
 abbrev pub architecture_values : List Architecture
 architecture_values =
     architecture.Unknown ∷ architecture.AmdGcn ∷ architecture.Asmjs ∷ architecture.Avr ∷
@@ -64,11 +64,11 @@ architecture_values =
     map architecture.Mips32 mips32_values ++ map architecture.Mips64 mips64_values ++ map architecture.Riscv32 riscv32_values ++
     map architecture.Riscv64 riscv64_values ++ map architecture.Clever clever_values ++ map architecture.Z80 z80_values)
 
--- what a text reads as, if anything; `arm64` is an alias: it reads, and is no name
+-- the architecture that a text parses as, if any; `arm64` is an alias, which is parsed and never printed
 unfoldable pub architecture_of : List ℕ → Option Architecture
 architecture_of text = value_of ((codes "arm64", architecture.Aarch64 aarch64.Aarch64) ∷ named architecture_name architecture_values) text
 
--- the sub-architecture that an architecture holds, if it is of that family
+-- the sub-architecture of an architecture, if it is of that family
 abbrev pub as_arm : Architecture → Option ArmArchitecture
 as_arm (architecture.Arm sub) = Some sub
 as_arm _ = None
@@ -105,6 +105,6 @@ abbrev pub as_z80 : Architecture → Option Z80Architecture
 as_z80 (architecture.Z80 sub) = Some sub
 as_z80 _ = None
 
--- the sub-architecture that a text reads as: the part of the architecture that it reads as
+-- the sub-architecture that a text parses as: that of the architecture that it parses as
 abbrev pub sub_architecture_of : {S : Type 0} → (Architecture → Option S) → List ℕ → Option S
 sub_architecture_of as_family text = option_and_then as_family (architecture_of text)

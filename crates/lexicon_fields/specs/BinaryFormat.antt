@@ -1,4 +1,4 @@
--- The names of the binary formats, and what reads as which.
+-- The names of the binary formats.
 use Rattle.std.specs.Prelude.{ℕ, List, [], ◌∷◌, codes, Option}
 use Rattle.lexicon_fields.specs.{declared.binary_format.BinaryFormat.BinaryFormat, Names.value_of, Names.named}
 use Rattle.lexicon_fields.specs.declared.binary_format.BinaryFormat.TheVariants as binary_format
@@ -12,11 +12,11 @@ binary_format_name binary_format.Macho = codes "macho"
 binary_format_name binary_format.Wasm = codes "wasm"
 binary_format_name binary_format.Xcoff = codes "xcoff"
 
--- all of them
+-- all values
 abbrev pub binary_format_values : List BinaryFormat
 binary_format_values =
     binary_format.Unknown ∷ binary_format.Elf ∷ binary_format.Coff ∷ binary_format.Macho ∷ binary_format.Wasm ∷ binary_format.Xcoff ∷ []
 
--- what a text reads as, if anything
+-- the value that a text parses as, if any
 unfoldable pub binary_format_of : List ℕ → Option BinaryFormat
 binary_format_of text = value_of (named binary_format_name binary_format_values) text

@@ -1,4 +1,4 @@
--- The names of the environments, and what reads as which.
+-- The names of the environments.
 use Rattle.std.specs.Prelude.{ℕ, List, [], ◌∷◌, codes, Option}
 use Rattle.lexicon_fields.specs.{declared.environment.Environment.Environment, Names.value_of, Names.named}
 use Rattle.lexicon_fields.specs.declared.environment.Environment.TheVariants as environment
@@ -41,7 +41,7 @@ environment_name environment.Spe = codes "spe"
 environment_name environment.Threads = codes "threads"
 environment_name environment.Ohos = codes "ohos"
 
--- all of them
+-- all values
 abbrev pub environment_values : List Environment
 environment_values =
     environment.Unknown ∷ environment.AmdGiz ∷ environment.Android ∷ environment.Androideabi ∷ environment.Eabi ∷ environment.Eabihf ∷
@@ -51,6 +51,6 @@ environment_values =
     environment.None ∷ environment.Kernel ∷ environment.Uclibc ∷ environment.Uclibceabi ∷ environment.Uclibceabihf ∷ environment.Sgx ∷
     environment.Sim ∷ environment.Softfloat ∷ environment.Spe ∷ environment.Threads ∷ environment.Ohos ∷ []
 
--- what a text reads as, if anything
+-- the value that a text parses as, if any
 unfoldable pub environment_of : List ℕ → Option Environment
 environment_of text = value_of (named environment_name environment_values) text

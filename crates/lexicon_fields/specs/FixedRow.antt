@@ -1,16 +1,16 @@
--- The rows of the fixed names and of the alias `arm64`: what a text reads as in each of the five fields.
+-- The rows of the table of names: the fixed names and the alias `arm64`, with their values in each of the five fields.
 use Rattle.std.specs.Prelude.{◌≡◌, ℕ, Bool, true, ◌||◌, List, [], ◌∷◌, codes, is_some, option_map, map, slice_index_or}
 use Rattle.lexicon_fields.specs.{declared.table.FixedRow.FixedRow, Architecture.architecture_of, Vendor.Known, Vendor.known_vendor_of, Vendor.vendor_of, Environment.environment_of}
 use Rattle.lexicon_fields.specs.{OperatingSystem.fixed_operating_system_of, OperatingSystem.operating_system_of, BinaryFormat.binary_format_of}
 
--- a text has a row where some field reads it, but for versions and custom vendors
+-- a text has a row if it parses as a value of some field, other than by a version or as a custom vendor
 abbrev pub has_row : List ℕ → Bool
 has_row text =
     is_some (architecture_of text) || is_some (known_vendor_of text) || is_some (fixed_operating_system_of text)
     || is_some (environment_of text) || is_some (binary_format_of text)
 
--- the row of a text that has one: the text, and what it reads as in each field; it reads as no other vendor or system, since
--- custom vendors and versions have no row
+-- the row of a text that has one: the text, and the value that it parses as in each field; it parses as no other vendor or
+-- system, since custom vendors and versions have no row
 pub record IsRowOf (name : List ℕ) (row : FixedRow) : Type 0 where
   pub stands : has_row name ≡ true
   pub text : row.text.now ≡ name
@@ -22,7 +22,7 @@ pub record IsRowOf (name : List ℕ) (row : FixedRow) : Type 0 where
   pub no_other_vendor : option_map Known row.vendor ≡ vendor_of name
   pub no_other_operating_system : row.operating_system ≡ operating_system_of name
 
--- two rows hold the same text, by its bytes, and the same value in each field
+-- two rows have the same text, by its bytes, and the same value in each field
 pub record HoldSameValues (x y : FixedRow) : Type 0 where
   pub text : x.text.now ≡ y.text.now
   pub architecture : x.architecture ≡ y.architecture
@@ -31,7 +31,7 @@ pub record HoldSameValues (x y : FixedRow) : Type 0 where
   pub environment : x.environment ≡ y.environment
   pub binary_format : x.binary_format ≡ y.binary_format
 
--- how many texts have a row
+-- the number of rows
 abbrev pub row_count : ℕ
 row_count = 192
 

@@ -1,4 +1,4 @@
--- Laws of names, queries, versions, equality and hashes.
+-- Laws of names, queries, versions, equality and hashing.
 use Rattle.std.specs.Prelude.{◌≡◌, ◌↔◌, ◌++◌, ℕ, ◌+◌, ◌<◌, ◌≤◌, ◌^◌, Bool, true, List, length, Option, Some, IfSome, Decides}
 use Rattle.std.specs.Hash.{HashWrites}
 use Rattle.std.specs.Ordering.{nat_cmp, on, then_cmp}
@@ -6,22 +6,21 @@ use Rattle.std.specs.declared.cmp.Ordering.{Ordering}
 use Rattle.lexicon_fields.specs.{declared.deployment_target.DeploymentTarget.DeploymentTarget, declared.operating_system.OperatingSystem.OperatingSystem, Names.is_dash_free}
 use Rattle.lexicon_fields.specs.OperatingSystem.{version_held}
 
--- each value of this kind reads back from its name as itself, and neither such a name nor any text that reads as
--- a value holds a dash
+-- each value of this kind parses back from its name, and neither such a name nor any text that parses as a value has a dash
 pub record NamesOfReadBack {V : Type 0} (IsOfKind : V → Type 0) (name : V → List ℕ) (find : List ℕ → Option V) : Type 0 where
   pub reads_back : (v : V) → IsOfKind v → find (name v) ≡ Some v
   pub name_dash_free : (v : V) → IsOfKind v → is_dash_free (name v) ≡ true
   pub text_dash_free : (text : List ℕ) (v : V) → find text ≡ Some v → is_dash_free text ≡ true
 
--- so does each value of the type
+-- each value of the type does
 abbrev pub NamesReadBack : {V : Type 0} → (V → List ℕ) → (List ℕ → Option V) → Type 0
 NamesReadBack {V} name find = NamesOfReadBack (λ (v : V). Unit {0}) name find
 
--- a text that reads as a value is its name
+-- a text that parses as a value is its name
 abbrev pub TextsAreNames : {V : Type 0} → (V → List ℕ) → (List ℕ → Option V) → Type 0
 TextsAreNames {V} name find = (text : List ℕ) (v : V) → find text ≡ Some v → name v ≡ text
 
--- the name of a value is at most so many bytes longer than a text that reads as it
+-- the name of a value is at most this many bytes longer than a text that parses as it
 abbrev pub NamesAreLonger : ℕ → {V : Type 0} → (V → List ℕ) → (List ℕ → Option V) → Type 0
 NamesAreLonger bytes {V} name find = (text : List ℕ) (v : V) → find text ≡ Some v → length (name v) ≤ length text + bytes
 
@@ -29,28 +28,28 @@ NamesAreLonger bytes {V} name find = (text : List ℕ) (v : V) → find text ≡
 abbrev pub IsVersionInRange : DeploymentTarget → Type 0
 IsVersionInRange v = (v.major < 2 ^ 16) × (v.minor < 2 ^ 8) × (v.patch < 2 ^ 8)
 
--- an operating system whose version, if it holds one, is in range
+-- an operating system whose version, if it has one, is in range
 abbrev pub HasVersionInRange : OperatingSystem → Type 0
 HasVersionInRange s = IfSome (version_held s) IsVersionInRange
 
--- the order of versions: by major, then by minor, then by patch
+-- the order of versions: by major, then minor, then patch
 abbrev pub version_cmp : DeploymentTarget → DeploymentTarget → Ordering
 version_cmp = then_cmp (on (λ v. v.major) nat_cmp) (then_cmp (on (λ v. v.minor) nat_cmp) (on (λ v. v.patch) nat_cmp))
 
--- two values are told equal exactly where they are the same
+-- two values compare equal exactly if they are the same
 abbrev pub ComparesByValue : {V : Type 0} → (V → V → Bool) → Type 0
 ComparesByValue {V} eq = (x y : V) → Decides (eq x y) (x ≡ y)
 
--- a copy is its source, and comes without memory
+-- a copy is its source, and copying allocates nothing
 abbrev pub CopiesAreTheirSources : {V : Type 0} → (V → V → Type 0) → (V → Type 0) → Type 0
 CopiesAreTheirSources {V} IsCopy NeedsNoMemory = (source : V) → NeedsNoMemory source × ((copy : V) → IsCopy source copy → copy ≡ source)
 
--- Two values of this kind feed a hasher the same exactly where what they stand for is the same. Where more is fed behind them,
--- as by the next field of a struct, it is told apart from what they feed.
+-- two values of this kind feed a hasher the same exactly if what they represent is the same, and what is fed after them, such
+-- as the next field of a struct, can be told apart from what they feed
 pub record FeedsOfTell {V W : Type 0} (IsOfKind : V → Type 0) (value : V → W) (feed : V → HashWrites) : Type 0 where
   pub exactly : (x y : V) → IsOfKind x → IsOfKind y → (feed x ≡ feed y) ↔ (value x ≡ value y)
   pub with_more : (x y : V) (a b : HashWrites) → IsOfKind x → IsOfKind y → feed x ++ a ≡ feed y ++ b → (value x ≡ value y) × (a ≡ b)
 
--- so it is for each value of the type, which stands for itself
+-- this holds for each value of the type, which represents itself
 abbrev pub FeedsTell : {V : Type 0} → (V → HashWrites) → Type 0
 FeedsTell {V} feed = FeedsOfTell (λ (v : V). Unit {0}) (λ (v : V). v) feed

@@ -1,9 +1,9 @@
--- Names, and the tables by which texts read as values.
+-- Names, and the lists of names by which texts parse as values.
 use Rattle.std.specs.Prelude.{◌≡◌, ℕ, List, [], ◌∷◌, ◌==◌, Bool, not, Option, Some, None, Result, MatchResult, if◌then◌else◌, map}
 use Rattle.std.specs.List.{list_any}
 use Rattle.std.specs.Str.{bytes_eq}
 
--- a text, and the value that it reads as
+-- a text, and the value that it parses as
 abbrev pub Pair : Type 0 → Type 0
 Pair V = List ℕ × V
 
@@ -16,10 +16,10 @@ abbrev pub value_of : {V : Type 0} → List (Pair V) → List ℕ → Option V
 value_of [] text = None
 value_of (pair ∷ pairs) text = if bytes_eq text pair.0 then Some pair.1 else value_of pairs text
 
--- the answer is the known value, and a refusal where none is known
+-- the result is the value that the look-up gives, and an error if it gives none
 abbrev pub Answers : {V E : Type 0} → Option V → Result V E → Type 0
 Answers known answer = MatchResult answer (λ v. known ≡ Some v) (λ _. known ≡ None)
 
--- whether no byte of a text is a dash, which parts the fields of a triple
+-- whether no byte of a text is a dash, which separates the fields of a triple
 abbrev pub is_dash_free : List ℕ → Bool
 is_dash_free text = not (list_any (λ b. b == 45) text)

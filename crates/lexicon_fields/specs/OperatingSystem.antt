@@ -1,4 +1,4 @@
--- The names of the operating systems, and what reads as which.
+-- The names of the operating systems.
 use Rattle.std.specs.Prelude.{ℕ, Bool, true, false, List, [], ◌∷◌, ◌++◌, codes, nat_eq, length, drop, Option, Some, None, option_map, option_and_then, if◌then◌else◌}
 use Rattle.std.specs.List.{starts_with}
 use Rattle.std.specs.Option.{option_or}
@@ -6,12 +6,12 @@ use Rattle.lexicon_fields.specs.{declared.deployment_target.DeploymentTarget.Dep
 use Rattle.lexicon_fields.specs.Version.{version_of, version_name}
 use Rattle.lexicon_fields.specs.declared.operating_system.OperatingSystem.TheVariants as operating_system
 
--- the version behind a prefix, where there is one
+-- the text of an optional version after a prefix
 abbrev pub version_suffix : Option DeploymentTarget → List ℕ
 version_suffix None = []
 version_suffix (Some version) = version_name version
 
--- the name of an operating system; one that is like Darwin has its prefix and its version
+-- the name of an operating system; that of a system like Darwin is its prefix and its version
 abbrev pub operating_system_name : OperatingSystem → List ℕ
 operating_system_name operating_system.Unknown = codes "unknown"
 operating_system_name operating_system.Aix = codes "aix"
@@ -54,7 +54,7 @@ operating_system_name (operating_system.VisionOS version) = codes "visionos" ++ 
 operating_system_name (operating_system.WatchOS version) = codes "watchos" ++ version_suffix version
 operating_system_name (operating_system.XROS version) = codes "xros" ++ version_suffix version
 
--- the version that a system holds, where it holds one
+-- the version of a system, if it has one
 abbrev pub version_held : OperatingSystem → Option DeploymentTarget
 version_held (operating_system.Darwin version) = version
 version_held (operating_system.IOS version) = version
@@ -99,28 +99,28 @@ darwin_prefixes =
     (codes "xros", operating_system.XROS) ∷
     []
 
--- the version that stands behind a prefix, which may be left out
+-- the optional version that a text after a prefix is: `Some None` for no text, `None` for a text that is no version
 abbrev pub optional_version_of : List ℕ → Option (Option DeploymentTarget)
 optional_version_of [] = Some None
 optional_version_of (c ∷ cs) = option_map Some (version_of (c ∷ cs))
 
--- a system like Darwin by what stands behind its prefix
+-- a system like Darwin by the text after its prefix
 abbrev pub with_version : (Option DeploymentTarget → OperatingSystem) → List ℕ → Option OperatingSystem
 with_version operating_system text = option_map operating_system (optional_version_of text)
 
--- the text behind a prefix, if it begins with it
+-- the text after a prefix, if the text begins with it
 abbrev pub behind_prefix : List ℕ → List ℕ → Option (List ℕ)
 behind_prefix prefix text = if starts_with nat_eq text prefix then Some (drop (length prefix) text) else None
 
--- the system like Darwin that a text reads as, by the first of these prefixes that gives one
+-- the system like Darwin that a text parses as, by the first of these prefixes that gives one
 abbrev pub darwin_like_by : List (Pair (Option DeploymentTarget → OperatingSystem)) → List ℕ → Option OperatingSystem
 darwin_like_by [] text = None
 darwin_like_by (row ∷ rows) text = option_or (option_and_then (with_version row.1) (behind_prefix row.0 text)) (darwin_like_by rows text)
 
--- the system of this fixed name, if there is one
+-- the system with this fixed name, if there is one
 unfoldable pub fixed_operating_system_of : List ℕ → Option OperatingSystem
 fixed_operating_system_of text = value_of (named operating_system_name fixed_operating_systems) text
 
--- what a text reads as, if anything
+-- the value that a text parses as, if any
 unfoldable pub operating_system_of : List ℕ → Option OperatingSystem
 operating_system_of text = option_or (fixed_operating_system_of text) (darwin_like_by darwin_prefixes text)

@@ -1,14 +1,14 @@
--- Words of the contracts of private functions, which no public contract cites.
+-- Definitions for the contracts of private functions; no public contract cites them.
 use Rattle.std.specs.Prelude.{ℕ, zero, suc, ◌+◌, ◌*◌, ◌^◌, List, [], ◌∷◌, Option, Some, None}
 use Rattle.std.specs.Borrow.{Bor}
 use Rattle.lexicon_fields.specs.Version.{pieces_of}
 
--- the pieces of what is left of a version text, if anything is
+-- the pieces of the rest of a version text, if there is a rest
 abbrev pub pieces_left : Option (Bor (List ℕ)) → List (List ℕ)
 pieces_left None = []
 pieces_left (Some rest) = pieces_of rest.now
 
--- the first bytes of a text as a number, the first one foremost; a missing byte counts as zero
+-- the first bytes of a text as a big-endian number; a missing byte is zero
 abbrev pub front_of : ℕ → List ℕ → ℕ
 front_of zero text = 0
 front_of (suc k) [] = 0

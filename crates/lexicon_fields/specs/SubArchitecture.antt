@@ -1,4 +1,4 @@
--- The names of the sub-architectures, and behind each name's rule all values of the family.
+-- The names of the sub-architectures, and the values of each family.
 use Rattle.std.specs.Prelude.{ℕ, List, [], ◌∷◌, codes}
 use Rattle.lexicon_fields.specs.{declared.architecture.arm.ArmArchitecture.ArmArchitecture, declared.architecture.aarch64.Aarch64Architecture.Aarch64Architecture}
 use Rattle.lexicon_fields.specs.{declared.architecture.x86_32.X86_32Architecture.X86_32Architecture, declared.architecture.mips.Mips32Architecture.Mips32Architecture}

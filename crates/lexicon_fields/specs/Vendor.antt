@@ -1,4 +1,4 @@
--- Vendors: the known ones, and the custom ones, which are any other text of a certain form.
+-- Vendors: the known ones, and custom ones, which are any other text of a certain form.
 use Rattle.std.specs.Prelude.{◌≡◌, ℕ, ◌==◌, nat_le, Bool, true, false, ◌&&◌, ◌||◌, List, [], ◌∷◌, codes, Option, Some, None, is_none, option_map, if◌then◌else◌, string_bytes}
 use Rattle.std.specs.List.{list_all}
 use Rattle.std.specs.Option.{option_or}
@@ -9,12 +9,12 @@ use Rattle.lexicon_fields.specs.{declared.vendor.Vendor.Vendor, declared.vendor.
 use Rattle.lexicon_fields.specs.{declared.vendor.VendorError.TheVariants.Unrecognized, declared.vendor.VendorError.TheVariants.OutOfMemory, BinaryFormat.binary_format_of}
 use Rattle.lexicon_fields.specs.declared.vendor.Vendor.TheVariants as vendor
 
--- a vendor as the rules see it: a known one, or a custom one by its text
+-- a vendor as the rules see it: a known one, or a custom one, which is its text
 pub data VendorValue : Type 0 where
   Known : KnownVendor → VendorValue
   Custom : List ℕ → VendorValue
 
--- the text of a custom vendor, whoever owns it
+-- the text of a custom vendor, owned or static
 abbrev pub custom_text : CustomVendor → List ℕ
 custom_text (Owned text) = string_bytes text.value
 custom_text (Static text) = text.now
@@ -29,7 +29,7 @@ abbrev pub owns_text : Vendor → Bool
 owns_text (vendor.Custom custom) = is_owned custom
 owns_text _ = false
 
--- what a vendor is to the rules
+-- the value of a vendor
 abbrev pub vendor_value : Vendor → VendorValue
 vendor_value vendor.Unknown = Known Unknown
 vendor_value vendor.Amd = Known Amd
@@ -66,7 +66,7 @@ known_name Sun = codes "sun"
 known_name Uwp = codes "uwp"
 known_name Wrs = codes "wrs"
 
--- the name of a vendor; a custom one's is its text
+-- the name of a vendor; that of a custom one is its text
 abbrev pub vendor_name : VendorValue → List ℕ
 vendor_name (Known known) = known_name known
 vendor_name (Custom text) = text
@@ -74,7 +74,7 @@ vendor_name (Custom text) = text
 abbrev pub known_vendors : List KnownVendor
 known_vendors = Unknown ∷ Amd ∷ Apple ∷ Espressif ∷ Experimental ∷ Fortanix ∷ Ibm ∷ Kmc ∷ Nintendo ∷ Nvidia ∷ Pc ∷ Rumprun ∷ Sun ∷ Uwp ∷ Wrs ∷ []
 
--- the known vendor of this name, if there is one
+-- the known vendor with this name, if there is one
 unfoldable pub known_vendor_of : List ℕ → Option KnownVendor
 known_vendor_of text = value_of (named known_name known_vendors) text
 
@@ -85,30 +85,30 @@ is_lowercase_letter c = nat_le 97 c && nat_le c 122
 abbrev pub is_vendor_character : ℕ → Bool
 is_vendor_character c = is_lowercase_letter c || (nat_le 48 c && nat_le c 57) || (c == 95) || (c == 46)
 
--- a text that begins with a letter and has only characters of a vendor
+-- a text that begins with a lower-case letter and has only characters of a vendor
 abbrev pub has_vendor_form : List ℕ → Bool
 has_vendor_form [] = false
 has_vendor_form (c ∷ cs) = is_lowercase_letter c && list_all is_vendor_character cs
 
--- a text that reads as no other field and is no known vendor's name
+-- a text that parses as no other field and is not the name of a known vendor
 abbrev pub is_free : List ℕ → Bool
 is_free text =
     is_none (known_vendor_of text) && is_none (architecture_of text) && is_none (operating_system_of text)
     && is_none (environment_of text) && is_none (binary_format_of text)
 
--- what is admitted as the text of a custom vendor
+-- whether a text is admitted as a custom vendor
 unfoldable pub is_admitted : List ℕ → Bool
 is_admitted text = is_free text && has_vendor_form text
 
--- an admitted text, as a custom vendor
+-- the custom vendor with this text, if the text is admitted
 abbrev pub custom_of : List ℕ → Option VendorValue
 custom_of text = if is_admitted text then Some (Custom text) else None
 
--- what a text reads as, if anything
+-- the value that a text parses as, if any
 unfoldable pub vendor_of : List ℕ → Option VendorValue
 vendor_of text = option_or (option_map Known (known_vendor_of text)) (custom_of text)
 
--- a known vendor, or a custom one with an admitted text
+-- whether a vendor is plain: known, or custom with an admitted text
 abbrev pub is_plain : VendorValue → Bool
 is_plain (Known known) = true
 is_plain (Custom text) = is_admitted text
@@ -118,11 +118,11 @@ abbrev pub IsCustom : VendorValue → Type 0
 IsCustom (Known known) = ⊥
 IsCustom (Custom text) = Unit {0}
 
--- a vendor that is a custom one has a text of its own
+-- if the vendor is custom, it owns its text
 abbrev pub OwnsCustomText : Vendor → Type 0
 OwnsCustomText v = IsCustom (vendor_value v) → owns_text v ≡ true
 
--- why a text is refused as a vendor: it reads as none, or it is admitted and the memory for it was refused
+-- why a text doesn't parse as a vendor: it is no vendor, or it is admitted and the allocation for it failed
 abbrev pub IsVendorFault : List ℕ → VendorError → Type 0
 IsVendorFault text Unrecognized = vendor_of text ≡ None
 IsVendorFault text OutOfMemory = is_admitted text ≡ true

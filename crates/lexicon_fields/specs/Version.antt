@@ -1,4 +1,4 @@
--- Version texts, as `10.14.6` in `macosx10.14.6`.
+-- Version texts, such as `10.14.6` in `macosx10.14.6`.
 use Rattle.std.specs.Prelude.{ℕ, ◌==◌, ◌∷◌, ◌++◌, nat_lt, nat_le, ◌&&◌, List, [], length, Option, Some, None, if◌then◌else◌}
 use Rattle.std.specs.Char.{is_ascii_digit}
 use Rattle.std.specs.List.{list_all, slice_split}
@@ -6,17 +6,17 @@ use Rattle.std.specs.Str.Parse.{digits_value, without_leading_plus}
 use Rattle.std.specs.Fmt.{decimal}
 use Rattle.lexicon_fields.specs.declared.deployment_target.DeploymentTarget.{DeploymentTarget}
 
--- the number that one or more digits write, if it is within the limit
+-- the number that one or more digits represent, if it is within the limit
 abbrev pub number_within : ℕ → List ℕ → Option ℕ
 number_within limit text =
     if nat_lt 0 (length text) && list_all is_ascii_digit text && nat_le (digits_value 10 text) limit
     then Some (digits_value 10 text) else None
 
--- the number of a piece, in front of which one plus may stand
+-- the number of a piece, which may begin with a plus
 abbrev pub piece_within : ℕ → List ℕ → Option ℕ
 piece_within limit piece = number_within limit (without_leading_plus piece)
 
--- the version of three numbers, if they are there
+-- the version of three numbers, if all are there
 abbrev pub version_of_numbers : Option ℕ → Option ℕ → Option ℕ → Option DeploymentTarget
 version_of_numbers (Some major) (Some minor) (Some patch) = Some (record { major = major; minor = minor; patch = patch })
 version_of_numbers _ _ _ = None
@@ -28,11 +28,11 @@ version_of_pieces (major ∷ minor ∷ []) = version_of_numbers (piece_within 65
 version_of_pieces (major ∷ minor ∷ patch ∷ []) = version_of_numbers (piece_within 65535 major) (piece_within 255 minor) (piece_within 255 patch)
 version_of_pieces _ = None
 
--- what lies between the dots of a text
+-- the pieces of a text between its dots
 abbrev pub pieces_of : List ℕ → List (List ℕ)
 pieces_of text = slice_split (λ c. c == 46) text
 
--- the version that a text reads as, if any
+-- the version that a text parses as, if any
 unfoldable pub version_of : List ℕ → Option DeploymentTarget
 version_of text = version_of_pieces (pieces_of text)
 

@@ -26,14 +26,14 @@ pub enum BinaryFormat {
 }
 
 impl BinaryFormat {
-    /// The host: fixed to x86_64-unknown-linux-gnu on every machine.
+    /// The field of the host, which is `x86_64-unknown-linux-gnu` on every machine.
     pub fn host() -> Self
         ensures { result ≡ BinaryFormat.Elf }
     {
         Self::Elf
     }
 
-    /// The value whose name the text is; every other text is refused.
+    /// The value with this name. `Err` for every other text.
     #[tactic(auto, using(crate::proofs::RowsHold::nowhere))]
     pub fn from_str(s: &str) -> Result<Self, ()>
         ensures { Answers (binary_format_of s.now) result }
@@ -44,7 +44,7 @@ impl BinaryFormat {
         }
     }
 
-    /// The name, which is always borrowed.
+    /// The name. It is always borrowed.
     pub fn into_str(self) -> CowStr<'static>
         ensures name { cow_str_bytes result ≡ binary_format_name self }
         ensures borrowed { IsBorrowedStr result }

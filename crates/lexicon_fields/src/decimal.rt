@@ -4,7 +4,7 @@ ghost use Rattle.std.specs.Fmt.{WritesStyledOnOk, decimal};
 
 use std::fmt;
 
-/// Writes a number in decimal, whatever the options of the formatter.
+/// Writes a number in decimal and ignores the formatter's options.
 pub fn write_decimal<W: fmt::Write>(f: &mut fmt::Formatter<W>, n: usize) -> fmt::Result
     ensures { WritesStyledOnOk W.write_str_gives f.old result (decimal n) f.new }
 {

@@ -7,7 +7,7 @@ ghost use Rattle.lexicon_fields.specs.Private.{pieces_left};
 use crate::decimal::write_decimal;
 use std::fmt;
 
-/// The oldest version of a system like Darwin that a target supports, within the limits of a Mach-O file.
+/// The oldest version of a system like Darwin on which a target runs, within the limits of a Mach-O file.
 #[derive(Clone, Copy, Debug, PartialEq, Eq, PartialOrd, Ord, Hash)]
 pub struct DeploymentTarget {
     pub major: u16,
@@ -16,7 +16,7 @@ pub struct DeploymentTarget {
 }
 
 impl DeploymentTarget {
-    /// The version that the text reads as, if it is one.
+    /// The version that the text parses as, if any: one to three pieces between dots, each an optional plus and digits.
     pub(crate) fn from_text(text: &str) -> Option<DeploymentTarget>
         ensures { result ≡ version_of text.now }
     {
@@ -50,7 +50,7 @@ impl DeploymentTarget {
         })
     }
 
-    /// Writes `major.minor.patch`, whatever the options of the formatter.
+    /// Writes `major.minor.patch` and ignores the formatter's options.
     pub(crate) fn write<W: fmt::Write>(self, f: &mut fmt::Formatter<W>) -> fmt::Result
         ensures { WritesStyledOnOk W.write_str_gives f.old result (version_name self) f.new }
     {
@@ -60,7 +60,7 @@ impl DeploymentTarget {
     }
 }
 
-/// What stands before the first dot, and what stands behind it.
+/// The text up to the first dot, and the text after it.
 fn first_piece(text: &str) -> (&str, Option<&str>)
     ensures { pieces_of text.now ≡ result.0.now ∷ pieces_left result.1 }
 {

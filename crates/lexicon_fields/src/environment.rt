@@ -10,7 +10,7 @@ use std::borrow::CowStr;
 use std::fmt;
 use std::str::FromStr;
 
-/// The environment on top of an operating system, as its ABI or C library.
+/// The environment on an operating system, such as its ABI or C library.
 #[derive(Clone, Copy, Debug, PartialEq, Eq, Hash)]
 pub enum Environment {
     Unknown,
@@ -48,7 +48,7 @@ pub enum Environment {
     /// Microsoft's Visual C++.
     Msvc,
     Newlib,
-    /// No environment, where a text says so; one that says nothing has `Unknown`.
+    /// No environment, if the text says so. A text that names none has `Unknown`.
     None,
     Kernel,
     Uclibc,
@@ -56,7 +56,7 @@ pub enum Environment {
     Uclibceabihf,
     /// An enclave of Intel SGX.
     Sgx,
-    /// A simulator of Apple's.
+    /// Apple's simulators.
     Sim,
     Softfloat,
     /// The signal processing engine of PowerPC.
@@ -68,14 +68,14 @@ pub enum Environment {
 }
 
 impl Environment {
-    /// The host: fixed to x86_64-unknown-linux-gnu on every machine.
+    /// The field of the host, which is `x86_64-unknown-linux-gnu` on every machine.
     pub fn host() -> Self
         ensures { result ≡ Environment.Gnu }
     {
         Self::Gnu
     }
 
-    /// The value whose name the text is; every other text is refused.
+    /// The value with this name. `Err` for every other text.
     #[tactic(auto, using(crate::proofs::RowsHold::nowhere))]
     pub fn from_str(s: &str) -> Result<Self, ()>
         ensures { Answers (environment_of s.now) result }
@@ -86,7 +86,7 @@ impl Environment {
         }
     }
 
-    /// The name, which is always borrowed.
+    /// The name. It is always borrowed.
     pub fn into_str(self) -> CowStr<'static>
         ensures name { cow_str_bytes result ≡ environment_name self }
         ensures borrowed { IsBorrowedStr result }

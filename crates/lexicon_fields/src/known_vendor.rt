@@ -25,7 +25,7 @@ pub enum KnownVendor {
 }
 
 impl KnownVendor {
-    /// The vendor of the same variant.
+    /// The vendor of the same name.
     pub fn to_vendor(self) -> Vendor
         ensures { vendor_value result ≡ Known self }
     {

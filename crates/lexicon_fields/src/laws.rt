@@ -1,4 +1,4 @@
-//! Laws of names, queries and equality: a call does nothing, and its contract is the law.
+//! Laws of names, queries, equality and hashing. Each function's contract is a law; a call does nothing.
 ghost use Rattle.std.specs.Prelude.{◌≡◌, ◌↔◌, true, ℕ, List, Some, length, Contains, Decides, IsTrue};
 ghost use Rattle.std.specs.Cmp.Lexicographic.{slice_cmp};
 ghost use Rattle.std.specs.List.Sorted.{IsStrictlySortedBy};
@@ -29,8 +29,8 @@ use crate::vendor::{CustomVendor, Vendor, VendorError};
 use crate::width::{Endianness, PointerWidth};
 use std::hash::Hash;
 
-/// Each value reads back from its name as itself, versions included, and neither a name nor any text that reads as a
-/// value holds a dash; of vendors, each plain one.
+/// Each value parses back from its name, versions included, and no text that parses as a value has a dash. For
+/// vendors this holds for plain ones.
 pub fn names_read_back()
     ensures architecture { NamesReadBack architecture_name architecture_of }
     ensures arm { NamesReadBack arm_name (sub_architecture_of as_arm) }
@@ -48,8 +48,8 @@ pub fn names_read_back()
     ensures vendor { NamesOfReadBack (λ v. is_plain v ≡ true) vendor_name vendor_of }
 {}
 
-/// A text that reads as a vendor, an environment or a binary format is its name. The name of an architecture or a system is
-/// little longer than a text that reads as it: `arm64` is `aarch64`, and `ios1` is `ios1.0.0`.
+/// A text that parses as a vendor, an environment or a binary format is its name. The name of an architecture or a
+/// system can be longer than the text, by at most 2 and 4 bytes: `arm64` is `aarch64`, and `ios1` is `ios1.0.0`.
 pub fn names_are_little_longer()
     ensures vendor { TextsAreNames vendor_name vendor_of }
     ensures environment { TextsAreNames environment_name environment_of }
@@ -58,36 +58,36 @@ pub fn names_are_little_longer()
     ensures operating_system { NamesAreLonger 4 operating_system_name operating_system_of }
 {}
 
-/// The version of a system that a text reads as is in range.
+/// The version of each system that a text parses as is in range.
 #[tactic(auto, using(crate::proofs::SystemsRead::version_in_range))]
 pub fn read_versions_are_in_range()
     ensures { (text : List ℕ) (s : OperatingSystem) → operating_system_of text ≡ Some s → HasVersionInRange s }
 {}
 
-/// Versions are ordered by major, then by minor, then by patch.
+/// Versions are ordered by major, then minor, then patch.
 pub fn versions_are_ordered()
     ensures { (x y : DeploymentTarget) → ⟦<DeploymentTarget as Ord>⟧.cmp x y ≡ version_cmp x y }
 {}
 
-/// Two custom vendors are equal exactly if their texts are, whoever owns them.
+/// Two custom vendors are equal exactly if their texts are, owned or static.
 pub fn custom_vendors_are_equal_by_text()
     ensures { (x y : CustomVendor) →
         IsTrue (⟦<CustomVendor as PartialEq>⟧.eq x y) ↔ (custom_text x ≡ custom_text y) }
 {}
 
-/// Known vendors are equal by variant, custom ones by text, and a custom one never equals a known one.
+/// Known vendors are equal by variant, custom ones by text, and a custom vendor never equals a known one.
 pub fn vendors_are_equal_by_value()
     ensures { (x y : Vendor) → (⟦<Vendor as PartialEq>⟧.eq x y ≡ true) ↔ (vendor_value x ≡ vendor_value y) }
 {}
 
-/// The texts of the rows are those that are a fixed name of some field, each once, in the order of their bytes.
+/// The texts of the rows are the fixed names of all fields and the alias, each once, in the order of their bytes.
 pub fn rows_are_sorted_and_whole()
     ensures sorted { IsStrictlySortedBy (slice_cmp nat_cmp) row_texts }
     ensures count { length row_texts ≡ row_count }
     ensures whole { (text : List ℕ) → Contains row_texts text ↔ (has_row text ≡ true) }
 {}
 
-/// Values of each other type are equal exactly where their variants and their fields are, the texts of rows by bytes.
+/// Values of each other type are equal exactly if their variants and fields are, the texts of rows by bytes.
 pub fn values_are_equal_by_variant_and_fields()
     ensures architecture { ComparesByValue ⟦<Architecture as PartialEq>⟧.eq }
     ensures arm { ComparesByValue ⟦<ArmArchitecture as PartialEq>⟧.eq }
@@ -110,13 +110,13 @@ pub fn values_are_equal_by_variant_and_fields()
     ensures fixed_row { (x y : FixedRow) → Decides (⟦<FixedRow as PartialEq>⟧.eq x y) (HoldSameValues x y) }
 {}
 
-/// Two custom vendors feed a hasher equally exactly where their texts are equal.
+/// Two custom vendors feed a hasher equally exactly if their texts are equal.
 pub fn custom_vendors_feed_by_text()
     ensures { (x y : CustomVendor) → (⟦<CustomVendor as Hash>⟧.hash_input x ≡ ⟦<CustomVendor as Hash>⟧.hash_input y) ↔ (custom_text x ≡ custom_text y) }
 {}
 
-/// Two values of a type feed a hasher the same exactly where they are the same, or, of vendors, where they stand for the same;
-/// versions are those whose numbers fit their fields. What is fed behind a value is told apart from what it feeds.
+/// Two values of a type feed a hasher the same exactly if they are equal, and what is fed after a value can be told
+/// apart from what the value feeds. For systems with a version this holds if the version is in range.
 pub fn values_feed_by_variant_and_fields()
     ensures architecture { FeedsTell ⟦<Architecture as Hash>⟧.hash_input }
     ensures arm { FeedsTell ⟦<ArmArchitecture as Hash>⟧.hash_input }
@@ -137,7 +137,7 @@ pub fn values_feed_by_variant_and_fields()
     ensures pointer_width { FeedsTell ⟦<PointerWidth as Hash>⟧.hash_input }
 {}
 
-/// A copy of a value is that value, and copying needs no memory.
+/// A copy of a value is that value, and copying allocates nothing.
 pub fn copies_are_their_sources()
     ensures architecture { CopiesAreTheirSources ⟦<Architecture as Clone>⟧.is_clone ⟦<Architecture as Clone>⟧.is_infallible }
     ensures arm { CopiesAreTheirSources ⟦<ArmArchitecture as Clone>⟧.is_clone ⟦<ArmArchitecture as Clone>⟧.is_infallible }

@@ -14,7 +14,7 @@ use std::borrow::CowStr;
 use std::fmt;
 use std::str::FromStr;
 
-/// The operating system. One like Darwin may hold the version of its deployment target.
+/// The operating system. One like Darwin can have the version of its deployment target.
 #[derive(Clone, Copy, Debug, PartialEq, Eq, Hash)]
 pub enum OperatingSystem {
     Unknown,
@@ -62,16 +62,17 @@ pub enum OperatingSystem {
 }
 
 impl OperatingSystem {
-    /// The host: fixed to x86_64-unknown-linux-gnu on every machine.
+    /// The field of the host, which is `x86_64-unknown-linux-gnu` on every machine.
     pub fn host() -> Self
         ensures { result ≡ OperatingSystem.Linux }
     {
         Self::Linux
     }
 
-    /// The value that the text reads as; every other text is refused. Behind the prefix of a system like Darwin stands
-    /// nothing, or a version: one to three pieces between dots, each an optional plus and digits, the first up to 65535,
-    /// the others up to 255.
+    /// The system that the text parses as. `Err` for every other text.
+    ///
+    /// A text is a fixed name, or the prefix of a system like Darwin with nothing or a version after it: one to three
+    /// pieces between dots, each an optional plus and digits, the first at most 65535, the others at most 255.
     #[tactic(auto, using(crate::proofs::RowsHold::read_either_way))]
     pub fn from_str(s: &str) -> Result<Self, ()>
         ensures { Answers (operating_system_of s.now) result }
@@ -85,8 +86,8 @@ impl OperatingSystem {
         }
     }
 
-    /// The system like Darwin that the text reads as, which is all that a text without a row in the table of names reads
-    /// as. A text with another first letter is told at once.
+    /// The system like Darwin that the text parses as, if any. A text without a row in the table of names parses as no
+    /// other system. Most other texts are rejected by their first letter.
     #[tactic(auto, using(crate::proofs::RowsHold::rowless_is_like_darwin))]
     pub fn like_darwin(s: &str) -> Option<Self>
         ensures like { result ≡ darwin_like_by darwin_prefixes s.now }
@@ -98,7 +99,7 @@ impl OperatingSystem {
         }
     }
 
-    /// The system like Darwin whose prefix the text begins with, and whose version may stand behind it.
+    /// The system like Darwin with whose prefix the text begins, with the version after the prefix, if there is one.
     fn by_prefix(s: &str) -> Option<Self>
         ensures { result ≡ darwin_like_by darwin_prefixes s.now }
     {
@@ -126,7 +127,7 @@ impl OperatingSystem {
         None
     }
 
-    /// The name. Only the text of a version wants memory, and `Err` says that it was refused.
+    /// The name. Only a name with a version needs memory; `Err` if that allocation fails.
     pub fn into_str(self, alloc: Global) -> Result<CowStr<'static>, AllocError>
         ensures name { IfOk result (λ text. cow_str_bytes text ≡ operating_system_name self) }
         ensures borrowed { IsNone (version_held self) → IsOkAnd result IsBorrowedStr }
@@ -153,7 +154,7 @@ impl OperatingSystem {
         )
     }
 
-    /// The name up to the version.
+    /// The name without the version.
     fn prefix(self) -> &'static str
         ensures { result.now ++ version_suffix (version_held self) ≡ operating_system_name self }
     {
@@ -201,7 +202,7 @@ impl OperatingSystem {
         }
     }
 
-    /// The version of the deployment target, where the system holds one; only one like Darwin does.
+    /// The version of the deployment target. Only a system like Darwin can have one.
     pub fn version(self) -> Option<DeploymentTarget>
         ensures { result ≡ version_held self }
     {
@@ -218,7 +219,7 @@ impl OperatingSystem {
     }
 }
 
-/// The version that stands behind a prefix, which may be left out.
+/// The version after a prefix: `Some(None)` if nothing follows, `None` if what follows is no version.
 fn version_behind(rest: &str) -> Option<Option<DeploymentTarget>>
     ensures { result ≡ optional_version_of rest.now }
 {

@@ -1,10 +1,10 @@
-//! A count that only contracts see.
+//! A counter that exists only in contracts.
 ghost use Rattle.std.specs.Prelude.{◌≡◌, ℕ, ◌+◌};
 ghost use Rattle.std.specs.Borrow.{ftrue};
 
 use std::marker::Model;
 
-/// A count, as of the rows that a text was compared with. It takes no bytes and has no greatest value; only contracts see it.
+/// A counter, for instance of comparisons. It takes no memory and has no upper limit; only contracts see its count.
 #[derive(Drop)]
 pub struct Steps {
     pub ghost count: { ℕ },
@@ -15,14 +15,14 @@ impl Model for Steps {
 }
 
 impl Steps {
-    /// The count 0.
+    /// A counter at 0.
     pub fn new() -> Self
         ensures { result.count ≡ 0 }
     {
         Steps {}
     }
 
-    /// Counts one more.
+    /// Adds one to the count.
     #[inline(always)]
     pub fn tick(&mut self)
         ensures { self.new.count ≡ self.old.count + 1 }
@@ -30,7 +30,7 @@ impl Steps {
         *self = self.next();
     }
 
-    /// The count that is one more.
+    /// A counter that is one ahead.
     fn next(&self) -> Self
         ensures { result.count ≡ self.now.count + 1 }
     {

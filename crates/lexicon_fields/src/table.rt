@@ -16,13 +16,13 @@ use crate::steps::Steps;
 use rows::row;
 use std::cmp::Ordering;
 
-/// How many texts have a row.
+/// The number of rows.
 pub const ROW_COUNT: usize = 192;
 
-/// Among how many rows seven comparisons find a text, each leaving half of the others: 1 + 2 + 4 + .. + 64.
+/// The number of rows that seven comparisons can search: 1 + 2 + 4 + .. + 64.
 const FOUND_BY_SEVEN: usize = 127;
 
-/// What a text reads as in each field, by the fixed names and the alias: no version, and no custom vendor.
+/// A fixed name or the alias, and the value with that name in each field.
 #[derive(Clone, Copy, Debug, PartialEq, Eq)]
 pub struct FixedRow {
     pub text: &'static str,
@@ -33,8 +33,8 @@ pub struct FixedRow {
     pub binary_format: Option<BinaryFormat>,
 }
 
-/// The row of the text, or `None` where no field reads it as a fixed name or an alias. `steps` ticks once for each row
-/// that is compared with the text, at most eight times.
+/// The row of the text, or `None` if the text is no fixed name and not the alias. `steps` ticks once for each row that
+/// is compared with the text, at most eight times.
 #[inline(always)]
 pub fn fixed_row(text: &str, steps: &mut Steps) -> Option<FixedRow>
     ensures row { MatchOption result (has_row text.now ≡ false) (IsRowOf text.now) }
@@ -47,7 +47,7 @@ pub fn fixed_row(text: &str, steps: &mut Steps) -> Option<FixedRow>
     }
 }
 
-/// The order by bytes of the text of row `i`, counted from 0, against `text`.
+/// The order by bytes of the text of row `i`, counted from 0, relative to `text`.
 #[inline(always)]
 pub fn row_order(i: usize, text: &str, steps: &mut Steps) -> Ordering
     requires { i < row_count }
@@ -59,8 +59,8 @@ pub fn row_order(i: usize, text: &str, steps: &mut Steps) -> Ordering
     front::order(row.1, row.0, front::front(text), text)
 }
 
-/// The number of the row that has the text. Texts of these lengths have a search each, in which the front of the text is computed
-/// once; that from four to eight bytes, as most are, calls nothing.
+/// The number of the text's row. Texts of these three lengths have a search each, so that the compiler computes the
+/// text's prefix key once. Most texts have four to eight bytes, and their search calls no function.
 #[inline(never)]
 fn row_number(text: &str, steps: &mut Steps) -> Option<usize>
     ensures row { MatchOption result (has_row text.now ≡ false) (λ i. (i < row_count) × (row_text i ≡ text.now)) }
@@ -76,7 +76,7 @@ fn row_number(text: &str, steps: &mut Steps) -> Option<usize>
     }
 }
 
-/// The same, for a text of more than eight bytes.
+/// [`row_number`] of a text of more than eight bytes.
 #[inline(never)]
 fn row_number_of_long(text: &str, steps: &mut Steps) -> Option<usize>
     ensures row { MatchOption result (has_row text.now ≡ false) (λ i. (i < row_count) × (row_text i ≡ text.now)) }
@@ -86,7 +86,7 @@ fn row_number_of_long(text: &str, steps: &mut Steps) -> Option<usize>
     search(text, steps)
 }
 
-/// The same, for a text of at most three bytes.
+/// [`row_number`] of a text of at most three bytes.
 #[inline(never)]
 fn row_number_of_short(text: &str, steps: &mut Steps) -> Option<usize>
     ensures row { MatchOption result (has_row text.now ≡ false) (λ i. (i < row_count) × (row_text i ≡ text.now)) }
@@ -96,7 +96,7 @@ fn row_number_of_short(text: &str, steps: &mut Steps) -> Option<usize>
     search(text, steps)
 }
 
-/// The same, for any text.
+/// The binary search for the text's row.
 #[inline(always)]
 fn search(text: &str, steps: &mut Steps) -> Option<usize>
     ensures row { MatchOption result (has_row text.now ≡ false) (λ i. (i < row_count) × (row_text i ≡ text.now)) }

@@ -16,12 +16,12 @@ use std::alloc::{AllocError, Global};
 use std::fmt;
 use std::hash::{Hash, Hasher};
 
-/// A vendor that is none of the known ones, by its text.
+/// A vendor other than the known ones, as its text.
 #[derive(Debug, Drop)]
 pub enum CustomVendor {
-    /// A text of its own.
+    /// An owned text.
     Owned(Box<String>),
-    /// A text that lives for ever.
+    /// A static text.
     Static(&'static str),
 }
 
@@ -36,7 +36,7 @@ impl CustomVendor {
         }
     }
 
-    /// A copy, with a text of its own where this one has it. `Err` says that the memory for that text was refused.
+    /// A copy of the same variant: it owns its text if this one does. `Err` if the allocation for that text fails.
     pub fn clone(&self, alloc: Global) -> Result<Self, AllocError>
         ensures text { IfOk result (λ copy. custom_text copy ≡ custom_text self.now) }
         ensures variant { IfOk result (λ copy. is_owned copy ≡ is_owned self.now) }
@@ -82,7 +82,7 @@ impl Hash for CustomVendor {
     }
 }
 
-/// The vendor.
+/// The vendor of a target.
 #[derive(Debug, Drop, PartialEq, Eq, Hash)]
 pub enum Vendor {
     Unknown,
@@ -100,22 +100,27 @@ pub enum Vendor {
     Sun,
     Uwp,
     Wrs,
-    /// Any other vendor. A text read as one is admitted; a value made by hand may hold any text.
+    /// Any other vendor. Parsing produces only admitted texts (see `from_str`); code can make a value with any text.
     Custom(CustomVendor),
 }
 
 impl Vendor {
-    /// The host: fixed to x86_64-unknown-linux-gnu on every machine.
+    /// The field of the host, which is `x86_64-unknown-linux-gnu` on every machine.
     pub fn host() -> Self
         ensures { result ≡ Vendor.Unknown }
     {
         Self::Unknown
     }
 
-    /// The vendor that the text reads as: a known one, or a custom one that owns an admitted text. A text is admitted
-    /// if it reads as no known vendor and as no other field, begins with a letter from `a` to `z`, and has only such
-    /// letters, digits, `_` and `.`. Every other text is `Unrecognized`; `OutOfMemory` says that the memory for an
-    /// admitted text was refused.
+    /// The vendor that the text parses as: a known one, or a custom one that owns the text, if the text is admitted.
+    ///
+    /// A text is admitted as a custom vendor if it is not the name of a known vendor, parses as no other field, begins
+    /// with a letter from `a` to `z`, and has only such letters, digits, `_` and `.`.
+    ///
+    /// # Errors
+    ///
+    /// - [`VendorError::Unrecognized`] for every other text.
+    /// - [`VendorError::OutOfMemory`] if the allocation for an admitted text fails.
     pub fn from_str(alloc: Global, s: &str) -> Result<Self, VendorError>
         ensures ok { IfOk result (λ vendor. vendor_of s.now ≡ Some (vendor_value vendor)) }
         ensures owned { IfOk result (λ vendor. owns_text vendor ≡ is_admitted s.now) }
@@ -130,7 +135,7 @@ impl Vendor {
         }
     }
 
-    /// What `from_str` answers for a text that has no row in the table of names: a custom vendor, or why there is none.
+    /// The result of `from_str` for a text without a row in the table of names, which isn't looked up again.
     pub fn of_rowless(alloc: Global, s: &str) -> Result<Self, VendorError>
         requires { has_row s.now ≡ false }
         ensures ok { IfOk result (λ vendor. vendor_of s.now ≡ Some (vendor_value vendor)) }
@@ -149,7 +154,7 @@ impl Vendor {
         }
     }
 
-    /// The name; that of a custom vendor is its text.
+    /// The name. That of a custom vendor is its text.
     pub fn as_str(&self) -> &str
         ensures { result.now ≡ vendor_name (vendor_value self.now) }
     {
@@ -173,7 +178,7 @@ impl Vendor {
         }
     }
 
-    /// Whether the vendor is known, or custom with an admitted text.
+    /// Whether parsing can produce the vendor: it is known, or custom with an admitted text.
     pub fn is_plain(&self) -> bool
         ensures { result ≡ is_plain (vendor_value self.now) }
     {
@@ -183,7 +188,7 @@ impl Vendor {
         }
     }
 
-    /// A copy, with a text of its own where this one has it. `Err` says that the memory for that text was refused.
+    /// A copy of the same variant: it owns its text if this one does. `Err` if the allocation for that text fails.
     pub fn clone(&self, alloc: Global) -> Result<Self, AllocError>
         ensures value { IfOk result (λ copy. vendor_value copy ≡ vendor_value self.now) }
         ensures variant { IfOk result (λ copy. owns_text copy ≡ owns_text self.now) }
@@ -220,16 +225,16 @@ impl fmt::Display for Vendor {
     }
 }
 
-/// Why a text is refused as a vendor.
+/// Why a text doesn't parse as a vendor.
 #[derive(Clone, Copy, Debug, PartialEq, Eq)]
 pub enum VendorError {
-    /// It is neither a known vendor's name nor admitted as a custom one.
+    /// The text is neither the name of a known vendor nor admitted as a custom vendor.
     Unrecognized,
-    /// It is admitted, and the memory for it was refused.
+    /// The text is admitted, and the allocation for it failed.
     OutOfMemory,
 }
 
-/// Whether the text is admitted as that of a custom vendor.
+/// Whether the text is admitted as a custom vendor.
 fn is_admitted(s: &str) -> bool
     ensures { result ≡ is_admitted s.now }
 {
@@ -242,7 +247,7 @@ fn is_admitted(s: &str) -> bool
     }
 }
 
-/// Whether the text begins with a letter and has only characters of a vendor.
+/// Whether the text begins with a lower-case letter and has only characters of a vendor.
 fn has_vendor_form(s: &str) -> bool
     ensures { result ≡ has_vendor_form s.now }
 {

@@ -2,7 +2,7 @@
 ghost use Rattle.std.specs.Prelude.{◌≡◌, ◌*◌};
 ghost use Rattle.lexicon_fields.specs.Width.{width_bits, width_bytes};
 
-/// The order in which the bytes of a number lie in memory.
+/// The order of the bytes of a number in memory.
 #[derive(Clone, Copy, Debug, PartialEq, Eq, Hash)]
 pub enum Endianness {
     /// The least significant byte comes first.
@@ -20,7 +20,7 @@ pub enum PointerWidth {
 }
 
 impl PointerWidth {
-    /// How many bits a pointer has.
+    /// The number of bits in a pointer.
     pub fn bits(self) -> u8
         ensures value { result ≡ width_bits self }
         ensures of_bytes { result ≡ 8 * width_bytes self }
@@ -32,7 +32,7 @@ impl PointerWidth {
         }
     }
 
-    /// The number of bytes in a pointer; a byte has 8 bits.
+    /// The number of bytes in a pointer, of 8 bits each.
     pub fn bytes(self) -> u8
         ensures value { result ≡ width_bytes self }
         ensures in_bits { 8 * result ≡ width_bits self }

@@ -46,7 +46,7 @@ impl Aarch64Architecture {
         }
     }
 
-    /// The value whose name the text is, and `Aarch64` for `arm64`; every other text is refused.
+    /// The value with this name; `arm64` is an alias of `aarch64`. `Err` for every other text.
     pub fn from_str(s: &str) -> Result<Self, ()>
         ensures { Answers (sub_architecture_of as_aarch64 s.now) result }
     {
@@ -56,7 +56,7 @@ impl Aarch64Architecture {
         }
     }
 
-    /// The name, which is always borrowed.
+    /// The name. It is always borrowed.
     pub fn into_str(self) -> CowStr<'static>
         ensures name { cow_str_bytes result ≡ aarch64_name self }
         ensures borrowed { IsBorrowedStr result }

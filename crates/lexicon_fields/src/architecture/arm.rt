@@ -108,7 +108,7 @@ impl ArmArchitecture {
         }
     }
 
-    /// The value whose name the text is; every other text is refused.
+    /// The value with this name. `Err` for every other text.
     pub fn from_str(s: &str) -> Result<Self, ()>
         ensures { Answers (sub_architecture_of as_arm s.now) result }
     {
@@ -118,7 +118,7 @@ impl ArmArchitecture {
         }
     }
 
-    /// The name, which is always borrowed.
+    /// The name. It is always borrowed.
     pub fn into_str(self) -> CowStr<'static>
         ensures name { cow_str_bytes result ≡ arm_name self }
         ensures borrowed { IsBorrowedStr result }

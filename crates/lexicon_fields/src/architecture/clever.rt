@@ -19,7 +19,7 @@ pub enum CleverArchitecture {
 }
 
 impl CleverArchitecture {
-    /// The value whose name the text is; every other text is refused.
+    /// The value with this name. `Err` for every other text.
     pub fn from_str(s: &str) -> Result<Self, ()>
         ensures { Answers (sub_architecture_of as_clever s.now) result }
     {
@@ -29,7 +29,7 @@ impl CleverArchitecture {
         }
     }
 
-    /// The name, which is always borrowed.
+    /// The name. It is always borrowed.
     pub fn into_str(self) -> CowStr<'static>
         ensures name { cow_str_bytes result ≡ clever_name self }
         ensures borrowed { IsBorrowedStr result }

@@ -24,7 +24,7 @@ pub enum Mips32Architecture {
 }
 
 impl Mips32Architecture {
-    /// The value whose name the text is; every other text is refused.
+    /// The value with this name. `Err` for every other text.
     pub fn from_str(s: &str) -> Result<Self, ()>
         ensures { Answers (sub_architecture_of as_mips32 s.now) result }
     {
@@ -34,7 +34,7 @@ impl Mips32Architecture {
         }
     }
 
-    /// The name, which is always borrowed.
+    /// The name. It is always borrowed.
     pub fn into_str(self) -> CowStr<'static>
         ensures name { cow_str_bytes result ≡ mips32_name self }
         ensures borrowed { IsBorrowedStr result }
@@ -88,7 +88,7 @@ pub enum Mips64Architecture {
 }
 
 impl Mips64Architecture {
-    /// The value whose name the text is; every other text is refused.
+    /// The value with this name. `Err` for every other text.
     pub fn from_str(s: &str) -> Result<Self, ()>
         ensures { Answers (sub_architecture_of as_mips64 s.now) result }
     {
@@ -98,7 +98,7 @@ impl Mips64Architecture {
         }
     }
 
-    /// The name, which is always borrowed.
+    /// The name. It is always borrowed.
     pub fn into_str(self) -> CowStr<'static>
         ensures name { cow_str_bytes result ≡ mips64_name self }
         ensures borrowed { IsBorrowedStr result }

@@ -26,7 +26,7 @@ pub enum Riscv32Architecture {
 }
 
 impl Riscv32Architecture {
-    /// The value whose name the text is; every other text is refused.
+    /// The value with this name. `Err` for every other text.
     pub fn from_str(s: &str) -> Result<Self, ()>
         ensures { Answers (sub_architecture_of as_riscv32 s.now) result }
     {
@@ -36,7 +36,7 @@ impl Riscv32Architecture {
         }
     }
 
-    /// The name, which is always borrowed.
+    /// The name. It is always borrowed.
     pub fn into_str(self) -> CowStr<'static>
         ensures name { cow_str_bytes result ≡ riscv32_name self }
         ensures borrowed { IsBorrowedStr result }
@@ -93,7 +93,7 @@ pub enum Riscv64Architecture {
 }
 
 impl Riscv64Architecture {
-    /// The value whose name the text is; every other text is refused.
+    /// The value with this name. `Err` for every other text.
     pub fn from_str(s: &str) -> Result<Self, ()>
         ensures { Answers (sub_architecture_of as_riscv64 s.now) result }
     {
@@ -103,7 +103,7 @@ impl Riscv64Architecture {
         }
     }
 
-    /// The name, which is always borrowed.
+    /// The name. It is always borrowed.
     pub fn into_str(self) -> CowStr<'static>
         ensures name { cow_str_bytes result ≡ riscv64_name self }
         ensures borrowed { IsBorrowedStr result }

@@ -29,7 +29,7 @@ pub enum Z80Architecture {
 }
 
 impl Z80Architecture {
-    /// The value whose name the text is; every other text is refused.
+    /// The value with this name. `Err` for every other text.
     pub fn from_str(s: &str) -> Result<Self, ()>
         ensures { Answers (sub_architecture_of as_z80 s.now) result }
     {
@@ -39,7 +39,7 @@ impl Z80Architecture {
         }
     }
 
-    /// The name, which is always borrowed.
+    /// The name. It is always borrowed.
     pub fn into_str(self) -> CowStr<'static>
         ensures name { cow_str_bytes result ≡ z80_name self }
         ensures borrowed { IsBorrowedStr result }

@@ -1,4 +1,4 @@
-//! The order of texts by their first eight bytes.
+//! The prefix key of a text: its first eight bytes as a number, by which texts are compared first.
 ghost use Rattle.std.specs.Prelude.{◌≡◌, ◌<◌, length};
 ghost use Rattle.std.specs.Cmp.Lexicographic.{slice_cmp};
 ghost use Rattle.std.specs.Ordering.{nat_cmp};
@@ -6,7 +6,7 @@ ghost use Rattle.lexicon_fields.specs.Private.{front_of};
 
 use std::cmp::Ordering;
 
-/// The order by bytes of two texts with these fronts.
+/// The order by bytes of two texts with these prefix keys.
 #[inline(always)]
 pub(crate) fn order(own_front: u64, own: &str, wanted: u64, text: &str) -> Ordering
     requires own { own_front ≡ front_of 8 own.now }
@@ -26,8 +26,8 @@ pub(crate) fn order(own_front: u64, own: &str, wanted: u64, text: &str) -> Order
     }
 }
 
-/// The first eight bytes as a number, the first one foremost; a missing byte counts as zero. Where the length is known to be
-/// above eight, or from four to eight, no branch is left, so that a search computes it once.
+/// The first eight bytes as a big-endian number; a missing byte is zero. If the caller has tested that the length is
+/// above eight, or from four to eight, no branch is left, so that a search computes the key once.
 #[inline(always)]
 pub(crate) fn front(text: &str) -> u64
     ensures { result ≡ front_of 8 text.now }
@@ -47,7 +47,7 @@ pub(crate) fn front(text: &str) -> u64
     front_of_few(bytes)
 }
 
-/// The same, for at most three bytes.
+/// The prefix key of at most three bytes.
 #[inline(never)]
 fn front_of_few(bytes: &[u8]) -> u64
     requires { length bytes.now < 4 }

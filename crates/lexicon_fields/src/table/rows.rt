@@ -1,4 +1,4 @@
-//! The rows of the fixed names.
+//! The table of names: the fixed names and the alias, in the order of their bytes.
 ghost use Rattle.std.specs.Prelude.{◌≡◌, ◌<◌, map};
 ghost use Rattle.lexicon_fields.specs.Architecture.{architecture_of};
 ghost use Rattle.lexicon_fields.specs.Vendor.{known_vendor_of};
@@ -19,7 +19,7 @@ use crate::known_vendor::KnownVendor;
 use crate::operating_system::OperatingSystem;
 use crate::table::ROW_COUNT;
 
-/// A text, its first eight bytes as a number, and what the text reads as in each field.
+/// A text, its prefix key, and the value with that name in each field.
 pub(crate) type Row = (
     &'static str,
     u64,
@@ -45,7 +45,7 @@ pub(crate) fn row(i: usize) -> Row
     rows()[i]
 }
 
-/// The rows, in the order of their texts.
+/// The whole table.
 #[inline(always)]
 #[tactic(auto, unfolding(crate::specs::FixedRow::row_texts, crate::specs::Architecture::architecture_of, crate::specs::Vendor::known_vendor_of, crate::specs::OperatingSystem::fixed_operating_system_of, crate::specs::Environment::environment_of, crate::specs::BinaryFormat::binary_format_of))]
 fn rows() -> &'static [Row]

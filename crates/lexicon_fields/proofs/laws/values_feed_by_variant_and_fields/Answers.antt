@@ -77,7 +77,7 @@ version_tells x y a b hx hy same =
 pub returns-clause-version : goal.returns-clause-version
 returns-clause-version c = feeds_of_tell version_tells (λ x y. ap version_hash.ghosts.hash_input)
 
--- a version that may be missing
+-- an optional version
 held_tells : (x y : Option DeploymentTarget) → Tells (λ v. IfSome v IsVersionInRange) (λ v. v) (option version_hash.ghosts.hash_input) x y
 unfolding le_bytes
 held_tells None None a b hx hy same = (refl, ap behind_first same)
@@ -117,7 +117,7 @@ returns-clause-operating_system c =
 custom_feeds : FeedsOfTell (λ (x : CustomVendor). Unit {0}) custom_text (λ x. str (custom_text x))
 custom_feeds = feeds_of_tell (λ x y a b _ _ same. (ap first_write same, ap behind_first (ap behind_first same))) (λ x y. ap str)
 
--- what the vendor that a value stands for feeds
+-- what a vendor value feeds
 abbrev value_feed : VendorValue → HashWrites
 value_feed (Known known) = usize (tag_of known_vendor.the_type known)
 value_feed (Custom text) = usize (length known_vendors) ++ str text

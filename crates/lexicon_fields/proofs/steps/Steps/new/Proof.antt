@@ -1,4 +1,4 @@
--- `new` makes the struct with no bytes, at the count 0.
+-- `new` makes the struct of no bytes, with count 0.
 use mathlib.Core.Path.{refl}
 use mathlib.Core.List.{[], ◌∷◌}
 use Rattle.std.proofs.raw_atomic.Walks.{proved}

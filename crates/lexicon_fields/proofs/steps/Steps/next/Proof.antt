@@ -1,4 +1,4 @@
--- `next` makes the struct with no bytes, at the count that its clause names.
+-- `next` makes the struct of no bytes, with the count in its clause.
 use mathlib.Core.Path.{refl}
 use mathlib.Core.List.{[], ◌∷◌}
 use Rattle.std.proofs.Common.{◌+◌}
