@@ -1,5 +1,5 @@
 -- What C asks of a triple, as numbers, and the answers of yes or no.
-use Rattle.std.specs.Prelude.{◌≡◌, ◌↔◌, ℕ, Bool, true, List, Option, Some, None}
+use Rattle.std.specs.Prelude.{◌≡◌, ◌↔◌, ℕ, Bool, true, List, Option, Some, None, IsTrue}
 use Rattle.target_lexicon.specs.{Laws.ComesBack, ImpliedFormat.implied, Queries.endianness, Queries.pointer_width, Queries.calling_convention, Queries.data_model, Reading.ReadsAs, Values.Values}
 use Rattle.target_lexicon.specs.{declared.calling_convention.CallingConvention.CallingConvention, declared.data_model.CDataModel.CDataModel}
 use Rattle.target_lexicon.specs.declared.calling_convention.CallingConvention.TheVariants.{SystemV, WasmBasicCAbi, WindowsFastcall, AppleAarch64}
@@ -62,9 +62,9 @@ AreFactsRead text facts = (t : Values) × ReadsAs text t × AreFactsOf facts t
 
 -- the text reads as a triple, and the answer is whether it comes back
 abbrev pub IsFixedTold : List ℕ → Bool → Type 0
-IsFixedTold text answer = (t : Values) × ReadsAs text t × ((answer ≡ true) ↔ ComesBack t)
+IsFixedTold text answer = (t : Values) × ReadsAs text t × (IsTrue answer ↔ ComesBack t)
 
 -- both texts read as triples, and the answer is whether they are equal
 abbrev pub IsComparedTold : List ℕ → List ℕ → Bool → Type 0
 IsComparedTold first second answer =
-    (t : Values) × ((u : Values) × ReadsAs first t × ReadsAs second u × ((answer ≡ true) ↔ (t ≡ u)))
+    (t : Values) × ((u : Values) × ReadsAs first t × ReadsAs second u × (IsTrue answer ↔ (t ≡ u)))

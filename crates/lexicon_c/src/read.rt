@@ -1,5 +1,5 @@
 //! Reading a triple from a text that came in.
-ghost use Rattle.std.specs.Prelude.{◌≡◌, ◌≢◌, ◌≤◌, ◌↔◌, true, IfOk, IfErr};
+ghost use Rattle.std.specs.Prelude.{◌≡◌, ◌≢◌, ◌≤◌, ◌↔◌, true, IfOk, IfErr, IsTrue};
 ghost use Rattle.target_lexicon.specs.Reading.{ReadsAs, MayWantMemory};
 ghost use Rattle.target_lexicon.specs.Values.{values_of};
 ghost use Rattle.lexicon_c.specs.Told.{IsRefusedBy};
@@ -26,7 +26,7 @@ pub(crate) fn read(alloc: Global, text: &str) -> Result<Triple, u32>
 
 /// Whether two triples are equal.
 pub(crate) fn are_equal(first: &Triple, second: &Triple) -> bool
-    ensures { (result ≡ true) ↔ (values_of first.now ≡ values_of second.now) }
+    ensures { IsTrue result ↔ (values_of first.now ≡ values_of second.now) }
 {
     triples_are_equal_by_value();
     first == second

@@ -3,6 +3,7 @@ use Rattle.std.proofs.Common.{◌≡◌, ℕ, List, [], ◌∷◌, Bool, true, f
 use Rattle.std.specs.{Option.option_or, Str.bytes_eq, List.list_all}
 use Rattle.std.proofs.{lemmas.Bool.and_parts, lemmas.Bool.ne_eqb, lemmas.List.Folds.list_any_none, lemmas.List.Sums.AllPass-from_list_all}
 use Rattle.std.proofs.lemmas.Slice.Eq.{bytes_eq-Decides}
+use Rattle.lexicon_fields.specs.Names.{dash}
 use Rattle.lexicon_fields.specs.{Names.Pair, Names.value_of, Names.named, Names.is_dash_free, Laws.NamesOfReadBack}
 
 -- a test that every pair passes holds for each text and the value that it parses as
@@ -63,8 +64,8 @@ test_apart test c x other passes = ne_eqb c x (λ same. let bad = rw same at pas
 pub all_apart : (test : ℕ → Bool) (x : ℕ) → test x ≡ false → (text : List ℕ) → list_all test text ≡ true → All (λ c. nat_eq c x ≡ false) text
 all_apart test x other text all = λ k d within. test_apart test _ x other (AllPass-from_list_all test text all k d within)
 
-pub all-dash_free : (test : ℕ → Bool) → test 45 ≡ false → (text : List ℕ) → list_all test text ≡ true → is_dash_free text ≡ true
-all-dash_free test other text all = ap not (list_any_none _ text (all_apart test 45 other text all))
+pub all-dash_free : (test : ℕ → Bool) → test dash ≡ false → (text : List ℕ) → list_all test text ≡ true → is_dash_free text ≡ true
+all-dash_free test other text all = ap not (list_any_none _ text (all_apart test dash other text all))
 
 -- names that parse back have no dash if no text that parses has one
 pub of_kind-read_back : {V : Type 0} (IsOfKind : V → Type 0) (name : V → List ℕ) (find : List ℕ → Option V)

@@ -7,6 +7,8 @@ use Rattle.std.proofs.{lemmas.Fmt.length-decimal-le, lemmas.List.length-append, 
 use Rattle.std.proofs.{lemmas.List.Folds.list_any-append, lemmas.List.Splits.join_with_byte-slice_split}
 use Rattle.std.proofs.{lemmas.Option.MatchOption-at_some, lemmas.Option.cond_some, lemmas.Option.same_Some, lemmas.Slice.Eq.bytes_eq-Decides}
 use Rattle.std.proofs.lemmas.Str.Parse.{digits_value_short}
+use Rattle.lexicon_fields.specs.Names.{dash}
+use Rattle.lexicon_fields.specs.Version.{dot}
 use Rattle.lexicon_fields.specs.{declared.deployment_target.DeploymentTarget.DeploymentTarget, declared.operating_system.OperatingSystem.OperatingSystem, Names.Pair, Names.named, Names.is_dash_free}
 use Rattle.lexicon_fields.specs.Version.{piece_within, version_of_numbers, version_of_pieces, version_of, version_name, pieces_of}
 use Rattle.lexicon_fields.specs.OperatingSystem.{operating_system_name, fixed_operating_systems, fixed_operating_system_of, operating_system_of, darwin_prefixes, darwin_like_by, behind_prefix, with_version, optional_version_of, version_held, version_suffix}
@@ -15,7 +17,7 @@ use Rattle.lexicon_fields.proofs.LookUps.{value_of-all, holds-if_read, option_ma
 use Rattle.lexicon_fields.proofs.VersionsReadBack.{digits_model}
 
 is_dash_free-append : (s t : List ℕ) → is_dash_free s ≡ true → is_dash_free t ≡ true → is_dash_free (s ++ t) ≡ true
-is_dash_free-append s t first second = rw (list_any-append (λ b. nat_eq b 45) s t, not-true _ first) second
+is_dash_free-append s t first second = rw (list_any-append (λ b. nat_eq b dash) s t, not-true _ first) second
 
 -- digits, with or without a leading plus
 behind_plus : (plus : Bool) (c : ℕ) (cs : List ℕ) → nat_eq c 43 ≡ plus → list_all is_ascii_digit (drop (cond plus 1 0) (c ∷ cs)) ≡ true → is_dash_free (c ∷ cs) ≡ true
@@ -56,7 +58,7 @@ IsVersionRead text v = (is_dash_free text ≡ true) × IsVersionInRange v × (le
 length-version : (v : DeploymentTarget) → length (version_name v) ≡ length (decimal v.major) + length (decimal v.minor) + length (decimal v.patch) + 2
 length-version v = simp length-append (omega arith)
 
-pieces-read : (pieces : List (List ℕ)) (v : DeploymentTarget) → version_of_pieces pieces ≡ Some v → IsVersionRead (join_with_byte 46 pieces) v
+pieces-read : (pieces : List (List ℕ)) (v : DeploymentTarget) → version_of_pieces pieces ≡ Some v → IsVersionRead (join_with_byte dot pieces) v
 pieces-read [] v is = absurd cc
 pieces-read (major ∷ []) v is =
     let found = numbers-read (piece_within 65535 major) (Some 0) (Some 0) v is in
@@ -69,21 +71,21 @@ pieces-read (major ∷ minor ∷ []) v is =
     let first = piece-read 65535 major v.major (omega arith) found.0 in
     let second = piece-read 255 minor v.minor (omega arith) found.1 in
     let third = missing-read v.patch found.2 in
-    (is_dash_free-append major (46 ∷ minor) first.0 second.0, in_range v first.1 second.1 third.0, omega (arith, length-version v, length-append major (46 ∷ minor)))
+    (is_dash_free-append major (dot ∷ minor) first.0 second.0, in_range v first.1 second.1 third.0, omega (arith, length-version v, length-append major (dot ∷ minor)))
 pieces-read (major ∷ minor ∷ patch ∷ []) v is =
     let found = numbers-read (piece_within 65535 major) (piece_within 255 minor) (piece_within 255 patch) v is in
     let first = piece-read 65535 major v.major (omega arith) found.0 in
     let second = piece-read 255 minor v.minor (omega arith) found.1 in
     let third = piece-read 255 patch v.patch (omega arith) found.2 in (
-      is_dash_free-append major (46 ∷ (minor ++ (46 ∷ patch))) first.0 (is_dash_free-append minor (46 ∷ patch) second.0 third.0),
+      is_dash_free-append major (dot ∷ (minor ++ (dot ∷ patch))) first.0 (is_dash_free-append minor (dot ∷ patch) second.0 third.0),
       in_range v first.1 second.1 third.1,
-      omega (arith, length-version v, length-append major (46 ∷ (minor ++ (46 ∷ patch))), length-append minor (46 ∷ patch)),
+      omega (arith, length-version v, length-append major (dot ∷ (minor ++ (dot ∷ patch))), length-append minor (dot ∷ patch)),
     )
 pieces-read (major ∷ minor ∷ patch ∷ more ∷ pieces) v is = absurd cc
 
 version-read : (text : List ℕ) → IfSome (version_of text) (IsVersionRead text)
 unfolding version_of
-version-read text = holds-if_read _ (version_of text) (λ v is. subst (λ (t : List ℕ). IsVersionRead t v) (join_with_byte-slice_split 46 text) (pieces-read (pieces_of text) v is))
+version-read text = holds-if_read _ (version_of text) (λ v is. subst (λ (t : List ℕ). IsVersionRead t v) (join_with_byte-slice_split dot text) (pieces-read (pieces_of text) v is))
 
 -- the text after a prefix
 suffix-read : (text : List ℕ) → IfSome (optional_version_of text) (λ version. (is_dash_free text ≡ true) × IfSome version IsVersionInRange × (length (version_suffix version) ≤ length text + 4))

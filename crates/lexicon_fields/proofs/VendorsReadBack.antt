@@ -1,9 +1,10 @@
 -- How vendors are parsed: every plain one parses back from its name, and no text that parses as one has a dash.
 use Rattle.std.proofs.Common.{arith, [], ◌∷◌, not, ◌&&◌, ◌||◌, ap, ◌≡◌, ◌∙◌, ℕ, List, true, false, Option, Some, None, is_some, is_none, option_map, refl, sym}
-use Rattle.std.specs.{List.list_all, Option.option_or}
+use Rattle.std.specs.{Char.is_ascii_lowercase, List.list_all, Option.option_or}
 use Rattle.std.proofs.{Math.Bool.and-true, Math.Bool.and-false, lemmas.Bool.and_parts, lemmas.Option.MatchOption-at_some, lemmas.Option.cond_some}
+use Rattle.lexicon_fields.specs.Names.{dash}
 use Rattle.lexicon_fields.specs.{declared.vendor.Vendor.Vendor, declared.known_vendor.KnownVendor.KnownVendor, declared.known_vendor.KnownVendor.TheVariants.Unknown, Names.named, Names.is_dash_free}
-use Rattle.lexicon_fields.specs.Vendor.{VendorValue, Known, Custom, known_name, known_vendors, custom_of, vendor_name, is_plain, is_free, is_lowercase_letter, is_vendor_character, has_vendor_form, vendor_of, vendor_value, owns_text, known_vendor_of, is_admitted}
+use Rattle.lexicon_fields.specs.Vendor.{VendorValue, Known, Custom, known_name, known_vendors, custom_of, vendor_name, is_plain, is_free, is_vendor_character, has_vendor_form, vendor_of, vendor_value, owns_text, known_vendor_of, is_admitted}
 use Rattle.lexicon_fields.specs.{Architecture.architecture_of, declared.operating_system.OperatingSystem.OperatingSystem, Environment.environment_of, BinaryFormat.binary_format_of, FixedRow.has_row}
 use Rattle.lexicon_fields.specs.OperatingSystem.{darwin_prefixes, darwin_like_by, fixed_operating_system_of, operating_system_of}
 use Rattle.lexicon_fields.proofs.LookUps.{value_of-passes, holds-if_read, option_map-holds, option_or-holds, option_or-none, none_is, test_apart, all-dash_free}
@@ -87,8 +88,8 @@ vendor_of-name (Known _) plain = refl
 form-dash_free : (text : List ℕ) → has_vendor_form text ≡ true → is_dash_free text ≡ true
 form-dash_free [] form = absurd cc
 form-dash_free (c ∷ cs) form =
-    let parts = and_parts (is_lowercase_letter c) (list_all is_vendor_character cs) form in
-    rw (test_apart is_lowercase_letter c 45 refl parts.0) (all-dash_free is_vendor_character refl cs parts.1)
+    let parts = and_parts (is_ascii_lowercase c) (list_all is_vendor_character cs) form in
+    rw (test_apart is_ascii_lowercase c dash refl parts.0) (all-dash_free is_vendor_character refl cs parts.1)
 
 pub vendor_of-dash_free : (text : List ℕ) (v : VendorValue) → vendor_of text ≡ Some v → is_dash_free text ≡ true
 unfolding vendor_of

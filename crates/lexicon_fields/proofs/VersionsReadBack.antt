@@ -6,6 +6,7 @@ use Rattle.std.proofs.lemmas.Bool.{and_parts, and_from, ltb-true, lt-ltb, leb-tr
 use Rattle.std.proofs.lemmas.Fmt.{decimal_is_IsNumeral}
 use Rattle.std.proofs.lemmas.List.Splits.{slice_split_first, slice_split_none, length-slice_split}
 use Rattle.std.proofs.{lemmas.List.Sums.fails_before_first, lemmas.Str.Parse.IsNumeralModel, lemmas.Str.Parse.numerals_by_value}
+use Rattle.lexicon_fields.specs.Version.{dot}
 use Rattle.lexicon_fields.specs.{declared.deployment_target.DeploymentTarget.DeploymentTarget, Private.pieces_left}
 use Rattle.lexicon_fields.specs.Version.{number_within, piece_within, version_of_numbers, version_of_pieces, version_of, version_name, pieces_of}
 use Rattle.lexicon_fields.proofs.LookUps.{test_apart, all_apart}
@@ -38,11 +39,11 @@ pub number_read : {E : Type 0} (k limit : ℕ) (piece : List ℕ) (r : Result �
 number_read k limit piece r o x fits parses taken is = sym (parse_piece k limit piece r fits parses) ∙ sym taken ∙ is
 
 -- the pieces of a text after its first dot, and those of a text without a dot
-pub pieces_of-first : (text piece rest : List ℕ) → piece ≡ before_first (λ c. nat_eq c 46) text → rest ≡ after_first (λ c. nat_eq c 46) text → position_or_len (λ c. nat_eq c 46) text < length text → pieces_of text ≡ piece ∷ pieces_of rest
-pieces_of-first text piece rest front back found = slice_split_first (λ c. nat_eq c 46) text 0 found ∙ cc
+pub pieces_of-first : (text piece rest : List ℕ) → piece ≡ before_first (λ c. nat_eq c dot) text → rest ≡ after_first (λ c. nat_eq c dot) text → position_or_len (λ c. nat_eq c dot) text < length text → pieces_of text ≡ piece ∷ pieces_of rest
+pieces_of-first text piece rest front back found = slice_split_first (λ c. nat_eq c dot) text 0 found ∙ cc
 
-pub pieces_of-whole : (text : List ℕ) → position_or_len (λ c. nat_eq c 46) text ≡ length text → pieces_of text ≡ text ∷ []
-pieces_of-whole text none = slice_split_none (λ c. nat_eq c 46) text (λ k d h. fails_before_first (λ c. nat_eq c 46) text k d (omega (arith, none, h)))
+pub pieces_of-whole : (text : List ℕ) → position_or_len (λ c. nat_eq c dot) text ≡ length text → pieces_of text ≡ text ∷ []
+pieces_of-whole text none = slice_split_none (λ c. nat_eq c dot) text (λ k d h. fails_before_first (λ c. nat_eq c dot) text k d (omega (arith, none, h)))
 
 -- a last piece, and a piece that others follow
 pub pieces-last : (pieces : List (List ℕ)) (p : List ℕ) (rest : Option (Bor (List ℕ))) → pieces ≡ p ∷ pieces_left rest → is_some rest ≡ false → pieces ≡ p ∷ []
@@ -55,7 +56,7 @@ pieces-more pieces p rest behind ps is some more = is ∙ ap (λ x. p ∷ pieces
 -- the rest of a text has a piece
 pub pieces_left-some : (rest : Option (Bor (List ℕ))) → is_some rest ≡ true → pieces_left rest ≢ []
 pieces_left-some None some none = cc
-pieces_left-some (Some behind) some none = let e = length-slice_split (λ c. nat_eq c 46) behind.now in let k = ap length none in omega arith
+pieces_left-some (Some behind) some none = let e = length-slice_split (λ c. nat_eq c dot) behind.now in let k = ap length none in omega arith
 
 -- a version with no second number, and one with no third
 no_second : (major patch : Option ℕ) → version_of_numbers major None patch ≡ None
@@ -120,13 +121,13 @@ piece_within-decimal limit n within small =
     ap (number_within limit) (without_plus (decimal n) digits) ∙ rw (numeral.1, some, digits, fits) refl
 
 pieces_of-digits : (ds : List ℕ) → list_all is_ascii_digit ds ≡ true → pieces_of ds ≡ ds ∷ []
-pieces_of-digits ds digits = slice_split_none _ ds (all_apart is_ascii_digit 46 refl ds digits)
+pieces_of-digits ds digits = slice_split_none _ ds (all_apart is_ascii_digit dot refl ds digits)
 
-pieces_of-dot : (ds rest : List ℕ) → list_all is_ascii_digit ds ≡ true → pieces_of (ds ++ (46 ∷ rest)) ≡ ds ∷ pieces_of rest
+pieces_of-dot : (ds rest : List ℕ) → list_all is_ascii_digit ds ≡ true → pieces_of (ds ++ (dot ∷ rest)) ≡ ds ∷ pieces_of rest
 pieces_of-dot [] rest digits = refl
 pieces_of-dot (c ∷ cs) rest digits =
     let parts = and_parts (is_ascii_digit c) (list_all is_ascii_digit cs) digits in
-    rw (test_apart is_ascii_digit c 46 refl parts.0, pieces_of-dot cs rest parts.1) refl
+    rw (test_apart is_ascii_digit c dot refl parts.0, pieces_of-dot cs rest parts.1) refl
 
 pub version_of-name : (v : DeploymentTarget) → v.major < 2 ^ 16 → v.minor < 2 ^ 8 → v.patch < 2 ^ 8 → version_of (version_name v) ≡ Some v
 version_of-name v major minor patch =
@@ -134,6 +135,6 @@ version_of-name v major minor patch =
     let b = decimal_digits v.minor (omega arith) in
     let c = decimal_digits v.patch (omega arith) in
     let behind = pieces_of-dot (decimal v.minor) (decimal v.patch) b ∙ ap (λ ps. decimal v.minor ∷ ps) (pieces_of-digits (decimal v.patch) c) in
-    let pieces = pieces_of-dot (decimal v.major) (decimal v.minor ++ (46 ∷ decimal v.patch)) a ∙ ap (λ ps. decimal v.major ∷ ps) behind in
+    let pieces = pieces_of-dot (decimal v.major) (decimal v.minor ++ (dot ∷ decimal v.patch)) a ∙ ap (λ ps. decimal v.major ∷ ps) behind in
     three_pieces (version_name v) (decimal v.major) (decimal v.minor) (decimal v.patch) v.major v.minor v.patch pieces
     (piece_within-decimal 65535 v.major (omega arith) (omega arith)) (piece_within-decimal 255 v.minor (omega arith) (omega arith)) (piece_within-decimal 255 v.patch (omega arith) (omega arith))

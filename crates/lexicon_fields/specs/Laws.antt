@@ -1,5 +1,5 @@
 -- Laws of names, queries, versions, equality and hashing.
-use Rattle.std.specs.Prelude.{◌≡◌, ◌↔◌, ◌++◌, ℕ, ◌+◌, ◌<◌, ◌≤◌, ◌^◌, Bool, true, List, length, Option, Some, IfSome, Decides}
+use Rattle.std.specs.Prelude.{◌≡◌, ◌↔◌, ◌++◌, ℕ, ◌+◌, ◌<◌, ◌≤◌, ◌^◌, Bool, true, List, length, Option, Some, IfSome, IsTrue}
 use Rattle.std.specs.Hash.{HashWrites}
 use Rattle.std.specs.Ordering.{nat_cmp, on, then_cmp}
 use Rattle.std.specs.declared.cmp.Ordering.{Ordering}
@@ -38,7 +38,7 @@ version_cmp = then_cmp (on (λ v. v.major) nat_cmp) (then_cmp (on (λ v. v.minor
 
 -- two values compare equal exactly if they are the same
 abbrev pub ComparesByValue : {V : Type 0} → (V → V → Bool) → Type 0
-ComparesByValue {V} eq = (x y : V) → Decides (eq x y) (x ≡ y)
+ComparesByValue {V} eq = (x y : V) → IsTrue (eq x y) ↔ (x ≡ y)
 
 -- a copy is its source, and copying allocates nothing
 abbrev pub CopiesAreTheirSources : {V : Type 0} → (V → V → Type 0) → (V → Type 0) → Type 0

@@ -20,6 +20,10 @@ value_of (pair ∷ pairs) text = if bytes_eq text pair.0 then Some pair.1 else v
 abbrev pub Answers : {V E : Type 0} → Option V → Result V E → Type 0
 Answers known answer = MatchResult answer (λ v. known ≡ Some v) (λ _. known ≡ None)
 
+-- the byte between two fields of a triple
+abbrev pub dash : ℕ
+dash = 45
+
 -- whether no byte of a text is a dash, which separates the fields of a triple
 abbrev pub is_dash_free : List ℕ → Bool
-is_dash_free text = not (list_any (λ b. b == 45) text)
+is_dash_free text = not (list_any (λ b. b == dash) text)

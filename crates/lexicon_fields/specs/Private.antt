@@ -8,6 +8,10 @@ abbrev pub pieces_left : Option (Bor (List ℕ)) → List (List ℕ)
 pieces_left None = []
 pieces_left (Some rest) = pieces_of rest.now
 
+-- the ASCII digit for a number below 10
+abbrev pub digit_byte : ℕ → ℕ
+digit_byte n = 48 + n
+
 -- the first bytes of a text as a big-endian number; a missing byte is zero
 abbrev pub front_of : ℕ → List ℕ → ℕ
 front_of zero text = 0

@@ -1,11 +1,12 @@
 -- Vendors: the known ones, and custom ones, which are any other text of a certain form.
-use Rattle.std.specs.Prelude.{◌≡◌, ℕ, ◌==◌, nat_le, Bool, true, false, ◌&&◌, ◌||◌, List, [], ◌∷◌, codes, Option, Some, None, is_none, option_map, if◌then◌else◌, string_bytes}
+use Rattle.std.specs.Prelude.{◌≡◌, ℕ, ◌==◌, Bool, true, false, ◌&&◌, ◌||◌, List, [], ◌∷◌, codes, Option, Some, None, is_none, option_map, if◌then◌else◌, string_bytes}
+use Rattle.std.specs.Char.{is_ascii_digit, is_ascii_lowercase}
 use Rattle.std.specs.List.{list_all}
 use Rattle.std.specs.Option.{option_or}
 pub use Rattle.lexicon_fields.specs.declared.known_vendor.KnownVendor.{KnownVendor}
 pub use Rattle.lexicon_fields.specs.declared.known_vendor.KnownVendor.TheVariants.{Unknown, Amd, Apple, Espressif, Experimental, Fortanix, Ibm, Kmc, Nintendo, Nvidia, Pc, Rumprun, Sun, Uwp, Wrs}
 use Rattle.lexicon_fields.specs.{declared.vendor.CustomVendor.CustomVendor, declared.vendor.CustomVendor.TheVariants.Owned, declared.vendor.CustomVendor.TheVariants.Static, Environment.environment_of}
-use Rattle.lexicon_fields.specs.{declared.vendor.Vendor.Vendor, declared.vendor.VendorError.VendorError, Names.value_of, Names.named, Architecture.architecture_of, OperatingSystem.operating_system_of}
+use Rattle.lexicon_fields.specs.{Version.dot, declared.vendor.Vendor.Vendor, declared.vendor.VendorError.VendorError, Names.value_of, Names.named, Architecture.architecture_of, OperatingSystem.operating_system_of}
 use Rattle.lexicon_fields.specs.{declared.vendor.VendorError.TheVariants.Unrecognized, declared.vendor.VendorError.TheVariants.OutOfMemory, BinaryFormat.binary_format_of}
 use Rattle.lexicon_fields.specs.declared.vendor.Vendor.TheVariants as vendor
 
@@ -78,17 +79,17 @@ known_vendors = Unknown ∷ Amd ∷ Apple ∷ Espressif ∷ Experimental ∷ For
 unfoldable pub known_vendor_of : List ℕ → Option KnownVendor
 known_vendor_of text = value_of (named known_name known_vendors) text
 
-abbrev pub is_lowercase_letter : ℕ → Bool
-is_lowercase_letter c = nat_le 97 c && nat_le c 122
+abbrev pub underscore : ℕ
+underscore = 95
 
 -- `a` to `z`, `0` to `9`, `_` and `.`
 abbrev pub is_vendor_character : ℕ → Bool
-is_vendor_character c = is_lowercase_letter c || (nat_le 48 c && nat_le c 57) || (c == 95) || (c == 46)
+is_vendor_character c = is_ascii_lowercase c || is_ascii_digit c || (c == underscore) || (c == dot)
 
 -- a text that begins with a lower-case letter and has only characters of a vendor
 abbrev pub has_vendor_form : List ℕ → Bool
 has_vendor_form [] = false
-has_vendor_form (c ∷ cs) = is_lowercase_letter c && list_all is_vendor_character cs
+has_vendor_form (c ∷ cs) = is_ascii_lowercase c && list_all is_vendor_character cs
 
 -- a text that parses as no other field and is not the name of a known vendor
 abbrev pub is_free : List ℕ → Bool

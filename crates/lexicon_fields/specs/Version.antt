@@ -6,6 +6,10 @@ use Rattle.std.specs.Str.Parse.{digits_value, without_leading_plus}
 use Rattle.std.specs.Fmt.{decimal}
 use Rattle.lexicon_fields.specs.declared.deployment_target.DeploymentTarget.{DeploymentTarget}
 
+-- the byte between two pieces of a version
+abbrev pub dot : ℕ
+dot = 46
+
 -- the number that one or more digits represent, if it is within the limit
 abbrev pub number_within : ℕ → List ℕ → Option ℕ
 number_within limit text =
@@ -30,7 +34,7 @@ version_of_pieces _ = None
 
 -- the pieces of a text between its dots
 abbrev pub pieces_of : List ℕ → List (List ℕ)
-pieces_of text = slice_split (λ c. c == 46) text
+pieces_of text = slice_split (λ c. c == dot) text
 
 -- the version that a text parses as, if any
 unfoldable pub version_of : List ℕ → Option DeploymentTarget
@@ -38,4 +42,4 @@ version_of text = version_of_pieces (pieces_of text)
 
 -- `major.minor.patch` in plain decimal
 abbrev pub version_name : DeploymentTarget → List ℕ
-version_name v = decimal v.major ++ (46 ∷ decimal v.minor ++ (46 ∷ decimal v.patch))
+version_name v = decimal v.major ++ (dot ∷ decimal v.minor ++ (dot ∷ decimal v.patch))

@@ -1,6 +1,7 @@
 //! Numbers in decimal.
-ghost use Rattle.std.specs.Prelude.{◌≡◌, ◌+◌, ◌<◌, [], ◌∷◌};
+ghost use Rattle.std.specs.Prelude.{◌≡◌, ◌<◌, [], ◌∷◌};
 ghost use Rattle.std.specs.Fmt.{WritesStyledOnOk, decimal};
+ghost use Rattle.lexicon_fields.specs.Private.{digit_byte};
 
 use std::fmt;
 
@@ -17,7 +18,7 @@ pub fn write_decimal<W: fmt::Write>(f: &mut fmt::Formatter<W>, n: usize) -> fmt:
 
 fn write_digit<W: fmt::Write>(f: &mut fmt::Formatter<W>, digit: usize) -> fmt::Result
     requires { digit < 10 }
-    ensures { WritesStyledOnOk W.write_str_gives f.old result ((48 + digit) ∷ []) f.new }
+    ensures { WritesStyledOnOk W.write_str_gives f.old result (digit_byte digit ∷ []) f.new }
 {
     f.write_char(char::from(b'0' + digit as u8))
 }

@@ -1,7 +1,7 @@
 //! The versions of deployment targets.
 ghost use Rattle.std.specs.Prelude.{◌≡◌, ◌+◌, ◌<◌, [], ◌∷◌};
 ghost use Rattle.std.specs.Fmt.{WritesStyledOnOk, decimal};
-ghost use Rattle.lexicon_fields.specs.Version.{version_of, version_name, pieces_of};
+ghost use Rattle.lexicon_fields.specs.Version.{dot, version_of, version_name, pieces_of};
 ghost use Rattle.lexicon_fields.specs.Private.{pieces_left};
 
 use crate::decimal::write_decimal;
@@ -71,7 +71,7 @@ fn first_piece(text: &str) -> (&str, Option<&str>)
 }
 
 fn write_dotted<W: fmt::Write>(f: &mut fmt::Formatter<W>, n: u8) -> fmt::Result
-    ensures { WritesStyledOnOk W.write_str_gives f.old result (46 ∷ decimal n) f.new }
+    ensures { WritesStyledOnOk W.write_str_gives f.old result (dot ∷ decimal n) f.new }
 {
     f.write_str(".")?;
     write_decimal(f, usize::from(n))

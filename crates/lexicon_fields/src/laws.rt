@@ -1,5 +1,5 @@
 //! Laws of names, queries, equality and hashing. Each function's contract is a law; a call does nothing.
-ghost use Rattle.std.specs.Prelude.{◌≡◌, ◌↔◌, true, ℕ, List, Some, length, Contains, Decides, IsTrue};
+ghost use Rattle.std.specs.Prelude.{◌≡◌, ◌↔◌, true, ℕ, List, Some, length, Contains, IsTrue};
 ghost use Rattle.std.specs.Cmp.Lexicographic.{slice_cmp};
 ghost use Rattle.std.specs.List.Sorted.{IsStrictlySortedBy};
 ghost use Rattle.std.specs.Ordering.{nat_cmp};
@@ -77,7 +77,7 @@ pub fn custom_vendors_are_equal_by_text()
 
 /// Known vendors are equal by variant, custom ones by text, and a custom vendor never equals a known one.
 pub fn vendors_are_equal_by_value()
-    ensures { (x y : Vendor) → (⟦<Vendor as PartialEq>⟧.eq x y ≡ true) ↔ (vendor_value x ≡ vendor_value y) }
+    ensures { (x y : Vendor) → IsTrue (⟦<Vendor as PartialEq>⟧.eq x y) ↔ (vendor_value x ≡ vendor_value y) }
 {}
 
 /// The texts of the rows are the fixed names of all fields and the alias, each once, in the order of their bytes.
@@ -107,7 +107,7 @@ pub fn values_are_equal_by_variant_and_fields()
     ensures pointer_width { ComparesByValue ⟦<PointerWidth as PartialEq>⟧.eq }
     ensures vendor_error { ComparesByValue ⟦<VendorError as PartialEq>⟧.eq }
     ensures known_vendor { ComparesByValue ⟦<KnownVendor as PartialEq>⟧.eq }
-    ensures fixed_row { (x y : FixedRow) → Decides (⟦<FixedRow as PartialEq>⟧.eq x y) (HoldSameValues x y) }
+    ensures fixed_row { (x y : FixedRow) → IsTrue (⟦<FixedRow as PartialEq>⟧.eq x y) ↔ HoldSameValues x y }
 {}
 
 /// Two custom vendors feed a hasher equally exactly if their texts are equal.

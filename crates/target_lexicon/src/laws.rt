@@ -1,5 +1,5 @@
 //! Laws over the definitions alone: each function's contract is one, and it does nothing.
-ghost use Rattle.std.specs.Prelude.{◌≡◌, ◌≢◌, ◌↔◌, ℕ, suc, true, List, All, take};
+ghost use Rattle.std.specs.Prelude.{◌≡◌, ◌≢◌, ◌↔◌, ℕ, suc, true, List, All, take, IsTrue};
 ghost use Rattle.target_lexicon.specs.ReadingByFields.{AnswersAreComputed};
 ghost use Rattle.target_lexicon.specs.Laws.{ComesBack, HasOneLeast, OneOutcomeEach, ReadingIsComputed, ReadVendorsArePlain, EqualTextsEqualTriples};
 ghost use Rattle.lexicon_fields.specs.Laws.{FeedsOfTell, FeedsTell, ComparesByValue, CopiesAreTheirSources, HasVersionInRange};
@@ -86,7 +86,7 @@ pub fn equal_texts_equal_triples()
 
 /// Two triples are equal, as `==` tells, exactly where their five values are; a custom vendor is its text.
 pub fn triples_are_equal_by_value()
-    ensures { (x y : Triple) → (⟦<Triple as PartialEq>⟧.eq x y ≡ true) ↔ (values_of x ≡ values_of y) }
+    ensures { (x y : Triple) → IsTrue (⟦<Triple as PartialEq>⟧.eq x y) ↔ (values_of x ≡ values_of y) }
 {
     lexicon_fields::laws::values_are_equal_by_variant_and_fields();
     lexicon_fields::laws::vendors_are_equal_by_value();
@@ -94,7 +94,7 @@ pub fn triples_are_equal_by_value()
 
 /// Two errors are equal, as `==` tells, exactly where they name the same refusal, or both want of memory.
 pub fn errors_are_equal_by_value()
-    ensures { (x y : ParseError) → (⟦<ParseError as PartialEq>⟧.eq x y ≡ true) ↔ (refusal_of x ≡ refusal_of y) }
+    ensures { (x y : ParseError) → IsTrue (⟦<ParseError as PartialEq>⟧.eq x y) ↔ (refusal_of x ≡ refusal_of y) }
 {}
 
 /// Where a triple has a data model, the model's pointers have as many bits as the triple's.
@@ -129,8 +129,8 @@ pub fn answers_are_equal_by_variant()
 
 /// Triples with a default are equal, as `==` tells, exactly where their five values are.
 pub fn defaults_are_equal_by_value()
-    ensures host { (x y : DefaultToHost) → (⟦<DefaultToHost as PartialEq>⟧.eq x y ≡ true) ↔ (values_of x.0 ≡ values_of y.0) }
-    ensures unknown { (x y : DefaultToUnknown) → (⟦<DefaultToUnknown as PartialEq>⟧.eq x y ≡ true) ↔ (values_of x.0 ≡ values_of y.0) }
+    ensures host { (x y : DefaultToHost) → IsTrue (⟦<DefaultToHost as PartialEq>⟧.eq x y) ↔ (values_of x.0 ≡ values_of y.0) }
+    ensures unknown { (x y : DefaultToUnknown) → IsTrue (⟦<DefaultToUnknown as PartialEq>⟧.eq x y) ↔ (values_of x.0 ≡ values_of y.0) }
 {
     triples_are_equal_by_value();
 }
@@ -196,13 +196,13 @@ pub fn lists_read_back()
 
 /// Two errors of a JSON value are equal, as `==` tells, exactly where both say that it is no text, or the same of its text.
 pub fn json_errors_are_equal_by_value()
-    ensures { (x y : JsonError) → (⟦<JsonError as PartialEq>⟧.eq x y ≡ true) ↔ (json_fault_of x ≡ json_fault_of y) }
+    ensures { (x y : JsonError) → IsTrue (⟦<JsonError as PartialEq>⟧.eq x y) ↔ (json_fault_of x ≡ json_fault_of y) }
 {}
 
 /// Two errors of a JSON list are equal, as `==` tells, exactly where they are of one kind, and of the same element with the
 /// same fault.
 pub fn list_errors_are_equal_by_value()
-    ensures { (x y : ListError) → (⟦<ListError as PartialEq>⟧.eq x y ≡ true) ↔ (list_fault_of x ≡ list_fault_of y) }
+    ensures { (x y : ListError) → IsTrue (⟦<ListError as PartialEq>⟧.eq x y) ↔ (list_fault_of x ≡ list_fault_of y) }
 {}
 
 /// A copy of a size, a data model or a calling convention is that value, and copying needs no memory.

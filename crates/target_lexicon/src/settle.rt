@@ -1,5 +1,5 @@
 //! What printing and reading again keep of a triple: the five families that don't come back, and the normal step.
-ghost use Rattle.std.specs.Prelude.{◌≡◌, ◌↔◌, ◌⊎◌, true};
+ghost use Rattle.std.specs.Prelude.{◌≡◌, ◌↔◌, ◌⊎◌, true, IsTrue};
 ghost use Rattle.lexicon_fields.specs.Laws.{HasVersionInRange};
 ghost use Rattle.lexicon_fields.specs.Vendor.{is_plain, vendor_value};
 ghost use Rattle.lexicon_fields.specs.declared.vendor.Vendor.TheVariants.{Espressif};
@@ -28,7 +28,7 @@ impl Triple {
     /// - On Clever with an unknown system, the environment is `None`, which reads as the system.
     /// - The vendor isn't plain.
     pub fn comes_back(&self) -> bool
-        ensures { (result ≡ true) ↔ ComesBack (values_of self.now) }
+        ensures { IsTrue result ↔ ComesBack (values_of self.now) }
     {
         round_is_normal_step();
         version_fits(self.operating_system);

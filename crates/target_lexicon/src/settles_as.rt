@@ -1,5 +1,5 @@
 //! Whether two triples settle as one, told behind references.
-ghost use Rattle.std.specs.Prelude.{◌≡◌, ◌↔◌, true};
+ghost use Rattle.std.specs.Prelude.{◌≡◌, ◌↔◌, true, IsTrue};
 ghost use Rattle.lexicon_fields.specs.Vendor.{vendor_value};
 ghost use Rattle.lexicon_fields.specs.declared.vendor.Vendor.TheVariants.{Espressif};
 ghost use Rattle.target_lexicon.specs.FixedPoints.{settled};
@@ -14,7 +14,7 @@ impl Triple {
     /// Whether the two settle as one: true exactly where their settled triples are equal. Nothing is moved or copied,
     /// and no memory asked for.
     pub fn settles_as(&self, other: &Triple) -> bool
-        ensures { (result ≡ true) ↔ (settled (values_of self.now) ≡ settled (values_of other.now)) }
+        ensures { IsTrue result ↔ (settled (values_of self.now) ≡ settled (values_of other.now)) }
     {
         lexicon_fields::laws::values_are_equal_by_variant_and_fields();
         lexicon_fields::laws::vendors_are_equal_by_value();

@@ -1,5 +1,5 @@
 //! What mode `json` writes for an input.
-ghost use Rattle.std.specs.Prelude.{◌≡◌, ◌++◌, None, Decides, codes, map, string_bytes, IfOk, IfErr};
+ghost use Rattle.std.specs.Prelude.{◌↔◌, ◌≡◌, ◌++◌, None, codes, map, string_bytes, IfOk, IfErr, IsTrue};
 ghost use Rattle.serde_json.specs.View.{view};
 ghost use Rattle.serde_json.specs.Written.{compact_text};
 ghost use Rattle.target_lexicon.specs.Json.{Parse, Element, json_fault_of, list_json_of, list_fault_line};
@@ -30,7 +30,7 @@ fn element_line(alloc: Global, i: usize, error: JsonError) -> Result<String, All
 
 /// Whether the error tells want of memory.
 fn is_want_of_memory(error: &JsonError) -> bool
-    ensures { Decides result (json_fault_of error.now ≡ Parse None) }
+    ensures { IsTrue result ↔ (json_fault_of error.now ≡ Parse None) }
 {
     matches!(error, JsonError::Parse(ParseError::OutOfMemory))
 }
