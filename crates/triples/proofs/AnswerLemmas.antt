@@ -9,6 +9,7 @@ use Rattle.std.specs.declared.cmp.Ordering.TheVariants.{Less, Equal, Greater}
 use Rattle.target_lexicon.specs.{Reading.ReadsAs, Reading.IsFaultOf, Refusal.error_line, Values.Values, declared.parse_error.ParseError.ParseError}
 use Rattle.target_lexicon.specs.declared.parse_error.ParseError.TheVariants.{OutOfMemory}
 use Rattle.triples.specs.{declared.matrix.Marked.Marked, declared.mode.Mode.Mode, declared.mode.Mode.TheVariants.Matrix}
+use Rattle.triples.specs.Words.{line_feed}
 use Rattle.triples.specs.Output.{Answer, Shown, Refused, IsAnswer, AreAnswers, AreAnswered, shows, shown_in, stays_behind, staying_behind, matrix_of, kept_in, answer_bytes, written}
 use Rattle.triples.specs.Private.{mark_of, text_cmp, has_text, HasOneMore, is_left_out, is_repeated, AddsAnswer}
 
@@ -57,7 +58,7 @@ staying-push before (first ∷ lines) line =
 
 written-append : (xs ys : List Answer) → written (xs ++ ys) ≡ written xs ++ written ys
 written-append [] ys = refl
-written-append (x ∷ xs) ys = ap (λ (t : List ℕ). answer_bytes x ++ (10 ∷ t)) (written-append xs ys) ∙ sym (append_assoc (answer_bytes x) (10 ∷ written xs) (written ys))
+written-append (x ∷ xs) ys = ap (λ (t : List ℕ). answer_bytes x ++ (line_feed ∷ t)) (written-append xs ys) ∙ sym (append_assoc (answer_bytes x) (line_feed ∷ written xs) (written ys))
 
 repeated-stays : (before : List Answer) (seen : BTreeSet Marked) (answer : Answer)
     → ((text : List ℕ) → has_text seen text ≡ list_any (shows text) before)
@@ -105,12 +106,12 @@ refusal_is_told shown line _ other fault = (_, fault, refl)
 
 -- what a line adds that is read, and one that is refused
 module _ (mode : Mode) (line old new : List ℕ) (seen_old seen_new : BTreeSet Marked) where
-  unless-seen : (b : Bool) (text : List ℕ) → (if b then [] else text ++ 10 ∷ []) ≡ written (if b then [] else Shown text ∷ [])
+  unless-seen : (b : Bool) (text : List ℕ) → (if b then [] else text ++ line_feed ∷ []) ≡ written (if b then [] else Shown text ∷ [])
   unless-seen true text = refl
   unless-seen false text = refl
 
   pub read-adds : {T E : Type 0} (done : Result T E) (t : Values) → ReadsAs line t
-      → OnOk done (new ≡ old ++ (if is_left_out mode seen_old (shown_in mode t) then [] else shown_in mode t ++ 10 ∷ []))
+      → OnOk done (new ≡ old ++ (if is_left_out mode seen_old (shown_in mode t) then [] else shown_in mode t ++ line_feed ∷ []))
       → OnOk done (mode ≡ Matrix → HasOneMore seen_old seen_new (shown_in mode t))
       → OnOk done (AddsAnswer mode line old new seen_old seen_new)
   read-adds (Ok _) t reads grown seen = record {
@@ -122,7 +123,7 @@ module _ (mode : Mode) (line old new : List ℕ) (seen_old seen_new : BTreeSet M
   read-adds (Err _) t reads grown seen = tt
 
   pub refusal-adds : {T E : Type 0} (done : Result T E) (error : ParseError) → error ≢ OutOfMemory → IsFaultOf line error
-      → OnOk done (new ≡ old ++ ((codes "error: " ++ error_line error) ++ 10 ∷ []))
+      → OnOk done (new ≡ old ++ ((codes "error: " ++ error_line error) ++ line_feed ∷ []))
       → OnOk done (AddsAnswer mode line old new seen_old seen_old)
   refusal-adds (Ok _) error other fault grown = record {
     answer = Refused (codes "error: " ++ error_line error);

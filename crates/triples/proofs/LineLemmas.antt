@@ -7,10 +7,11 @@ use Rattle.std.proofs.lemmas.List.Splits.{slice_split_first, slice_split_none, l
 use Rattle.std.proofs.lemmas.Simd.{bitmask_splat, first_set_mask_l, length-chunk, run_in_chunk_fails, run_in_chunk_le, run_in_chunk_stops}
 use lib.Count.{count_trailing_zeros}
 use lib.Lanes.{chunk, mask_l, top, zip2}
+use Rattle.triples.specs.Words.{line_feed}
 use Rattle.triples.specs.Output.{without_empty_last, lines_of}
 
 abbrev pub is_line_feed : ℕ → Bool
-is_line_feed b = b == 10
+is_line_feed b = b == line_feed
 
 stays-first : (part : List ℕ) (parts : List (List ℕ)) → 0 < length part + length parts → without_empty_last (part ∷ parts) ≡ part ∷ without_empty_last parts
 stays-first [] [] some = absurd (omega arith)

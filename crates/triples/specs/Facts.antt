@@ -37,7 +37,7 @@ model_word None = codes "-"
 
 -- a space and the word
 abbrev pub spaced : List ℕ → List ℕ
-spaced word = 32 ∷ word
+spaced word = codes " " ++ word
 
 -- the text of a triple, and the words of its byte order, pointer width, calling convention and data model
 abbrev pub facts_of : Values → List ℕ

@@ -6,6 +6,7 @@ use Rattle.serde_json.specs.Read.{read}
 use Rattle.serde_json.specs.Written.{compact_text}
 use Rattle.target_lexicon.specs.Json.{JsonFault, Parse, Element, ListReadsAs, IsListFault, list_json_of, list_fault_line}
 use Rattle.target_lexicon.specs.Values.{Values}
+use Rattle.triples.specs.Words.{line_feed}
 use Rattle.triples.specs.declared.run_error.RunError.{RunError}
 use Rattle.triples.specs.declared.run_error.RunError.TheVariants as run_error
 
@@ -24,7 +25,7 @@ IsJsonAnswer value answer = IsListWritten value answer ⊎ IsElementTold value a
 
 -- the answer for the value that the input is, and a line feed
 abbrev pub IsJsonOutput : List ℕ → List ℕ → Type 0
-IsJsonOutput input output = MatchOption (read input) ⊥ (λ value. (answer : List ℕ) × IsJsonAnswer value answer × (output ≡ answer ++ 10 ∷ []))
+IsJsonOutput input output = MatchOption (read input) ⊥ (λ value. (answer : List ℕ) × IsJsonAnswer value answer × (output ≡ answer ++ line_feed ∷ []))
 
 -- why the value has no answer: it is no list, or memory is wanted
 abbrev pub IsJsonAnswerFault : Data → RunError → Type 0

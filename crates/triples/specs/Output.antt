@@ -5,6 +5,7 @@ use Rattle.std.specs.Str.{bytes_eq}
 use Rattle.target_lexicon.specs.{FixedPoints.settled_text, Printing.text_of, Reading.ReadsAs, Reading.IsRefusedAs, Refusal.Refusal, Refusal.refusal_line, Values.Values}
 use Rattle.triples.specs.{declared.mode.Mode.Mode, declared.run_error.RunError.RunError, declared.run_error.RunError.TheVariants.OutOfMemory, Facts.facts_of}
 use Rattle.triples.specs.declared.mode.Mode.TheVariants.{Print, Show, Settle, Json, Matrix}
+use Rattle.triples.specs.Words.{line_feed}
 use Rattle.triples.specs.JsonOutput.{IsJsonOutput, IsJsonInputFault}
 
 -- the parts but an empty last one
@@ -16,7 +17,7 @@ without_empty_last (part ∷ next ∷ parts) = part ∷ without_empty_last (next
 
 -- the input cut at its line feeds; nothing is trimmed, and a last line feed begins no line
 abbrev pub lines_of : List ℕ → List (List ℕ)
-lines_of input = without_empty_last (slice_split (λ b. b == 10) input)
+lines_of input = without_empty_last (slice_split (λ b. b == line_feed) input)
 
 -- what a mode shows of a triple
 abbrev pub shown_in : Mode → Values → List ℕ
@@ -72,7 +73,7 @@ answer_bytes (Refused told) = told
 -- the answers, and a line feed behind each
 abbrev pub written : List Answer → List ℕ
 written [] = []
-written (answer ∷ answers) = answer_bytes answer ++ (10 ∷ written answers)
+written (answer ∷ answers) = answer_bytes answer ++ (line_feed ∷ written answers)
 
 -- what a mode writes for these lines
 abbrev pub AreAnswered : Mode → List (List ℕ) → List ℕ → Type 0

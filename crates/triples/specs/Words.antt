@@ -5,6 +5,10 @@ use Rattle.triples.specs.{declared.mode.Mode.Mode, declared.run_error.RunError.R
 use Rattle.triples.specs.declared.mode.Mode.TheVariants.{Print, Show, Settle, Json, Matrix}
 use Rattle.triples.specs.declared.run_error.RunError.TheVariants.{Read, Write, NotUtf8, NotJson, NotList, OutOfMemory}
 
+-- the byte that ends a line
+abbrev pub line_feed : ℕ
+line_feed = 10
+
 -- the mode that a word names
 unfoldable pub mode_named : List ℕ → Option Mode
 mode_named word =

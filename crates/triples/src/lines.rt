@@ -1,6 +1,7 @@
 //! The lines of a text.
 ghost use Rattle.std.specs.Prelude.{◌≡◌, ◌<◌, ◌≤◌, ◌+◌, ◌==◌, ◌∷◌, length, take, drop};
 ghost use Rattle.std.specs.List.{position_or_len};
+ghost use Rattle.triples.specs.Words.{line_feed};
 ghost use Rattle.triples.specs.Output.{lines_of};
 
 use std::simd::prelude::*;
@@ -9,7 +10,7 @@ use std::simd::prelude::*;
 #[inline(always)]
 fn before_line_feed(bytes: &[u8], at: usize) -> usize
     requires { at + 16 ≤ length bytes.now }
-    ensures { result ≡ position_or_len (λ b. b == 10) (take 16 (drop at bytes.now)) }
+    ensures { result ≡ position_or_len (λ b. b == line_feed) (take 16 (drop at bytes.now)) }
 {
     let feeds = u8x16::from_slice(&bytes[at..])
         .simd_eq(u8x16::splat(b'\n'))
@@ -23,7 +24,7 @@ fn before_line_feed(bytes: &[u8], at: usize) -> usize
 
 /// Where the first line feed is, or the length where there is none. Sixteen bytes are looked at in one step.
 fn line_end(bytes: &[u8]) -> usize
-    ensures { result ≡ position_or_len (λ b. b == 10) bytes.now }
+    ensures { result ≡ position_or_len (λ b. b == line_feed) bytes.now }
 {
     let mut at = 0;
     while 16 <= bytes.len() - at {

@@ -3,6 +3,7 @@ ghost use Rattle.std.specs.Prelude.{◌≡◌, ◌++◌, ◌∷◌, ℕ, List, [
 ghost use Rattle.target_lexicon.specs.Printing.{text_of};
 ghost use Rattle.target_lexicon.specs.Values.{values_of};
 ghost use Rattle.triples.specs.Private.{HasOneMore, has_text, mark_of};
+ghost use Rattle.triples.specs.Words.{line_feed};
 
 use std::alloc::{AllocError, Global};
 use std::collections::BTreeSet;
@@ -55,7 +56,7 @@ fn push_unseen(
     found: &Marked,
 ) -> Result<(), AllocError>
     requires { found.now.mark ≡ mark_of (string_bytes found.now.text) }
-    ensures output { OnOk result (string_bytes output.new ≡ string_bytes output.old ++ (if has_text seen.old (string_bytes found.now.text) then [] else string_bytes found.now.text ++ 10 ∷ [])) }
+    ensures output { OnOk result (string_bytes output.new ≡ string_bytes output.old ++ (if has_text seen.old (string_bytes found.now.text) then [] else string_bytes found.now.text ++ line_feed ∷ [])) }
     ensures seen { OnOk result (HasOneMore seen.old seen.new (string_bytes found.now.text)) }
 {
     if seen.contains(found) {
@@ -91,7 +92,7 @@ impl Seen {
         output: &mut String,
         triple: &Triple,
     ) -> Result<(), AllocError>
-        ensures output { OnOk result (string_bytes output.new ≡ string_bytes output.old ++ (if has_text self.old.texts (text_of (values_of triple.now)) then [] else text_of (values_of triple.now) ++ 10 ∷ [])) }
+        ensures output { OnOk result (string_bytes output.new ≡ string_bytes output.old ++ (if has_text self.old.texts (text_of (values_of triple.now)) then [] else text_of (values_of triple.now) ++ line_feed ∷ [])) }
         ensures seen { OnOk result (HasOneMore self.old.texts self.new.texts (text_of (values_of triple.now))) }
     {
         put_text(&mut self.place, triple)?;

@@ -3,6 +3,7 @@ ghost use Rattle.std.specs.Prelude.{◌≡◌, ◌<◌, ◌++◌, ◌∷◌, [],
 ghost use Rattle.lexicon_fields.specs.Vendor.{is_plain, vendor_value};
 ghost use Rattle.target_lexicon.specs.Refusal.{error_line};
 ghost use Rattle.target_lexicon.specs.Values.{values_of};
+ghost use Rattle.triples.specs.Words.{line_feed};
 ghost use Rattle.triples.specs.Output.{lines_of, AreAnswered, IsOutput, IsInputFault, shown_in};
 ghost use Rattle.triples.specs.Private.{AddsAnswer, HasOneMore, is_left_out};
 
@@ -36,7 +37,7 @@ fn push_shown(
     triple: Triple,
 ) -> Result<(), AllocError>
     requires { is_plain (vendor_value triple.vendor) ≡ true }
-    ensures output { OnOk result (string_bytes output.new ≡ string_bytes output.old ++ (if is_left_out mode seen.old.texts (shown_in mode (values_of triple)) then [] else shown_in mode (values_of triple) ++ 10 ∷ [])) }
+    ensures output { OnOk result (string_bytes output.new ≡ string_bytes output.old ++ (if is_left_out mode seen.old.texts (shown_in mode (values_of triple)) then [] else shown_in mode (values_of triple) ++ line_feed ∷ [])) }
     ensures seen { OnOk result (mode ≡ Mode.Matrix → HasOneMore seen.old.texts seen.new.texts (shown_in mode (values_of triple))) }
 {
     match mode {
@@ -50,7 +51,7 @@ fn push_shown(
 
 /// Adds `error: ` and the line of a refusal, and a line feed.
 fn push_refusal(output: &mut String, error: &ParseError) -> Result<(), AllocError>
-    ensures { OnOk result (string_bytes output.new ≡ string_bytes output.old ++ ((codes "error: " ++ error_line error.now) ++ 10 ∷ [])) }
+    ensures { OnOk result (string_bytes output.new ≡ string_bytes output.old ++ ((codes "error: " ++ error_line error.now) ++ line_feed ∷ [])) }
 {
     output.push_str("error: ")?;
     output.write(error)?;
