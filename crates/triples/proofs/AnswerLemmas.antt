@@ -1,4 +1,4 @@
--- The answers of an input's lines, one after another.
+-- The answers to the lines of an input, one after another.
 use Rattle.std.proofs.Common.{◌≡◌, ◌≢◌, ℕ, Bool, true, false, ◌||◌, not, List, [], ◌∷◌, ◌++◌, codes, if◌then◌else◌, Result, Ok, Err, OnOk, refl, sym, ap, ◌∙◌, append_assoc}
 use Rattle.std.proofs.{lemmas.List.append-nil, lemmas.Map.Text.is_eq-slice_cmp, Math.Bool.or-false, Math.Bool.or_comm, Math.Bool.or_assoc}
 use Rattle.std.proofs.{lemmas.List.Folds.list_any-append, lemmas.Cmp.nat_cmp_total, lemmas.Cmp.tied_itself}
@@ -13,7 +13,7 @@ use Rattle.triples.specs.Words.{line_feed}
 use Rattle.triples.specs.Output.{Answer, Shown, Refused, IsAnswer, AreAnswers, AreAnswered, shows, shown_in, stays_behind, staying_behind, matrix_of, kept_in, answer_bytes, written}
 use Rattle.triples.specs.Private.{mark_of, text_cmp, has_text, HasOneMore, is_left_out, is_repeated, AddsAnswer}
 
--- of a key that is put among others, of which none is equal to it
+-- a key that is inserted among others, none of which is equal to it
 module _ {K : Type 0} (cmp : K → K → Ordering) (test : K → Bool) (k : K) where
   abbrev Inserts : List K → List K → Type 0
   Inserts old new = list_any test new ≡ (list_any test old || test k)
@@ -28,7 +28,7 @@ module _ {K : Type 0} (cmp : K → K → Ordering) (test : K → Bool) (k : K) w
         | Greater ↦ λ none. ap (λ (b : Bool). test x || b) (inserts xs none) ∙ sym (or_assoc (test x) (list_any test xs) (test k))
       ]) absent
 
--- the lines so far are those before the rest, what was written are their answers, and what `matrix` shows of them was seen
+-- the lines so far precede the rest, their answers were written, and what `matrix` shows of them was seen
 pub record IsSoFar (mode : Mode) (lines rest : List (List ℕ)) (output : List ℕ) (seen : BTreeSet Marked) : Type 0 where
   pub before : List Answer
   pub whole : (more : List Answer) → AreAnswers (shown_in mode) rest more → AreAnswers (shown_in mode) lines (before ++ more)
@@ -44,7 +44,7 @@ so-far-none {mode} empty none = record {
   agree = λ matrix text. none text;
 }
 
--- a line that is written if it stays behind others
+-- an answer that is written if it stays after others
 abbrev pub if_stays : Bool → Answer → List Answer
 if_stays stays line = if stays then line ∷ [] else []
 
@@ -70,7 +70,7 @@ repeated-stays before seen (Refused told) agree = refl
 pub push-any : (text : List ℕ) (xs : List Answer) (line : Answer) → list_any (shows text) (xs ++ line ∷ []) ≡ (list_any (shows text) xs || shows text line)
 push-any text xs line = list_any-append (shows text) xs (line ∷ []) ∙ ap (λ (b : Bool). list_any (shows text) xs || b) (or-false (shows text line))
 
--- one answer more that the mode keeps, if it does
+-- one more answer, which the mode may keep
 kept-more : (mode : Mode) (before : List Answer) (seen : BTreeSet Marked) (answer : Answer)
     → (mode ≡ Matrix → (text : List ℕ) → has_text seen text ≡ list_any (shows text) before)
     → kept_in mode before ++ (if is_repeated mode seen answer then [] else answer ∷ []) ≡ kept_in mode (before ++ answer ∷ [])
@@ -99,12 +99,12 @@ pub so-far-whole : {mode : Mode} {lines rest : List (List ℕ)} {output : List �
     → rest ≡ [] → IsSoFar mode lines rest output seen → AreAnswered mode lines output
 so-far-whole none far = (far.before, rw append-nil at (far.whole [] (rw none tt)), far.kept)
 
--- what an error that isn't want of memory says is the line of the refusal
+-- the line of an error other than an allocation failure is the line of the refusal
 refusal_is_told : (shown : Values → List ℕ) (line : List ℕ) (error : ParseError) → error ≢ OutOfMemory → IsFaultOf line error → IsAnswer shown line (Refused (codes "error: " ++ error_line error))
 refusal_is_told shown line OutOfMemory other fault = absurd (other refl)
 refusal_is_told shown line _ other fault = (_, fault, refl)
 
--- what a line adds that is read, and one that is refused
+-- what a line that parses adds, and what a refused line adds
 module _ (mode : Mode) (line old new : List ℕ) (seen_old seen_new : BTreeSet Marked) where
   unless-seen : (b : Bool) (text : List ℕ) → (if b then [] else text ++ line_feed ∷ []) ≡ written (if b then [] else Shown text ∷ [])
   unless-seen true text = refl
@@ -133,23 +133,23 @@ module _ (mode : Mode) (line old new : List ℕ) (seen_old seen_new : BTreeSet M
   }
   refusal-adds (Err _) error other fault grown = tt
 
--- by the mark, and then by the text
+-- by the hash, then by the text
 abbrev marked_cmp : Marked → Marked → Ordering
 marked_cmp a b = ordering_then (nat_cmp a.mark b.mark) (string_cmp a.text b.text)
 
--- a second test beside one that it implies changes nothing
+-- a test that implies another changes nothing beside it
 then-same : (x : Ordering) (order : Ordering) (b : Bool) → is_eq order ≡ b → (b ≡ true → x ≡ Equal) → is_eq (ordering_then x order) ≡ b
 then-same Equal order b is implied = is
 then-same _ order true is implied = absurd (let bad = implied refl in cc)
 then-same _ order false is implied = refl
 
--- a text that has its mark is found by its bytes
+-- a text with its hash is found by its bytes
 found-by-bytes : (text other : List ℕ) → is_eq (ordering_then (nat_cmp (mark_of other) (mark_of text)) (slice_cmp nat_cmp other text)) ≡ bytes_eq other text
 found-by-bytes text other =
     then-same (nat_cmp (mark_of other) (mark_of text)) (slice_cmp nat_cmp other text) (bytes_eq other text) (is_eq-slice_cmp other text)
     (λ is. ap (λ (t : List ℕ). nat_cmp (mark_of t) (mark_of text)) (same_text other text (sym is)) ∙ tied_itself nat_cmp_total (mark_of text))
 
--- a set that gets a text has it beside its others
+-- a set into which a text is inserted has it and its earlier ones
 pub inserted : {T E : Type 0} (done : Result T E) (key : Marked) (text : List ℕ) (seen_old seen_new : BTreeSet Marked)
     → key.mark ≡ mark_of text → string_bytes key.text ≡ text → list_any (is_at (marked_cmp key)) seen_old.keys ≡ false
     → seen_new.keys ≡ insert_key marked_cmp seen_old.keys key

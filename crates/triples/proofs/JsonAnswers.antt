@@ -6,18 +6,18 @@ use Rattle.target_lexicon.specs.{Json.json_of, Values.Values}
 use Rattle.triples.specs.{JsonOutput.IsJsonAnswerFault, JsonOutput.IsJsonInputFault, declared.run_error.RunError.RunError}
 use Rattle.triples.specs.declared.run_error.RunError.TheVariants as run_error
 
--- a list of texts holds no float
+-- a list of texts has no floating-point number
 pub no_float : (ts : List Values) → items_have_float (items_of (map json_of ts)) ≡ false
 no_float [] = refl
 no_float (t ∷ ts) = no_float ts
 
--- an empty input is no JSON
+-- an empty input is not JSON
 pub read-some : (input : List ℕ) (value : Data) → read input ≡ Some value → 0 < length input
 unfolding serde_json_on_literals
 read-some [] value found = absurd (let same : None ≡ Some value = found in cc)
 read-some (b ∷ bs) value found = omega arith
 
--- why a value has no answer is why its text has no output
+-- the reason why a value has no answer is the reason why its text has no output
 pub input_fault : (input : List ℕ) (value : Data) (e : RunError) → read input ≡ Some value → IsJsonAnswerFault value e → IsJsonInputFault input e
 input_fault input value run_error.NotList found fault =
     subst (λ (o : Option Data). MatchOption o ⊥ (λ d. as_array d ≡ None)) (sym found) fault

@@ -1,4 +1,4 @@
--- Known bytes that grew by a beginning of a text.
+-- Bytes that grew by a beginning of a text.
 use Rattle.std.proofs.Common.{◌≡◌, ℕ, List, ◌++◌, length, take, drop, Option, sym, ap, ◌∙◌, append_assoc}
 use Rattle.std.proofs.{lemmas.List.append-nil, lemmas.List.take-append-drop, KnownBytes.Appends-trans, Math.Seq.take-append_seam}
 use Rattle.std.specs.Io.KnownBytes.{Appends}
@@ -17,7 +17,7 @@ AppendsFront-more u v a b begun =
     AppendsFront-of u v (take begun.0 a) (drop begun.0 a ++ b) (a ++ b) begun.1
     (ap (λ (t : List ℕ). t ++ b) (sym (take-append-drop begun.0 a)) ∙ append_assoc (take begun.0 a) (drop begun.0 a) b)
 
--- the first text and a beginning of the second
+-- the first text, then a beginning of the second
 pub AppendsFront-then : (u v w : Option (List ℕ)) (a b : List ℕ) → Appends u v a → AppendsFront v w b → AppendsFront u w (a ++ b)
 AppendsFront-then u v w a b whole begun =
     AppendsFront-of u w (a ++ take begun.0 b) (drop begun.0 b) (a ++ b) (Appends-trans u v w a (take begun.0 b) whole begun.1)

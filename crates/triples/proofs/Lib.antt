@@ -1,5 +1,5 @@
--- LineLemmas: the lines of an input. AnswerLemmas, JsonAnswers: their answers. MatrixLawLemmas: the laws of the matrix.
--- KnownBytes: what is read and written.
+-- LineLemmas: the lines of an input. AnswerLemmas, JsonAnswers: the answers to them. MatrixLawLemmas: the laws of the
+-- matrix. KnownBytes: bytes that are read and written.
 pub mod AnswerLemmas
 pub mod JsonAnswers
 pub mod KnownBytes

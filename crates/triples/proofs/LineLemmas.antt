@@ -19,7 +19,7 @@ stays-first [] (next ∷ parts) some = refl
 stays-first (b ∷ bs) [] some = refl
 stays-first (b ∷ bs) (next ∷ parts) some = refl
 
--- of a text that is cut at its first line feed: what is there, before it and behind it
+-- a text that is cut at its first line feed: the bytes there, before and after
 module _ (text : List ℕ) (end : ℕ) (is : end ≡ position_or_len is_line_feed text) (below : end < length text) where
   pub line_feed_at : get_or text end 0 ≡ 10
   line_feed_at = ap (λ k. get_or text k 0) is ∙ eqb-true _ 10 (not-false _ (prefix_len_stops (λ b. not (is_line_feed b)) text 0 (omega (arith, is, below))))
@@ -32,13 +32,13 @@ module _ (text : List ℕ) (end : ℕ) (is : end ≡ position_or_len is_line_fee
       (ap without_empty_last (slice_split_first is_line_feed text 0 (omega (arith, is, below)))
       ∙ stays-first _ (slice_split is_line_feed rest) (omega (arith, length-slice_split is_line_feed rest)))
 
--- a text without one is a line
+-- a text without a line feed is one line
 pub lines_of-whole : (text : List ℕ) (end : ℕ) → 0 < length text → end ≡ position_or_len is_line_feed text → length text ≤ end → lines_of text ≡ text ∷ []
 lines_of-whole text end some is past =
     rw (slice_split_none is_line_feed text (λ k d h. fails_before_first is_line_feed text k d (omega (arith, is, past, h))))
     (stays-first text [] (omega (arith, some)))
 
--- the mask of sixteen bytes tells how many come before a line feed
+-- the mask of sixteen bytes gives the number of bytes before the first line feed
 pub feed_from_mask : (bytes : List ℕ) (at mask : ℕ) → at + 16 ≤ length bytes
     → mask ≡ mask_l (map (top 7) (zip2 (λ a b. cond (eqb a b) 255 0) (chunk at 16 bytes) (replicate 16 10))) % 2 ^ 64
     → cond (eqb mask 0) 16 (count_trailing_zeros 64 mask) ≡ position_or_len is_line_feed (take 16 (drop at bytes))
@@ -47,12 +47,12 @@ feed_from_mask bytes at mask room is =
     ap (λ m. cond (eqb m 0) 16 (count_trailing_zeros 64 m)) (is ∙ bitmask_splat w8 eqb (chunk at 16 bytes) 16 10 long (omega arith))
     ∙ first_set_mask_l is_line_feed (chunk at 16 bytes) 16 long (omega arith)
 
--- the bytes so far hold no line feed
+-- the bytes so far have no line feed
 pub record NoneBefore (bytes : List ℕ) (at : ℕ) : Type 0 where
   pub within : at ≤ length bytes
   pub none : (k : ℕ) → k < at → is_line_feed (get_or bytes k 0) ≡ false
 
--- and what the next sixteen tell
+-- and what the next sixteen bytes show
 module _ (bytes : List ℕ) (at before : ℕ) (room : at + 16 ≤ length bytes) (so_far : NoneBefore bytes at)
     (is : before ≡ position_or_len is_line_feed (take 16 (drop at bytes))) where
   pub none_in_load : NoneBefore bytes (at + before)

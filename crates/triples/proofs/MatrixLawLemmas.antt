@@ -8,7 +8,7 @@ use Rattle.triples.specs.MatrixLaws.{EntriesAreSettledTriples, entries_of, is_re
 use Rattle.triples.specs.Output.{Answer, Shown, Refused, IsAnswer, AreAnswers, shows, stays_behind, staying_behind, matrix_of, answer_bytes}
 use Rattle.triples.proofs.AnswerLemmas.{if_stays, push-any, staying-push}
 
--- two lines that are read share an entry exactly where their settled triples are equal
+-- two lines that parse have the same entry exactly if their canonical triples are equal
 
 pub entries_are_settled_triples : OneOutcomeEach → ReadTriplesArePlain → SettledTextsAreKeys → EntriesAreSettledTriples
 entries_are_settled_triples one plain keys a b t u reads_a reads_b = (
@@ -20,7 +20,7 @@ entries_are_settled_triples one plain keys a b t u reads_a reads_b = (
   λ same. (settled_text t, (t, reads_a, refl), (u, reads_b, ap text_of same)),
 )
 
--- the matrix keeps the first entry of each text and no other of it
+-- the matrix keeps the first entry for each text and no other
 
 entry-case : (before is stays : Bool) (test : Answer → Bool) (line : Answer) (rest : List Answer) → test line ≡ is → (is ≡ true → stays ≡ not before)
     → filter test (if_stays stays line) ++ (if before || is then [] else take 1 rest) ≡ (if before then [] else take 1 (cond is (line ∷ rest) rest))
@@ -56,9 +56,9 @@ refusals-behind before (Shown text ∷ lines) =
 refusals-behind before (Refused told ∷ lines) =
     ap (λ (t : List Answer). Refused told ∷ t) (refusals-behind (before ++ Refused told ∷ []) lines)
 
--- each line is added to the matrix of those before it
+-- each line is added to the matrix of the earlier ones
 
--- no element passes exactly where none is kept
+-- no element passes exactly if none is kept
 none-passes : {X : Type 0} (test : X → Bool) (xs : List X) → filter test xs ≡ [] → list_any test xs ≡ false
 none-passes test [] none = refl
 none-passes test (x ∷ xs) none =
@@ -84,7 +84,7 @@ first_entries_stay_in_order = record {
   };
 }
 
--- the settled triple of each line that is read is there
+-- the canonical triple of each line that parses is there
 
 first-entry : (text : List ℕ) (lines : List Answer) → list_any (shows text) lines ≡ true → take 1 (entries_of text lines) ≡ Shown text ∷ []
 first-entry text [] some = absurd cc
@@ -120,7 +120,7 @@ each_settled_triple_is_there one front back line answers are t reads =
 abbrev HaveSameEntries : List Answer → List Answer → Type 0
 HaveSameEntries xs ys = (text : List ℕ) → list_any (shows text) xs ≡ list_any (shows text) ys
 
--- a line whose entry is there adds none
+-- a line whose entry is already there adds none
 or-there : (there is : Bool) → (is ≡ true → there ≡ true) → (there || is) ≡ there
 or-there true is implied = refl
 or-there false false implied = refl
@@ -129,7 +129,7 @@ or-there false true implied = absurd (let bad = implied refl in cc)
 there-again : (xs : List Answer) (text other : List ℕ) → not (list_any (shows text) xs) ≡ false → bytes_eq other text ≡ true → list_any (shows other) xs ≡ true
 there-again xs text other stays is = ap (λ (t : List ℕ). list_any (shows t) xs) (same_text other text (sym is)) ∙ not-false (list_any (shows text) xs) stays
 
--- the entries that stay behind some lines and the entry of a text
+-- the entries that stay after some lines and the entry for a text
 abbrev entries_more : List Answer → List ℕ → List Answer → List Answer
 entries_more before text lines = entries_alone (staying_behind (before ++ Shown text ∷ []) lines)
 
@@ -166,7 +166,7 @@ staying-own before (Shown text ∷ lines) own =
     elim (stays_behind before (Shown text)) as (λ stays. AreOwn (if_stays stays (Shown text) ++ staying_behind more lines)) [ true ↦ (own.0, rest) | false ↦ rest ]
 
 module _ (one : OneOutcomeEach) (plain : ReadTriplesArePlain) (round : RoundIsNormalStep) (keys : SettledTextsAreKeys) where
-  -- what is settled stays, since it comes back and a round is a normal step
+  -- a canonical triple stays, since it comes back and a round trip is a normal step
   settled-stays : (t : Values) → ReadsAs (text_of (settled t)) (settled t) → settled (settled t) ≡ settled t
   settled-stays t back =
       let u = settled t in

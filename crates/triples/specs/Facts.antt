@@ -8,7 +8,7 @@ use Rattle.target_lexicon.specs.declared.calling_convention.CallingConvention.Th
 use Rattle.target_lexicon.specs.declared.data_model.CDataModel.TheVariants.{LP32, ILP32, LLP64, LP64, ILP64}
 use Rattle.target_lexicon.specs.Queries.{endianness, pointer_width, calling_convention, data_model}
 
--- the word of each answer, and `-` where there is none
+-- the word for each answer, and `-` for none
 abbrev pub endianness_word : Option Endianness → List ℕ
 endianness_word (Some Little) = codes "little"
 endianness_word (Some Big) = codes "big"
@@ -39,7 +39,7 @@ model_word None = codes "-"
 abbrev pub spaced : List ℕ → List ℕ
 spaced word = codes " " ++ word
 
--- the text of a triple, and the words of its byte order, pointer width, calling convention and data model
+-- the text of a triple, and the words for its byte order, pointer width, calling convention and data model
 abbrev pub facts_of : Values → List ℕ
 facts_of t =
     text_of t ++ (spaced (endianness_word (endianness t)) ++ (spaced (width_word (pointer_width t))

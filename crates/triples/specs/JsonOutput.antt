@@ -1,4 +1,4 @@
--- What mode `json` writes for an input, and why it writes nothing.
+-- What mode `json` writes for an input, or why it writes nothing.
 use Rattle.std.specs.Prelude.{ℕ, ◌≡◌, ◌≢◌, ◌<◌, ◌⊎◌, List, length, [], ◌∷◌, ◌++◌, codes, None, MatchOption}
 use Rattle.serde_json.specs.Data.{Data}
 use Rattle.serde_json.specs.Find.{as_array}
@@ -10,11 +10,11 @@ use Rattle.triples.specs.Words.{line_feed}
 use Rattle.triples.specs.declared.run_error.RunError.{RunError}
 use Rattle.triples.specs.declared.run_error.RunError.TheVariants as run_error
 
--- the compact text of the list that the value reads as
+-- the compact text of the list that the value parses as
 abbrev pub IsListWritten : Data → List ℕ → Type 0
 IsListWritten value answer = (ts : List Values) × ListReadsAs value ts × (answer ≡ compact_text (list_json_of ts))
 
--- `error: ` and the line of the first element that is refused, for another cause than memory
+-- `error: ` and the line of the first element that doesn't parse, unless an allocation failed there
 abbrev pub IsElementTold : Data → List ℕ → Type 0
 IsElementTold value answer = (i : ℕ) × ((fault : JsonFault) × (IsListFault value (Element i fault) × (fault ≢ Parse None)
     × (answer ≡ codes "error: " ++ list_fault_line (Element i fault))))
@@ -23,24 +23,24 @@ IsElementTold value answer = (i : ℕ) × ((fault : JsonFault) × (IsListFault v
 abbrev pub IsJsonAnswer : Data → List ℕ → Type 0
 IsJsonAnswer value answer = IsListWritten value answer ⊎ IsElementTold value answer
 
--- the answer for the value that the input is, and a line feed
+-- the answer for the value of the input, and a line feed
 abbrev pub IsJsonOutput : List ℕ → List ℕ → Type 0
 IsJsonOutput input output = MatchOption (read input) ⊥ (λ value. (answer : List ℕ) × IsJsonAnswer value answer × (output ≡ answer ++ line_feed ∷ []))
 
--- why the value has no answer: it is no list, or memory is wanted
+-- why the value has no answer: it is not a list, or an allocation failed
 abbrev pub IsJsonAnswerFault : Data → RunError → Type 0
 IsJsonAnswerFault value run_error.NotList = as_array value ≡ None
 IsJsonAnswerFault value run_error.OutOfMemory = Unit {0}
 IsJsonAnswerFault value _ = ⊥
 
--- why the input has no output: it is no JSON, or JSON and no list, or memory is wanted, which it is not for an empty input
+-- why the input has no output: it is not JSON, or not a list, or an allocation failed, which can't be for an empty input
 abbrev pub IsJsonInputFault : List ℕ → RunError → Type 0
 IsJsonInputFault input run_error.NotJson = read input ≡ None
 IsJsonInputFault input run_error.NotList = MatchOption (read input) ⊥ (λ value. as_array value ≡ None)
 IsJsonInputFault input run_error.OutOfMemory = 0 < length input
 IsJsonInputFault input _ = ⊥
 
--- an error that only mode `json` has
+-- the errors that only mode `json` has
 abbrev pub IsOfJson : RunError → Type 0
 IsOfJson run_error.NotJson = Unit {0}
 IsOfJson run_error.NotList = Unit {0}

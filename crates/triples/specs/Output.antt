@@ -8,14 +8,14 @@ use Rattle.triples.specs.declared.mode.Mode.TheVariants.{Print, Show, Settle, Js
 use Rattle.triples.specs.Words.{line_feed}
 use Rattle.triples.specs.JsonOutput.{IsJsonOutput, IsJsonInputFault}
 
--- the parts but an empty last one
+-- the parts without an empty last one
 abbrev pub without_empty_last : List (List ℕ) → List (List ℕ)
 without_empty_last [] = []
 without_empty_last ([] ∷ []) = []
 without_empty_last ((b ∷ bs) ∷ []) = (b ∷ bs) ∷ []
 without_empty_last (part ∷ next ∷ parts) = part ∷ without_empty_last (next ∷ parts)
 
--- the input cut at its line feeds; nothing is trimmed, and a last line feed begins no line
+-- the lines of an input: it is cut at its line feeds, nothing is trimmed, and no line follows a last line feed
 abbrev pub lines_of : List ℕ → List (List ℕ)
 lines_of input = without_empty_last (slice_split (λ b. b == line_feed) input)
 
@@ -27,41 +27,41 @@ shown_in Settle = settled_text
 shown_in Matrix = settled_text
 shown_in Json = text_of
 
--- the answer of a line: what is shown of its triple, or what tells its refusal
+-- the answer to a line: what is shown of its triple, or the text of its refusal
 pub data Answer : Type 0 where
   Shown : List ℕ → Answer
   Refused : List ℕ → Answer
 
--- what is shown of the triple that the line reads as, or `error: ` and the line of its refusal
+-- an answer shows the triple that the line parses as, or is `error: ` and the line of its refusal
 abbrev pub IsAnswer : (Values → List ℕ) → List ℕ → Answer → Type 0
 IsAnswer shown line (Shown text) = (values : Values) × ReadsAs line values × (text ≡ shown values)
 IsAnswer shown line (Refused told) = (refusal : Refusal) × IsRefusedAs line refusal × (told ≡ codes "error: " ++ refusal_line refusal)
 
--- the answer of each line, in order
+-- the answer to each line, in order
 abbrev pub AreAnswers : (Values → List ℕ) → List (List ℕ) → List Answer → Type 0
 AreAnswers shown lines answers = AllZip (IsAnswer shown) lines answers
 
--- whether an answer shows this text; what tells a refusal never does, whatever its bytes
+-- whether an answer shows this text; a refusal never does, even if it has the same bytes
 abbrev pub shows : List ℕ → Answer → Bool
 shows text (Shown other) = bytes_eq text other
 shows text (Refused told) = false
 
--- whether an answer stays behind those before it: none of them shows the same text
+-- whether an answer stays after earlier ones: none of them shows the same text
 abbrev pub stays_behind : List Answer → Answer → Bool
 stays_behind before (Shown text) = not (list_any (shows text) before)
 stays_behind before (Refused told) = true
 
--- the answers that stay, of those that follow these
+-- the answers that stay after these
 abbrev pub staying_behind : List Answer → List Answer → List Answer
 staying_behind before [] = []
 staying_behind before (answer ∷ answers) =
     (if stays_behind before answer then answer ∷ [] else []) ++ staying_behind (before ++ answer ∷ []) answers
 
--- the matrix: each text where it is shown first, and each refusal
+-- the matrix: the first answer that shows each text, and each refusal
 abbrev pub matrix_of : List Answer → List Answer
 matrix_of answers = staying_behind [] answers
 
--- the answers that a mode writes: `matrix` those that stay, and every other mode all of them
+-- the answers that a mode writes: `matrix` those that stay, every other mode all
 abbrev pub kept_in : Mode → List Answer → List Answer
 kept_in Matrix answers = matrix_of answers
 kept_in _ answers = answers
@@ -70,7 +70,7 @@ abbrev pub answer_bytes : Answer → List ℕ
 answer_bytes (Shown text) = text
 answer_bytes (Refused told) = told
 
--- the answers, and a line feed behind each
+-- the answers, with a line feed after each
 abbrev pub written : List Answer → List ℕ
 written [] = []
 written (answer ∷ answers) = answer_bytes answer ++ (line_feed ∷ written answers)
@@ -79,12 +79,12 @@ written (answer ∷ answers) = answer_bytes answer ++ (line_feed ∷ written ans
 abbrev pub AreAnswered : Mode → List (List ℕ) → List ℕ → Type 0
 AreAnswered mode lines output = (answers : List Answer) × AreAnswers (shown_in mode) lines answers × (output ≡ written (kept_in mode answers))
 
--- the mode's output for an input
+-- the output of a mode for an input
 abbrev pub IsOutput : Mode → List ℕ → List ℕ → Type 0
 IsOutput Json input output = IsJsonOutput input output
 IsOutput mode input output = AreAnswered mode (lines_of input) output
 
--- why an input has no output in the mode; in a mode of lines only memory may be wanted, and not for an empty input
+-- why an input has no output in a mode; in a line mode only an allocation can fail, and none is made for an empty input
 abbrev pub IsInputFault : Mode → List ℕ → RunError → Type 0
 IsInputFault Json input e = IsJsonInputFault input e
 IsInputFault _ input e = (e ≡ OutOfMemory) × (0 < length input)

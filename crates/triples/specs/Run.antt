@@ -1,36 +1,36 @@
--- What a run does to its reader and its writer, and what counts as a failure of one.
+-- What a run does to its reader and writer, and what counts as a failure of them.
 use Rattle.std.specs.Prelude.{ℕ, ◌<◌, List, length, take, Option, IfSome, cond, ◌==◌, ◌&&◌, not, Result, Ok, Err}
 use Rattle.triples.specs.{declared.counted.Counted.Counted, declared.mode.Mode.Mode, Output.IsOutput}
 use Rattle.std.specs.Str.{IsUtf8}
 use Rattle.std.specs.Io.KnownBytes.{Appends, Consumes}
 
--- the known bytes grew by a beginning of these
+-- if the bytes are known, they grew by a beginning of this text
 abbrev pub AppendsFront : Option (List ℕ) → Option (List ℕ) → List ℕ → Type 0
 AppendsFront old new bytes = (n : ℕ) × Appends old new (take n bytes)
 
--- of the known bytes at least one was taken
+-- if the bytes are known, at least one was taken
 abbrev pub ConsumesSome : Option (List ℕ) → Option (List ℕ) → Type 0
 ConsumesSome old new = (bytes : List ℕ) × (0 < length bytes) × Consumes old new bytes
 
--- where the reader's bytes are known, they are a text, and the writer's grew so by the mode's output for it
+-- if the reader's bytes are known, they are UTF-8, and the writer's grew in this way by the output of the mode for them
 abbrev pub WritesOutput : (Option (List ℕ) → Option (List ℕ) → List ℕ → Type 0) → Mode → Option (List ℕ) → Option (List ℕ) → Option (List ℕ) → Type 0
 WritesOutput GrewBy mode input old new =
     IfSome input (λ text. IsUtf8 text × ((output : List ℕ) × IsOutput mode text output × GrewBy old new output))
 
--- the reader or the writer behind the count
+-- the reader or writer of a `Counted`
 abbrev pub device : {D : Type 0} → Counted D → D
 device counted = counted.device
 
--- how often it has failed
+-- its number of failed calls
 abbrev pub failures : {D : Type 0} → Counted D → ℕ
 failures counted = counted.failures.count
 
--- 1 for an error, and else 0
+-- 1 for an error, otherwise 0
 abbrev pub failures_of : {T E : Type 0} → Result T E → ℕ
 failures_of (Ok _) = 0
 failures_of (Err _) = 1
 
--- 1 for an error, and where a write took none of a piece that is not empty; else 0
+-- 1 for an error, and for a write that took no byte of a piece that is not empty; otherwise 0
 abbrev pub write_failures_of : {E : Type 0} → Result ℕ E → List ℕ → ℕ
 write_failures_of (Ok taken) piece = cond ((taken == 0) && not (length piece == 0)) 1 0
 write_failures_of (Err _) piece = 1

@@ -1,4 +1,4 @@
--- The words of the modes, the lines of the faults, and how the program ends.
+-- The words of the modes, the lines of the errors, and the end of the program.
 use Rattle.std.specs.Prelude.{ℕ, List, [], ◌∷◌, ◌++◌, Option, Some, None, codes, Result, Ok, Err}
 use Rattle.lexicon_fields.specs.Names.{value_of}
 use Rattle.triples.specs.{declared.mode.Mode.Mode, declared.run_error.RunError.RunError}
@@ -14,7 +14,7 @@ unfoldable pub mode_named : List ℕ → Option Mode
 mode_named word =
     value_of ((codes "print", Print) ∷ (codes "show", Show) ∷ (codes "settle", Settle) ∷ (codes "json", Json) ∷ (codes "matrix", Matrix) ∷ []) word
 
--- the line that tells a fault
+-- the line for an error
 abbrev pub line_of : RunError → List ℕ
 line_of Read = codes "Read failed"
 line_of Write = codes "Write failed"
@@ -23,7 +23,7 @@ line_of NotJson = codes "Input is not JSON"
 line_of NotList = codes "Input is not a JSON list"
 line_of OutOfMemory = codes "Out of memory"
 
--- the end of a run, or none where none was asked for
+-- the end of a run, if there was one
 abbrev pub End : Type 0
 End = Option (Result (Unit {0}) RunError)
 
@@ -33,7 +33,7 @@ status_of (Some (Ok _)) = 0
 status_of (Some (Err _)) = 1
 status_of None = 2
 
--- what the program says of its end
+-- what the program prints at its end
 abbrev pub closing_words : End → List ℕ
 closing_words (Some (Ok _)) = []
 closing_words (Some (Err error)) = codes "fault: " ++ (line_of error ++ codes "\n")

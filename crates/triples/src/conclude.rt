@@ -1,4 +1,4 @@
-//! What the program says at its end.
+//! The end of the program: its exit status, and what it prints.
 ghost use Rattle.std.specs.Prelude.{◌≡◌, ◌++◌, codes, OnOk, IfErr};
 ghost use Rattle.std.specs.Io.KnownBytes.{Appends};
 ghost use Rattle.triples.specs.Run.{device, failures, AppendsFront};
@@ -9,10 +9,9 @@ use crate::input::{write_all, write_and_flush};
 use crate::run_error::RunError;
 use std::io::Write;
 
-/// Writes what there is to say of an end, and answers the exit status.
-///
-/// A success says nothing and gives 0; a fault says `fault: ` and the fault's line and gives 1; where there was no
-/// run, the usage line is said and the status is 2. A fault of the writer changes no answer.
+/// Writes the closing line of the program and returns its exit status: nothing and 0 after a successful run, `fault: `
+/// and the line of the error and 1 after a failed one, the usage line and 2 if there was no run. A failing writer
+/// changes no status.
 pub fn conclude<W: Write>(end: Option<Result<(), RunError>>, w: &mut Counted<W>) -> u8
     ensures status { result ≡ status_of end }
     ensures said { failures w.new ≡ failures w.old → Appends (W.contents (device w.old)) (W.contents (device w.new)) (closing_words end) }
@@ -31,7 +30,7 @@ pub fn conclude<W: Write>(end: Option<Result<(), RunError>>, w: &mut Counted<W>)
     }
 }
 
-/// Writes a line of two pieces, and flushes.
+/// Writes a line of two pieces and flushes.
 fn say<W: Write>(w: &mut Counted<W>, front: &str, back: &str) -> Result<(), RunError>
     ensures said { failures w.new ≡ failures w.old → Appends (W.contents (device w.old)) (W.contents (device w.new)) (front.now ++ (back.now ++ codes "\n")) }
     ensures begun { AppendsFront (W.contents (device w.old)) (W.contents (device w.new)) (front.now ++ (back.now ++ codes "\n")) }

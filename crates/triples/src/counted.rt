@@ -1,4 +1,4 @@
-//! A reader or a writer with a count of its failures.
+//! A reader or writer with a count of its failures.
 ghost use Rattle.std.specs.Prelude.{◌≡◌, ◌+◌};
 ghost use Rattle.std.specs.Io.{ReadsAtMost, WritesAtMost};
 ghost use Rattle.std.specs.Io.KnownBytes.{Keeps, ReadConsumes, WriteAppends};
@@ -7,8 +7,8 @@ use std::io;
 use std::io::{Read, Write};
 use target_lexicon::Steps;
 
-/// A reader or a writer, and how often it has failed: a count that only contracts see, which takes no
-/// bytes and has no greatest value. A call passes on the device's call and answer.
+/// A reader or writer, and the number of its failed calls. Only contracts see the count; it takes no memory and has no
+/// upper limit. Each call makes the same call of the reader or writer and returns its result.
 #[derive(Drop)]
 pub struct Counted<D> {
     device: D,
@@ -18,7 +18,7 @@ pub struct Counted<D> {
 impl<D> Counted<D> {
     ghost use Rattle.triples.specs.Run.{device, failures};
 
-    /// The device with no failure counted.
+    /// The reader or writer, with no failure counted.
     pub fn new(of: D) -> Self
         ensures device { device result ≡ of }
         ensures count { failures result ≡ 0 }
@@ -29,7 +29,7 @@ impl<D> Counted<D> {
         }
     }
 
-    /// The device.
+    /// The reader or writer.
     pub fn into_inner(self) -> D
         ensures { result ≡ device self }
     {
@@ -44,7 +44,7 @@ impl<D> Counted<D> {
 impl<R: Read> Counted<R> {
     ghost use Rattle.triples.specs.Run.{device, failures, failures_of};
 
-    /// One read of the device; the count rises by one exactly where it fails.
+    /// One read. The count rises by one exactly if it fails.
     pub fn read(&mut self, buf: &mut [u8]) -> io::Result<usize>
         ensures bound { ReadsAtMost result buf.new }
         ensures bytes { ReadConsumes (R.remaining (device self.old)) (R.remaining (device self.new)) result buf.new }
@@ -61,8 +61,7 @@ impl<R: Read> Counted<R> {
 impl<W: Write> Counted<W> {
     ghost use Rattle.triples.specs.Run.{device, failures, failures_of, write_failures_of};
 
-    /// One write of the device; the count rises by one exactly where it fails, or takes none of a piece that is
-    /// not empty.
+    /// One write. The count rises by one exactly if it fails, or takes no byte of a piece that is not empty.
     pub fn write(&mut self, buf: &[u8]) -> io::Result<usize>
         ensures bound { WritesAtMost result buf.now }
         ensures bytes { WriteAppends (W.contents (device self.old)) (W.contents (device self.new)) result buf.now }
@@ -79,7 +78,7 @@ impl<W: Write> Counted<W> {
         answer
     }
 
-    /// One flush of the device; the count rises by one exactly where it fails.
+    /// One flush. The count rises by one exactly if it fails.
     pub fn flush(&mut self) -> io::Result<()>
         ensures bytes { Keeps (W.contents (device self.old)) (W.contents (device self.new)) }
         ensures count { failures self.new ≡ failures self.old + failures_of result }

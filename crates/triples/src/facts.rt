@@ -1,4 +1,4 @@
-//! What mode `show` writes of a triple.
+//! What mode `show` writes for a triple.
 ghost use Rattle.std.specs.Prelude.{◌≡◌, ◌++◌, string_bytes, OnOk};
 ghost use Rattle.target_lexicon.specs.Values.{values_of};
 ghost use Rattle.triples.specs.Facts.{endianness_word, width_word, convention_word, model_word, spaced, facts_of};
@@ -6,7 +6,8 @@ ghost use Rattle.triples.specs.Facts.{endianness_word, width_word, convention_wo
 use std::alloc::AllocError;
 use target_lexicon::{CDataModel, CallingConvention, Endianness, PointerWidth, Triple};
 
-/// Adds the text of a triple, and the words of its byte order, pointer width, calling convention and data model.
+/// Appends the printed text of a triple, and the words for its byte order, pointer width, calling convention and data
+/// model.
 pub(crate) fn push_facts(output: &mut String, triple: &Triple) -> Result<(), AllocError>
     ensures { OnOk result (string_bytes output.new ≡ string_bytes output.old ++ facts_of (values_of triple.now)) }
 {
@@ -20,7 +21,7 @@ pub(crate) fn push_facts(output: &mut String, triple: &Triple) -> Result<(), All
     push_word(output, model_word(triple.data_model().ok()))
 }
 
-/// Adds a space and a word.
+/// Appends a space and a word.
 fn push_word(output: &mut String, word: &str) -> Result<(), AllocError>
     ensures { OnOk result (string_bytes output.new ≡ string_bytes output.old ++ spaced word.now) }
 {

@@ -1,4 +1,4 @@
-//! The whole of an input, and the whole of an output.
+//! Reading a whole input and writing a whole output.
 ghost use Rattle.std.specs.Prelude.{◌≡◌, ◌<◌, ◌≤◌, ◌↔◌, ◌⊎◌, IsErrOf, IfOk, OnOk, IfErr, OnErr, IfSome};
 ghost use Rattle.std.specs.Io.KnownBytes.{Appends, Consumes, IsAtEnd};
 ghost use Rattle.triples.specs.Run.{device, failures, AppendsFront, ConsumesSome};
@@ -8,7 +8,7 @@ use crate::run_error::RunError;
 use std::alloc::Global;
 use std::io::{Read, Write};
 
-/// Reads all that the reader has left.
+/// Reads to the end of the reader.
 pub(crate) fn read_all<R: Read>(alloc: Global, reader: &mut Counted<R>) -> Result<Vec<u8>, RunError>
     ensures taken { IfOk result (λ bytes. Consumes (R.remaining (device reader.old)) (R.remaining (device reader.new)) bytes.items) }
     ensures end { OnOk result (IsAtEnd (R.remaining (device reader.new))) }
@@ -34,7 +34,7 @@ pub(crate) fn read_all<R: Read>(alloc: Global, reader: &mut Counted<R>) -> Resul
     }
 }
 
-/// Writes all of these bytes.
+/// Writes all bytes.
 pub(crate) fn write_all<W: Write>(writer: &mut Counted<W>, bytes: &[u8]) -> Result<(), RunError>
     ensures ok { OnOk result (Appends (W.contents (device writer.old)) (W.contents (device writer.new)) bytes.now) }
     ensures unfailed { OnOk result (failures writer.new ≡ failures writer.old) }
@@ -58,7 +58,7 @@ pub(crate) fn write_all<W: Write>(writer: &mut Counted<W>, bytes: &[u8]) -> Resu
     Ok(())
 }
 
-/// Writes all of these bytes, and flushes.
+/// Writes all bytes and flushes.
 pub(crate) fn write_and_flush<W: Write>(
     writer: &mut Counted<W>,
     bytes: &[u8],

@@ -11,7 +11,7 @@ use serde_json::Value;
 use std::alloc::{AllocError, Global};
 use target_lexicon::{JsonError, ListError, ParseError, Triple, list_from_json, list_to_json};
 
-/// The compact JSON text of the triples, which are let go before it is made.
+/// The compact JSON text of the triples. They are dropped before it is made, to save memory.
 fn list_text(alloc: Global, triples: Vec<Triple>) -> Result<String, AllocError>
     ensures { IfOk result (λ text. string_bytes text ≡ compact_text (list_json_of (map values_of triples.items))) }
 {
@@ -20,7 +20,7 @@ fn list_text(alloc: Global, triples: Vec<Triple>) -> Result<String, AllocError>
     value.to_string(alloc)
 }
 
-/// The line that names the refused element.
+/// The line for the refused element.
 fn element_line(alloc: Global, i: usize, error: JsonError) -> Result<String, AllocError>
     ensures { IfOk result (λ line. string_bytes line ≡ codes "error: " ++ list_fault_line (Element i (json_fault_of error))) }
 {
@@ -28,15 +28,15 @@ fn element_line(alloc: Global, i: usize, error: JsonError) -> Result<String, All
     format!(in alloc; "error: {error}")
 }
 
-/// Whether the error tells want of memory.
+/// Whether the error is an allocation failure.
 fn is_want_of_memory(error: &JsonError) -> bool
     ensures { IsTrue result ↔ (json_fault_of error.now ≡ Parse None) }
 {
     matches!(error, JsonError::Parse(ParseError::OutOfMemory))
 }
 
-/// The text of the list that the value reads as, or the line that names its first refused element. The value is let go before
-/// that is made.
+/// The text of the list that the value parses as, or the line for its first refused element. The value is dropped before
+/// the text is made, to save memory.
 fn answer(alloc: Global, value: Value) -> Result<String, RunError>
     ensures ok { IfOk result (λ answer. IsJsonAnswer (view value) (string_bytes answer)) }
     ensures err { IfErr result (λ e. IsJsonAnswerFault (view value) e) }
@@ -56,7 +56,7 @@ fn answer(alloc: Global, value: Value) -> Result<String, RunError>
     }
 }
 
-/// The output for an input that is one JSON text, or why it has none.
+/// The output for an input that is one JSON text, or why there is none.
 pub(crate) fn json_output(alloc: Global, input: &str) -> Result<String, RunError>
     ensures output { IfOk result (λ output. IsJsonOutput input.now (string_bytes output)) }
     ensures err { IfErr result (λ e. IsJsonInputFault input.now e) }

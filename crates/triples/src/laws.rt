@@ -1,4 +1,4 @@
-//! Laws over the definitions alone: each function's contract is one, and it does nothing.
+//! Laws of the definitions. Each function's contract is a law; a call does nothing.
 ghost use Rattle.std.specs.Prelude.{List};
 ghost use Rattle.lexicon_fields.specs.Laws.{ComparesByValue};
 ghost use Rattle.triples.specs.MatrixLaws.{EntriesAreSettledTriples, KeepsEntriesOnce, FirstEntriesStayInOrder, EachSettledTripleIsThere, MatricesAreTheirOwn};
@@ -9,13 +9,13 @@ ghost use Rattle.triples.specs.declared.run_error.RunError.{RunError};
 use crate::mode::Mode;
 use crate::run_error::RunError;
 
-/// Modes and faults of a run are equal, as `==` tells, exactly where their variants are.
+/// Modes and errors of a run are equal exactly if their variants are.
 pub fn words_are_equal_by_variant()
     ensures mode { ComparesByValue ⟦<Mode as PartialEq>⟧.eq }
     ensures fault { ComparesByValue ⟦<RunError as PartialEq>⟧.eq }
 {}
 
-/// Mode `settle` writes the same text for two lines that are read exactly where their settled triples are equal.
+/// Mode `settle` writes the same text for two lines that parse exactly if their canonical triples are equal.
 pub fn entries_are_settled_triples()
     ensures { EntriesAreSettledTriples }
 {
@@ -24,19 +24,19 @@ pub fn entries_are_settled_triples()
     target_lexicon::laws::settled_texts_are_keys();
 }
 
-/// The matrix keeps one entry of each text, and every refusal.
+/// The matrix keeps one entry for each text, and every refused line.
 pub fn entries_are_kept_once()
     ensures { (lines : List Answer) → KeepsEntriesOnce lines }
 {}
 
-/// The matrix goes line by line, in their order: each refusal stays in its place, and so does the first entry of each text; a later
-/// entry of that text leaves the matrix as it was.
+/// The matrix follows the order of the lines: each refused line and the first entry of each text are added at its end,
+/// and a later entry of the same text changes nothing.
 #[tactic(auto, using(crate::proofs::MatrixLawLemmas::first_entries_stay_in_order))]
 pub fn first_entries_stay_in_order()
     ensures { FirstEntriesStayInOrder }
 {}
 
-/// The settled triple of each line that is read has exactly one entry in the matrix.
+/// The canonical triple of each line that parses has exactly one entry in the matrix.
 #[tactic(auto, using(crate::proofs::MatrixLawLemmas::each_settled_triple_is_there))]
 pub fn each_settled_triple_is_there()
     ensures { EachSettledTripleIsThere }
@@ -44,7 +44,7 @@ pub fn each_settled_triple_is_there()
     target_lexicon::laws::one_outcome_each();
 }
 
-/// The entries of a matrix, as lines that are given to mode `matrix`, give these entries again.
+/// Mode `matrix` gives the entries of a matrix back, if they are its input.
 #[tactic(auto, using(crate::proofs::MatrixLawLemmas::matrices_are_their_own))]
 pub fn matrices_are_their_own()
     ensures { MatricesAreTheirOwn }

@@ -6,7 +6,7 @@ ghost use Rattle.triples.specs.Output.{lines_of};
 
 use std::simd::prelude::*;
 
-/// How many of the sixteen bytes from `at` on stand before the first line feed among them.
+/// The number of bytes before the first line feed among the sixteen from `at` on, 16 if there is none.
 #[inline(always)]
 fn before_line_feed(bytes: &[u8], at: usize) -> usize
     requires { at + 16 ≤ length bytes.now }
@@ -22,7 +22,7 @@ fn before_line_feed(bytes: &[u8], at: usize) -> usize
     }
 }
 
-/// Where the first line feed is, or the length where there is none. Sixteen bytes are looked at in one step.
+/// The index of the first line feed, or the length if there is none. A step looks at sixteen bytes.
 fn line_end(bytes: &[u8]) -> usize
     ensures { result ≡ position_or_len (λ b. b == line_feed) bytes.now }
 {
@@ -40,7 +40,7 @@ fn line_end(bytes: &[u8]) -> usize
     at
 }
 
-/// The first line, and what follows its line feed.
+/// The first line, and the text after its line feed.
 pub(crate) fn first_line(text: &str) -> (&str, &str)
     requires { 0 < length text.now }
     ensures lines { lines_of text.now ≡ result.0.now ∷ lines_of result.1.now }

@@ -24,8 +24,8 @@ use std::env;
 use std::process::ExitCode;
 use std::rt::Env;
 
-/// The mode that the arguments behind the program's name ask for: `print` where there is none, and the mode that a
-/// single word names. More words ask for none, and so do arguments that can't be had.
+/// The mode that the arguments name: `print` without an argument, the mode that a single word names, and `None` for
+/// other words, more words, or arguments that aren't available.
 fn asked_mode(rt: &(impl Env + Alloc)) -> Option<Mode> {
     let mut args = env::args(rt).ok()?;
     let _name = args.next();

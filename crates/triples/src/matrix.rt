@@ -1,4 +1,4 @@
-//! The texts that mode `matrix` has written.
+//! The texts that mode `matrix` has written so far.
 ghost use Rattle.std.specs.Prelude.{◌≡◌, ◌++◌, ◌∷◌, ℕ, List, [], false, string_bytes, if◌then◌else◌, OnOk};
 ghost use Rattle.target_lexicon.specs.Printing.{text_of};
 ghost use Rattle.target_lexicon.specs.Values.{values_of};
@@ -9,21 +9,21 @@ use std::alloc::{AllocError, Global};
 use std::collections::BTreeSet;
 use target_lexicon::Triple;
 
-/// A text behind its mark, so that most comparisons are of two numbers.
+/// A text after its hash, so that most comparisons are of two numbers.
 #[derive(PartialEq, Eq, PartialOrd, Ord, Drop)]
 pub(crate) struct Marked {
     mark: u64,
     text: String,
 }
 
-/// The texts that were seen, and a place for the next one.
+/// The texts that were seen, and a scratch buffer for the next one.
 #[derive(Drop)]
 pub(crate) struct Seen {
     texts: BTreeSet<Marked>,
     place: Marked,
 }
 
-/// A number that most texts have for themselves.
+/// A hash of the text.
 #[tactic(auto, unfolding(crate::specs::Private::mark_of))]
 fn mark_of(text: &str) -> u64
     ensures { result ≡ mark_of text.now }
@@ -37,7 +37,7 @@ fn mark_of(text: &str) -> u64
     mark
 }
 
-/// Puts the text of a triple in the place of the one that was there.
+/// Replaces the text in the scratch buffer by the printed text of a triple.
 fn put_text(place: &mut Marked, triple: &Triple) -> Result<(), AllocError>
     ensures text { OnOk result (string_bytes place.new.text ≡ text_of (values_of triple.now)) }
     ensures mark { OnOk result (place.new.mark ≡ mark_of (string_bytes place.new.text)) }
@@ -48,7 +48,7 @@ fn put_text(place: &mut Marked, triple: &Triple) -> Result<(), AllocError>
     Ok(())
 }
 
-/// Adds a text and a line feed, unless it was seen; and then it was.
+/// Appends a text and a line feed if the text was not seen before, and adds it to those seen.
 fn push_unseen(
     alloc: Global,
     output: &mut String,
@@ -72,7 +72,7 @@ fn push_unseen(
 }
 
 impl Seen {
-    /// No text was seen.
+    /// No text seen.
     pub(crate) fn none(alloc: Global) -> Self
         ensures { (text : List ℕ) → has_text result.texts text ≡ false }
     {
@@ -85,7 +85,7 @@ impl Seen {
         }
     }
 
-    /// Adds the printed text of a triple and a line feed, unless it was seen; and then it was.
+    /// Appends the printed text of a triple and a line feed if the text was not seen before, and adds it to those seen.
     pub(crate) fn push_first(
         &mut self,
         alloc: Global,

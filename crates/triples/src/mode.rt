@@ -1,25 +1,25 @@
 //! The modes of the program.
 ghost use Rattle.std.specs.Prelude.{◌≡◌};
 
-/// What is written for an input.
+/// What the program writes for its input.
 #[derive(Clone, Copy, Debug, PartialEq, Eq)]
 pub enum Mode {
-    /// Each line's printed triple.
+    /// The printed triple of each line.
     Print,
-    /// Each line's printed triple, its byte order, pointer width, calling convention and data model.
+    /// The printed triple of each line, its byte order, pointer width, calling convention and data model.
     Show,
-    /// Each line's settled triple, printed.
+    /// The canonical triple of each line, printed.
     Settle,
     /// The triples of a JSON list of texts, printed, as a JSON list.
     Json,
-    /// Each settled triple once, printed, at its first line.
+    /// Each canonical triple once, printed, at its first line.
     Matrix,
 }
 
 impl Mode {
     ghost use Rattle.triples.specs.Words.{mode_named};
 
-    /// The mode that the word names; every other word names none.
+    /// The mode that the word names, if any.
     #[tactic(auto, unfolding(crate::specs::Words::mode_named))]
     pub fn from_word(word: &str) -> Option<Mode>
         ensures { result ≡ mode_named word.now }

@@ -16,7 +16,7 @@ use crate::run_error::RunError;
 use std::alloc::{AllocError, Global};
 use target_lexicon::{ParseError, Triple};
 
-/// Adds what a mode shows of a triple.
+/// Appends what a mode shows of a triple.
 fn push_text(output: &mut String, mode: Mode, triple: Triple) -> Result<(), AllocError>
     requires { is_plain (vendor_value triple.vendor) ≡ true }
     ensures { OnOk result (string_bytes output.new ≡ string_bytes output.old ++ shown_in mode (values_of triple)) }
@@ -28,7 +28,7 @@ fn push_text(output: &mut String, mode: Mode, triple: Triple) -> Result<(), Allo
     }
 }
 
-/// Adds what a mode shows of a triple, and a line feed; mode `matrix` adds no text that it has shown before.
+/// Appends what a mode shows of a triple, and a line feed. Mode `matrix` leaves out a text that it has shown before.
 fn push_shown(
     alloc: Global,
     output: &mut String,
@@ -49,7 +49,7 @@ fn push_shown(
     }
 }
 
-/// Adds `error: ` and the line of a refusal, and a line feed.
+/// Appends `error: `, the line of the error, and a line feed.
 fn push_refusal(output: &mut String, error: &ParseError) -> Result<(), AllocError>
     ensures { OnOk result (string_bytes output.new ≡ string_bytes output.old ++ ((codes "error: " ++ error_line error.now) ++ line_feed ∷ [])) }
 {
@@ -58,7 +58,7 @@ fn push_refusal(output: &mut String, error: &ParseError) -> Result<(), AllocErro
     output.push('\n')
 }
 
-/// Adds what a mode writes for a line, and a line feed; nothing where mode `matrix` leaves the line out.
+/// Appends what a mode writes for a line, and a line feed, or nothing if mode `matrix` leaves the line out.
 fn push_answer(
     alloc: Global,
     output: &mut String,
@@ -75,7 +75,7 @@ fn push_answer(
     }
 }
 
-/// What a mode writes for the lines of an input, in order, and a line feed behind each.
+/// What a mode writes for the lines of an input, in order, with a line feed after each.
 fn answers(alloc: Global, mode: Mode, input: &str) -> Result<String, AllocError>
     ensures output { IfOk result (λ output. AreAnswered mode (lines_of input.now) (string_bytes output)) }
     ensures memory { OnErr result (0 < length input.now) }
@@ -91,7 +91,7 @@ fn answers(alloc: Global, mode: Mode, input: &str) -> Result<String, AllocError>
     Ok(output)
 }
 
-/// The mode's output for an input, or why it has none. It wants memory only for an input that is not empty.
+/// The output of a mode for an input, or why there is none. Nothing is allocated for an empty input.
 pub(crate) fn output(alloc: Global, mode: Mode, input: &str) -> Result<String, RunError>
     ensures output { IfOk result (λ output. IsOutput mode input.now (string_bytes output)) }
     ensures err { IfErr result (λ e. IsInputFault mode input.now e) }

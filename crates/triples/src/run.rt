@@ -13,23 +13,22 @@ use crate::run_error::RunError;
 use std::alloc::Global;
 use std::io::{Read, Write};
 
-/// Reads the input to its end, writes the mode's output for it, and flushes once.
+/// Reads the input to its end, writes the output of the mode, and flushes once.
 ///
-/// A line that is refused gives `error: ` and its refusal in its place. An interrupted call is an error like any
-/// other. Over a reader that never ends, memory runs out at the latest.
+/// A line that is refused gives a line of `error: ` and why. An interrupted call is an error like any other. If the
+/// reader never ends, the run ends when memory runs out.
 ///
 /// # Errors
 ///
-/// - [`RunError::Read`] exactly where a read failed; nothing was written.
-/// - [`RunError::NotUtf8`] where the whole input was read and is not UTF-8; nothing was written.
-/// - [`RunError::NotJson`] where the whole input was read in mode `json`, and is UTF-8 and no JSON; nothing was
-///   written.
-/// - [`RunError::NotList`] where the whole input was read in mode `json`, and is JSON and no list; nothing was
-///   written.
-/// - [`RunError::OutOfMemory`] where memory was refused, which comes only after a byte was read; nothing was
-///   written.
-/// - [`RunError::Write`] exactly where a write or the flush failed, or a write took none of a piece; a beginning
-///   of the output was written.
+/// After each error but `Write` nothing was written.
+///
+/// - [`RunError::Read`] exactly if a read failed.
+/// - [`RunError::NotUtf8`] if the whole input was read and is not UTF-8.
+/// - [`RunError::NotJson`] if the whole input was read in mode `json` and is UTF-8 but not JSON.
+/// - [`RunError::NotList`] if the whole input was read in mode `json` and is JSON but not a list.
+/// - [`RunError::OutOfMemory`] if an allocation failed, which happens only after a byte was read.
+/// - [`RunError::Write`] exactly if a write or the flush failed, or a write took no byte of a piece. A beginning of
+///   the output was written.
 pub fn run<R: Read, W: Write>(
     alloc: Global,
     mode: Mode,
@@ -40,7 +39,7 @@ pub fn run<R: Read, W: Write>(
     ensures whole { OnOk result (IsAtEnd (R.remaining (device r.new))) }
     ensures ok { OnOk result (WritesOutput Appends mode (R.remaining (device r.old)) (W.contents (device w.old)) (W.contents (device w.new))) }
 
-    // A fault of the reader or the writer is told exactly where there was one.
+    // An error of the reader or the writer is returned exactly if there was one.
     ensures read { IsErrOf result RunError.Read ↔ (failures r.old < failures r.new) }
     ensures write { IsErrOf result RunError.Write ↔ (failures w.old < failures w.new) }
 
@@ -48,11 +47,11 @@ pub fn run<R: Read, W: Write>(
     ensures reader { failures r.old ≤ failures r.new }
     ensures writer { failures w.old ≤ failures w.new }
 
-    // What was written by then.
+    // What was written before an error.
     ensures begun { IsErrOf result RunError.Write → WritesOutput AppendsFront mode (R.remaining (device r.old)) (W.contents (device w.old)) (W.contents (device w.new)) }
     ensures nothing { IfErr result (λ e. e ≢ RunError.Write → Keeps (W.contents (device w.old)) (W.contents (device w.new))) }
 
-    // Faults of the input, and want of memory.
+    // Errors of the input, and running out of memory.
     ensures utf8_whole { IsErrOf result RunError.NotUtf8 → IsAtEnd (R.remaining (device r.new)) }
     ensures utf8 { IsErrOf result RunError.NotUtf8 → IfSome (R.remaining (device r.old)) (λ input. ¬ (IsUtf8 input)) }
     ensures json_alone { IfErr result (λ e. IsOfJson e → mode ≡ Mode.Json) }

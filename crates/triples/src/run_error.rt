@@ -1,30 +1,30 @@
-//! Why a run ends early.
+//! Why a run fails.
 ghost use Rattle.std.specs.Prelude.{◌≡◌, Some};
 
 use std::alloc::AllocError;
 use std::fmt;
 
-/// The fault that ends a run.
+/// The error that ends a run.
 #[derive(Clone, Copy, Debug, PartialEq, Eq)]
 pub enum RunError {
     /// A read failed.
     Read,
-    /// A write or the flush failed, or a write took none of a piece.
+    /// A write or the flush failed, or a write took no byte of a piece.
     Write,
-    /// The whole input was read, and it is not UTF-8.
+    /// The whole input was read and is not UTF-8.
     NotUtf8,
-    /// The whole input was read, and it is not JSON.
+    /// The whole input was read and is not JSON.
     NotJson,
-    /// The whole input was read, and it is JSON but no list.
+    /// The whole input was read and is JSON but not a list.
     NotList,
-    /// Memory was refused.
+    /// An allocation failed.
     OutOfMemory,
 }
 
 impl RunError {
     ghost use Rattle.triples.specs.Words.{line_of};
 
-    /// The line that tells the fault.
+    /// The line that the program prints for the error.
     pub(crate) fn line(self) -> &'static str
         ensures { result.now ≡ line_of self }
     {

@@ -1,4 +1,4 @@
--- Without a run the usage line is said.
+-- Without a run the usage line is printed.
 use Rattle.std.proofs.Common.{rules}
 use Rattle.triples.proofs.conclude.conclude.Goals as goal
 

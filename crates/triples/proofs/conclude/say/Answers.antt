@@ -1,4 +1,4 @@
--- What was written by then is a beginning of the line.
+-- What was written before an error is a beginning of the line.
 use Rattle.std.proofs.Common.{arith}
 use Rattle.std.proofs.lemmas.Grind.{common_steps}
 use Rattle.triples.proofs.KnownBytes.{AppendsFront-more, AppendsFront-then}

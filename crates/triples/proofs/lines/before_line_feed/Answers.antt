@@ -1,4 +1,4 @@
--- The mask of the load has a bit for each line feed.
+-- The mask of sixteen bytes has a bit for each line feed.
 use Rattle.std.proofs.Common.{◌∙◌, sym, refl, arith}
 use Rattle.std.proofs.lemmas.Bool.{cond-true, cond-false, eq-eqb, ne_eqb}
 use Rattle.triples.proofs.LineLemmas.{feed_from_mask}

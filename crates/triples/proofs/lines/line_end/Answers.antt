@@ -1,4 +1,4 @@
--- Each load, and then each byte, tells where the next line feed is.
+-- Each load of sixteen bytes, and then each single byte, shows where the next line feed is.
 use Rattle.std.proofs.Common.{arith, sym}
 use Rattle.std.proofs.{lemmas.Bool.eq-eqb, lemmas.List.Sums.position_or_len_is}
 use Rattle.triples.proofs.LineLemmas.{is_line_feed, none_in_load, ends_in_load}

@@ -1,4 +1,4 @@
--- No line feed was found so far.
+-- No line feed has been found so far.
 use Rattle.std.proofs.Common.{◌-◌, length}
 use Rattle.triples.proofs.LineLemmas.{NoneBefore}
 use Rattle.triples.proofs.lines.line_end.Given as goal

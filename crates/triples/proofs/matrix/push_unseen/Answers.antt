@@ -1,4 +1,4 @@
--- A set that gets a text has it beside its others.
+-- A set into which a text is inserted has it and its earlier ones.
 use Rattle.std.proofs.Common.{string_bytes, arith}
 use Rattle.std.proofs.lemmas.Grind.{common_steps}
 use Rattle.triples.proofs.AnswerLemmas.{inserted}

@@ -1,4 +1,4 @@
--- Each turn answers the first line that is left.
+-- Each iteration answers the first remaining line.
 use Rattle.std.proofs.Common.{ap, rules, arith}
 use Rattle.std.proofs.{lemmas.Grind.common_steps, lemmas.List.nil_from_length}
 use Rattle.triples.specs.Output.{lines_of}

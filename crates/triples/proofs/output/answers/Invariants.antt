@@ -1,4 +1,4 @@
--- The lines so far are answered.
+-- The lines so far have been answered.
 use Rattle.std.proofs.Common.{length, string_bytes, ◌≤◌}
 use denote.Text.{Utf8}
 use denote.Shadow.{shadow}

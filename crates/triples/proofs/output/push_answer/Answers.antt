@@ -1,4 +1,4 @@
--- A line is answered by what is shown of its triple, or by its refusal.
+-- The answer to a line is what is shown of its triple, or its refusal.
 use Rattle.std.proofs.Common.{string_bytes, rules}
 use Rattle.target_lexicon.specs.Values.{values_of}
 use Rattle.triples.proofs.AnswerLemmas.{read-adds, refusal-adds}

@@ -1,4 +1,4 @@
--- For an input that is no text nothing is written.
+-- For an input that is not UTF-8 nothing is written.
 use Rattle.std.proofs.Common.{arith}
 use Rattle.std.proofs.KnownBytes.{Keeps-refl}
 use Rattle.triples.proofs.run.run.Goals as goal
