@@ -1,6 +1,6 @@
 //! Laws of the definitions. Each function's contract is a law; a call does nothing.
 ghost use Rattle.std.specs.Prelude.{List};
-ghost use Rattle.lexicon_fields.specs.Laws.{ComparesByValue};
+ghost use Rattle.lexicon_fields.specs.Laws.{ComparesByValue, CopiesAreTheirSources};
 ghost use Rattle.triples.specs.MatrixLaws.{EntriesAreSettledTriples, KeepsEntriesOnce, FirstEntriesStayInOrder, EachSettledTripleIsThere, MatricesAreTheirOwn};
 ghost use Rattle.triples.specs.Output.{Answer};
 ghost use Rattle.triples.specs.declared.mode.Mode.{Mode};
@@ -13,6 +13,12 @@ use crate::run_error::RunError;
 pub fn words_are_equal_by_variant()
     ensures mode { ComparesByValue ⟦<Mode as PartialEq>⟧.eq }
     ensures fault { ComparesByValue ⟦<RunError as PartialEq>⟧.eq }
+{}
+
+/// A copy of a mode or an error is that value, and copying allocates nothing.
+pub fn copies_are_their_sources()
+    ensures mode { CopiesAreTheirSources ⟦<Mode as Clone>⟧.is_clone ⟦<Mode as Clone>⟧.is_infallible }
+    ensures error { CopiesAreTheirSources ⟦<RunError as Clone>⟧.is_clone ⟦<RunError as Clone>⟧.is_infallible }
 {}
 
 /// Mode `settle` writes the same text for two lines that parse exactly if their canonical triples are equal.
