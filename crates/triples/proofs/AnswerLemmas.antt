@@ -6,12 +6,12 @@ use Rattle.std.specs.{BTreeMap.is_at, BTreeSet.BTreeSet, BTreeSet.insert_key, Or
 use Rattle.std.specs.{Cmp.Lexicographic.slice_cmp, Cmp.Lexicographic.same_text, List.list_any, Str.bytes_eq, String.string_bytes, String.string_cmp}
 use Rattle.std.specs.declared.cmp.Ordering.{Ordering}
 use Rattle.std.specs.declared.cmp.Ordering.TheVariants.{Less, Equal, Greater}
-use Rattle.target_lexicon.specs.{Reading.ReadsAs, Reading.IsFaultOf, Refusal.error_line, Values.Values, declared.parse_error.ParseError.ParseError}
+use Rattle.target_lexicon.specs.{FixedPoints.settled_text, Reading.ReadsAs, Reading.IsFaultOf, Refusal.error_line, Values.Values, declared.parse_error.ParseError.ParseError}
 use Rattle.target_lexicon.specs.declared.parse_error.ParseError.TheVariants.{OutOfMemory}
-use Rattle.triples.specs.{declared.matrix.Marked.Marked, declared.mode.Mode.Mode, declared.mode.Mode.TheVariants.Matrix}
+use Rattle.triples.specs.declared.matrix.Marked.{Marked}
 use Rattle.triples.specs.Words.{line_feed}
-use Rattle.triples.specs.Output.{Answer, Shown, Refused, IsAnswer, AreAnswers, AreAnswered, shows, shown_in, stays_behind, staying_behind, matrix_of, kept_in, answer_bytes, written}
-use Rattle.triples.specs.Private.{mark_of, text_cmp, has_text, HasOneMore, is_left_out, is_repeated, AddsAnswer}
+use Rattle.triples.specs.Output.{Answer, Shown, Refused, IsAnswer, AreAnswers, AreAnswered, IsMatrix, shows, stays_behind, staying_behind, matrix_of, answer_bytes, written}
+use Rattle.triples.specs.Private.{mark_of, text_cmp, has_text, HasOneMore, is_repeated, AddsAnswer, AddsEntry}
 
 -- a key that is inserted among others, none of which is equal to it
 module _ {K : Type 0} (cmp : K → K → Ordering) (test : K → Bool) (k : K) where
@@ -28,21 +28,36 @@ module _ {K : Type 0} (cmp : K → K → Ordering) (test : K → Bool) (k : K) w
         | Greater ↦ λ none. ap (λ (b : Bool). test x || b) (inserts xs none) ∙ sym (or_assoc (test x) (list_any test xs) (test k))
       ]) absent
 
--- the lines so far precede the rest, their answers were written, and what `matrix` shows of them was seen
-pub record IsSoFar (mode : Mode) (lines rest : List (List ℕ)) (output : List ℕ) (seen : BTreeSet Marked) : Type 0 where
-  pub before : List Answer
-  pub whole : (more : List Answer) → AreAnswers (shown_in mode) rest more → AreAnswers (shown_in mode) lines (before ++ more)
-  pub kept : output ≡ written (kept_in mode before)
-  pub agree : mode ≡ Matrix → (text : List ℕ) → has_text seen text ≡ list_any (shows text) before
+-- the lines so far precede the rest, and these are their answers
+pub record AreAnswersSoFar (shown : Values → List ℕ) (lines rest : List (List ℕ)) (before : List Answer) : Type 0 where
+  pub whole : (more : List Answer) → AreAnswers shown rest more → AreAnswers shown lines (before ++ more)
 
-pub so-far-none : {mode : Mode} {lines : List (List ℕ)} {output : List ℕ} {seen : BTreeSet Marked} → output ≡ [] → ((text : List ℕ) → has_text seen text ≡ false)
-    → IsSoFar mode lines lines output seen
-so-far-none {mode} empty none = record {
-  before = [];
-  whole = λ more are. are;
-  kept = empty ∙ ap written (elim mode as (λ m. [] ≡ kept_in m []) [ Matrix ↦ refl | _ ↦ refl ]);
-  agree = λ matrix text. none text;
-}
+so-far-next : {shown : Values → List ℕ} {lines rest others : List (List ℕ)} {line : List ℕ} (before : List Answer) (answer : Answer)
+    → rest ≡ line ∷ others → IsAnswer shown line answer → AreAnswersSoFar shown lines rest before → AreAnswersSoFar shown lines others (before ++ answer ∷ [])
+so-far-next before answer cut is far = record { whole = λ more are. rw append_assoc (far.whole (answer ∷ more) (rw cut (is, are))) }
+
+so-far-end : {shown : Values → List ℕ} {lines rest : List (List ℕ)} {before : List Answer} → rest ≡ [] → AreAnswersSoFar shown lines rest before → AreAnswers shown lines before
+so-far-end none far = rw append-nil at (far.whole [] (rw none tt))
+
+-- the lines so far precede the rest, and their answers were written
+pub record IsSoFar (shown : Values → List ℕ) (lines rest : List (List ℕ)) (output : List ℕ) : Type 0 where
+  pub before : List Answer
+  pub answers : AreAnswersSoFar shown lines rest before
+  pub written : output ≡ written before
+
+pub so-far-none : {shown : Values → List ℕ} {lines : List (List ℕ)} {output : List ℕ} → output ≡ [] → IsSoFar shown lines lines output
+so-far-none empty = record { before = []; answers = record { whole = λ more are. are }; written = empty }
+
+-- the same for a matrix: the answers that stay were written, and what they show was seen
+pub record IsMatrixSoFar (lines rest : List (List ℕ)) (output : List ℕ) (seen : BTreeSet Marked) : Type 0 where
+  pub before : List Answer
+  pub answers : AreAnswersSoFar settled_text lines rest before
+  pub written : output ≡ written (matrix_of before)
+  pub agree : (text : List ℕ) → has_text seen text ≡ list_any (shows text) before
+
+pub matrix-none : {lines : List (List ℕ)} {output : List ℕ} {seen : BTreeSet Marked} → output ≡ [] → ((text : List ℕ) → has_text seen text ≡ false)
+    → IsMatrixSoFar lines lines output seen
+matrix-none empty none = record { before = []; answers = record { whole = λ more are. are }; written = empty; agree = none }
 
 -- an answer that is written if it stays after others
 abbrev pub if_stays : Bool → Answer → List Answer
@@ -62,7 +77,7 @@ written-append (x ∷ xs) ys = ap (λ (t : List ℕ). answer_bytes x ++ (line_fe
 
 repeated-stays : (before : List Answer) (seen : BTreeSet Marked) (answer : Answer)
     → ((text : List ℕ) → has_text seen text ≡ list_any (shows text) before)
-    → (if is_repeated Matrix seen answer then [] else answer ∷ []) ≡ if_stays (stays_behind before answer) answer
+    → (if is_repeated seen answer then [] else answer ∷ []) ≡ if_stays (stays_behind before answer) answer
 repeated-stays before seen (Shown text) agree =
     rw (agree text) (elim (list_any (shows text) before) as (λ b. (if b then [] else Shown text ∷ []) ≡ if_stays (not b) (Shown text)) [ true ↦ refl | false ↦ refl ])
 repeated-stays before seen (Refused told) agree = refl
@@ -70,34 +85,39 @@ repeated-stays before seen (Refused told) agree = refl
 pub push-any : (text : List ℕ) (xs : List Answer) (line : Answer) → list_any (shows text) (xs ++ line ∷ []) ≡ (list_any (shows text) xs || shows text line)
 push-any text xs line = list_any-append (shows text) xs (line ∷ []) ∙ ap (λ (b : Bool). list_any (shows text) xs || b) (or-false (shows text line))
 
--- one more answer, which the mode may keep
-kept-more : (mode : Mode) (before : List Answer) (seen : BTreeSet Marked) (answer : Answer)
-    → (mode ≡ Matrix → (text : List ℕ) → has_text seen text ≡ list_any (shows text) before)
-    → kept_in mode before ++ (if is_repeated mode seen answer then [] else answer ∷ []) ≡ kept_in mode (before ++ answer ∷ [])
-kept-more Matrix before seen answer agree =
-    ap (λ (t : List Answer). matrix_of before ++ t) (repeated-stays before seen answer (agree refl)) ∙ sym (staying-push [] before answer)
-kept-more mode before seen (Shown text) agree = refl
-kept-more mode before seen (Refused told) agree = refl
-
-pub so-far-more : {mode : Mode} {lines rest behind : List (List ℕ)} {line old new : List ℕ} {seen_old seen_new : BTreeSet Marked}
-    → rest ≡ line ∷ behind → AddsAnswer mode line old new seen_old seen_new → IsSoFar mode lines rest old seen_old → IsSoFar mode lines behind new seen_new
-so-far-more {mode} {seen_old} cut adds far = record {
+pub so-far-more : {shown : Values → List ℕ} {lines rest others : List (List ℕ)} {line old new : List ℕ}
+    → rest ≡ line ∷ others → AddsAnswer shown line old new → IsSoFar shown lines rest old → IsSoFar shown lines others new
+so-far-more cut adds far = record {
   before = far.before ++ adds.answer ∷ [];
-  whole = λ more are. rw append_assoc (far.whole (adds.answer ∷ more) (rw cut (adds.is, are)));
-  kept =
+  answers = so-far-next far.before adds.answer cut adds.is far.answers;
+  written =
       adds.grown
-      ∙ ap (λ (t : List ℕ). t ++ written (if is_repeated mode seen_old adds.answer then [] else adds.answer ∷ [])) far.kept
-      ∙ sym (written-append (kept_in mode far.before) (if is_repeated mode seen_old adds.answer then [] else adds.answer ∷ []))
-      ∙ ap written (kept-more mode far.before seen_old adds.answer far.agree);
-  agree = λ matrix text.
-      adds.seen matrix text
-      ∙ ap (λ (b : Bool). b || shows text adds.answer) (far.agree matrix text)
+      ∙ ap (λ (t : List ℕ). t ++ written (adds.answer ∷ [])) far.written
+      ∙ sym (written-append far.before (adds.answer ∷ []));
+}
+
+pub so-far-whole : {shown : Values → List ℕ} {lines rest : List (List ℕ)} {output : List ℕ} → rest ≡ [] → IsSoFar shown lines rest output → AreAnswered shown lines output
+so-far-whole none far = (far.before, so-far-end none far.answers, far.written)
+
+-- one more answer, which the matrix may keep
+pub matrix-more : {lines rest others : List (List ℕ)} {line old new : List ℕ} {seen_old seen_new : BTreeSet Marked}
+    → rest ≡ line ∷ others → AddsEntry line old new seen_old seen_new → IsMatrixSoFar lines rest old seen_old → IsMatrixSoFar lines others new seen_new
+matrix-more {seen_old} cut adds far = record {
+  before = far.before ++ adds.answer ∷ [];
+  answers = so-far-next far.before adds.answer cut adds.is far.answers;
+  written =
+      adds.grown
+      ∙ ap (λ (t : List ℕ). t ++ written (if is_repeated seen_old adds.answer then [] else adds.answer ∷ [])) far.written
+      ∙ sym (written-append (matrix_of far.before) (if is_repeated seen_old adds.answer then [] else adds.answer ∷ []))
+      ∙ ap written (ap (λ (t : List Answer). matrix_of far.before ++ t) (repeated-stays far.before seen_old adds.answer far.agree) ∙ sym (staying-push [] far.before adds.answer));
+  agree = λ text.
+      adds.seen text
+      ∙ ap (λ (b : Bool). b || shows text adds.answer) (far.agree text)
       ∙ sym (push-any text far.before adds.answer);
 }
 
-pub so-far-whole : {mode : Mode} {lines rest : List (List ℕ)} {output : List ℕ} {seen : BTreeSet Marked}
-    → rest ≡ [] → IsSoFar mode lines rest output seen → AreAnswered mode lines output
-so-far-whole none far = (far.before, rw append-nil at (far.whole [] (rw none tt)), far.kept)
+pub matrix-whole : {lines rest : List (List ℕ)} {output : List ℕ} {seen : BTreeSet Marked} → rest ≡ [] → IsMatrixSoFar lines rest output seen → IsMatrix lines output
+matrix-whole none far = (far.before, so-far-end none far.answers, far.written)
 
 -- the line of an error other than an allocation failure is the line of the refusal
 refusal_is_told : (shown : Values → List ℕ) (line : List ℕ) (error : ParseError) → error ≢ OutOfMemory → IsFaultOf line error → IsAnswer shown line (Refused (codes "error: " ++ error_line error))
@@ -105,33 +125,48 @@ refusal_is_told shown line OutOfMemory other fault = absurd (other refl)
 refusal_is_told shown line _ other fault = (_, fault, refl)
 
 -- what a line that parses adds, and what a refused line adds
-module _ (mode : Mode) (line old new : List ℕ) (seen_old seen_new : BTreeSet Marked) where
+
+pub read-adds : {T E : Type 0} (done : Result T E) (shown : Values → List ℕ) (line old new : List ℕ) (t : Values) → ReadsAs line t
+    → OnOk done (new ≡ old ++ (shown t ++ line_feed ∷ [])) → OnOk done (AddsAnswer shown line old new)
+read-adds (Ok _) shown line old new t reads grown = record { answer = Shown (shown t); is = (t, reads, refl); grown = grown }
+read-adds (Err _) shown line old new t reads grown = tt
+
+pub refusal-adds : {T E : Type 0} (done : Result T E) (shown : Values → List ℕ) (line old new : List ℕ) (error : ParseError) → error ≢ OutOfMemory → IsFaultOf line error
+    → OnOk done (new ≡ old ++ ((codes "error: " ++ error_line error) ++ line_feed ∷ [])) → OnOk done (AddsAnswer shown line old new)
+refusal-adds (Ok _) shown line old new error other fault grown = record {
+  answer = Refused (codes "error: " ++ error_line error);
+  is = refusal_is_told shown line error other fault;
+  grown = grown;
+}
+refusal-adds (Err _) shown line old new error other fault grown = tt
+
+module _ (line old new : List ℕ) (seen_old seen_new : BTreeSet Marked) where
   unless-seen : (b : Bool) (text : List ℕ) → (if b then [] else text ++ line_feed ∷ []) ≡ written (if b then [] else Shown text ∷ [])
   unless-seen true text = refl
   unless-seen false text = refl
 
-  pub read-adds : {T E : Type 0} (done : Result T E) (t : Values) → ReadsAs line t
-      → OnOk done (new ≡ old ++ (if is_left_out mode seen_old (shown_in mode t) then [] else shown_in mode t ++ line_feed ∷ []))
-      → OnOk done (mode ≡ Matrix → HasOneMore seen_old seen_new (shown_in mode t))
-      → OnOk done (AddsAnswer mode line old new seen_old seen_new)
-  read-adds (Ok _) t reads grown seen = record {
-    answer = Shown (shown_in mode t);
-    is = (t, reads, refl);
-    grown = grown ∙ ap (λ (t : List ℕ). old ++ t) (unless-seen (is_left_out mode seen_old (shown_in mode t)) (shown_in mode t));
+  pub read-enters : {T E : Type 0} (done : Result T E) (t : Values) (text : List ℕ) → ReadsAs line t → text ≡ settled_text t
+      → OnOk done (new ≡ old ++ (if has_text seen_old text then [] else text ++ line_feed ∷ []))
+      → OnOk done (HasOneMore seen_old seen_new text)
+      → OnOk done (AddsEntry line old new seen_old seen_new)
+  read-enters (Ok _) t text reads is grown seen = record {
+    answer = Shown text;
+    is = (t, reads, is);
+    grown = grown ∙ ap (λ (t : List ℕ). old ++ t) (unless-seen (has_text seen_old text) text);
     seen = seen;
   }
-  read-adds (Err _) t reads grown seen = tt
+  read-enters (Err _) t text reads is grown seen = tt
 
-  pub refusal-adds : {T E : Type 0} (done : Result T E) (error : ParseError) → error ≢ OutOfMemory → IsFaultOf line error
+  pub refusal-enters : {T E : Type 0} (done : Result T E) (error : ParseError) → error ≢ OutOfMemory → IsFaultOf line error
       → OnOk done (new ≡ old ++ ((codes "error: " ++ error_line error) ++ line_feed ∷ []))
-      → OnOk done (AddsAnswer mode line old new seen_old seen_old)
-  refusal-adds (Ok _) error other fault grown = record {
+      → OnOk done (AddsEntry line old new seen_old seen_old)
+  refusal-enters (Ok _) error other fault grown = record {
     answer = Refused (codes "error: " ++ error_line error);
-    is = refusal_is_told (shown_in mode) line error other fault;
+    is = refusal_is_told settled_text line error other fault;
     grown = grown;
-    seen = λ matrix text. sym (or-false (has_text seen_old text));
+    seen = λ text. sym (or-false (has_text seen_old text));
   }
-  refusal-adds (Err _) error other fault grown = tt
+  refusal-enters (Err _) error other fault grown = tt
 
 -- by the hash, then by the text
 abbrev marked_cmp : Marked → Marked → Ordering

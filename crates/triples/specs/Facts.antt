@@ -1,5 +1,5 @@
 -- What mode `show` writes of a triple: its text and four words.
-use Rattle.std.specs.Prelude.{ℕ, List, ◌∷◌, ◌++◌, codes, Option, Some, None}
+use Rattle.std.specs.Prelude.{ℕ, List, ◌++◌, codes, Option, Some, None}
 use Rattle.lexicon_fields.specs.{declared.width.Endianness.Endianness, declared.width.Endianness.TheVariants.Little, declared.width.Endianness.TheVariants.Big}
 use Rattle.lexicon_fields.specs.declared.width.PointerWidth.{PointerWidth}
 use Rattle.lexicon_fields.specs.declared.width.PointerWidth.TheVariants.{U16, U32, U64}

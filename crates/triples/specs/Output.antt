@@ -5,6 +5,7 @@ use Rattle.std.specs.Str.{bytes_eq}
 use Rattle.target_lexicon.specs.{FixedPoints.settled_text, Printing.text_of, Reading.ReadsAs, Reading.IsRefusedAs, Refusal.Refusal, Refusal.refusal_line, Values.Values}
 use Rattle.triples.specs.{declared.mode.Mode.Mode, declared.run_error.RunError.RunError, declared.run_error.RunError.TheVariants.OutOfMemory, Facts.facts_of}
 use Rattle.triples.specs.declared.mode.Mode.TheVariants.{Print, Show, Settle, Json, Matrix}
+use Rattle.triples.specs.{declared.output.View.View, declared.output.View.TheVariants.Printed, declared.output.View.TheVariants.WithFacts, declared.output.View.TheVariants.Canonical}
 use Rattle.triples.specs.Words.{line_feed}
 use Rattle.triples.specs.JsonOutput.{IsJsonOutput, IsJsonInputFault}
 
@@ -19,13 +20,11 @@ without_empty_last (part ∷ next ∷ parts) = part ∷ without_empty_last (next
 abbrev pub lines_of : List ℕ → List (List ℕ)
 lines_of input = without_empty_last (slice_split (λ b. b == line_feed) input)
 
--- what a mode shows of a triple
-abbrev pub shown_in : Mode → Values → List ℕ
-shown_in Print = text_of
-shown_in Show = facts_of
-shown_in Settle = settled_text
-shown_in Matrix = settled_text
-shown_in Json = text_of
+-- what is shown of a triple
+abbrev pub shown_by : View → Values → List ℕ
+shown_by Printed = text_of
+shown_by WithFacts = facts_of
+shown_by Canonical = settled_text
 
 -- the answer to a line: what is shown of its triple, or the text of its refusal
 pub data Answer : Type 0 where
@@ -61,11 +60,6 @@ staying_behind before (answer ∷ answers) =
 abbrev pub matrix_of : List Answer → List Answer
 matrix_of answers = staying_behind [] answers
 
--- the answers that a mode writes: `matrix` those that stay, every other mode all
-abbrev pub kept_in : Mode → List Answer → List Answer
-kept_in Matrix answers = matrix_of answers
-kept_in _ answers = answers
-
 abbrev pub answer_bytes : Answer → List ℕ
 answer_bytes (Shown text) = text
 answer_bytes (Refused told) = told
@@ -75,14 +69,23 @@ abbrev pub written : List Answer → List ℕ
 written [] = []
 written (answer ∷ answers) = answer_bytes answer ++ (line_feed ∷ written answers)
 
--- what a mode writes for these lines
-abbrev pub AreAnswered : Mode → List (List ℕ) → List ℕ → Type 0
-AreAnswered mode lines output = (answers : List Answer) × AreAnswers (shown_in mode) lines answers × (output ≡ written (kept_in mode answers))
+-- the output is the answers to these lines, which show their triples in this way
+abbrev pub AreAnswered : (Values → List ℕ) → List (List ℕ) → List ℕ → Type 0
+AreAnswered shown lines output =
+    (answers : List Answer) × AreAnswers shown lines answers × (output ≡ written answers)
+
+-- the output is the matrix of these lines
+abbrev pub IsMatrix : List (List ℕ) → List ℕ → Type 0
+IsMatrix lines output =
+    (answers : List Answer) × AreAnswers settled_text lines answers × (output ≡ written (matrix_of answers))
 
 -- the output of a mode for an input
 abbrev pub IsOutput : Mode → List ℕ → List ℕ → Type 0
+IsOutput Print input output = AreAnswered text_of (lines_of input) output
+IsOutput Show input output = AreAnswered facts_of (lines_of input) output
+IsOutput Settle input output = AreAnswered settled_text (lines_of input) output
+IsOutput Matrix input output = IsMatrix (lines_of input) output
 IsOutput Json input output = IsJsonOutput input output
-IsOutput mode input output = AreAnswered mode (lines_of input) output
 
 -- why an input has no output in a mode; in a line mode only an allocation can fail, and none is made for an empty input
 abbrev pub IsInputFault : Mode → List ℕ → RunError → Type 0

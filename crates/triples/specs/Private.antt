@@ -7,8 +7,9 @@ use Rattle.std.specs.List.{fold, list_any}
 use Rattle.std.specs.Str.{bytes_eq}
 use Rattle.std.specs.Ordering.{nat_cmp, ordering_then}
 use Rattle.std.specs.declared.cmp.Ordering.{Ordering}
-use Rattle.triples.specs.{declared.matrix.Marked.Marked, declared.mode.Mode.Mode, declared.mode.Mode.TheVariants.Matrix}
-use Rattle.triples.specs.Output.{Answer, Shown, Refused, IsAnswer, shown_in, shows, written}
+use Rattle.target_lexicon.specs.{FixedPoints.settled_text, Values.Values}
+use Rattle.triples.specs.declared.matrix.Marked.{Marked}
+use Rattle.triples.specs.Output.{Answer, Shown, Refused, IsAnswer, shows, written}
 
 -- the hash of a text with one more byte
 abbrev pub mark_more : ℕ → ℕ → ℕ
@@ -30,19 +31,20 @@ has_text seen text = list_any (is_at (text_cmp text)) seen.keys
 abbrev pub HasOneMore : BTreeSet Marked → BTreeSet Marked → List ℕ → Type 0
 HasOneMore old new text = (other : List ℕ) → has_text new other ≡ (has_text old other || bytes_eq other text)
 
--- whether a mode leaves out a text: `matrix` one that was seen
-abbrev pub is_left_out : Mode → BTreeSet Marked → List ℕ → Bool
-is_left_out Matrix seen text = has_text seen text
-is_left_out _ seen text = false
+-- whether an answer shows a text that was seen
+abbrev pub is_repeated : BTreeSet Marked → Answer → Bool
+is_repeated seen (Shown text) = has_text seen text
+is_repeated seen (Refused told) = false
 
--- whether it leaves out an answer
-abbrev pub is_repeated : Mode → BTreeSet Marked → Answer → Bool
-is_repeated mode seen (Shown text) = is_left_out mode seen text
-is_repeated mode seen (Refused told) = false
-
--- a text grew by the answer to a line, unless the mode leaves it out, and what `matrix` shows has now been seen
-pub record AddsAnswer (mode : Mode) (line old new : List ℕ) (seen_old seen_new : BTreeSet Marked) : Type 0 where
+-- a text grew by the answer to a line
+pub record AddsAnswer (shown : Values → List ℕ) (line old new : List ℕ) : Type 0 where
   pub answer : Answer
-  pub is : IsAnswer (shown_in mode) line answer
-  pub grown : new ≡ old ++ written (if is_repeated mode seen_old answer then [] else answer ∷ [])
-  pub seen : mode ≡ Matrix → (text : List ℕ) → has_text seen_new text ≡ (has_text seen_old text || shows text answer)
+  pub is : IsAnswer shown line answer
+  pub grown : new ≡ old ++ written (answer ∷ [])
+
+-- a text grew by the answer to a line, unless that shows a text that was seen, and what it shows has now been seen
+pub record AddsEntry (line old new : List ℕ) (seen_old seen_new : BTreeSet Marked) : Type 0 where
+  pub answer : Answer
+  pub is : IsAnswer settled_text line answer
+  pub grown : new ≡ old ++ written (if is_repeated seen_old answer then [] else answer ∷ [])
+  pub seen : (text : List ℕ) → has_text seen_new text ≡ (has_text seen_old text || shows text answer)

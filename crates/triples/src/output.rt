@@ -1,11 +1,11 @@
 //! What a mode writes for an input.
-ghost use Rattle.std.specs.Prelude.{◌≡◌, ◌<◌, ◌++◌, ◌∷◌, [], true, codes, length, string_bytes, if◌then◌else◌, IfOk, IfErr, OnOk, OnErr};
+ghost use Rattle.std.specs.Prelude.{◌≡◌, ◌<◌, ◌++◌, ◌∷◌, [], true, codes, length, string_bytes, IfOk, IfErr, OnOk, OnErr};
 ghost use Rattle.lexicon_fields.specs.Vendor.{is_plain, vendor_value};
 ghost use Rattle.target_lexicon.specs.Refusal.{error_line};
 ghost use Rattle.target_lexicon.specs.Values.{values_of};
+ghost use Rattle.triples.specs.Output.{lines_of, AreAnswered, IsMatrix, IsOutput, IsInputFault, shown_by};
+ghost use Rattle.triples.specs.Private.{AddsAnswer, AddsEntry};
 ghost use Rattle.triples.specs.Words.{line_feed};
-ghost use Rattle.triples.specs.Output.{lines_of, AreAnswered, IsOutput, IsInputFault, shown_in};
-ghost use Rattle.triples.specs.Private.{AddsAnswer, HasOneMore, is_left_out};
 
 use crate::facts::push_facts;
 use crate::json::json_output;
@@ -16,77 +16,109 @@ use crate::run_error::RunError;
 use std::alloc::{AllocError, Global};
 use target_lexicon::{ParseError, Triple};
 
-/// Appends what a mode shows of a triple.
-fn push_text(output: &mut String, mode: Mode, triple: Triple) -> Result<(), AllocError>
+/// What is shown of the triple of each line.
+#[derive(Clone, Copy)]
+enum View {
+    /// Its printed text.
+    Printed,
+    /// Its printed text, byte order, pointer width, calling convention and data model.
+    WithFacts,
+    /// The printed text of the canonical triple.
+    Canonical,
+}
+
+/// Appends what is shown of a triple.
+fn push_text(output: &mut String, view: View, triple: Triple) -> Result<(), AllocError>
     requires { is_plain (vendor_value triple.vendor) ≡ true }
-    ensures { OnOk result (string_bytes output.new ≡ string_bytes output.old ++ shown_in mode (values_of triple)) }
+    ensures { OnOk result
+        (string_bytes output.new ≡ string_bytes output.old ++ shown_by view (values_of triple)) }
 {
-    match mode {
-        Mode::Print | Mode::Json => output.write(&triple),
-        Mode::Show => push_facts(output, &triple),
-        Mode::Settle | Mode::Matrix => output.write(&triple.settle()),
+    match view {
+        View::Printed => output.write(&triple),
+        View::WithFacts => push_facts(output, &triple),
+        View::Canonical => output.write(&triple.settle()),
     }
 }
 
-/// Appends what a mode shows of a triple, and a line feed. Mode `matrix` leaves out a text that it has shown before.
-fn push_shown(
-    alloc: Global,
-    output: &mut String,
-    seen: &mut Seen,
-    mode: Mode,
-    triple: Triple,
-) -> Result<(), AllocError>
+/// Appends what is shown of a triple, and a line feed.
+fn push_line(output: &mut String, view: View, triple: Triple) -> Result<(), AllocError>
     requires { is_plain (vendor_value triple.vendor) ≡ true }
-    ensures output { OnOk result (string_bytes output.new ≡ string_bytes output.old ++ (if is_left_out mode seen.old.texts (shown_in mode (values_of triple)) then [] else shown_in mode (values_of triple) ++ line_feed ∷ [])) }
-    ensures seen { OnOk result (mode ≡ Mode.Matrix → HasOneMore seen.old.texts seen.new.texts (shown_in mode (values_of triple))) }
+    ensures { OnOk result
+        (string_bytes output.new
+        ≡ string_bytes output.old ++ (shown_by view (values_of triple) ++ line_feed ∷ [])) }
 {
-    match mode {
-        Mode::Matrix => seen.push_first(alloc, output, &triple.settle()),
-        Mode::Print | Mode::Show | Mode::Settle | Mode::Json => {
-            push_text(output, mode, triple)?;
-            output.push('\n')
-        }
-    }
+    push_text(output, view, triple)?;
+    output.push('\n')
 }
 
 /// Appends `error: `, the line of the error, and a line feed.
 fn push_refusal(output: &mut String, error: &ParseError) -> Result<(), AllocError>
-    ensures { OnOk result (string_bytes output.new ≡ string_bytes output.old ++ ((codes "error: " ++ error_line error.now) ++ line_feed ∷ [])) }
+    ensures { OnOk result
+        (string_bytes output.new
+        ≡ string_bytes output.old ++ ((codes "error: " ++ error_line error.now) ++ line_feed ∷ [])) }
 {
     output.push_str("error: ")?;
     output.write(error)?;
     output.push('\n')
 }
 
-/// Appends what a mode writes for a line, and a line feed, or nothing if mode `matrix` leaves the line out.
-fn push_answer(
-    alloc: Global,
-    output: &mut String,
-    seen: &mut Seen,
-    mode: Mode,
-    line: &str,
-) -> Result<(), AllocError>
-    ensures { OnOk result (AddsAnswer mode line.now (string_bytes output.old) (string_bytes output.new) seen.old.texts seen.new.texts) }
+/// Appends the answer to a line, and a line feed.
+fn push_answer(alloc: Global, output: &mut String, view: View, line: &str) -> Result<(), AllocError>
+    ensures { OnOk result
+        (AddsAnswer (shown_by view) line.now (string_bytes output.old) (string_bytes output.new)) }
 {
     match Triple::from_str(alloc, line) {
-        Ok(triple) => push_shown(alloc, output, seen, mode, triple),
+        Ok(triple) => push_line(output, view, triple),
         Err(ParseError::OutOfMemory) => Err(AllocError),
         Err(error) => push_refusal(output, &error),
     }
 }
 
-/// What a mode writes for the lines of an input, in order, with a line feed after each.
-fn answers(alloc: Global, mode: Mode, input: &str) -> Result<String, AllocError>
-    ensures output { IfOk result (λ output. AreAnswered mode (lines_of input.now) (string_bytes output)) }
+/// Appends the answer of mode `matrix` to a line, and a line feed, or nothing if the text was seen before.
+fn push_entry(
+    alloc: Global,
+    output: &mut String,
+    seen: &mut Seen,
+    line: &str,
+) -> Result<(), AllocError>
+    ensures { OnOk result
+        (AddsEntry line.now (string_bytes output.old) (string_bytes output.new) seen.old.texts
+        seen.new.texts) }
+{
+    match Triple::from_str(alloc, line) {
+        Ok(triple) => seen.push_first(alloc, output, &triple.settle()),
+        Err(ParseError::OutOfMemory) => Err(AllocError),
+        Err(error) => push_refusal(output, &error),
+    }
+}
+
+/// The answers to the lines of an input, in order, with a line feed after each.
+fn answers(alloc: Global, view: View, input: &str) -> Result<String, AllocError>
+    ensures output { IfOk result (λ output. AreAnswered (shown_by view) (lines_of input.now) (string_bytes output)) }
+    ensures memory { OnErr result (0 < length input.now) }
+{
+    let mut output = String::new(alloc);
+    let mut rest = input;
+    while !rest.is_empty() {
+        let (line, others) = first_line(rest);
+        push_answer(alloc, &mut output, view, line)?;
+        rest = others;
+    }
+    Ok(output)
+}
+
+/// The matrix of the lines of an input.
+fn matrix(alloc: Global, input: &str) -> Result<String, AllocError>
+    ensures output { IfOk result (λ output. IsMatrix (lines_of input.now) (string_bytes output)) }
     ensures memory { OnErr result (0 < length input.now) }
 {
     let mut output = String::new(alloc);
     let mut seen = Seen::none(alloc);
     let mut rest = input;
     while !rest.is_empty() {
-        let (line, behind) = first_line(rest);
-        push_answer(alloc, &mut output, &mut seen, mode, line)?;
-        rest = behind;
+        let (line, others) = first_line(rest);
+        push_entry(alloc, &mut output, &mut seen, line)?;
+        rest = others;
     }
     Ok(output)
 }
@@ -97,7 +129,10 @@ pub(crate) fn output(alloc: Global, mode: Mode, input: &str) -> Result<String, R
     ensures err { IfErr result (λ e. IsInputFault mode input.now e) }
 {
     match mode {
+        Mode::Print => Ok(answers(alloc, View::Printed, input)?),
+        Mode::Show => Ok(answers(alloc, View::WithFacts, input)?),
+        Mode::Settle => Ok(answers(alloc, View::Canonical, input)?),
+        Mode::Matrix => Ok(matrix(alloc, input)?),
         Mode::Json => json_output(alloc, input),
-        Mode::Print | Mode::Show | Mode::Settle | Mode::Matrix => Ok(answers(alloc, mode, input)?),
     }
 }
