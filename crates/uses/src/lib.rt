@@ -1,6 +1,7 @@
 //! Uses of `target_lexicon`, as a caller writes them: each function is proved from the library's public contracts and definitions alone.
 #![tactic(auto)]
 
+mod by_macro;
 mod driver;
 mod key;
 mod layout;
@@ -10,6 +11,7 @@ mod same_target;
 mod spelling;
 mod target_file;
 
+pub use by_macro::triple_by_macro;
 pub use driver::{Linker, link_plan};
 pub use key::{CacheKey, share_key};
 pub use layout::{CLayout, TypeLayout, c_layout};
