@@ -95,7 +95,9 @@ watchos1．2=
 darwi=
 macos14=
 darwinios=
-xrosvisionos1=";
+xrosvisionos1=
+None_=
+=";
 
 /// The text reads as a system with this name, or is refused where the name is empty.
 struct IsSystem;

@@ -4,7 +4,10 @@ ghost use Rattle.std.specs.Prelude.{◌<◌};
 ghost use Rattle.lexicon_fields.specs.FixedRow.{row_count};
 
 use crate::rows::{Question, check_words};
-use lexicon_fields::{FixedRow, KnownVendor, ROW_COUNT, Steps, fixed_row, row_order};
+use lexicon_fields::{
+    Aarch64Architecture, Architecture, BinaryFormat, CleverArchitecture, Environment, FixedRow,
+    KnownVendor, OperatingSystem, ROW_COUNT, Steps, fixed_row, row_order,
+};
 use std::alloc::Global;
 use std::cmp::Ordering;
 use std::process::Abort;
@@ -93,10 +96,56 @@ fn holds_what_a_scan_finds(rt: HostRuntime) {
     assert!(rt; IsAsScanned::holds(rt.alloc(), "", ""));
 }
 
+/// The row of a text that no field reads.
+fn empty_row(text: &'static str) -> FixedRow {
+    FixedRow {
+        text,
+        architecture: None,
+        vendor: None,
+        operating_system: None,
+        environment: None,
+        binary_format: None,
+    }
+}
+
+/// The look-up of the row's text gives this row, in each of its fields.
+fn check_row(rt: &impl Abort, row: FixedRow) {
+    assert!(rt;
+        fixed_row(row.text, &mut Steps::new()) == Some(row),
+        "{row:?}"
+    );
+}
+
 #[test]
-fn a_vendor_of_the_table_is_the_vendor_of_its_name(rt: HostRuntime) {
-    let row = fixed_row("pc", &mut Steps::new());
-    assert!(rt; matches!(row, Some(row) if row.vendor == Some(KnownVendor::Pc)));
+fn rows_have_their_values(rt: HostRuntime) {
+    let none = FixedRow {
+        operating_system: Some(OperatingSystem::None_),
+        environment: Some(Environment::None),
+        ..empty_row("none")
+    };
+    let unknown = FixedRow {
+        text: "unknown",
+        architecture: Some(Architecture::Unknown),
+        vendor: Some(KnownVendor::Unknown),
+        operating_system: Some(OperatingSystem::Unknown),
+        environment: Some(Environment::Unknown),
+        binary_format: Some(BinaryFormat::Unknown),
+    };
+    let arm64 = FixedRow {
+        architecture: Some(Architecture::Aarch64(Aarch64Architecture::Aarch64)),
+        ..empty_row("arm64")
+    };
+    let clever1_0 = FixedRow {
+        architecture: Some(Architecture::Clever(CleverArchitecture::Clever1_0)),
+        ..empty_row("clever1.0")
+    };
+    let pc = FixedRow {
+        vendor: Some(KnownVendor::Pc),
+        ..empty_row("pc")
+    };
+    for row in [none, unknown, arm64, clever1_0, pc] {
+        check_row(&rt, row);
+    }
 }
 
 fn check_order(rt: &impl Abort, i: usize, text: &str, order: Ordering)

@@ -9,7 +9,7 @@ use std::process::Abort;
 use target_lexicon::{BinaryFormat, ParseError, Triple};
 use uses::{
     CacheKey, Linker, MatrixError, TargetFileError, c_layout, host_by_text, link_plan, llvm_target,
-    refused_text, release_matrix, wasi_text,
+    refused_text, release_matrix, triple_by_macro, wasi_text,
 };
 
 /// Targets whose objects LLVM 14 doesn't write in the format that the triple has, and behind `=` the format that it writes.
@@ -200,4 +200,10 @@ fn literals_are_computed(rt: HostRuntime) {
             "Unrecognized operating system: bar"
         )
     );
+}
+
+#[test]
+fn the_macro_serves_a_caller(rt: HostRuntime) {
+    let host = triple_by_macro(rt.alloc(), "x86_64-unknown-linux-gnu");
+    assert!(rt; is_host(host));
 }
