@@ -191,6 +191,6 @@ pub(crate) fn is_host(read: Result<Triple, ParseError>) -> bool {
 #[test]
 fn the_macro_reads_its_text(rt: HostRuntime) {
     assert!(rt; is_host(triple!(rt.alloc(), "x86_64-unknown-linux-gnu")));
-    let refused = triple!(rt.alloc(), "foo",);
-    assert!(rt; is_answer(refused, "Unrecognized architecture: foo"));
+    let refused = triple!(rt.alloc(), "foo\n",);
+    assert!(rt; is_answer(refused, "Unrecognized architecture: foo\n"));
 }
