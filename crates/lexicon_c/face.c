@@ -11,7 +11,7 @@ uint32_t lexicon_proved_facts(const char *, size_t, struct lexicon_facts *);
 uint32_t lexicon_proved_comes_back(const char *, size_t, bool *);
 uint32_t lexicon_proved_equal(const char *, size_t, const char *, size_t, bool *);
 uint32_t lexicon_proved_error_line(const char *, size_t, char *, size_t, size_t *);
-uint32_t lexicon_proved_read_name(const char *, size_t, uint32_t, char *, size_t, size_t *);
+uint32_t lexicon_proved_canonical_name(const char *, size_t, uint32_t, char *, size_t, size_t *);
 
 static const char *text_at(const char *text, size_t size) { return size ? text : ""; }
 
@@ -49,7 +49,7 @@ uint32_t lexicon_error_line(const char *text, size_t text_size, char *out, size_
   return lexicon_proved_error_line(text_at(text, text_size), text_size, room_at(out, out_size, &none), out_size, length);
 }
 
-uint32_t lexicon_read_name(const char *text, size_t text_size, uint32_t field, char *out, size_t out_size, size_t *length) {
+uint32_t lexicon_canonical_name(const char *text, size_t text_size, uint32_t field, char *out, size_t out_size, size_t *length) {
   char none;
-  return lexicon_proved_read_name(text_at(text, text_size), text_size, field, room_at(out, out_size, &none), out_size, length);
+  return lexicon_proved_canonical_name(text_at(text, text_size), text_size, field, room_at(out, out_size, &none), out_size, length);
 }

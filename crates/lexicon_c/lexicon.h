@@ -9,7 +9,7 @@
    once, and no call stops the program. Not for signal handlers.
 
    Each call answers a status. Where it is 0 the answer is told. Where it is 1 to 6 the text is refused: a call with an `out` tells the
-   refused part there, lexicon_error_line the line, lexicon_read_name the text itself; a struct or an answer is left as it was. At any
+   refused part there, lexicon_error_line the line, lexicon_canonical_name the text itself; a struct or an answer is left as it was. At any
    other status nothing is written but a *length of 0.
 
    The library is machine code for x86-64 Linux, level x86-64-v2 (SSE4.2 and POPCNT, as in processors since 2009).
@@ -89,9 +89,9 @@ struct lexicon_facts {
   uint32_t major, minor, patch;
 };
 
-/* A buffer of text_size + LEXICON_LONGER always has room for what lexicon_print and lexicon_settle tell, the refused part too, so that one
+/* A buffer of text_size + LEXICON_MAX_GROWTH always has room for what lexicon_print and lexicon_settle tell, the refused part too, so that one
    call is enough: arm64 prints aarch64-unknown-unknown-elf, and no text prints one that is longer by more. */
-#define LEXICON_LONGER 22
+#define LEXICON_MAX_GROWTH 22
 
 /* The printed triple: wasm32-unknown-wasi gives wasm32-wasi. */
 uint32_t lexicon_print(const char *text, size_t text_size, char *out, size_t out_size, size_t *length);
@@ -116,7 +116,7 @@ uint32_t lexicon_error_line(const char *text, size_t text_size, char *out, size_
 
 /* The name of the value that a text is in one field, outside any triple: arm64 gives aarch64. A text that is none is told itself,
    at the status of the field, 1 to 5. */
-uint32_t lexicon_read_name(const char *text, size_t text_size, uint32_t field, char *out, size_t out_size, size_t *length);
+uint32_t lexicon_canonical_name(const char *text, size_t text_size, uint32_t field, char *out, size_t out_size, size_t *length);
 
 #ifdef __cplusplus
 }

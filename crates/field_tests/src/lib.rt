@@ -15,6 +15,6 @@ mod vendors;
 mod walks;
 
 pub use rows::{
-    Question, check_rows, check_words, feed_alike, lengthened, order_word, prints, shows,
-    tells_each_fault, width_word, writes,
+    Question, check_rows, check_words, feed_alike, lengthened_rows, order_word, prints,
+    reports_each_failure, shows, width_word, writes,
 };

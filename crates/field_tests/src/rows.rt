@@ -36,7 +36,7 @@ pub fn check_words<'a, Q: Question>(alloc: Global, words: &'a str) -> Result<u32
 }
 
 /// The rows, with a thousand of this digit or dash for each star.
-pub fn lengthened(alloc: Global, rows: &str, mark: &str) -> Result<String, AllocError> {
+pub fn lengthened_rows(alloc: Global, rows: &str, mark: &str) -> Result<String, AllocError> {
     let many = mark.repeat(alloc, 1000)?;
     rows.replace(alloc, "*", many.as_str())
 }
@@ -99,7 +99,7 @@ impl fmt::Write for Pieces {
 }
 
 /// Whether a print of the value answers a fault exactly where its target failed, and hands it nothing more.
-pub fn tells_each_fault<T: Display>(value: &T) -> bool {
+pub fn reports_each_failure<T: Display>(value: &T) -> bool {
     for fails_at in 0..100 {
         let mut target = Pieces {
             fails_at,
@@ -118,7 +118,7 @@ pub fn tells_each_fault<T: Display>(value: &T) -> bool {
 
 /// Whether the value prints this text, whatever the width that is asked for, and tells each fault of what it is printed to.
 pub fn prints<T: Display>(value: &T, text: &str) -> bool {
-    writes(&format_args!("{value:*>60}"), text) && tells_each_fault(value)
+    writes(&format_args!("{value:*>60}"), text) && reports_each_failure(value)
 }
 
 /// The byte order as rows write it, `-` for a refusal.

@@ -1,6 +1,6 @@
 //! Operating systems: versions both ways.
 
-use crate::rows::{Question, check_rows, lengthened, prints};
+use crate::rows::{Question, check_rows, lengthened_rows, prints};
 use lexicon_fields::{DeploymentTarget, OperatingSystem};
 use std::alloc::Global;
 use std::borrow::CowStr;
@@ -123,7 +123,7 @@ tvos1.2.*256=";
 
 #[test]
 fn numbers_may_be_of_any_length(rt: HostRuntime) {
-    let rows = lengthened(rt.alloc(), LONG_VERSIONS, "0").expect(&rt, "memory");
+    let rows = lengthened_rows(rt.alloc(), LONG_VERSIONS, "0").expect(&rt, "memory");
     assert_eq!(rt; check_rows::<IsSystem>(rt.alloc(), rows.as_str()), Ok(()));
 }
 
@@ -143,15 +143,15 @@ fn versions_are_ordered(rt: HostRuntime) {
 }
 
 /// The name of the system, and whether it is lent.
-fn is_called(alloc: Global, system: OperatingSystem, name: &str, is_lent: bool) -> bool {
+fn is_called(alloc: Global, system: OperatingSystem, name: &str, is_borrowed: bool) -> bool {
     match system.into_str(alloc) {
-        Ok(text) => text.as_str() == name && matches!(&text, CowStr::Borrowed(_)) == is_lent,
+        Ok(text) => text.as_str() == name && matches!(&text, CowStr::Borrowed(_)) == is_borrowed,
         Err(_) => false,
     }
 }
 
 #[test]
-fn a_name_without_a_version_is_lent(rt: HostRuntime) {
+fn a_name_without_a_version_is_borrowed(rt: HostRuntime) {
     let darwin = OperatingSystem::Darwin(Some(version(23, 6, 0)));
     assert!(rt; is_called(rt.alloc(), darwin, "darwin23.6.0", false));
     assert!(rt; is_called(rt.alloc(), OperatingSystem::None_, "none", true));

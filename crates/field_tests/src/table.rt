@@ -78,7 +78,7 @@ impl Question for IsAsScanned {
 }
 
 /// Texts without a row.
-const ROWLESS: &str = "\0 a A zz é ios17 darwin AARCH64 aarch6 aarch64~ pc~ zkasm~ zkasn";
+const WITHOUT_ROW: &str = "\0 a A zz é ios17 darwin AARCH64 aarch6 aarch64~ pc~ zkasm~ zkasn";
 
 #[test]
 fn holds_what_a_scan_finds(rt: HostRuntime) {
@@ -88,7 +88,7 @@ fn holds_what_a_scan_finds(rt: HostRuntime) {
         (OPERATING_SYSTEMS, 33),
         (ENVIRONMENTS, 35),
         (BINARY_FORMATS, 6),
-        (ROWLESS, 13),
+        (WITHOUT_ROW, 13),
     ];
     for (words, count) in texts {
         assert_eq!(rt; check_words::<IsAsScanned>(rt.alloc(), words), Ok(count));

@@ -1,8 +1,8 @@
 //! The walks over rows name the row that doesn't hold, and each look at a value can fail.
 
 use crate::rows::{
-    Question, check_rows, check_words, feed_alike, lengthened, order_word, prints, shows,
-    tells_each_fault, width_word, writes,
+    Question, check_rows, check_words, feed_alike, lengthened_rows, order_word, prints,
+    reports_each_failure, shows, width_word, writes,
 };
 use lexicon_fields::{Endianness, PointerWidth, Vendor};
 use std::alloc::Global;
@@ -61,18 +61,18 @@ fn what_isnt_so_is_seen(rt: HostRuntime) {
     );
     assert!(rt; shows(&1u8, "1") && !shows(&1u8, "2"));
     assert!(rt; feed_alike(1u8, 1u8) && !feed_alike(1u8, 2u8));
-    assert!(rt; writes(&Deaf, "deaf") && !tells_each_fault(&Deaf) && !prints(&Deaf, "deaf"));
+    assert!(rt; writes(&Deaf, "deaf") && !reports_each_failure(&Deaf) && !prints(&Deaf, "deaf"));
 }
 
 #[test]
 fn a_print_of_another_text_or_of_the_asked_width_is_seen(rt: HostRuntime) {
     assert!(rt; prints(&Vendor::Apple, "apple") && !prints(&Vendor::Apple, "pc"));
-    assert!(rt; tells_each_fault(&1u8) && writes(&1u8, "1") && !prints(&1u8, "1"));
+    assert!(rt; reports_each_failure(&1u8) && writes(&1u8, "1") && !prints(&1u8, "1"));
 }
 
 #[test]
 fn rows_are_lengthened(rt: HostRuntime) {
-    let rows = lengthened(rt.alloc(), "a*=b", "-").expect(&rt, "memory");
+    let rows = lengthened_rows(rt.alloc(), "a*=b", "-").expect(&rt, "memory");
     assert!(rt; rows.len() == 1003 && rows.starts_with("a---") && rows.ends_with("--=b"));
 }
 

@@ -62,7 +62,7 @@ static uint32_t call_of(const struct row *row, const char *text, size_t size, ch
     case SETTLE: return lexicon_settle(text, size, out, room, length);
     case ERROR_LINE: return lexicon_error_line(text, size, out, room, length);
     case FIELD: return lexicon_field(text, size, row->field, out, room, length);
-    default: return lexicon_read_name(text, size, row->field, out, room, length);
+    default: return lexicon_canonical_name(text, size, row->field, out, room, length);
   }
 }
 

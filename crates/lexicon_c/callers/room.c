@@ -1,4 +1,4 @@
-/* For each line of the input: a buffer of its size and LEXICON_LONGER has room for what each call that prints a triple tells, and no byte
+/* For each line of the input: a buffer of its size and LEXICON_MAX_GROWTH has room for what each call that prints a triple tells, and no byte
    behind it is written. Prints by how many bytes the longest text is longer than its line. */
 #define _POSIX_C_SOURCE 200809L
 #include <stdio.h>
@@ -11,7 +11,7 @@ typedef uint32_t telling(const char *text, size_t text_size, char *out, size_t o
 
 /* The length of what is told, where it has room, and else SIZE_MAX. */
 static size_t told(telling *call, const char *text, size_t size) {
-  size_t room = size + LEXICON_LONGER, length;
+  size_t room = size + LEXICON_MAX_GROWTH, length;
   char *out = (char *)malloc(room + 1);
   if (out == NULL) return SIZE_MAX;
   out[room] = '~';

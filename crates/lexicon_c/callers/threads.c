@@ -24,7 +24,7 @@ static void *call_all(void *sum) {
       *statuses += lexicon_comes_back(text, size, &answer) + lexicon_equal(text, size, texts[0], strlen(texts[0]), &answer);
       for (uint32_t field = 0; field < 5; field++) {
         *statuses += lexicon_field(text, size, field, out, sizeof out, &length);
-        *statuses += lexicon_read_name(text, size, field, out, sizeof out, &length);
+        *statuses += lexicon_canonical_name(text, size, field, out, sizeof out, &length);
       }
     }
   return NULL;

@@ -5,8 +5,8 @@ use Rattle.target_lexicon.specs.{declared.calling_convention.CallingConvention.C
 use Rattle.target_lexicon.specs.declared.calling_convention.CallingConvention.TheVariants.{SystemV, WasmBasicCAbi, WindowsFastcall, AppleAarch64}
 use Rattle.target_lexicon.specs.declared.data_model.CDataModel.TheVariants.{LP32, ILP32, LLP64, LP64, ILP64}
 use Rattle.std.specs.Option.{option_map_or}
-use Rattle.lexicon_fields.specs.{OperatingSystem.version_held, Width.width_bits, declared.binary_format.BinaryFormat.BinaryFormat, declared.deployment_target.DeploymentTarget.DeploymentTarget}
-use Rattle.lexicon_fields.specs.{declared.width.Endianness.Endianness, declared.width.Endianness.TheVariants.Little, declared.width.Endianness.TheVariants.Big}
+use Rattle.lexicon_fields.specs.{OperatingSystem.version_held, PointerWidth.width_bits, declared.binary_format.BinaryFormat.BinaryFormat, declared.deployment_target.DeploymentTarget.DeploymentTarget}
+use Rattle.lexicon_fields.specs.{declared.endianness.Endianness.Endianness, declared.endianness.Endianness.TheVariants.Little, declared.endianness.Endianness.TheVariants.Big}
 use Rattle.lexicon_c.specs.declared.facts.LexiconFacts.{LexiconFacts}
 use Rattle.lexicon_fields.specs.declared.binary_format.BinaryFormat.TheVariants as binary_format
 
@@ -61,10 +61,10 @@ abbrev pub AreFactsRead : List ℕ → LexiconFacts → Type 0
 AreFactsRead text facts = (t : Values) × ReadsAs text t × AreFactsOf facts t
 
 -- the text reads as a triple, and the answer is whether it comes back
-abbrev pub IsFixedTold : List ℕ → Bool → Type 0
-IsFixedTold text answer = (t : Values) × ReadsAs text t × (IsTrue answer ↔ ComesBack t)
+abbrev pub IsComesBackAnswer : List ℕ → Bool → Type 0
+IsComesBackAnswer text answer = (t : Values) × ReadsAs text t × (IsTrue answer ↔ ComesBack t)
 
 -- both texts read as triples, and the answer is whether they are equal
-abbrev pub IsComparedTold : List ℕ → List ℕ → Bool → Type 0
-IsComparedTold first second answer =
+abbrev pub IsEqualAnswer : List ℕ → List ℕ → Bool → Type 0
+IsEqualAnswer first second answer =
     (t : Values) × ((u : Values) × ReadsAs first t × ReadsAs second u × (IsTrue answer ↔ (t ≡ u)))

@@ -1,3 +1,3 @@
 pub mod Facts
 pub mod Names
-pub mod Told
+pub mod Output

@@ -3,13 +3,13 @@ use Rattle.std.specs.Prelude.{◌≡◌, ◌⊎◌, ℕ, suc, List, Option, Some
 use Rattle.lexicon_fields.specs.{Architecture.architecture_name, Architecture.architecture_of, BinaryFormat.binary_format_name, BinaryFormat.binary_format_of}
 use Rattle.lexicon_fields.specs.{Environment.environment_name, Environment.environment_of, OperatingSystem.operating_system_name, OperatingSystem.operating_system_of, OperatingSystem.version_held}
 use Rattle.lexicon_fields.specs.{Vendor.vendor_name, Vendor.vendor_of, Vendor.is_admitted, declared.operating_system.OperatingSystem.OperatingSystem}
-use Rattle.lexicon_c.specs.Told.{IsTold}
-use Rattle.target_lexicon.specs.{Field.Field, Field.place, Reading.ReadsAs, Reading.MayWantMemory, Values.Values}
+use Rattle.lexicon_c.specs.Output.{IsWritten}
+use Rattle.target_lexicon.specs.{Field.Field, Field.place, Reading.ReadsAs, Reading.MayAllocate, Values.Values}
 use Rattle.target_lexicon.specs.Field as field
 
 -- the text reads as a triple, and what is shown of it is told
-abbrev pub IsShownTold : (Values → List ℕ) → List ℕ → List ℕ → List ℕ → ℕ → Type 0
-IsShownTold shown text old new size = (t : Values) × ReadsAs text t × IsTold (shown t) old new size
+abbrev pub IsTextWritten : (Values → List ℕ) → List ℕ → List ℕ → List ℕ → ℕ → Type 0
+IsTextWritten shown text old new size = (t : Values) × ReadsAs text t × IsWritten (shown t) old new size
 
 -- the name of a triple's value in a field
 abbrev pub name_in : Values → Field → List ℕ
@@ -20,18 +20,18 @@ name_in t field.Environment = environment_name t.environment
 name_in t field.BinaryFormat = binary_format_name t.binary_format
 
 -- the text reads as a triple, whose name in the field of this number is told
-abbrev pub IsNameTold : ℕ → List ℕ → List ℕ → List ℕ → ℕ → Type 0
-IsNameTold number text old new size =
-    (f : Field) × ((t : Values) × (place f ≡ number) × ReadsAs text t × IsTold (name_in t f) old new size)
+abbrev pub IsNameWritten : ℕ → List ℕ → List ℕ → List ℕ → ℕ → Type 0
+IsNameWritten number text old new size =
+    (f : Field) × ((t : Values) × (place f ≡ number) × ReadsAs text t × IsWritten (name_in t f) old new size)
 
 -- a system that holds a version, whose name may want memory
 abbrev pub HoldsVersion : OperatingSystem → Type 0
 HoldsVersion system = IsSome (version_held system)
 
 -- the only texts whose names may want memory: those whose reading does, and, of the system, those with a version
-abbrev pub MayNameWantMemory : ℕ → List ℕ → Type 0
-MayNameWantMemory number text =
-    MayWantMemory text ⊎ ((t : Values) × (number ≡ 2) × ReadsAs text t × HoldsVersion t.operating_system)
+abbrev pub MayAllocateName : ℕ → List ℕ → Type 0
+MayAllocateName number text =
+    MayAllocate text ⊎ ((t : Values) × (number ≡ 2) × ReadsAs text t × HoldsVersion t.operating_system)
 
 -- the name of the value that a text reads as in a field, if it does
 abbrev pub name_read : Field → List ℕ → Option (List ℕ)
@@ -42,17 +42,17 @@ name_read field.Environment text = option_map environment_name (environment_of t
 name_read field.BinaryFormat text = option_map binary_format_name (binary_format_of text)
 
 -- the text reads in the field of this number, and the name is told
-abbrev pub IsReadNameTold : ℕ → List ℕ → List ℕ → List ℕ → ℕ → Type 0
-IsReadNameTold number text old new size =
-    (f : Field) × ((name : List ℕ) × (place f ≡ number) × (name_read f text ≡ Some name) × IsTold name old new size)
+abbrev pub IsCanonicalNameWritten : ℕ → List ℕ → List ℕ → List ℕ → ℕ → Type 0
+IsCanonicalNameWritten number text old new size =
+    (f : Field) × ((name : List ℕ) × (place f ≡ number) × (name_read f text ≡ Some name) × IsWritten name old new size)
 
 -- the text doesn't read in the field of this number, and is told itself; the status is that of the field
-abbrev pub IsUnreadTold : ℕ → ℕ → List ℕ → List ℕ → List ℕ → ℕ → Type 0
-IsUnreadTold status number text old new size =
-    (f : Field) × (place f ≡ number) × (status ≡ suc (place f)) × (name_read f text ≡ None) × IsTold text old new size
+abbrev pub IsUnknownNameWritten : ℕ → ℕ → List ℕ → List ℕ → List ℕ → ℕ → Type 0
+IsUnknownNameWritten status number text old new size =
+    (f : Field) × (place f ≡ number) × (status ≡ suc (place f)) × (name_read f text ≡ None) × IsWritten text old new size
 
 -- the only texts of a field that may want memory: those of custom vendors and of systems with a version
-abbrev pub MayReadNameWantMemory : ℕ → List ℕ → Type 0
-MayReadNameWantMemory number text =
+abbrev pub MayAllocateCanonicalName : ℕ → List ℕ → Type 0
+MayAllocateCanonicalName number text =
     ((number ≡ 1) × (is_admitted text ≡ true))
     ⊎ ((system : OperatingSystem) × (number ≡ 2) × (operating_system_of text ≡ Some system) × HoldsVersion system)

@@ -2,7 +2,7 @@
 ghost use Rattle.std.specs.Prelude.{◌≡◌};
 ghost use Rattle.std.specs.Option.{option_map_or};
 ghost use Rattle.lexicon_fields.specs.OperatingSystem.{version_held};
-ghost use Rattle.lexicon_fields.specs.Width.{width_bits};
+ghost use Rattle.lexicon_fields.specs.PointerWidth.{width_bits};
 ghost use Rattle.target_lexicon.specs.Queries.{endianness, pointer_width, calling_convention, data_model};
 ghost use Rattle.target_lexicon.specs.Values.{values_of};
 ghost use Rattle.lexicon_c.specs.Facts.{AreFactsOf, endianness_number, convention_number, model_number, format_number};
@@ -39,7 +39,7 @@ pub struct LexiconFacts {
 }
 
 /// The facts of a triple.
-pub(crate) fn facts_of(triple: &Triple) -> LexiconFacts
+pub(crate) fn lexicon_facts_of(triple: &Triple) -> LexiconFacts
     ensures { AreFactsOf result (values_of triple.now) }
 {
     let (has_version, major, minor, patch) = version_numbers(triple.operating_system);

@@ -3,35 +3,36 @@
 
 mod facts;
 mod names;
+mod output;
 mod read;
 mod status;
-mod told;
 mod utf8;
 
 ghost use Rattle.std.specs.Prelude.{◌≡◌, ◌≤◌, ◌<◌, ◌↔◌, ◌⊎◌};
 ghost use Rattle.std.specs.Str.{IsUtf8};
-ghost use Rattle.lexicon_c.specs.Facts.{AreFactsRead, IsFixedTold, IsComparedTold};
-ghost use Rattle.lexicon_c.specs.Names.{IsShownTold, IsNameTold, MayNameWantMemory, IsReadNameTold, IsUnreadTold, MayReadNameWantMemory};
-ghost use Rattle.lexicon_c.specs.Told.{IsNothingTold, IsLittleLonger, IsRefusedBy, IsEitherRefusedBy, IsRefusalTold};
-ghost use Rattle.target_lexicon.specs.FixedPoints.{settled_text};
+ghost use Rattle.lexicon_c.specs.Facts.{AreFactsRead, IsComesBackAnswer, IsEqualAnswer};
+ghost use Rattle.lexicon_c.specs.Names.{IsTextWritten, IsNameWritten, MayAllocateName, IsCanonicalNameWritten, IsUnknownNameWritten, MayAllocateCanonicalName};
+ghost use Rattle.lexicon_c.specs.Output.{IsNothingWritten, GrowsAtMost, IsRefusedBy, IsEitherRefusedBy, IsRefusalWritten};
+ghost use Rattle.target_lexicon.specs.FixedPoints.{canonical_text};
 ghost use Rattle.target_lexicon.specs.Printing.{text_of};
-ghost use Rattle.target_lexicon.specs.Reading.{IsRead, MayWantMemory};
+ghost use Rattle.target_lexicon.specs.Reading.{IsRead, MayAllocate};
 ghost use Rattle.target_lexicon.specs.Refusal.{refusal_line};
 
 pub use facts::LexiconFacts;
-use facts::facts_of;
+use facts::lexicon_facts_of;
 use names::{
-    tell_architecture, tell_binary_format, tell_environment, tell_operating_system, tell_vendor,
+    write_architecture, write_binary_format, write_environment, write_operating_system,
+    write_vendor,
 };
+use output::{write_name, write_text};
 use read::{are_equal, read};
-use status::{DONE, NO_SUCH_FIELD, NOT_UTF8, OUT_OF_MEMORY, tell_error, tell_line};
+use status::{DONE, NO_SUCH_FIELD, NOT_UTF8, OUT_OF_MEMORY, write_error_line, write_refused_part};
 use std::alloc::Global;
 use target_lexicon::Triple;
-use target_lexicon::laws::printed_texts_are_little_longer;
-use told::{tell, tell_name};
+use target_lexicon::laws::printed_texts_grow_at_most;
 use utf8::from_utf8;
 
-/// Reads a text as a triple, and tells its printed text, or the refused part. A buffer that is `longer` bytes longer than the text
+/// Reads a text as a triple, and tells its printed text, or the refused part. A buffer that is `max_growth` bytes longer than the text
 /// has room for either.
 #[unsafe(no_mangle)]
 pub extern "C" fn lexicon_print(
@@ -40,24 +41,26 @@ pub extern "C" fn lexicon_print(
     out: &mut [u8],
     length: &mut usize,
 ) -> u32
-    ensures done { result ≡ 0 → IsShownTold text_of text.now out.old out.new length.new }
-    ensures room { IsLittleLonger text.now length.new }
-    ensures refused { 1 ≤ result → result ≤ 6 → IsRefusalTold (λ refusal. refusal.part) result text.now out.old out.new length.new }
+    ensures done { result ≡ 0 → IsTextWritten text_of text.now out.old out.new length.new }
+    ensures room { GrowsAtMost text.now length.new }
+    ensures refusal_with { 1 ≤ result →
+        result ≤ 6 →
+        IsRefusalWritten (λ refusal. refusal.part) result text.now out.old out.new length.new }
     ensures utf8 { (result ≡ 7) ↔ ¬ (IsUtf8 text.now) }
-    ensures nothing { 7 ≤ result → IsNothingTold out.old out.new length.new }
+    ensures nothing { 7 ≤ result → IsNothingWritten out.old out.new length.new }
     ensures all { result ≤ 8 }
 {
-    printed_texts_are_little_longer();
+    printed_texts_grow_at_most();
     *length = 0;
     let Ok(text) = from_utf8(text) else {
         return NOT_UTF8;
     };
     match Triple::from_str(alloc, text) {
         Ok(triple) => match triple.to_text(alloc) {
-            Ok(printed) => tell(DONE, printed.as_str(), out, length),
+            Ok(printed) => write_text(DONE, printed.as_str(), out, length),
             Err(_) => OUT_OF_MEMORY,
         },
-        Err(error) => tell_error(&error, out, length),
+        Err(error) => write_refused_part(&error, out, length),
     }
 }
 
@@ -70,24 +73,26 @@ pub extern "C" fn lexicon_settle(
     out: &mut [u8],
     length: &mut usize,
 ) -> u32
-    ensures done { result ≡ 0 → IsShownTold settled_text text.now out.old out.new length.new }
-    ensures room { IsLittleLonger text.now length.new }
-    ensures refused { 1 ≤ result → result ≤ 6 → IsRefusalTold (λ refusal. refusal.part) result text.now out.old out.new length.new }
+    ensures done { result ≡ 0 → IsTextWritten canonical_text text.now out.old out.new length.new }
+    ensures room { GrowsAtMost text.now length.new }
+    ensures refusal_with { 1 ≤ result →
+        result ≤ 6 →
+        IsRefusalWritten (λ refusal. refusal.part) result text.now out.old out.new length.new }
     ensures utf8 { (result ≡ 7) ↔ ¬ (IsUtf8 text.now) }
-    ensures nothing { 7 ≤ result → IsNothingTold out.old out.new length.new }
+    ensures nothing { 7 ≤ result → IsNothingWritten out.old out.new length.new }
     ensures all { result ≤ 8 }
 {
-    printed_texts_are_little_longer();
+    printed_texts_grow_at_most();
     *length = 0;
     let Ok(text) = from_utf8(text) else {
         return NOT_UTF8;
     };
     match Triple::from_str(alloc, text) {
         Ok(triple) => match triple.settle().to_text(alloc) {
-            Ok(printed) => tell(DONE, printed.as_str(), out, length),
+            Ok(printed) => write_text(DONE, printed.as_str(), out, length),
             Err(_) => OUT_OF_MEMORY,
         },
-        Err(error) => tell_error(&error, out, length),
+        Err(error) => write_refused_part(&error, out, length),
     }
 }
 
@@ -101,12 +106,14 @@ pub extern "C" fn lexicon_field(
     out: &mut [u8],
     length: &mut usize,
 ) -> u32
-    ensures done { result ≡ 0 → IsNameTold field text.now out.old out.new length.new }
-    ensures refused { 1 ≤ result → result ≤ 6 → IsRefusalTold (λ refusal. refusal.part) result text.now out.old out.new length.new }
+    ensures done { result ≡ 0 → IsNameWritten field text.now out.old out.new length.new }
+    ensures refusal_with { 1 ≤ result →
+        result ≤ 6 →
+        IsRefusalWritten (λ refusal. refusal.part) result text.now out.old out.new length.new }
     ensures utf8 { (result ≡ 7) ↔ ((field ≤ 4) × ¬ (IsUtf8 text.now)) }
     ensures no_such_field { (result ≡ 9) ↔ (4 < field) }
-    ensures memory { result ≡ 8 → MayNameWantMemory field text.now }
-    ensures nothing { 7 ≤ result → IsNothingTold out.old out.new length.new }
+    ensures memory { result ≡ 8 → MayAllocateName field text.now }
+    ensures nothing { 7 ≤ result → IsNothingWritten out.old out.new length.new }
     ensures all { result ≤ 9 }
 {
     *length = 0;
@@ -117,8 +124,8 @@ pub extern "C" fn lexicon_field(
         return NOT_UTF8;
     };
     match Triple::from_str(alloc, text) {
-        Ok(triple) => tell_name(alloc, &triple, field, out, length),
-        Err(error) => tell_error(&error, out, length),
+        Ok(triple) => write_name(alloc, &triple, field, out, length),
+        Err(error) => write_refused_part(&error, out, length),
     }
 }
 
@@ -126,9 +133,9 @@ pub extern "C" fn lexicon_field(
 #[unsafe(no_mangle)]
 pub extern "C" fn lexicon_facts(alloc: Global, text: &[u8], facts: &mut LexiconFacts) -> u32
     ensures done { result ≡ 0 → AreFactsRead text.now facts.new }
-    ensures refused { 1 ≤ result → result ≤ 6 → IsRefusedBy result text.now }
+    ensures refusal_with { 1 ≤ result → result ≤ 6 → IsRefusedBy result text.now }
     ensures utf8 { (result ≡ 7) ↔ ¬ (IsUtf8 text.now) }
-    ensures memory { result ≡ 8 → MayWantMemory text.now }
+    ensures memory { result ≡ 8 → MayAllocate text.now }
     ensures nothing { 0 < result → facts.new ≡ facts.old }
     ensures all { result ≤ 8 }
 {
@@ -137,7 +144,7 @@ pub extern "C" fn lexicon_facts(alloc: Global, text: &[u8], facts: &mut LexiconF
     };
     match read(alloc, text) {
         Ok(triple) => {
-            *facts = facts_of(&triple);
+            *facts = lexicon_facts_of(&triple);
             DONE
         }
         Err(status) => status,
@@ -147,10 +154,10 @@ pub extern "C" fn lexicon_facts(alloc: Global, text: &[u8], facts: &mut LexiconF
 /// Reads a text as a triple, and tells whether it comes back: printed and read again, it is itself.
 #[unsafe(no_mangle)]
 pub extern "C" fn lexicon_comes_back(alloc: Global, text: &[u8], answer: &mut bool) -> u32
-    ensures done { result ≡ 0 → IsFixedTold text.now answer.new }
-    ensures refused { 1 ≤ result → result ≤ 6 → IsRefusedBy result text.now }
+    ensures done { result ≡ 0 → IsComesBackAnswer text.now answer.new }
+    ensures refusal_with { 1 ≤ result → result ≤ 6 → IsRefusedBy result text.now }
     ensures utf8 { (result ≡ 7) ↔ ¬ (IsUtf8 text.now) }
-    ensures memory { result ≡ 8 → MayWantMemory text.now }
+    ensures memory { result ≡ 8 → MayAllocate text.now }
     ensures nothing { 0 < result → answer.new ≡ answer.old }
     ensures all { result ≤ 8 }
 {
@@ -175,10 +182,10 @@ pub extern "C" fn lexicon_equal(
     second: &[u8],
     answer: &mut bool,
 ) -> u32
-    ensures done { result ≡ 0 → IsComparedTold first.now second.now answer.new }
-    ensures refused { 1 ≤ result → result ≤ 6 → IsEitherRefusedBy result first.now second.now }
+    ensures done { result ≡ 0 → IsEqualAnswer first.now second.now answer.new }
+    ensures refusal_with { 1 ≤ result → result ≤ 6 → IsEitherRefusedBy result first.now second.now }
     ensures utf8 { (result ≡ 7) ↔ ((¬ (IsUtf8 first.now)) ⊎ (¬ (IsUtf8 second.now))) }
-    ensures memory { result ≡ 8 → MayWantMemory first.now ⊎ MayWantMemory second.now }
+    ensures memory { result ≡ 8 → MayAllocate first.now ⊎ MayAllocate second.now }
     ensures nothing { 0 < result → answer.new ≡ answer.old }
     ensures all { result ≤ 8 }
 {
@@ -210,11 +217,13 @@ pub extern "C" fn lexicon_error_line(
     out: &mut [u8],
     length: &mut usize,
 ) -> u32
-    ensures done { result ≡ 0 → IsRead text.now × IsNothingTold out.old out.new length.new }
-    ensures refused { 1 ≤ result → result ≤ 6 → IsRefusalTold refusal_line result text.now out.old out.new length.new }
+    ensures done { result ≡ 0 → IsRead text.now × IsNothingWritten out.old out.new length.new }
+    ensures refusal_with { 1 ≤ result →
+        result ≤ 6 →
+        IsRefusalWritten refusal_line result text.now out.old out.new length.new }
     ensures utf8 { (result ≡ 7) ↔ ¬ (IsUtf8 text.now) }
-    ensures memory { result ≡ 8 → MayWantMemory text.now }
-    ensures nothing { 7 ≤ result → IsNothingTold out.old out.new length.new }
+    ensures memory { result ≡ 8 → MayAllocate text.now }
+    ensures nothing { 7 ≤ result → IsNothingWritten out.old out.new length.new }
     ensures all { result ≤ 8 }
 {
     *length = 0;
@@ -223,26 +232,28 @@ pub extern "C" fn lexicon_error_line(
     };
     match Triple::from_str(alloc, text) {
         Ok(_) => DONE,
-        Err(error) => tell_line(alloc, &error, out, length),
+        Err(error) => write_error_line(alloc, &error, out, length),
     }
 }
 
 /// Reads a text as a value of one field, numbered as for `lexicon_field`, and tells the name of the value; a text that doesn't
 /// read is told itself, and the status is that of the field.
 #[unsafe(no_mangle)]
-pub extern "C" fn lexicon_read_name(
+pub extern "C" fn lexicon_canonical_name(
     alloc: Global,
     text: &[u8],
     field: u32,
     out: &mut [u8],
     length: &mut usize,
 ) -> u32
-    ensures done { result ≡ 0 → IsReadNameTold field text.now out.old out.new length.new }
-    ensures refused { 1 ≤ result → result ≤ 6 → IsUnreadTold result field text.now out.old out.new length.new }
+    ensures done { result ≡ 0 → IsCanonicalNameWritten field text.now out.old out.new length.new }
+    ensures refusal_with { 1 ≤ result →
+        result ≤ 6 →
+        IsUnknownNameWritten result field text.now out.old out.new length.new }
     ensures utf8 { (result ≡ 7) ↔ ((field ≤ 4) × ¬ (IsUtf8 text.now)) }
     ensures no_such_field { (result ≡ 9) ↔ (4 < field) }
-    ensures memory { result ≡ 8 → MayReadNameWantMemory field text.now }
-    ensures nothing { 7 ≤ result → IsNothingTold out.old out.new length.new }
+    ensures memory { result ≡ 8 → MayAllocateCanonicalName field text.now }
+    ensures nothing { 7 ≤ result → IsNothingWritten out.old out.new length.new }
     ensures all { result ≤ 9 }
 {
     *length = 0;
@@ -253,10 +264,10 @@ pub extern "C" fn lexicon_read_name(
         return NOT_UTF8;
     };
     match field {
-        0 => tell_architecture(text, out, length),
-        1 => tell_vendor(alloc, text, out, length),
-        2 => tell_operating_system(alloc, text, out, length),
-        3 => tell_environment(text, out, length),
-        _ => tell_binary_format(text, out, length),
+        0 => write_architecture(text, out, length),
+        1 => write_vendor(alloc, text, out, length),
+        2 => write_operating_system(alloc, text, out, length),
+        3 => write_environment(text, out, length),
+        _ => write_binary_format(text, out, length),
     }
 }

@@ -1,8 +1,8 @@
 //! Reading a triple from a text that came in.
 ghost use Rattle.std.specs.Prelude.{◌≡◌, ◌≢◌, ◌≤◌, ◌↔◌, true, IfOk, IfErr, IsTrue};
-ghost use Rattle.target_lexicon.specs.Reading.{ReadsAs, MayWantMemory};
+ghost use Rattle.target_lexicon.specs.Reading.{ReadsAs, MayAllocate};
 ghost use Rattle.target_lexicon.specs.Values.{values_of};
-ghost use Rattle.lexicon_c.specs.Told.{IsRefusedBy};
+ghost use Rattle.lexicon_c.specs.Output.{IsRefusedBy};
 
 use crate::status::status_of;
 use std::alloc::Global;
@@ -14,8 +14,8 @@ use target_lexicon::laws::triples_are_equal_by_value;
 #[inline(always)]
 pub(crate) fn read(alloc: Global, text: &str) -> Result<Triple, u32>
     ensures ok { IfOk result (λ triple. ReadsAs text.now (values_of triple)) }
-    ensures refused { IfErr result (λ status. status ≤ 6 → IsRefusedBy status text.now) }
-    ensures memory { IfErr result (λ status. status ≡ 8 → MayWantMemory text.now) }
+    ensures refusal_with { IfErr result (λ status. status ≤ 6 → IsRefusedBy status text.now) }
+    ensures memory { IfErr result (λ status. status ≡ 8 → MayAllocate text.now) }
     ensures range { IfErr result (λ status. (1 ≤ status) × (status ≤ 8) × (status ≢ 7)) }
 {
     match Triple::from_str(alloc, text) {

@@ -1,9 +1,9 @@
 //! The statuses that a call answers.
 ghost use Rattle.std.specs.Prelude.{◌≡◌, ◌≢◌, ◌≤◌, MatchOption};
 ghost use Rattle.target_lexicon.specs.Refusal.{refusal_of, refusal_line};
-ghost use Rattle.lexicon_c.specs.Told.{lack_status, IsTold, IsNothingTold};
+ghost use Rattle.lexicon_c.specs.Output.{refusal_status, IsWritten, IsNothingWritten};
 
-use crate::told::tell;
+use crate::output::write_text;
 use std::alloc::Global;
 use target_lexicon::ParseError;
 
@@ -29,7 +29,8 @@ pub(crate) const NO_SUCH_FIELD: u32 = 9;
 
 /// The status of an error.
 pub(crate) fn status_of(error: &ParseError) -> u32
-    ensures { MatchOption (refusal_of error.now) (result ≡ 8) (λ refusal. result ≡ lack_status refusal.lack) }
+    ensures { MatchOption (refusal_of error.now) (result ≡ 8)
+        (λ refusal. result ≡ refusal_status refusal.expected) }
 {
     match error {
         ParseError::UnrecognizedArchitecture(_) => NO_ARCHITECTURE,
@@ -43,10 +44,12 @@ pub(crate) fn status_of(error: &ParseError) -> u32
 }
 
 /// Tells the refused part of an error; answers its status.
-pub(crate) fn tell_error(error: &ParseError, out: &mut [u8], length: &mut usize) -> u32
+pub(crate) fn write_refused_part(error: &ParseError, out: &mut [u8], length: &mut usize) -> u32
     ensures { MatchOption (refusal_of error.now)
-        ((result ≡ 8) × IsNothingTold out.old out.new length.new)
-        (λ refusal. (result ≡ lack_status refusal.lack) × IsTold refusal.part out.old out.new length.new) }
+        ((result ≡ 8) × IsNothingWritten out.old out.new length.new)
+        (λ refusal.
+        (result ≡ refusal_status refusal.expected)
+        × IsWritten refusal.part out.old out.new length.new) }
 {
     let status = status_of(error);
     match error {
@@ -55,7 +58,7 @@ pub(crate) fn tell_error(error: &ParseError, out: &mut [u8], length: &mut usize)
         | ParseError::UnrecognizedOperatingSystem(part)
         | ParseError::UnrecognizedEnvironment(part)
         | ParseError::UnrecognizedBinaryFormat(part)
-        | ParseError::UnrecognizedField(part) => tell(status, part.as_str(), out, length),
+        | ParseError::UnrecognizedField(part) => write_text(status, part.as_str(), out, length),
         ParseError::OutOfMemory => {
             *length = 0;
             status
@@ -64,15 +67,18 @@ pub(crate) fn tell_error(error: &ParseError, out: &mut [u8], length: &mut usize)
 }
 
 /// Tells the line of an error, which wants memory; answers the error's status, or that memory was refused.
-pub(crate) fn tell_line(
+pub(crate) fn write_error_line(
     alloc: Global,
     error: &ParseError,
     out: &mut [u8],
     length: &mut usize,
 ) -> u32
-    ensures told { result ≤ 6 → MatchOption (refusal_of error.now) ⊥
-        (λ refusal. (result ≡ lack_status refusal.lack) × IsTold (refusal_line refusal) out.old out.new length.new) }
-    ensures nothing { 7 ≤ result → IsNothingTold out.old out.new length.new }
+    ensures output { result ≤ 6 →
+        MatchOption (refusal_of error.now) ⊥
+        (λ refusal.
+        (result ≡ refusal_status refusal.expected)
+        × IsWritten (refusal_line refusal) out.old out.new length.new) }
+    ensures nothing { 7 ≤ result → IsNothingWritten out.old out.new length.new }
     ensures range { (1 ≤ result) × (result ≤ 8) × (result ≢ 7) }
 {
     *length = 0;
@@ -81,7 +87,7 @@ pub(crate) fn tell_line(
         return OUT_OF_MEMORY;
     }
     match error.to_string(alloc) {
-        Ok(line) => tell(status, line.as_str(), out, length),
+        Ok(line) => write_text(status, line.as_str(), out, length),
         Err(_) => OUT_OF_MEMORY,
     }
 }

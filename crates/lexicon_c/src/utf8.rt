@@ -21,7 +21,8 @@ fn are_ascii(bytes: &[u8], at: usize) -> bool
 /// that may overlap hold.
 #[inline(always)]
 pub(crate) fn from_utf8(bytes: &[u8]) -> Result<&str, Utf8Error>
-    ensures cases { MatchResult result (λ text. (text.now ≡ bytes.now) × IsUtf8 bytes.now) (λ error. ¬ (IsUtf8 bytes.now)) }
+    ensures cases { MatchResult result (λ text. (text.now ≡ bytes.now) × IsUtf8 bytes.now)
+        (λ error. ¬ (IsUtf8 bytes.now)) }
 {
     let length = bytes.len();
     if 16 <= length && length <= 32 && are_ascii(bytes, 0) && are_ascii(bytes, length - 16) {

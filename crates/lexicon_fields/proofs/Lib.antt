@@ -6,7 +6,7 @@
 -- exactly for the same values.
 pub mod EqualByValue
 pub mod Feeds
-pub mod FrontLemmas
+pub mod PrefixKeyLemmas
 pub mod Halving
 pub mod LookUps
 pub mod NamesReadBack

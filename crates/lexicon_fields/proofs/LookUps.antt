@@ -4,7 +4,7 @@ use Rattle.std.specs.{Option.option_or, Str.bytes_eq, List.list_all}
 use Rattle.std.proofs.{lemmas.Bool.and_parts, lemmas.Bool.ne_eqb, lemmas.List.Folds.list_any_none, lemmas.List.Sums.AllPass-from_list_all}
 use Rattle.std.proofs.lemmas.Slice.Eq.{bytes_eq-Decides}
 use Rattle.lexicon_fields.specs.Names.{dash}
-use Rattle.lexicon_fields.specs.{Names.Pair, Names.value_of, Names.named, Names.is_dash_free, Laws.NamesOfReadBack}
+use Rattle.lexicon_fields.specs.{Names.Pair, Names.value_of, Names.named_values, Names.is_dash_free, Laws.NamesOfReadBack}
 
 -- a test that every pair passes holds for each text and the value that it parses as
 pub value_of-all : {V : Type 0} (test : Pair V → Bool) (pairs : List (Pair V)) (text : List ℕ) (v : V) → list_all test pairs ≡ true → value_of pairs text ≡ Some v → test (text, v) ≡ true
@@ -25,10 +25,10 @@ pub value_of-passes : {V : Type 0} (test : List ℕ → Bool) (pairs : List (Pai
 value_of-passes test pairs text v all found = value_of-all (λ pair. test pair.0) pairs text v all found
 
 -- a text in a table of names is the name of the value that it parses as
-pub value_of-named : {V : Type 0} (name : V → List ℕ) (values : List V) (text : List ℕ) (v : V)
-    → list_all (λ pair. bytes_eq pair.0 (name pair.1)) (named name values) ≡ true → value_of (named name values) text ≡ Some v → name v ≡ text
-value_of-named name values text v all found =
-    sym ((bytes_eq-Decides text (name v)).0 (value_of-all (λ pair. bytes_eq pair.0 (name pair.1)) (named name values) text v all found))
+pub value_of-named_values : {V : Type 0} (name : V → List ℕ) (values : List V) (text : List ℕ) (v : V)
+    → list_all (λ pair. bytes_eq pair.0 (name pair.1)) (named_values name values) ≡ true → value_of (named_values name values) text ≡ Some v → name v ≡ text
+value_of-named_values name values text v all found =
+    sym ((bytes_eq-Decides text (name v)).0 (value_of-all (λ pair. bytes_eq pair.0 (name pair.1)) (named_values name values) text v all found))
 
 -- a property of every parsed value carries over: from a part to the whole, to the next step, and to the first of two parsers that succeeds
 

@@ -4,15 +4,15 @@ use Rattle.std.specs.List.{starts_with}
 use Rattle.std.proofs.{lemmas.Bool.false_from_ne_true, lemmas.Bool.cond-false, lemmas.List.take-append-drop, lemmas.Slice.Eq.bytes_eq-Decides}
 use Rattle.lexicon_fields.specs.{declared.deployment_target.DeploymentTarget.DeploymentTarget, declared.operating_system.OperatingSystem.OperatingSystem, Laws.IsVersionInRange, Laws.HasVersionInRange}
 use Rattle.lexicon_fields.specs.Version.{version_of, version_name}
-use Rattle.lexicon_fields.specs.OperatingSystem.{operating_system_name, fixed_operating_system_of, operating_system_of, optional_version_of, version_suffix, behind_prefix, darwin_like_by, darwin_prefixes}
+use Rattle.lexicon_fields.specs.OperatingSystem.{operating_system_name, fixed_operating_system_of, operating_system_of, optional_version_of, version_suffix, after_prefix, darwin_like_by, darwin_prefixes}
 use Rattle.lexicon_fields.proofs.VersionsReadBack.{version_of-name}
 use Rattle.lexicon_fields.specs.declared.operating_system.OperatingSystem.TheVariants as operating_system
 
 -- a text that does not begin with a prefix has no rest after it
-lacks_prefix : (prefix text : List ℕ) → ((rest : List ℕ) → text ≢ prefix ++ rest) → behind_prefix prefix text ≡ None
-lacks_prefix prefix text differs = cond-false (starts_with nat_eq text prefix) _ _ (false_from_ne_true _ (λ begins.
-    let front = (bytes_eq-Decides prefix (take (length prefix) text)).0 begins in
-    differs (drop (length prefix) text) (sym (take-append-drop (length prefix) text) ∙ ap (λ xs. xs ++ drop (length prefix) text) (sym front))))
+has_no_prefix : (prefix text : List ℕ) → ((rest : List ℕ) → text ≢ prefix ++ rest) → after_prefix prefix text ≡ None
+has_no_prefix prefix text differs = cond-false (starts_with nat_eq text prefix) _ _ (false_from_ne_true _ (λ begins.
+    let prefix_key = (bytes_eq-Decides prefix (take (length prefix) text)).0 begins in
+    differs (drop (length prefix) text) (sym (take-append-drop (length prefix) text) ∙ ap (λ xs. xs ++ drop (length prefix) text) (sym prefix_key))))
 
 pub no_darwin_prefix : (text : List ℕ)
     → ((rest : List ℕ) → text ≢ codes "darwin" ++ rest) → ((rest : List ℕ) → text ≢ codes "ios" ++ rest)
@@ -21,13 +21,13 @@ pub no_darwin_prefix : (text : List ℕ)
     → ((rest : List ℕ) → text ≢ codes "xros" ++ rest) → darwin_like_by darwin_prefixes text ≡ None
 no_darwin_prefix text darwin ios macosx tvos visionos watchos xros =
     rw (
-      lacks_prefix (codes "darwin") text darwin,
-      lacks_prefix (codes "ios") text ios,
-      lacks_prefix (codes "macosx") text macosx,
-      lacks_prefix (codes "tvos") text tvos,
-      lacks_prefix (codes "visionos") text visionos,
-      lacks_prefix (codes "watchos") text watchos,
-      lacks_prefix (codes "xros") text xros,
+      has_no_prefix (codes "darwin") text darwin,
+      has_no_prefix (codes "ios") text ios,
+      has_no_prefix (codes "macosx") text macosx,
+      has_no_prefix (codes "tvos") text tvos,
+      has_no_prefix (codes "visionos") text visionos,
+      has_no_prefix (codes "watchos") text watchos,
+      has_no_prefix (codes "xros") text xros,
     ) refl
 
 -- every system parses back from its name

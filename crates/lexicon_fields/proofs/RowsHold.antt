@@ -4,7 +4,7 @@ use Rattle.std.specs.{Cmp.Lexicographic.slice_cmp, Cmp.Lexicographic.nat_list_eq
 use Rattle.std.proofs.{lemmas.Bool.or_parts, lemmas.Bool.cases_lt, lemmas.Bool.cases_Bool, lemmas.Bool.false_from_ne_true, lemmas.List.Folds.list_any_at}
 use Rattle.std.proofs.{lemmas.Map.Text.is_eq-slice_cmp, lemmas.Map.Views.Contains-from_any, lemmas.Map.Views.list_any-from_Contains}
 use Rattle.std.proofs.{lemmas.Option.get_or_from_slice_get, lemmas.Option.slice_get-get_or, lemmas.Slice.Eq.bytes_eq-Decides}
-use Rattle.lexicon_fields.specs.{Names.named, Architecture.architecture_of, declared.known_vendor.KnownVendor.KnownVendor, Vendor.known_name, Vendor.known_vendors, Vendor.known_vendor_of, declared.operating_system.OperatingSystem.OperatingSystem, Environment.environment_of, BinaryFormat.binary_format_of}
+use Rattle.lexicon_fields.specs.{Names.named_values, Architecture.architecture_of, declared.known_vendor.KnownVendor.KnownVendor, Vendor.known_name, Vendor.known_vendors, Vendor.known_vendor_of, declared.operating_system.OperatingSystem.OperatingSystem, Environment.environment_of, BinaryFormat.binary_format_of}
 use Rattle.lexicon_fields.specs.OperatingSystem.{operating_system_name, operating_system_of, darwin_prefixes, darwin_like_by, fixed_operating_systems, fixed_operating_system_of}
 use Rattle.lexicon_fields.specs.FixedRow.{has_row, row_count, row_texts, row_text}
 use Rattle.lexicon_fields.proofs.{LookUps.value_of-passes, LookUps.option_or-none, LookUps.none_is, RowTexts.is_row_text, RowTexts.row_text-passes, RowTexts.length-row_texts}
@@ -12,11 +12,11 @@ use Rattle.lexicon_fields.proofs.NamesReadBack.{architecture_of-row, environment
 
 pub known_vendor_of-row : (text : List ℕ) (v : KnownVendor) → known_vendor_of text ≡ Some v → is_row_text text ≡ true
 unfolding known_vendor_of is_row_text row_texts
-known_vendor_of-row text v found = value_of-passes is_row_text (named known_name known_vendors) text v refl found
+known_vendor_of-row text v found = value_of-passes is_row_text (named_values known_name known_vendors) text v refl found
 
 pub fixed_operating_system_of-row : (text : List ℕ) (v : OperatingSystem) → fixed_operating_system_of text ≡ Some v → is_row_text text ≡ true
 unfolding fixed_operating_system_of is_row_text row_texts
-fixed_operating_system_of-row text v found = value_of-passes is_row_text (named operating_system_name fixed_operating_systems) text v refl found
+fixed_operating_system_of-row text v found = value_of-passes is_row_text (named_values operating_system_name fixed_operating_systems) text v refl found
 
 -- a text that is in no row parses as no fixed name
 none_without_row : {V : Type 0} (find : List ℕ → Option V) → ((text : List ℕ) (v : V) → find text ≡ Some v → is_row_text text ≡ true)
@@ -38,16 +38,16 @@ no_row s none =
     ) refl
 
 -- each row's text is a name of some field
-row_text-stands : (s : List ℕ) → is_row_text s ≡ true → has_row s ≡ true
+row_text-exists : (s : List ℕ) → is_row_text s ≡ true → has_row s ≡ true
 unfolding row_texts architecture_of known_vendor_of fixed_operating_system_of environment_of binary_format_of
-row_text-stands s found = row_text-passes has_row s refl found
+row_text-exists s found = row_text-passes has_row s refl found
 
 row_text-found : (i : ℕ) → i < row_count → is_row_text (row_text i) ≡ true
 unfolding is_row_text
 row_text-found i below = list_any_at (bytes_eq (row_text i)) row_texts i [] (omega (arith, length-row_texts)) ((bytes_eq-Decides (row_text i) (row_text i)).1 refl)
 
-pub row-stands : (i : ℕ) → i < row_count → has_row (row_text i) ≡ true
-row-stands i below = row_text-stands (row_text i) (row_text-found i below)
+pub row-exists : (i : ℕ) → i < row_count → has_row (row_text i) ≡ true
+row-exists i below = row_text-exists (row_text i) (row_text-found i below)
 
 row_text-default : (i : ℕ) (d : List ℕ) → i < row_count → get_or row_texts i d ≡ row_text i
 row_text-default i d below = get_or_from_slice_get row_texts i (row_text i) d (slice_get-get_or row_texts i [] (omega (arith, length-row_texts)))
@@ -77,10 +77,10 @@ no_row-between s place below above = no_row s (false_from_ne_true (is_row_text s
 pub rows-hold : (s : List ℕ) → Contains row_texts s ↔ (has_row s ≡ true)
 unfolding is_row_text
 rows-hold s = (
-  λ at. row_text-stands s (list_any-from_Contains nat_list_eq_equiv s row_texts at),
-  λ stands. elim (cases_Bool (is_row_text s)) [
+  λ at. row_text-exists s (list_any-from_Contains nat_list_eq_equiv s row_texts at),
+  λ exists. elim (cases_Bool (is_row_text s)) [
     | inl found ↦ Contains-from_any (λ x y. (bytes_eq-Decides x y).0) s row_texts found
-    | inr none ↦ absurd (let bad : true ≡ false = sym stands ∙ no_row s none in cc)
+    | inr none ↦ absurd (let bad : true ≡ false = sym exists ∙ no_row s none in cc)
   ],
 )
 
@@ -105,15 +105,15 @@ row_text-unlike_darwin s found = row_text-passes (λ text. is_none (darwin_like_
 -- so a text with a row parses as a system only by its fixed name
 pub row_reads_by_name : (s : List ℕ) → has_row s ≡ true → operating_system_of s ≡ fixed_operating_system_of s
 unfolding operating_system_of
-row_reads_by_name s stands = elim (cases_Bool (is_row_text s)) [
+row_reads_by_name s exists = elim (cases_Bool (is_row_text s)) [
   | inl found ↦ ap (option_or (fixed_operating_system_of s)) (none_is _ (row_text-unlike_darwin s found)) ∙ option_or-none _
-  | inr none ↦ absurd (let bad : true ≡ false = sym stands ∙ no_row s none in cc)
+  | inr none ↦ absurd (let bad : true ≡ false = sym exists ∙ no_row s none in cc)
 ]
 
 -- and a text without a row only as a system like Darwin
-pub rowless_is_like_darwin : (s : List ℕ) (like : Option OperatingSystem) → like ≡ darwin_like_by darwin_prefixes s → has_row s ≡ false → like ≡ operating_system_of s
+pub without_row_is_darwin_like : (s : List ℕ) (like : Option OperatingSystem) → like ≡ darwin_like_by darwin_prefixes s → has_row s ≡ false → like ≡ operating_system_of s
 unfolding operating_system_of
-rowless_is_like_darwin s like is none = rw (nowhere s none).2 is
+without_row_is_darwin_like s like is none = rw (nowhere s none).2 is
 
 -- no fixed name begins with the prefix of a system like Darwin, so the order of the two look-ups doesn't matter
 

@@ -9,9 +9,9 @@ use Rattle.std.proofs.{lemmas.Option.MatchOption-at_some, lemmas.Option.cond_som
 use Rattle.std.proofs.lemmas.Str.Parse.{digits_value_short}
 use Rattle.lexicon_fields.specs.Names.{dash}
 use Rattle.lexicon_fields.specs.Version.{dot}
-use Rattle.lexicon_fields.specs.{declared.deployment_target.DeploymentTarget.DeploymentTarget, declared.operating_system.OperatingSystem.OperatingSystem, Names.Pair, Names.named, Names.is_dash_free}
+use Rattle.lexicon_fields.specs.{declared.deployment_target.DeploymentTarget.DeploymentTarget, declared.operating_system.OperatingSystem.OperatingSystem, Names.Pair, Names.named_values, Names.is_dash_free}
 use Rattle.lexicon_fields.specs.Version.{piece_within, version_of_numbers, version_of_pieces, version_of, version_name, pieces_of}
-use Rattle.lexicon_fields.specs.OperatingSystem.{operating_system_name, fixed_operating_systems, fixed_operating_system_of, operating_system_of, darwin_prefixes, darwin_like_by, behind_prefix, with_version, optional_version_of, version_held, version_suffix}
+use Rattle.lexicon_fields.specs.OperatingSystem.{operating_system_name, fixed_operating_systems, fixed_operating_system_of, operating_system_of, darwin_prefixes, darwin_like_by, after_prefix, with_version, optional_version_of, version_held, version_suffix}
 use Rattle.lexicon_fields.specs.Laws.{IsVersionInRange, HasVersionInRange}
 use Rattle.lexicon_fields.proofs.LookUps.{value_of-all, holds-if_read, option_map-holds, option_and_then-holds, option_or-holds, all-dash_free}
 use Rattle.lexicon_fields.proofs.VersionsReadBack.{digits_model}
@@ -20,13 +20,13 @@ is_dash_free-append : (s t : List ℕ) → is_dash_free s ≡ true → is_dash_f
 is_dash_free-append s t first second = rw (list_any-append (λ b. nat_eq b dash) s t, not-true _ first) second
 
 -- digits, with or without a leading plus
-behind_plus : (plus : Bool) (c : ℕ) (cs : List ℕ) → nat_eq c 43 ≡ plus → list_all is_ascii_digit (drop (cond plus 1 0) (c ∷ cs)) ≡ true → is_dash_free (c ∷ cs) ≡ true
-behind_plus true c cs is digits = rw (eqb-true c 43 is) (all-dash_free is_ascii_digit refl cs digits)
-behind_plus false c cs is digits = all-dash_free is_ascii_digit refl (c ∷ cs) digits
+after_plus : (plus : Bool) (c : ℕ) (cs : List ℕ) → nat_eq c 43 ≡ plus → list_all is_ascii_digit (drop (cond plus 1 0) (c ∷ cs)) ≡ true → is_dash_free (c ∷ cs) ≡ true
+after_plus true c cs is digits = rw (eqb-true c 43 is) (all-dash_free is_ascii_digit refl cs digits)
+after_plus false c cs is digits = all-dash_free is_ascii_digit refl (c ∷ cs) digits
 
 signed_digits-dash_free : (piece : List ℕ) → list_all is_ascii_digit (without_leading_plus piece) ≡ true → is_dash_free piece ≡ true
 signed_digits-dash_free [] digits = refl
-signed_digits-dash_free (c ∷ cs) digits = behind_plus (nat_eq c 43) c cs refl digits
+signed_digits-dash_free (c ∷ cs) digits = after_plus (nat_eq c 43) c cs refl digits
 
 -- a piece that gives a number: the number is within the limit and has at most as many digits as the piece
 piece-read : (limit : ℕ) (piece : List ℕ) (n : ℕ) → limit ≤ 65535 → piece_within limit piece ≡ Some n → (is_dash_free piece ≡ true) × (n ≤ limit) × (length (decimal n) ≤ length piece)
@@ -93,11 +93,11 @@ suffix-read [] = (refl, tt, omega arith)
 suffix-read (c ∷ cs) = option_map-holds _ _ Some (version_of (c ∷ cs)) (version-read (c ∷ cs)) (λ v read. read)
 
 -- a text is its prefix and the text after it
-behind_prefix-read : (prefix text : List ℕ) → IfSome (behind_prefix prefix text) (λ rest. text ≡ prefix ++ rest)
-behind_prefix-read prefix text = holds-if_read _ (behind_prefix prefix text) (λ rest is.
+after_prefix-read : (prefix text : List ℕ) → IfSome (after_prefix prefix text) (λ rest. text ≡ prefix ++ rest)
+after_prefix-read prefix text = holds-if_read _ (after_prefix prefix text) (λ rest is.
     let begins = cond_some (starts_with nat_eq text prefix) (drop (length prefix) text) rest is in
-    let front : prefix ≡ take (length prefix) text = (bytes_eq-Decides prefix (take (length prefix) text)).0 begins.0 in
-    sym (take-append-drop (length prefix) text) ∙ ap (λ xs. xs ++ drop (length prefix) text) (sym front) ∙ ap (λ xs. prefix ++ xs) begins.1)
+    let prefix_key : prefix ≡ take (length prefix) text = (bytes_eq-Decides prefix (take (length prefix) text)).0 begins.0 in
+    sym (take-append-drop (length prefix) text) ∙ ap (λ xs. xs ++ drop (length prefix) text) (sym prefix_key) ∙ ap (λ xs. prefix ++ xs) begins.1)
 
 abbrev IsSystemRead : List ℕ → OperatingSystem → Type 0
 IsSystemRead text s = (is_dash_free text ≡ true) × HasVersionInRange s × (length (operating_system_name s) ≤ length text + 4)
@@ -108,8 +108,8 @@ IsPrefix row =
     (is_dash_free row.0 ≡ true)
     × ((version : Option DeploymentTarget) → (version_held (row.1 version) ≡ version) × (operating_system_name (row.1 version) ≡ row.0 ++ version_suffix version))
 
-prefixed-read : (row : Pair (Option DeploymentTarget → OperatingSystem)) (text : List ℕ) → IsPrefix row → IfSome (option_and_then (with_version row.1) (behind_prefix row.0 text)) (IsSystemRead text)
-prefixed-read row text is = option_and_then-holds _ _ (with_version row.1) (behind_prefix row.0 text) (behind_prefix-read row.0 text) (λ rest whole.
+prefixed-read : (row : Pair (Option DeploymentTarget → OperatingSystem)) (text : List ℕ) → IsPrefix row → IfSome (option_and_then (with_version row.1) (after_prefix row.0 text)) (IsSystemRead text)
+prefixed-read row text is = option_and_then-holds _ _ (with_version row.1) (after_prefix row.0 text) (after_prefix-read row.0 text) (λ rest whole.
     option_map-holds _ _ row.1 (optional_version_of rest) (suffix-read rest) (λ version read. (
       subst (λ (t : List ℕ). is_dash_free t ≡ true) (sym whole) (is_dash_free-append row.0 rest is.0 read.0),
       subst (λ (o : Option DeploymentTarget). IfSome o IsVersionInRange) (sym (is.1 version).0) read.1,
@@ -132,10 +132,10 @@ none_held (Some v) none = absurd cc
 fixed-read : (text : List ℕ) → IfSome (fixed_operating_system_of text) (IsSystemRead text)
 unfolding fixed_operating_system_of
 fixed-read text = holds-if_read _ (fixed_operating_system_of text) (λ s is.
-    let test = value_of-all (λ pair. is_dash_free pair.0 && is_none (version_held pair.1) && nat_le (length (operating_system_name pair.1)) (length pair.0)) (named operating_system_name fixed_operating_systems) text s refl is in
+    let test = value_of-all (λ pair. is_dash_free pair.0 && is_none (version_held pair.1) && nat_le (length (operating_system_name pair.1)) (length pair.0)) (named_values operating_system_name fixed_operating_systems) text s refl is in
     let parts = and_parts _ (nat_le (length (operating_system_name s)) (length text)) test in
-    let front = and_parts (is_dash_free text) (is_none (version_held s)) parts.0 in
-    (front.0, none_held (version_held s) front.1, omega (arith, leb-true _ _ parts.1)))
+    let prefix_key = and_parts (is_dash_free text) (is_none (version_held s)) parts.0 in
+    (prefix_key.0, none_held (version_held s) prefix_key.1, omega (arith, leb-true _ _ parts.1)))
 
 pub operating_system-read : (text : List ℕ) (s : OperatingSystem) → operating_system_of text ≡ Some s → IsSystemRead text s
 unfolding operating_system_of
@@ -146,5 +146,5 @@ operating_system-read text s is =
 pub version_in_range : (text : List ℕ) (s : OperatingSystem) → operating_system_of text ≡ Some s → HasVersionInRange s
 version_in_range text s is = (operating_system-read text s is).1
 
-pub operating_system-longer : (text : List ℕ) (s : OperatingSystem) → operating_system_of text ≡ Some s → length (operating_system_name s) ≤ length text + 4
-operating_system-longer text s is = (operating_system-read text s is).2
+pub operating_system-max_growth : (text : List ℕ) (s : OperatingSystem) → operating_system_of text ≡ Some s → length (operating_system_name s) ≤ length text + 4
+operating_system-max_growth text s is = (operating_system-read text s is).2

@@ -3,7 +3,7 @@ use Rattle.std.proofs.Common.{arith, [], ◌∷◌, not, ◌&&◌, ◌||◌, ap,
 use Rattle.std.specs.{Char.is_ascii_lowercase, List.list_all, Option.option_or}
 use Rattle.std.proofs.{Math.Bool.and-true, Math.Bool.and-false, lemmas.Bool.and_parts, lemmas.Option.MatchOption-at_some, lemmas.Option.cond_some}
 use Rattle.lexicon_fields.specs.Names.{dash}
-use Rattle.lexicon_fields.specs.{declared.vendor.Vendor.Vendor, declared.known_vendor.KnownVendor.KnownVendor, declared.known_vendor.KnownVendor.TheVariants.Unknown, Names.named, Names.is_dash_free}
+use Rattle.lexicon_fields.specs.{declared.vendor.Vendor.Vendor, declared.known_vendor.KnownVendor.KnownVendor, declared.known_vendor.KnownVendor.TheVariants.Unknown, Names.named_values, Names.is_dash_free}
 use Rattle.lexicon_fields.specs.Vendor.{VendorValue, Known, Custom, known_name, known_vendors, custom_of, vendor_name, is_plain, is_free, is_vendor_character, has_vendor_form, vendor_of, vendor_value, owns_text, known_vendor_of, is_admitted}
 use Rattle.lexicon_fields.specs.{Architecture.architecture_of, declared.operating_system.OperatingSystem.OperatingSystem, Environment.environment_of, BinaryFormat.binary_format_of, FixedRow.has_row}
 use Rattle.lexicon_fields.specs.OperatingSystem.{darwin_prefixes, darwin_like_by, fixed_operating_system_of, operating_system_of}
@@ -28,14 +28,14 @@ pub admitted_without_row : (text : List ℕ) (like : Option OperatingSystem) →
 admitted_without_row text like none form is = rw (admitted_is text, none, form, ← is) (and-true (is_none like))
 
 pub row_not_admitted : (text : List ℕ) → has_row text ≡ true → is_admitted text ≡ false
-row_not_admitted text stands = rw (admitted_is text, stands) refl
+row_not_admitted text exists = rw (admitted_is text, exists) refl
 
 -- how a text parses as a vendor
 
 -- one with a row: only as the known vendor of that name
 pub row_read : (text : List ℕ) → has_row text ≡ true → option_map Known (known_vendor_of text) ≡ vendor_of text
 unfolding vendor_of
-row_read text stands = rw (row_not_admitted text stands) (sym (option_or-none _))
+row_read text exists = rw (row_not_admitted text exists) (sym (option_or-none _))
 
 -- the name of a known vendor: as that vendor, which owns no text
 pub known_read : (text : List ℕ) (v : Vendor) (known : KnownVendor) → vendor_value v ≡ Known known → Some known ≡ known_vendor_of text → vendor_of text ≡ Some (vendor_value v)
@@ -53,7 +53,7 @@ custom_read text none admitted = rw (none, admitted) refl
 
 pub none_read : (text : List ℕ) → known_vendor_of text ≡ None → is_admitted text ≡ false → vendor_of text ≡ None
 unfolding vendor_of
-none_read text none refused = rw (none, refused) refl
+none_read text none refusal_with = rw (none, refusal_with) refl
 
 pub formless_not_admitted : (text : List ℕ) → has_vendor_form text ≡ false → is_admitted text ≡ false
 unfolding is_admitted
@@ -63,7 +63,7 @@ formless_not_admitted text formless = rw formless (and-false (is_free text))
 known_form : (text : List ℕ) (known : Option KnownVendor) → known_vendor_of text ≡ known → has_vendor_form text ≡ false → known_vendor_of text ≡ None
 unfolding known_vendor_of
 known_form text None is formless = is
-known_form text (Some v) is formless = absurd (let bad : true ≡ false = sym (value_of-passes has_vendor_form (named known_name known_vendors) text v refl is) ∙ formless in cc)
+known_form text (Some v) is formless = absurd (let bad : true ≡ false = sym (value_of-passes has_vendor_form (named_values known_name known_vendors) text v refl is) ∙ formless in cc)
 
 pub formless_read : (text : List ℕ) → has_vendor_form text ≡ false → vendor_of text ≡ None
 formless_read text formless = none_read text (known_form text (known_vendor_of text) refl formless) (formless_not_admitted text formless)

@@ -36,11 +36,11 @@ parse_piece k limit piece r fits parses =
 -- what `parse` gives for a piece
 pub number_read : {E : Type 0} (k limit : ℕ) (piece : List ℕ) (r : Result ℕ E) (o x : Option ℕ)
     → limit + 1 ≡ 2 ^ k → ParsesUnsigned k 10 piece r → o ≡ result_ok r → o ≡ x → piece_within limit piece ≡ x
-number_read k limit piece r o x fits parses taken is = sym (parse_piece k limit piece r fits parses) ∙ sym taken ∙ is
+number_read k limit piece r o x fits parses taken_part is = sym (parse_piece k limit piece r fits parses) ∙ sym taken_part ∙ is
 
 -- the pieces of a text after its first dot, and those of a text without a dot
 pub pieces_of-first : (text piece rest : List ℕ) → piece ≡ before_first (λ c. nat_eq c dot) text → rest ≡ after_first (λ c. nat_eq c dot) text → position_or_len (λ c. nat_eq c dot) text < length text → pieces_of text ≡ piece ∷ pieces_of rest
-pieces_of-first text piece rest front back found = slice_split_first (λ c. nat_eq c dot) text 0 found ∙ cc
+pieces_of-first text piece rest prefix_key back found = slice_split_first (λ c. nat_eq c dot) text 0 found ∙ cc
 
 pub pieces_of-whole : (text : List ℕ) → position_or_len (λ c. nat_eq c dot) text ≡ length text → pieces_of text ≡ text ∷ []
 pieces_of-whole text none = slice_split_none (λ c. nat_eq c dot) text (λ k d h. fails_before_first (λ c. nat_eq c dot) text k d (omega (arith, none, h)))
@@ -48,15 +48,15 @@ pieces_of-whole text none = slice_split_none (λ c. nat_eq c dot) text (λ k d h
 -- a last piece, and a piece that others follow
 pub pieces-last : (pieces : List (List ℕ)) (p : List ℕ) (rest : Option (Bor (List ℕ))) → pieces ≡ p ∷ pieces_left rest → is_some rest ≡ false → pieces ≡ p ∷ []
 pieces-last pieces p None is none = is
-pieces-last pieces p (Some behind) is none = absurd cc
+pieces-last pieces p (Some others) is none = absurd cc
 
-pub pieces-more : (pieces : List (List ℕ)) (p : List ℕ) (rest : Option (Bor (List ℕ))) (behind : Bor (List ℕ)) (ps : List (List ℕ)) → pieces ≡ p ∷ pieces_left rest → rest ≡ Some behind → pieces_of behind.now ≡ ps → pieces ≡ p ∷ ps
-pieces-more pieces p rest behind ps is some more = is ∙ ap (λ x. p ∷ pieces_left x) some ∙ ap (λ x. p ∷ x) more
+pub pieces-more : (pieces : List (List ℕ)) (p : List ℕ) (rest : Option (Bor (List ℕ))) (others : Bor (List ℕ)) (ps : List (List ℕ)) → pieces ≡ p ∷ pieces_left rest → rest ≡ Some others → pieces_of others.now ≡ ps → pieces ≡ p ∷ ps
+pieces-more pieces p rest others ps is some more = is ∙ ap (λ x. p ∷ pieces_left x) some ∙ ap (λ x. p ∷ x) more
 
 -- the rest of a text has a piece
 pub pieces_left-some : (rest : Option (Bor (List ℕ))) → is_some rest ≡ true → pieces_left rest ≢ []
 pieces_left-some None some none = cc
-pieces_left-some (Some behind) some none = let e = length-slice_split (λ c. nat_eq c dot) behind.now in let k = ap length none in omega arith
+pieces_left-some (Some others) some none = let e = length-slice_split (λ c. nat_eq c dot) others.now in let k = ap length none in omega arith
 
 -- a version with no second number, and one with no third
 no_second : (major patch : Option ℕ) → version_of_numbers major None patch ≡ None
@@ -134,7 +134,7 @@ version_of-name v major minor patch =
     let a = decimal_digits v.major (omega arith) in
     let b = decimal_digits v.minor (omega arith) in
     let c = decimal_digits v.patch (omega arith) in
-    let behind = pieces_of-dot (decimal v.minor) (decimal v.patch) b ∙ ap (λ ps. decimal v.minor ∷ ps) (pieces_of-digits (decimal v.patch) c) in
-    let pieces = pieces_of-dot (decimal v.major) (decimal v.minor ++ (dot ∷ decimal v.patch)) a ∙ ap (λ ps. decimal v.major ∷ ps) behind in
+    let others = pieces_of-dot (decimal v.minor) (decimal v.patch) b ∙ ap (λ ps. decimal v.minor ∷ ps) (pieces_of-digits (decimal v.patch) c) in
+    let pieces = pieces_of-dot (decimal v.major) (decimal v.minor ++ (dot ∷ decimal v.patch)) a ∙ ap (λ ps. decimal v.major ∷ ps) others in
     three_pieces (version_name v) (decimal v.major) (decimal v.minor) (decimal v.patch) v.major v.minor v.patch pieces
     (piece_within-decimal 65535 v.major (omega arith) (omega arith)) (piece_within-decimal 255 v.minor (omega arith) (omega arith)) (piece_within-decimal 255 v.patch (omega arith) (omega arith))

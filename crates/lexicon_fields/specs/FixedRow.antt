@@ -12,7 +12,7 @@ has_row text =
 -- the row of a text that has one: the text, and the value that it parses as in each field; it parses as no other vendor or
 -- system, since custom vendors and versions have no row
 pub record IsRowOf (name : List ℕ) (row : FixedRow) : Type 0 where
-  pub stands : has_row name ≡ true
+  pub exists : has_row name ≡ true
   pub text : row.text.now ≡ name
   pub architecture : row.architecture ≡ architecture_of name
   pub vendor : row.vendor ≡ known_vendor_of name

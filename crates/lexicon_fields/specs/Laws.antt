@@ -21,8 +21,8 @@ abbrev pub TextsAreNames : {V : Type 0} → (V → List ℕ) → (List ℕ → O
 TextsAreNames {V} name find = (text : List ℕ) (v : V) → find text ≡ Some v → name v ≡ text
 
 -- the name of a value is at most this many bytes longer than a text that parses as it
-abbrev pub NamesAreLonger : ℕ → {V : Type 0} → (V → List ℕ) → (List ℕ → Option V) → Type 0
-NamesAreLonger bytes {V} name find = (text : List ℕ) (v : V) → find text ≡ Some v → length (name v) ≤ length text + bytes
+abbrev pub NamesGrowAtMost : ℕ → {V : Type 0} → (V → List ℕ) → (List ℕ → Option V) → Type 0
+NamesGrowAtMost bytes {V} name find = (text : List ℕ) (v : V) → find text ≡ Some v → length (name v) ≤ length text + bytes
 
 -- a version whose numbers fit their fields
 abbrev pub IsVersionInRange : DeploymentTarget → Type 0
@@ -46,10 +46,10 @@ CopiesAreTheirSources {V} IsCopy NeedsNoMemory = (source : V) → NeedsNoMemory 
 
 -- two values of this kind feed a hasher the same exactly if what they represent is the same, and what is fed after them, such
 -- as the next field of a struct, can be told apart from what they feed
-pub record FeedsOfTell {V W : Type 0} (IsOfKind : V → Type 0) (value : V → W) (feed : V → HashWrites) : Type 0 where
+pub record HashInjectiveOn {V W : Type 0} (IsOfKind : V → Type 0) (value : V → W) (feed : V → HashWrites) : Type 0 where
   pub exactly : (x y : V) → IsOfKind x → IsOfKind y → (feed x ≡ feed y) ↔ (value x ≡ value y)
   pub with_more : (x y : V) (a b : HashWrites) → IsOfKind x → IsOfKind y → feed x ++ a ≡ feed y ++ b → (value x ≡ value y) × (a ≡ b)
 
 -- this holds for each value of the type, which represents itself
-abbrev pub FeedsTell : {V : Type 0} → (V → HashWrites) → Type 0
-FeedsTell {V} feed = FeedsOfTell (λ (v : V). Unit {0}) (λ (v : V). v) feed
+abbrev pub HashInjective : {V : Type 0} → (V → HashWrites) → Type 0
+HashInjective {V} feed = HashInjectiveOn (λ (v : V). Unit {0}) (λ (v : V). v) feed

@@ -6,8 +6,8 @@ pub mod FixedRow
 pub mod Laws
 pub mod Names
 pub mod OperatingSystem
+pub mod PointerWidth
 pub mod Private
 pub mod SubArchitecture
 pub mod Vendor
 pub mod Version
-pub mod Width

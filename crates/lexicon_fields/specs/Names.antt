@@ -8,8 +8,8 @@ abbrev pub Pair : Type 0 → Type 0
 Pair V = List ℕ × V
 
 -- each value with its name
-abbrev pub named : {V : Type 0} → (V → List ℕ) → List V → List (Pair V)
-named name values = map (λ v. (name v, v)) values
+abbrev pub named_values : {V : Type 0} → (V → List ℕ) → List V → List (Pair V)
+named_values name values = map (λ v. (name v, v)) values
 
 -- the value of the first pair with this text
 abbrev pub value_of : {V : Type 0} → List (Pair V) → List ℕ → Option V
@@ -17,8 +17,8 @@ value_of [] text = None
 value_of (pair ∷ pairs) text = if bytes_eq text pair.0 then Some pair.1 else value_of pairs text
 
 -- the result is the value that the look-up gives, and an error if it gives none
-abbrev pub Answers : {V E : Type 0} → Option V → Result V E → Type 0
-Answers known answer = MatchResult answer (λ v. known ≡ Some v) (λ _. known ≡ None)
+abbrev pub MatchesLookup : {V E : Type 0} → Option V → Result V E → Type 0
+MatchesLookup known answer = MatchResult answer (λ v. known ≡ Some v) (λ _. known ≡ None)
 
 -- the byte between two fields of a triple
 abbrev pub dash : ℕ

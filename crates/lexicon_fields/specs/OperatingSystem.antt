@@ -2,7 +2,7 @@
 use Rattle.std.specs.Prelude.{ℕ, Bool, true, false, List, [], ◌∷◌, ◌++◌, codes, nat_eq, length, drop, Option, Some, None, option_map, option_and_then, if◌then◌else◌}
 use Rattle.std.specs.List.{starts_with}
 use Rattle.std.specs.Option.{option_or}
-use Rattle.lexicon_fields.specs.{declared.deployment_target.DeploymentTarget.DeploymentTarget, declared.operating_system.OperatingSystem.OperatingSystem, Names.Pair, Names.value_of, Names.named}
+use Rattle.lexicon_fields.specs.{declared.deployment_target.DeploymentTarget.DeploymentTarget, declared.operating_system.OperatingSystem.OperatingSystem, Names.Pair, Names.value_of, Names.named_values}
 use Rattle.lexicon_fields.specs.Version.{version_of, version_name}
 use Rattle.lexicon_fields.specs.declared.operating_system.OperatingSystem.TheVariants as operating_system
 
@@ -109,17 +109,17 @@ abbrev pub with_version : (Option DeploymentTarget → OperatingSystem) → List
 with_version operating_system text = option_map operating_system (optional_version_of text)
 
 -- the text after a prefix, if the text begins with it
-abbrev pub behind_prefix : List ℕ → List ℕ → Option (List ℕ)
-behind_prefix prefix text = if starts_with nat_eq text prefix then Some (drop (length prefix) text) else None
+abbrev pub after_prefix : List ℕ → List ℕ → Option (List ℕ)
+after_prefix prefix text = if starts_with nat_eq text prefix then Some (drop (length prefix) text) else None
 
 -- the system like Darwin that a text parses as, by the first of these prefixes that gives one
 abbrev pub darwin_like_by : List (Pair (Option DeploymentTarget → OperatingSystem)) → List ℕ → Option OperatingSystem
 darwin_like_by [] text = None
-darwin_like_by (row ∷ rows) text = option_or (option_and_then (with_version row.1) (behind_prefix row.0 text)) (darwin_like_by rows text)
+darwin_like_by (row ∷ rows) text = option_or (option_and_then (with_version row.1) (after_prefix row.0 text)) (darwin_like_by rows text)
 
 -- the system with this fixed name, if there is one
 unfoldable pub fixed_operating_system_of : List ℕ → Option OperatingSystem
-fixed_operating_system_of text = value_of (named operating_system_name fixed_operating_systems) text
+fixed_operating_system_of text = value_of (named_values operating_system_name fixed_operating_systems) text
 
 -- the value that a text parses as, if any
 unfoldable pub operating_system_of : List ℕ → Option OperatingSystem

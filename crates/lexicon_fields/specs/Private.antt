@@ -13,7 +13,7 @@ abbrev pub digit_byte : ℕ → ℕ
 digit_byte n = 48 + n
 
 -- the first bytes of a text as a big-endian number; a missing byte is zero
-abbrev pub front_of : ℕ → List ℕ → ℕ
-front_of zero text = 0
-front_of (suc k) [] = 0
-front_of (suc k) (c ∷ cs) = c * 256 ^ k + front_of k cs
+abbrev pub prefix_key_of : ℕ → List ℕ → ℕ
+prefix_key_of zero text = 0
+prefix_key_of (suc k) [] = 0
+prefix_key_of (suc k) (c ∷ cs) = c * 256 ^ k + prefix_key_of k cs

@@ -1,7 +1,7 @@
 //! The architectures.
 ghost use Rattle.std.specs.Prelude.{◌≡◌, ◌↔◌, IsErr, Some};
 ghost use Rattle.std.specs.Cow.{cow_str_bytes, IsBorrowedStr};
-ghost use Rattle.lexicon_fields.specs.Names.{Answers};
+ghost use Rattle.lexicon_fields.specs.Names.{MatchesLookup};
 ghost use Rattle.lexicon_fields.specs.Architecture.{architecture_name, architecture_of};
 ghost use Rattle.lexicon_fields.specs.ArchitectureQueries.{architecture_endianness, architecture_width, is_clever};
 
@@ -13,9 +13,10 @@ mod riscv;
 mod x86_32;
 mod z80;
 
+use crate::endianness::Endianness;
+use crate::pointer_width::PointerWidth;
 use crate::steps::Steps;
 use crate::table::fixed_row;
-use crate::width::{Endianness, PointerWidth};
 pub use aarch64::Aarch64Architecture;
 pub use arm::ArmArchitecture;
 pub use clever::CleverArchitecture;
@@ -99,7 +100,7 @@ impl Architecture {
 
     /// The byte order. `Err` for `Unknown`.
     pub fn endianness(self) -> Result<Endianness, ()>
-        ensures answer { Answers (architecture_endianness self) result }
+        ensures answer { MatchesLookup (architecture_endianness self) result }
         ensures refusal { IsErr result ↔ (self ≡ Architecture.Unknown) }
     {
         match self {
@@ -147,7 +148,7 @@ impl Architecture {
 
     /// The width of a pointer, independent of the ABI. `Err` for `Unknown`.
     pub fn pointer_width(self) -> Result<PointerWidth, ()>
-        ensures answer { Answers (architecture_width self) result }
+        ensures answer { MatchesLookup (architecture_width self) result }
         ensures refusal { IsErr result ↔ (self ≡ Architecture.Unknown) }
     {
         Ok(match self {
@@ -199,7 +200,7 @@ impl Architecture {
     /// The value with this name; `arm64` is an alias of `aarch64`. `Err` for every other text.
     #[tactic(auto, using(crate::proofs::RowsHold::nowhere))]
     pub fn from_str(s: &str) -> Result<Self, ()>
-        ensures { Answers (architecture_of s.now) result }
+        ensures { MatchesLookup (architecture_of s.now) result }
     {
         match fixed_row(s, &mut Steps::new()) {
             Some(row) => row.architecture.ok_or(()),
@@ -263,7 +264,7 @@ impl Architecture {
 impl FromStr for Architecture {
     type Err = ();
 
-    ghost from_str_gives = { λ s. Answers (architecture_of s) };
+    ghost from_str_gives = { λ s. MatchesLookup (architecture_of s) };
 
     fn from_str(s: &str) -> Result<Architecture, ()> {
         Architecture::from_str(s)

@@ -1,7 +1,7 @@
 //! The binary formats.
 ghost use Rattle.std.specs.Prelude.{◌≡◌, Some};
 ghost use Rattle.std.specs.Cow.{cow_str_bytes, IsBorrowedStr};
-ghost use Rattle.lexicon_fields.specs.Names.{Answers};
+ghost use Rattle.lexicon_fields.specs.Names.{MatchesLookup};
 ghost use Rattle.lexicon_fields.specs.BinaryFormat.{binary_format_name, binary_format_of};
 
 use crate::steps::Steps;
@@ -36,7 +36,7 @@ impl BinaryFormat {
     /// The value with this name. `Err` for every other text.
     #[tactic(auto, using(crate::proofs::RowsHold::nowhere))]
     pub fn from_str(s: &str) -> Result<Self, ()>
-        ensures { Answers (binary_format_of s.now) result }
+        ensures { MatchesLookup (binary_format_of s.now) result }
     {
         match fixed_row(s, &mut Steps::new()) {
             Some(row) => row.binary_format.ok_or(()),
@@ -69,7 +69,7 @@ impl BinaryFormat {
 impl FromStr for BinaryFormat {
     type Err = ();
 
-    ghost from_str_gives = { λ s. Answers (binary_format_of s) };
+    ghost from_str_gives = { λ s. MatchesLookup (binary_format_of s) };
 
     fn from_str(s: &str) -> Result<BinaryFormat, ()> {
         BinaryFormat::from_str(s)

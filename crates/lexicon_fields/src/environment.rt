@@ -1,7 +1,7 @@
 //! The environments.
 ghost use Rattle.std.specs.Prelude.{◌≡◌, Some};
 ghost use Rattle.std.specs.Cow.{cow_str_bytes, IsBorrowedStr};
-ghost use Rattle.lexicon_fields.specs.Names.{Answers};
+ghost use Rattle.lexicon_fields.specs.Names.{MatchesLookup};
 ghost use Rattle.lexicon_fields.specs.Environment.{environment_name, environment_of};
 
 use crate::steps::Steps;
@@ -78,7 +78,7 @@ impl Environment {
     /// The value with this name. `Err` for every other text.
     #[tactic(auto, using(crate::proofs::RowsHold::nowhere))]
     pub fn from_str(s: &str) -> Result<Self, ()>
-        ensures { Answers (environment_of s.now) result }
+        ensures { MatchesLookup (environment_of s.now) result }
     {
         match fixed_row(s, &mut Steps::new()) {
             Some(row) => row.environment.ok_or(()),
@@ -140,7 +140,7 @@ impl Environment {
 impl FromStr for Environment {
     type Err = ();
 
-    ghost from_str_gives = { λ s. Answers (environment_of s) };
+    ghost from_str_gives = { λ s. MatchesLookup (environment_of s) };
 
     fn from_str(s: &str) -> Result<Environment, ()> {
         Environment::from_str(s)

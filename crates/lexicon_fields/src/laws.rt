@@ -3,7 +3,7 @@ ghost use Rattle.std.specs.Prelude.{◌≡◌, ◌↔◌, true, ℕ, List, Some,
 ghost use Rattle.std.specs.Cmp.Lexicographic.{slice_cmp};
 ghost use Rattle.std.specs.List.Sorted.{IsStrictlySortedBy};
 ghost use Rattle.std.specs.Ordering.{nat_cmp};
-ghost use Rattle.lexicon_fields.specs.Laws.{FeedsOfTell, FeedsTell, CopiesAreTheirSources, IsVersionInRange, HasVersionInRange, NamesOfReadBack, NamesReadBack, TextsAreNames, NamesAreLonger, ComparesByValue, version_cmp};
+ghost use Rattle.lexicon_fields.specs.Laws.{HashInjectiveOn, HashInjective, CopiesAreTheirSources, IsVersionInRange, HasVersionInRange, NamesOfReadBack, NamesReadBack, TextsAreNames, NamesGrowAtMost, ComparesByValue, version_cmp};
 ghost use Rattle.lexicon_fields.specs.SubArchitecture.{arm_name, aarch64_name, x86_32_name, mips32_name, mips64_name, riscv32_name, riscv64_name, clever_name, z80_name};
 ghost use Rattle.lexicon_fields.specs.Architecture.{architecture_name, architecture_of, sub_architecture_of, as_arm, as_aarch64, as_x86_32, as_mips32, as_mips64, as_riscv32, as_riscv64, as_clever, as_z80};
 ghost use Rattle.lexicon_fields.specs.Environment.{environment_name, environment_of};
@@ -21,12 +21,13 @@ use crate::architecture::{
 };
 use crate::binary_format::BinaryFormat;
 use crate::deployment_target::DeploymentTarget;
+use crate::endianness::Endianness;
 use crate::environment::Environment;
 use crate::known_vendor::KnownVendor;
 use crate::operating_system::OperatingSystem;
+use crate::pointer_width::PointerWidth;
 use crate::table::FixedRow;
 use crate::vendor::{CustomVendor, Vendor, VendorError};
-use crate::width::{Endianness, PointerWidth};
 use std::hash::Hash;
 
 /// Each value parses back from its name, versions included, and no text that parses as a value has a dash. For
@@ -50,18 +51,20 @@ pub fn names_read_back()
 
 /// A text that parses as a vendor, an environment or a binary format is its name. The name of an architecture or a
 /// system can be longer than the text, by at most 2 and 4 bytes: `arm64` is `aarch64`, and `ios1` is `ios1.0.0`.
-pub fn names_are_little_longer()
+pub fn names_grow_at_most()
     ensures vendor { TextsAreNames vendor_name vendor_of }
     ensures environment { TextsAreNames environment_name environment_of }
     ensures binary_format { TextsAreNames binary_format_name binary_format_of }
-    ensures architecture { NamesAreLonger 2 architecture_name architecture_of }
-    ensures operating_system { NamesAreLonger 4 operating_system_name operating_system_of }
+    ensures architecture { NamesGrowAtMost 2 architecture_name architecture_of }
+    ensures operating_system { NamesGrowAtMost 4 operating_system_name operating_system_of }
 {}
 
 /// The version of each system that a text parses as is in range.
 #[tactic(auto, using(crate::proofs::SystemsRead::version_in_range))]
 pub fn read_versions_are_in_range()
-    ensures { (text : List ℕ) (s : OperatingSystem) → operating_system_of text ≡ Some s → HasVersionInRange s }
+    ensures { (text : List ℕ) (s : OperatingSystem) →
+        operating_system_of text ≡ Some s →
+        HasVersionInRange s }
 {}
 
 /// Versions are ordered by major, then minor, then patch.
@@ -112,50 +115,69 @@ pub fn values_are_equal_by_variant_and_fields()
 
 /// Two custom vendors feed a hasher equally exactly if their texts are equal.
 pub fn custom_vendors_feed_by_text()
-    ensures { (x y : CustomVendor) → (⟦<CustomVendor as Hash>⟧.hash_input x ≡ ⟦<CustomVendor as Hash>⟧.hash_input y) ↔ (custom_text x ≡ custom_text y) }
+    ensures { (x y : CustomVendor) →
+        (⟦<CustomVendor as Hash>⟧.hash_input x ≡ ⟦<CustomVendor as Hash>⟧.hash_input y)
+        ↔ (custom_text x ≡ custom_text y) }
 {}
 
 /// Two values of a type feed a hasher the same exactly if they are equal, and what is fed after a value can be told
 /// apart from what the value feeds. For systems with a version this holds if the version is in range.
 pub fn values_feed_by_variant_and_fields()
-    ensures architecture { FeedsTell ⟦<Architecture as Hash>⟧.hash_input }
-    ensures arm { FeedsTell ⟦<ArmArchitecture as Hash>⟧.hash_input }
-    ensures aarch64 { FeedsTell ⟦<Aarch64Architecture as Hash>⟧.hash_input }
-    ensures x86_32 { FeedsTell ⟦<X86_32Architecture as Hash>⟧.hash_input }
-    ensures mips32 { FeedsTell ⟦<Mips32Architecture as Hash>⟧.hash_input }
-    ensures mips64 { FeedsTell ⟦<Mips64Architecture as Hash>⟧.hash_input }
-    ensures riscv32 { FeedsTell ⟦<Riscv32Architecture as Hash>⟧.hash_input }
-    ensures riscv64 { FeedsTell ⟦<Riscv64Architecture as Hash>⟧.hash_input }
-    ensures clever { FeedsTell ⟦<CleverArchitecture as Hash>⟧.hash_input }
-    ensures z80 { FeedsTell ⟦<Z80Architecture as Hash>⟧.hash_input }
-    ensures vendor { FeedsOfTell (λ (v : Vendor). Unit {0}) vendor_value ⟦<Vendor as Hash>⟧.hash_input }
-    ensures version { FeedsOfTell IsVersionInRange (λ v. v) ⟦<DeploymentTarget as Hash>⟧.hash_input }
-    ensures operating_system { FeedsOfTell HasVersionInRange (λ s. s) ⟦<OperatingSystem as Hash>⟧.hash_input }
-    ensures environment { FeedsTell ⟦<Environment as Hash>⟧.hash_input }
-    ensures binary_format { FeedsTell ⟦<BinaryFormat as Hash>⟧.hash_input }
-    ensures endianness { FeedsTell ⟦<Endianness as Hash>⟧.hash_input }
-    ensures pointer_width { FeedsTell ⟦<PointerWidth as Hash>⟧.hash_input }
+    ensures architecture { HashInjective ⟦<Architecture as Hash>⟧.hash_input }
+    ensures arm { HashInjective ⟦<ArmArchitecture as Hash>⟧.hash_input }
+    ensures aarch64 { HashInjective ⟦<Aarch64Architecture as Hash>⟧.hash_input }
+    ensures x86_32 { HashInjective ⟦<X86_32Architecture as Hash>⟧.hash_input }
+    ensures mips32 { HashInjective ⟦<Mips32Architecture as Hash>⟧.hash_input }
+    ensures mips64 { HashInjective ⟦<Mips64Architecture as Hash>⟧.hash_input }
+    ensures riscv32 { HashInjective ⟦<Riscv32Architecture as Hash>⟧.hash_input }
+    ensures riscv64 { HashInjective ⟦<Riscv64Architecture as Hash>⟧.hash_input }
+    ensures clever { HashInjective ⟦<CleverArchitecture as Hash>⟧.hash_input }
+    ensures z80 { HashInjective ⟦<Z80Architecture as Hash>⟧.hash_input }
+    ensures vendor { HashInjectiveOn (λ (v : Vendor). Unit {0}) vendor_value ⟦<Vendor as Hash>⟧.hash_input }
+    ensures version { HashInjectiveOn IsVersionInRange (λ v. v) ⟦<DeploymentTarget as Hash>⟧.hash_input }
+    ensures operating_system { HashInjectiveOn HasVersionInRange (λ s. s) ⟦<OperatingSystem as Hash>⟧.hash_input }
+    ensures environment { HashInjective ⟦<Environment as Hash>⟧.hash_input }
+    ensures binary_format { HashInjective ⟦<BinaryFormat as Hash>⟧.hash_input }
+    ensures endianness { HashInjective ⟦<Endianness as Hash>⟧.hash_input }
+    ensures pointer_width { HashInjective ⟦<PointerWidth as Hash>⟧.hash_input }
 {}
 
 /// A copy of a value is that value, and copying allocates nothing.
 pub fn copies_are_their_sources()
-    ensures architecture { CopiesAreTheirSources ⟦<Architecture as Clone>⟧.is_clone ⟦<Architecture as Clone>⟧.is_infallible }
-    ensures arm { CopiesAreTheirSources ⟦<ArmArchitecture as Clone>⟧.is_clone ⟦<ArmArchitecture as Clone>⟧.is_infallible }
-    ensures aarch64 { CopiesAreTheirSources ⟦<Aarch64Architecture as Clone>⟧.is_clone ⟦<Aarch64Architecture as Clone>⟧.is_infallible }
-    ensures x86_32 { CopiesAreTheirSources ⟦<X86_32Architecture as Clone>⟧.is_clone ⟦<X86_32Architecture as Clone>⟧.is_infallible }
-    ensures mips32 { CopiesAreTheirSources ⟦<Mips32Architecture as Clone>⟧.is_clone ⟦<Mips32Architecture as Clone>⟧.is_infallible }
-    ensures mips64 { CopiesAreTheirSources ⟦<Mips64Architecture as Clone>⟧.is_clone ⟦<Mips64Architecture as Clone>⟧.is_infallible }
-    ensures riscv32 { CopiesAreTheirSources ⟦<Riscv32Architecture as Clone>⟧.is_clone ⟦<Riscv32Architecture as Clone>⟧.is_infallible }
-    ensures riscv64 { CopiesAreTheirSources ⟦<Riscv64Architecture as Clone>⟧.is_clone ⟦<Riscv64Architecture as Clone>⟧.is_infallible }
-    ensures clever { CopiesAreTheirSources ⟦<CleverArchitecture as Clone>⟧.is_clone ⟦<CleverArchitecture as Clone>⟧.is_infallible }
-    ensures z80 { CopiesAreTheirSources ⟦<Z80Architecture as Clone>⟧.is_clone ⟦<Z80Architecture as Clone>⟧.is_infallible }
-    ensures version { CopiesAreTheirSources ⟦<DeploymentTarget as Clone>⟧.is_clone ⟦<DeploymentTarget as Clone>⟧.is_infallible }
-    ensures operating_system { CopiesAreTheirSources ⟦<OperatingSystem as Clone>⟧.is_clone ⟦<OperatingSystem as Clone>⟧.is_infallible }
-    ensures environment { CopiesAreTheirSources ⟦<Environment as Clone>⟧.is_clone ⟦<Environment as Clone>⟧.is_infallible }
-    ensures binary_format { CopiesAreTheirSources ⟦<BinaryFormat as Clone>⟧.is_clone ⟦<BinaryFormat as Clone>⟧.is_infallible }
+    ensures architecture { CopiesAreTheirSources ⟦<Architecture as Clone>⟧.is_clone
+        ⟦<Architecture as Clone>⟧.is_infallible }
+    ensures arm { CopiesAreTheirSources ⟦<ArmArchitecture as Clone>⟧.is_clone
+        ⟦<ArmArchitecture as Clone>⟧.is_infallible }
+    ensures aarch64 { CopiesAreTheirSources ⟦<Aarch64Architecture as Clone>⟧.is_clone
+        ⟦<Aarch64Architecture as Clone>⟧.is_infallible }
+    ensures x86_32 { CopiesAreTheirSources ⟦<X86_32Architecture as Clone>⟧.is_clone
+        ⟦<X86_32Architecture as Clone>⟧.is_infallible }
+    ensures mips32 { CopiesAreTheirSources ⟦<Mips32Architecture as Clone>⟧.is_clone
+        ⟦<Mips32Architecture as Clone>⟧.is_infallible }
+    ensures mips64 { CopiesAreTheirSources ⟦<Mips64Architecture as Clone>⟧.is_clone
+        ⟦<Mips64Architecture as Clone>⟧.is_infallible }
+    ensures riscv32 { CopiesAreTheirSources ⟦<Riscv32Architecture as Clone>⟧.is_clone
+        ⟦<Riscv32Architecture as Clone>⟧.is_infallible }
+    ensures riscv64 { CopiesAreTheirSources ⟦<Riscv64Architecture as Clone>⟧.is_clone
+        ⟦<Riscv64Architecture as Clone>⟧.is_infallible }
+    ensures clever { CopiesAreTheirSources ⟦<CleverArchitecture as Clone>⟧.is_clone
+        ⟦<CleverArchitecture as Clone>⟧.is_infallible }
+    ensures z80 { CopiesAreTheirSources ⟦<Z80Architecture as Clone>⟧.is_clone
+        ⟦<Z80Architecture as Clone>⟧.is_infallible }
+    ensures version { CopiesAreTheirSources ⟦<DeploymentTarget as Clone>⟧.is_clone
+        ⟦<DeploymentTarget as Clone>⟧.is_infallible }
+    ensures operating_system { CopiesAreTheirSources ⟦<OperatingSystem as Clone>⟧.is_clone
+        ⟦<OperatingSystem as Clone>⟧.is_infallible }
+    ensures environment { CopiesAreTheirSources ⟦<Environment as Clone>⟧.is_clone
+        ⟦<Environment as Clone>⟧.is_infallible }
+    ensures binary_format { CopiesAreTheirSources ⟦<BinaryFormat as Clone>⟧.is_clone
+        ⟦<BinaryFormat as Clone>⟧.is_infallible }
     ensures endianness { CopiesAreTheirSources ⟦<Endianness as Clone>⟧.is_clone ⟦<Endianness as Clone>⟧.is_infallible }
-    ensures pointer_width { CopiesAreTheirSources ⟦<PointerWidth as Clone>⟧.is_clone ⟦<PointerWidth as Clone>⟧.is_infallible }
-    ensures vendor_error { CopiesAreTheirSources ⟦<VendorError as Clone>⟧.is_clone ⟦<VendorError as Clone>⟧.is_infallible }
-    ensures known_vendor { CopiesAreTheirSources ⟦<KnownVendor as Clone>⟧.is_clone ⟦<KnownVendor as Clone>⟧.is_infallible }
+    ensures pointer_width { CopiesAreTheirSources ⟦<PointerWidth as Clone>⟧.is_clone
+        ⟦<PointerWidth as Clone>⟧.is_infallible }
+    ensures vendor_error { CopiesAreTheirSources ⟦<VendorError as Clone>⟧.is_clone
+        ⟦<VendorError as Clone>⟧.is_infallible }
+    ensures known_vendor { CopiesAreTheirSources ⟦<KnownVendor as Clone>⟧.is_clone
+        ⟦<KnownVendor as Clone>⟧.is_infallible }
     ensures fixed_row { CopiesAreTheirSources ⟦<FixedRow as Clone>⟧.is_clone ⟦<FixedRow as Clone>⟧.is_infallible }
 {}

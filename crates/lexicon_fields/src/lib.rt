@@ -5,14 +5,15 @@ mod architecture;
 mod binary_format;
 mod decimal;
 mod deployment_target;
+mod endianness;
 mod environment;
 mod known_vendor;
 pub mod laws;
 mod operating_system;
+mod pointer_width;
 mod steps;
 mod table;
 mod vendor;
-mod width;
 
 pub use architecture::{
     Aarch64Architecture, Architecture, ArmArchitecture, CleverArchitecture, Mips32Architecture,
@@ -22,10 +23,11 @@ pub use architecture::{
 pub use binary_format::BinaryFormat;
 pub use decimal::write_decimal;
 pub use deployment_target::DeploymentTarget;
+pub use endianness::Endianness;
 pub use environment::Environment;
 pub use known_vendor::KnownVendor;
 pub use operating_system::OperatingSystem;
+pub use pointer_width::PointerWidth;
 pub use steps::Steps;
 pub use table::{FixedRow, ROW_COUNT, fixed_row, row_order};
 pub use vendor::{CustomVendor, Vendor, VendorError};
-pub use width::{Endianness, PointerWidth};

@@ -2,7 +2,7 @@
 ghost use Rattle.std.specs.Prelude.{◌≡◌, ◌++◌, false, Some, None, IfOk, IsNone, IsOkAnd};
 ghost use Rattle.std.specs.Cow.{cow_str_bytes, IsBorrowedStr};
 ghost use Rattle.lexicon_fields.specs.FixedRow.{has_row};
-ghost use Rattle.lexicon_fields.specs.Names.{Answers};
+ghost use Rattle.lexicon_fields.specs.Names.{MatchesLookup};
 ghost use Rattle.lexicon_fields.specs.Version.{version_name};
 ghost use Rattle.lexicon_fields.specs.OperatingSystem.{operating_system_name, operating_system_of, version_held, version_suffix, optional_version_of, darwin_like_by, darwin_prefixes, is_like_darwin};
 
@@ -75,9 +75,9 @@ impl OperatingSystem {
     /// pieces between dots, each an optional plus and digits, the first at most 65535, the others at most 255.
     #[tactic(auto, using(crate::proofs::RowsHold::read_either_way))]
     pub fn from_str(s: &str) -> Result<Self, ()>
-        ensures { Answers (operating_system_of s.now) result }
+        ensures { MatchesLookup (operating_system_of s.now) result }
     {
-        if let Some(system) = OperatingSystem::like_darwin(s) {
+        if let Some(system) = OperatingSystem::parse_darwin_like(s) {
             return Ok(system);
         }
         match fixed_row(s, &mut Steps::new()) {
@@ -88,10 +88,10 @@ impl OperatingSystem {
 
     /// The system like Darwin that the text parses as, if any. A text without a row in the table of names parses as no
     /// other system. Most other texts are rejected by their first letter.
-    #[tactic(auto, using(crate::proofs::RowsHold::rowless_is_like_darwin))]
-    pub fn like_darwin(s: &str) -> Option<Self>
+    #[tactic(auto, using(crate::proofs::RowsHold::without_row_is_darwin_like))]
+    pub fn parse_darwin_like(s: &str) -> Option<Self>
         ensures like { result ≡ darwin_like_by darwin_prefixes s.now }
-        ensures rowless { has_row s.now ≡ false → result ≡ operating_system_of s.now }
+        ensures without_row { has_row s.now ≡ false → result ≡ operating_system_of s.now }
     {
         match s.as_bytes().first() {
             Some(b'd' | b'i' | b'm' | b't' | b'v' | b'w' | b'x') => OperatingSystem::by_prefix(s),
@@ -104,25 +104,25 @@ impl OperatingSystem {
         ensures { result ≡ darwin_like_by darwin_prefixes s.now }
     {
         if let Some(rest) = s.strip_prefix("darwin") {
-            return Some(OperatingSystem::Darwin(version_behind(rest)?));
+            return Some(OperatingSystem::Darwin(version_after(rest)?));
         }
         if let Some(rest) = s.strip_prefix("ios") {
-            return Some(OperatingSystem::IOS(version_behind(rest)?));
+            return Some(OperatingSystem::IOS(version_after(rest)?));
         }
         if let Some(rest) = s.strip_prefix("macosx") {
-            return Some(OperatingSystem::MacOSX(version_behind(rest)?));
+            return Some(OperatingSystem::MacOSX(version_after(rest)?));
         }
         if let Some(rest) = s.strip_prefix("tvos") {
-            return Some(OperatingSystem::TvOS(version_behind(rest)?));
+            return Some(OperatingSystem::TvOS(version_after(rest)?));
         }
         if let Some(rest) = s.strip_prefix("visionos") {
-            return Some(OperatingSystem::VisionOS(version_behind(rest)?));
+            return Some(OperatingSystem::VisionOS(version_after(rest)?));
         }
         if let Some(rest) = s.strip_prefix("watchos") {
-            return Some(OperatingSystem::WatchOS(version_behind(rest)?));
+            return Some(OperatingSystem::WatchOS(version_after(rest)?));
         }
         if let Some(rest) = s.strip_prefix("xros") {
-            return Some(OperatingSystem::XROS(version_behind(rest)?));
+            return Some(OperatingSystem::XROS(version_after(rest)?));
         }
         None
     }
@@ -220,7 +220,7 @@ impl OperatingSystem {
 }
 
 /// The version after a prefix: `Some(None)` if nothing follows, `None` if what follows is no version.
-fn version_behind(rest: &str) -> Option<Option<DeploymentTarget>>
+fn version_after(rest: &str) -> Option<Option<DeploymentTarget>>
     ensures { result ≡ optional_version_of rest.now }
 {
     if rest.is_empty() {
@@ -235,7 +235,7 @@ fn version_behind(rest: &str) -> Option<Option<DeploymentTarget>>
 impl FromStr for OperatingSystem {
     type Err = ();
 
-    ghost from_str_gives = { λ s. Answers (operating_system_of s) };
+    ghost from_str_gives = { λ s. MatchesLookup (operating_system_of s) };
 
     fn from_str(s: &str) -> Result<OperatingSystem, ()> {
         OperatingSystem::from_str(s)

@@ -4,7 +4,7 @@ ghost use Rattle.std.specs.Cmp.Lexicographic.{slice_cmp};
 ghost use Rattle.std.specs.Ordering.{nat_cmp};
 ghost use Rattle.lexicon_fields.specs.FixedRow.{has_row, IsRowOf, row_count, row_text};
 
-mod front;
+mod prefix_key;
 mod rows;
 
 use crate::architecture::Architecture;
@@ -56,14 +56,15 @@ pub fn row_order(i: usize, text: &str, steps: &mut Steps) -> Ordering
 {
     steps.tick();
     let row = row(i);
-    front::order(row.1, row.0, front::front(text), text)
+    prefix_key::order(row.1, row.0, prefix_key::prefix_key(text), text)
 }
 
 /// The number of the text's row. Texts of these three lengths have a search each, so that the compiler computes the
 /// text's prefix key once. Most texts have four to eight bytes, and their search calls no function.
 #[inline(never)]
 fn row_number(text: &str, steps: &mut Steps) -> Option<usize>
-    ensures row { MatchOption result (has_row text.now ≡ false) (λ i. (i < row_count) × (row_text i ≡ text.now)) }
+    ensures row { MatchOption result (has_row text.now ≡ false)
+        (λ i. (i < row_count) × (row_text i ≡ text.now)) }
     ensures counted { steps.old.count < steps.new.count }
     ensures few { steps.new.count ≤ steps.old.count + 8 }
 {
@@ -79,7 +80,8 @@ fn row_number(text: &str, steps: &mut Steps) -> Option<usize>
 /// [`row_number`] of a text of more than eight bytes.
 #[inline(never)]
 fn row_number_of_long(text: &str, steps: &mut Steps) -> Option<usize>
-    ensures row { MatchOption result (has_row text.now ≡ false) (λ i. (i < row_count) × (row_text i ≡ text.now)) }
+    ensures row { MatchOption result (has_row text.now ≡ false)
+        (λ i. (i < row_count) × (row_text i ≡ text.now)) }
     ensures counted { steps.old.count < steps.new.count }
     ensures few { steps.new.count ≤ steps.old.count + 8 }
 {
@@ -89,7 +91,8 @@ fn row_number_of_long(text: &str, steps: &mut Steps) -> Option<usize>
 /// [`row_number`] of a text of at most three bytes.
 #[inline(never)]
 fn row_number_of_short(text: &str, steps: &mut Steps) -> Option<usize>
-    ensures row { MatchOption result (has_row text.now ≡ false) (λ i. (i < row_count) × (row_text i ≡ text.now)) }
+    ensures row { MatchOption result (has_row text.now ≡ false)
+        (λ i. (i < row_count) × (row_text i ≡ text.now)) }
     ensures counted { steps.old.count < steps.new.count }
     ensures few { steps.new.count ≤ steps.old.count + 8 }
 {
@@ -99,7 +102,8 @@ fn row_number_of_short(text: &str, steps: &mut Steps) -> Option<usize>
 /// The binary search for the text's row.
 #[inline(always)]
 fn search(text: &str, steps: &mut Steps) -> Option<usize>
-    ensures row { MatchOption result (has_row text.now ≡ false) (λ i. (i < row_count) × (row_text i ≡ text.now)) }
+    ensures row { MatchOption result (has_row text.now ≡ false)
+        (λ i. (i < row_count) × (row_text i ≡ text.now)) }
     ensures counted { steps.old.count < steps.new.count }
     ensures few { steps.new.count ≤ steps.old.count + 8 }
 {

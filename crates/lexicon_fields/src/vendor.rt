@@ -131,12 +131,12 @@ impl Vendor {
                 Some(known) => Ok(known.to_vendor()),
                 None => Err(VendorError::Unrecognized),
             },
-            None => Vendor::of_rowless(alloc, s),
+            None => Vendor::custom_from_str(alloc, s),
         }
     }
 
     /// The result of `from_str` for a text without a row in the table of names, which isn't looked up again.
-    pub fn of_rowless(alloc: Global, s: &str) -> Result<Self, VendorError>
+    pub fn custom_from_str(alloc: Global, s: &str) -> Result<Self, VendorError>
         requires { has_row s.now ≡ false }
         ensures ok { IfOk result (λ vendor. vendor_of s.now ≡ Some (vendor_value vendor)) }
         ensures owned { IfOk result (λ vendor. owns_text vendor ≡ is_admitted s.now) }
@@ -145,7 +145,7 @@ impl Vendor {
         if !has_vendor_form(s) {
             return Err(VendorError::Unrecognized);
         }
-        if OperatingSystem::like_darwin(s).is_some() {
+        if OperatingSystem::parse_darwin_like(s).is_some() {
             return Err(VendorError::Unrecognized);
         }
         match CustomVendor::owned(alloc, s) {
@@ -243,7 +243,7 @@ fn is_admitted(s: &str) -> bool
     }
     match fixed_row(s, &mut Steps::new()) {
         Some(_) => false,
-        None => OperatingSystem::like_darwin(s).is_none(),
+        None => OperatingSystem::parse_darwin_like(s).is_none(),
     }
 }
 

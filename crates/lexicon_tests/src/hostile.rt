@@ -3,7 +3,7 @@
 use crate::fixtures::OfTriple;
 use crate::printing::Prints;
 use crate::reading::IsRefused;
-use field_tests::{check_rows, lengthened};
+use field_tests::{check_rows, lengthened_rows};
 use std::process::Abort;
 
 /// A text, and behind `=` the line that tells why it is refused.
@@ -42,7 +42,7 @@ x86_64-apple-ios1.2.3.*=Unrecognized operating system: ios1.2.3.*";
 
 #[test]
 fn a_number_may_be_too_long(rt: HostRuntime) {
-    let rows = lengthened(rt.alloc(), NINES, "9").expect(&rt, "memory");
+    let rows = lengthened_rows(rt.alloc(), NINES, "9").expect(&rt, "memory");
     assert_eq!(rt; check_rows::<IsRefused>(rt.alloc(), rows.as_str()), Ok(()));
 }
 
@@ -51,7 +51,7 @@ const ZEROS: &str = "x86_64-apple-darwin*23.*=x86_64-apple-darwin23.0.0";
 
 #[test]
 fn zeros_may_stand_in_front(rt: HostRuntime) {
-    let rows = lengthened(rt.alloc(), ZEROS, "0").expect(&rt, "memory");
+    let rows = lengthened_rows(rt.alloc(), ZEROS, "0").expect(&rt, "memory");
     assert_eq!(rt;
         check_rows::<OfTriple<Prints>>(rt.alloc(), rows.as_str()),
         Ok(())

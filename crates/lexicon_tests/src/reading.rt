@@ -1,7 +1,7 @@
 //! Texts that read as a triple, and texts that are refused.
 
 use crate::fixtures::{OfTriple, QuestionOf, is_read};
-use field_tests::{Question, check_rows, lengthened, prints, tells_each_fault, writes};
+use field_tests::{Question, check_rows, lengthened_rows, prints, reports_each_failure, writes};
 use std::alloc::Global;
 use std::fmt::Display;
 use std::process::Abort;
@@ -104,7 +104,7 @@ fn is_error_cloned(alloc: Global, error: &ParseError, line: &str) -> bool {
 
 /// Of an element of a list, the error tells each fault of what it is printed to.
 fn tells_in_list(error: ParseError) -> bool {
-    tells_each_fault(&ListError::Element(190, JsonError::Parse(error)))
+    reports_each_failure(&ListError::Element(190, JsonError::Parse(error)))
 }
 
 /// The line tells why the text is refused.
@@ -180,7 +180,7 @@ x86_64-unknown-linux-gnu-elf*****=Unrecognized field: ";
 
 #[test]
 fn dashes_may_be_many(rt: HostRuntime) {
-    let rows = lengthened(rt.alloc(), DASHES, "-").expect(&rt, "memory");
+    let rows = lengthened_rows(rt.alloc(), DASHES, "-").expect(&rt, "memory");
     assert_eq!(rt; check_rows::<IsRefused>(rt.alloc(), rows.as_str()), Ok(()));
 }
 
@@ -191,6 +191,6 @@ pub(crate) fn is_host(read: Result<Triple, ParseError>) -> bool {
 #[test]
 fn the_macro_reads_its_text(rt: HostRuntime) {
     assert!(rt; is_host(triple!(rt.alloc(), "x86_64-unknown-linux-gnu")));
-    let refused = triple!(rt.alloc(), "foo\n",);
-    assert!(rt; is_answer(refused, "Unrecognized architecture: foo\n"));
+    let refusal_with = triple!(rt.alloc(), "foo\n",);
+    assert!(rt; is_answer(refusal_with, "Unrecognized architecture: foo\n"));
 }

@@ -3,7 +3,7 @@
 use field_tests::{Question, check_rows};
 use std::alloc::Global;
 use target_lexicon::Triple;
-use uses::{names_target, settled_text, share_key};
+use uses::{canonical_text, names_target, share_key};
 
 /// Two spellings of one target each: aliases, a custom vendor, and each family that doesn't come back.
 const SAME: &str = "\
@@ -29,8 +29,8 @@ x86_64-esp-espidf-elf=x86_64-espressif-espidf-elf";
 
 /// Whether both texts have one settled text.
 fn have_one_text(alloc: Global, first: &str, second: &str) -> Option<bool> {
-    let text = settled_text(alloc, first).ok()?;
-    Some(text == settled_text(alloc, second).ok()?)
+    let text = canonical_text(alloc, first).ok()?;
+    Some(text == canonical_text(alloc, second).ok()?)
 }
 
 /// Whether the text names the triple's target.

@@ -3,11 +3,11 @@ use Rattle.std.proofs.Common.{◌≡◌, ℕ, ◌≤◌, List, [], ◌∷◌, tr
 use Rattle.std.specs.Prelude.{MatchResult, is_some}
 use Rattle.lexicon_fields.specs.{declared.architecture.Architecture.Architecture as AnyArchitecture, declared.operating_system.OperatingSystem.OperatingSystem as AnySystem, Environment.environment_of}
 use Rattle.lexicon_fields.specs.{declared.environment.Environment.Environment as AnyEnvironment, Architecture.architecture_of, declared.known_vendor.KnownVendor.TheVariants.Unknown, Vendor.vendor_of, OperatingSystem.operating_system_of, BinaryFormat.binary_format_of}
-use Rattle.target_lexicon.specs.{Values.VendorValue, Values.Known, Values.Values, Values.values, ImpliedFormat.implied_format, Laws.OneOutcomeEach, Laws.ReadingIsComputed, SpecialTexts.special_values, Placement.parts_of, Placement.IsPlacedBehind, Refusal.Refusal, Refusal.refused}
+use Rattle.target_lexicon.specs.{Values.VendorValue, Values.Known, Values.Values, Values.values, ImpliedFormat.implied_format, Laws.OneOutcomeEach, Laws.ReadingIsComputed, SpecialTexts.special_values, Placement.parts_of, Placement.IsPlacedAfter, Refusal.Refusal, Refusal.refusal_with}
 use Rattle.target_lexicon.specs.Field.{Field, Architecture, Vendor, OperatingSystem, Environment, BinaryFormat, place, reads}
-use Rattle.target_lexicon.specs.Reading.{part_at, IsValueOf, HoldsParts, ReadsAs, IsRefusal, IsRefusedAs, IsRefused, lack_behind, last_of}
-use Rattle.target_lexicon.specs.ReadingByFields.{taken, take_part, finish, read_binary_format, read_environment, read_operating_system, read_vendor, read_behind, read_parts, read_unless_special, reading}
-use Rattle.target_lexicon.proofs.{Cuts.parts_of-are, Cuts.parts_of-some, Greedy.Follows, Greedy.filled, Greedy.unread, Greedy.filled-placed, Greedy.behind_architecture, Greedy.greedy-least, Refused.first-refused, Refused.left-refused, Unique.values_unique, Unique.refusal_unique, Unique.read_not_refused}
+use Rattle.target_lexicon.specs.Reading.{part_at, IsValueOf, HoldsParts, ReadsAs, IsRefusal, IsRefusedAs, IsRefused, expected_after, last_of}
+use Rattle.target_lexicon.specs.GreedyReading.{taken_part, take_part, finish, read_binary_format, read_environment, read_operating_system, read_vendor, read_after, read_parts, read_unless_special, reading}
+use Rattle.target_lexicon.proofs.{Cuts.parts_of-are, Cuts.parts_of-some, Greedy.Follows, Greedy.filled, Greedy.unread, Greedy.filled-placed, Greedy.after_architecture, Greedy.greedy-least, Refused.first-refusal_with, Refused.left-refusal_with, Unique.values_unique, Unique.refusal_unique, Unique.read_not_refused}
 use Rattle.target_lexicon.specs.Values.operating_system
 use Rattle.target_lexicon.specs.Values.environment
 
@@ -18,20 +18,20 @@ Claim = List (List ℕ) → List Field → Values → Type 0
 -- what reading these fields gives behind `last`: values of which this stands, where they take every part, or the refusal of the first part that they leave
 abbrev Gives : List Field → Field → List (List ℕ) → Claim → Result Values Refusal → Type 0
 Gives fs last ps P (Ok t) = (unread fs ps ≡ []) × P ps (filled fs ps) t
-Gives fs last ps P (Err x) = (q : List ℕ) × (rest : List (List ℕ)) × (unread fs ps ≡ q ∷ rest) × (x ≡ refused (lack_behind (last_of last (filled fs ps))) q)
+Gives fs last ps P (Err x) = (q : List ℕ) × (rest : List (List ℕ)) × (unread fs ps ≡ q ∷ rest) × (x ≡ refusal_with (expected_after (last_of last (filled fs ps))) q)
 
 -- the field has the value of its part, of which the rest stands
 abbrev HasValue : {A : Type 0} → Field → (List ℕ → Option A) → A → (A → Claim) → Claim
 HasValue {A} f find d P ps gs t = (x : A) × IsValueOf find d (part_at f ps gs) x × P x ps gs t
 
 -- a field has no part in a placement behind it
-part_at-behind : (f l : Field) (ps : List (List ℕ)) (gs : List Field) → place f ≤ place l → IsPlacedBehind l ps gs → part_at f ps gs ≡ None
-part_at-behind f l [] gs h w = refl
-part_at-behind f l (p ∷ ps) [] h w = refl
-part_at-behind f l (p ∷ ps) (g ∷ gs) h w =
+part_at-after : (f l : Field) (ps : List (List ℕ)) (gs : List Field) → place f ≤ place l → IsPlacedAfter l ps gs → part_at f ps gs ≡ None
+part_at-after f l [] gs h w = refl
+part_at-after f l (p ∷ ps) [] h w = refl
+part_at-after f l (p ∷ ps) (g ∷ gs) h w =
     let other : nat_eq (place g) (place f) ≡ false = grind (arith, h, w.0) in
     let before : place f ≤ place g = omega (arith, h, w.0) in
-    rw other (part_at-behind f g ps gs before w.2)
+    rw other (part_at-after f g ps gs before w.2)
 
 -- the step of a field, where `read` reads the fields behind it
 module _ {A : Type 0} (f : Field) (find : List ℕ → Option A) (is_read : (p : List ℕ) → reads f p ≡ is_some (find p)) (fs : List Field) (in_order : Follows f fs) (d : A)
@@ -40,7 +40,7 @@ module _ {A : Type 0} (f : Field) (find : List ℕ → Option A) (is_read : (p :
   leaves : (last : Field) (ps : List (List ℕ)) (found : Result Values Refusal) → unread (f ∷ fs) ps ≡ unread fs ps → filled (f ∷ fs) ps ≡ filled fs ps
       → Gives fs last ps (P d) found → Gives (f ∷ fs) last ps (HasValue f find d P) found
   leaves last ps (Ok t) u e (done, h) =
-      let absent : part_at f ps (filled fs ps) ≡ None = part_at-behind f f ps (filled fs ps) (omega arith) (filled-placed f fs ps in_order done) in
+      let absent : part_at f ps (filled fs ps) ≡ None = part_at-after f f ps (filled fs ps) (omega arith) (filled-placed f fs ps in_order done) in
       (u ∙ done, rw e (d, rw absent refl, h))
   leaves last ps (Err x) u e (q, rest, left, same) = (q, rest, u ∙ left, rw e same)
 
@@ -55,7 +55,7 @@ module _ {A : Type 0} (f : Field) (find : List ℕ → Option A) (is_read : (p :
   step last [] = leaves last [] _ refl refl (gives d last [])
   step last (p ∷ ps) = by_found (find p) refl
     where
-      by_found : (o : Option A) → find p ≡ o → Gives (f ∷ fs) last (p ∷ ps) (HasValue f find d P) (let v = taken f o d last p ps in read v.0 v.1 v.2)
+      by_found : (o : Option A) → find p ≡ o → Gives (f ∷ fs) last (p ∷ ps) (HasValue f find d P) (let v = taken_part f o d last p ps in read v.0 v.1 v.2)
       by_found (Some x) is = takes last p ps x _ is (gives x f ps)
       by_found None is =
           let skips : reads f p ≡ false = is_read p ∙ ap is_some is in
@@ -78,7 +78,7 @@ finish-gives : (t : Values) (last : Field) (ps : List (List ℕ)) → Gives [] l
 finish-gives t last [] = (refl, refl)
 finish-gives t last (p ∷ ps) = (p, ps, refl, refl)
 
-vendor-gives : (a : AnyArchitecture) (ps : List (List ℕ)) → Gives behind_architecture Architecture ps (HasVendor a) (read_vendor a ps)
+vendor-gives : (a : AnyArchitecture) (ps : List (List ℕ)) → Gives after_architecture Architecture ps (HasVendor a) (read_vendor a ps)
 unfolding reads
 vendor-gives a =
     step Vendor vendor_of (λ p. refl) (OperatingSystem ∷ Environment ∷ BinaryFormat ∷ []) (refl, (refl, (refl, refl))) _ (HasSystem a)
@@ -99,16 +99,16 @@ module _ (text p : List ℕ) (ps : List (List ℕ)) (ordinary : special_values t
   is_refused x h = (ordinary, (parts_of text, parts_of-are text, rw are h))
 
   by_given : (a : AnyArchitecture) (found : Result Values Refusal) → architecture_of p ≡ Some a → reads Architecture p ≡ true
-      → Gives behind_architecture Architecture ps (HasVendor a) found → Holds text found
+      → Gives after_architecture Architecture ps (HasVendor a) found → Holds text found
   by_given a (Ok t) first takes (done, (v, hv, (s, hs, (e, he, (f, hf, same))))) =
-      let holds : HoldsParts (p ∷ ps) (Architecture ∷ filled behind_architecture ps) t =
+      let holds : HoldsParts (p ∷ ps) (Architecture ∷ filled after_architecture ps) t =
       rw same (record { architecture = first; vendor = hv; operating_system = hs; environment = he; binary_format = hf }) in
-      rw ordinary (parts_of text, parts_of-are text, rw are (Architecture ∷ filled behind_architecture ps, greedy-least p ps takes done, holds))
-  by_given a (Err x) first takes (q, rest, left, same) = rw same (is_refused _ (left-refused p ps q rest takes left))
+      rw ordinary (parts_of text, parts_of-are text, rw are (Architecture ∷ filled after_architecture ps, greedy-least p ps takes done, holds))
+  by_given a (Err x) first takes (q, rest, left, same) = rw same (is_refused _ (left-refusal_with p ps q rest takes left))
 
-  by_architecture : (o : Option AnyArchitecture) → architecture_of p ≡ o → Holds text (read_behind o p ps)
+  by_architecture : (o : Option AnyArchitecture) → architecture_of p ≡ o → Holds text (read_after o p ps)
   unfolding reads
-  by_architecture None h = is_refused _ (first-refused p ps (ap is_some h))
+  by_architecture None h = is_refused _ (first-refusal_with p ps (ap is_some h))
   by_architecture (Some a) h = by_given a (read_vendor a ps) h (ap is_some h) (vendor-gives a ps)
 
   pub parts-hold : Holds text (read_parts (p ∷ ps))
@@ -139,7 +139,7 @@ computed text (Err y) h = (
 )
 
 pub reading_computed : ReadingIsComputed
-reading_computed text = let both = computed text (reading text) (reading-holds text) in record { read = both.0; refused = both.1 }
+reading_computed text = let both = computed text (reading text) (reading-holds text) in record { read = both.0; refusal_with = both.1 }
 
 -- a text is read or refused
 outcome : (text : List ℕ) (found : Result Values Refusal) → Holds text found → ((t : Values) × ReadsAs text t) ⊎ IsRefused text

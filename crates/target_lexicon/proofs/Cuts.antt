@@ -70,14 +70,14 @@ module _ (text : List ℕ) (i : ℕ) (found : position (λ b. b == 45) text ≡ 
   pub dash_at : (i < length text) × (get_or text i 0 ≡ 45)
   dash_at = let at = position-Some (λ b. b == 45) text i 0 found in (at.0, eqb-true (get_or text i 0) 45 at.1)
 
-  pub cut-found : (part behind : List ℕ) → part ≡ slice_range text 0 i → behind ≡ drop (i + 1) text → parts_of text ≡ part ∷ parts_of behind
-  cut-found part behind front back =
+  pub cut-found : (part after : List ℕ) → part ≡ slice_range text 0 i → after ≡ drop (i + 1) text → parts_of text ≡ part ∷ parts_of after
+  cut-found part after prefix back =
       let at = position-Some (λ b. b == 45) text i 0 found in
       let same : position_or_len (λ b. b == 45) text ≡ i = position_or_len_is (λ b. b == 45) text i 0 (omega (arith, at.0)) at.2 (λ _. at.1) in
       let whole : i ≡ i - 0 = omega arith in
       slice_split_first (λ b. b == 45) text 0 (omega (arith, same, at.0))
       ∙ ap (λ (n : ℕ). take n text ∷ parts_of (drop (n + 1) text)) same
-      ∙ ap (λ (xs : List ℕ). xs ∷ parts_of (drop (i + 1) text)) (ap (λ (n : ℕ). take n text) whole ∙ sym front)
+      ∙ ap (λ (xs : List ℕ). xs ∷ parts_of (drop (i + 1) text)) (ap (λ (n : ℕ). take n text) whole ∙ sym prefix)
       ∙ ap (λ (xs : List ℕ). part ∷ parts_of xs) (sym back)
 
 pub cut-whole : (text : List ℕ) → position (λ b. b == 45) text ≡ None → parts_of text ≡ text ∷ []

@@ -10,7 +10,7 @@ use Rattle.std.proofs.lemmas.Slice.{take-put_mid}
 use borrow.Rule.Slice.PartMut.{put_mid}
 use lib.Count.{count_trailing_zeros}
 use lib.Lanes.{chunk, top, zip2}
-use Rattle.target_lexicon.specs.Private.{TellsDashes}
+use Rattle.target_lexicon.specs.Private.{MarksDashes}
 
 abbrev pub is_dash : ℕ → Bool
 is_dash b = b == 45
@@ -36,47 +36,47 @@ mask_l-drop (suc n) (m ∷ ms) =
 
 -- the bits of sixteen bytes that end as the text does
 tells_by : (bytes text : List ℕ) (bits : ℕ) → bits ≡ mask_l (map is_dash bytes)
-    → ((k : ℕ) → k ≤ length text → length text ≤ k + 16 → drop (16 - (length text - k)) bytes ≡ drop k text) → TellsDashes bits text
+    → ((k : ℕ) → k ≤ length text → length text ≤ k + 16 → drop (16 - (length text - k)) bytes ≡ drop k text) → MarksDashes bits text
 tells_by bytes text bits is same = record {
-  tells = λ k within few.
+  decides = λ k within few.
       let n = 16 - (length text - k) in
       ap (λ b. b / 2 ^ n) is ∙ mask_l-drop n (map is_dash bytes) ∙ ap mask_l (drop-map is_dash n bytes ∙ ap (map is_dash) (same k within few));
 }
 
-pub tells_by_last : (text : List ℕ) (bits : ℕ) → 16 ≤ length text → bits ≡ mask_l (map is_dash (take 16 (drop (length text - 16) text))) → TellsDashes bits text
-tells_by_last text bits long is =
+pub marks_by_last : (text : List ℕ) (bits : ℕ) → 16 ≤ length text → bits ≡ mask_l (map is_dash (take 16 (drop (length text - 16) text))) → MarksDashes bits text
+marks_by_last text bits long is =
     let last = drop (length text - 16) text in
     tells_by last text bits (is ∙ ap (λ bytes. mask_l (map is_dash bytes)) (take_all 16 last (omega (arith, length-drop (length text - 16) text))))
     (λ k within few. drop-drop (16 - (length text - k)) (length text - 16) text ∙ ap (λ i. drop i text) (omega (arith, within, few, long)))
 
 -- the same where the text was written behind zeros, at the end of sixteen bytes
-pub tells_by_padded : (zeros text : List ℕ) (k bits : ℕ) → length zeros ≡ 16 → length text ≤ 16
-    → bits ≡ mask_l (map is_dash (take 16 (put_mid (16 - length text) k zeros text))) → TellsDashes bits text
-tells_by_padded zeros text k bits long short is =
-    let front = take (16 - length text) zeros in
-    let before : length front ≡ 16 - length text = length-take-le (16 - length text) zeros (omega (arith, long)) in
-    tells_by (front ++ text) text bits
+pub marks_by_padded : (zeros text : List ℕ) (k bits : ℕ) → length zeros ≡ 16 → length text ≤ 16
+    → bits ≡ mask_l (map is_dash (take 16 (put_mid (16 - length text) k zeros text))) → MarksDashes bits text
+marks_by_padded zeros text k bits long short is =
+    let prefix = take (16 - length text) zeros in
+    let before : length prefix ≡ 16 - length text = length-take-le (16 - length text) zeros (omega (arith, long)) in
+    tells_by (prefix ++ text) text bits
     (is ∙ ap (λ bytes. mask_l (map is_dash bytes)) (take-put_mid (16 - length text) k zeros text 16 (omega (arith, short)) (omega (arith, long))))
     (λ i within few.
-    ap (λ n. drop n (front ++ text)) (omega (arith, within, few, short, before))
-    ∙ sym (drop-drop i (length front) (front ++ text))
-    ∙ ap (drop i) (drop_at front text (length front) refl))
+    ap (λ n. drop n (prefix ++ text)) (omega (arith, within, few, short, before))
+    ∙ sym (drop-drop i (length prefix) (prefix ++ text))
+    ∙ ap (drop i) (drop_at prefix text (length prefix) refl))
 
 -- what is behind a dash ends as the text does
-pub tells_behind : (bits : ℕ) (text rest : List ℕ) (i : ℕ) → i ≤ length text → TellsDashes bits text → rest ≡ drop i text → TellsDashes bits rest
-tells_behind bits text rest i within told behind = record {
-  tells = λ k below few.
-      let long : length rest ≡ length text - i = ap length behind ∙ length-drop i text in
+pub marks_after : (bits : ℕ) (text rest : List ℕ) (i : ℕ) → i ≤ length text → MarksDashes bits text → rest ≡ drop i text → MarksDashes bits rest
+marks_after bits text rest i within dashes_known after = record {
+  decides = λ k below few.
+      let long : length rest ≡ length text - i = ap length after ∙ length-drop i text in
       ap (λ n. bits / 2 ^ n) (omega (arith, long, within, below))
-      ∙ told.tells (i + k) (omega (arith, long, within, below)) (omega (arith, long, within, few))
-      ∙ ap (λ xs. mask_l (map is_dash xs)) (sym (drop-drop k i text) ∙ ap (drop k) (sym behind));
+      ∙ dashes_known.decides (i + k) (omega (arith, long, within, below)) (omega (arith, long, within, few))
+      ∙ ap (λ xs. mask_l (map is_dash xs)) (sym (drop-drop k i text) ∙ ap (drop k) (sym after));
 }
 
 -- the bits of what is left, of which there are sixteen bytes at most
-pub bits_of-rest : (bits : ℕ) (bytes : List ℕ) (at : ℕ) → TellsDashes bits bytes → at ≤ length bytes → length bytes - at ≤ 16
+pub bits_of-rest : (bits : ℕ) (bytes : List ℕ) (at : ℕ) → MarksDashes bits bytes → at ≤ length bytes → length bytes - at ≤ 16
     → bits / 2 ^ (16 - (length bytes - at)) ≡ mask_l (map is_dash (take (length bytes - at) (drop at bytes)))
-bits_of-rest bits bytes at told within few =
-    told.tells at within (omega (arith, few))
+bits_of-rest bits bytes at dashes_known within few =
+    dashes_known.decides at within (omega (arith, few))
     ∙ ap (λ xs. mask_l (map is_dash xs)) (sym (take_all (length bytes - at) (drop at bytes) (omega (arith, length-drop at bytes))))
 
 position_some : (bytes : List ℕ) (i : ℕ) → position_or_len is_dash bytes ≡ i → i < length bytes → position is_dash bytes ≡ Some i

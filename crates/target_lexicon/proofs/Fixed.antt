@@ -4,7 +4,7 @@ use Rattle.std.specs.Bool.{Decides}
 use Rattle.std.proofs.lemmas.Bool.Decides.{Decides-not, Decides-and, Decides-like}
 use Rattle.lexicon_fields.specs.{Vendor.is_plain, Laws.HasVersionInRange}
 use Rattle.target_lexicon.specs.{Families.IsInSomeFamily, FixedPoints.FixedExactlyOutsideFamilies, FixedPoints.RoundIsNormalStep, Laws.ComesBack, NormalStep.normal_step, NormalStep.is_in_no_family, Printing.text_of, Reading.ReadsAs, Values.Values}
-use Rattle.target_lexicon.proofs.StepCases.{IsOutside, step_cases, prints_as_special-tells, hides_newlib-tells, prints_the_esp_idf_text-tells, shows_none_alone-tells}
+use Rattle.target_lexicon.proofs.StepCases.{IsOutside, step_cases, prints_as_special-decides, hides_newlib-decides, prints_the_esp_idf_text-decides, shows_only_none-decides}
 use Rattle.target_lexicon.proofs.{ReadValues.read_plain, Unique.values_unique}
 
 pub outside-fixed : (t : Values) → IsOutside t → normal_step t ≡ t
@@ -35,17 +35,17 @@ not_both t plain outside (inr (inr (inr (inl is)))) = outside.none is
 not_both t plain outside (inr (inr (inr (inr is)))) = let bad : true ≡ false = sym plain ∙ is in cc
 
 -- what the tests of the families tell
-no_family-tells : (t : Values) → Decides (is_in_no_family t) (IsOutside t × (is_plain t.vendor ≡ true))
+no_family-decides : (t : Values) → Decides (is_in_no_family t) (IsOutside t × (is_plain t.vendor ≡ true))
 unfolding is_in_no_family
-no_family-tells t =
+no_family-decides t =
     Decides-like _
     (λ is. (record { special = is.0.0.0.0; newlib = is.0.0.0.1; esp = is.0.0.1; none = is.0.1 }, is.1))
     (λ is. ((((is.0.special, is.0.newlib), is.0.esp), is.0.none), is.1))
     (Decides-and _ _ (Decides-and _ _ (Decides-and _ _ (Decides-and _ _
-    (Decides-not _ (prints_as_special-tells t))
-    (Decides-not _ (hides_newlib-tells t)))
-    (Decides-not _ (prints_the_esp_idf_text-tells t)))
-    (Decides-not _ (shows_none_alone-tells t)))
+    (Decides-not _ (prints_as_special-decides t))
+    (Decides-not _ (hides_newlib-decides t)))
+    (Decides-not _ (prints_the_esp_idf_text-decides t)))
+    (Decides-not _ (shows_only_none-decides t)))
     (λ h. h, λ h. h))
 
 -- with the placements
@@ -73,7 +73,7 @@ module _ (round : RoundIsNormalStep) where
   }
 
   pub back_by_tests : (t : Values) → HasVersionInRange t.operating_system → is_in_no_family t ≡ true → ComesBack t
-  back_by_tests t range none = let is = (no_family-tells t).0 none in outside-back t range is.1 is.0
+  back_by_tests t range none = let is = (no_family-decides t).0 none in outside-back t range is.1 is.0
 
   pub tests_by_back : (t : Values) → HasVersionInRange t.operating_system → ComesBack t → is_in_no_family t ≡ true
-  tests_by_back t range back = let is = back-outside t range back in (no_family-tells t).1 (is.1, is.0)
+  tests_by_back t range back = let is = back-outside t range back in (no_family-decides t).1 (is.1, is.0)

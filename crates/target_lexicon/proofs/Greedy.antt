@@ -1,7 +1,7 @@
 -- The placement that takes, field by field, each part at the first field that reads it.
 use Rattle.std.proofs.Common.{◌≡◌, ◌≢◌, ℕ, zero, suc, ◌+◌, ◌<◌, ◌≤◌, List, [], ◌∷◌, take, true, refl, subst, cond, arith, inl, inr}
 use Rattle.target_lexicon.specs.Field.{Field, Architecture, Vendor, OperatingSystem, Environment, BinaryFormat, place, reads}
-use Rattle.target_lexicon.specs.{Laws.HasOneLeast, Placement.IsPlacedBehind, Placement.IsPlacement, Placement.AreNotBehind, Placement.IsLeast, Placement.HasPlacement}
+use Rattle.target_lexicon.specs.{Laws.HasOneLeast, Placement.IsPlacedAfter, Placement.IsPlacement, Placement.AreNotAfter, Placement.IsLeast, Placement.HasPlacement}
 use Rattle.std.proofs.lemmas.Bool.{cases_Bool}
 
 -- the fields behind `last`, in their order
@@ -35,11 +35,11 @@ place-injective BinaryFormat BinaryFormat e = refl
 place-injective f g e = cc
 
 -- a field that is placed behind one, and isn't the next, is behind the next
-weaken : (l k : Field) (ps : List (List ℕ)) (gs : List Field) → place k ≤ place l → IsPlacedBehind l ps gs → IsPlacedBehind k ps gs
+weaken : (l k : Field) (ps : List (List ℕ)) (gs : List Field) → place k ≤ place l → IsPlacedAfter l ps gs → IsPlacedAfter k ps gs
 weaken l k (p ∷ ps) (g ∷ gs) h w = (omega (arith, w.0), w.1, w.2)
 weaken l k _ _ h w = w
 
-pub filled-placed : (l : Field) (fs : List Field) (ps : List (List ℕ)) → Follows l fs → unread fs ps ≡ [] → IsPlacedBehind l ps (filled fs ps)
+pub filled-placed : (l : Field) (fs : List Field) (ps : List (List ℕ)) → Follows l fs → unread fs ps ≡ [] → IsPlacedAfter l ps (filled fs ps)
 filled-placed l fs [] h e = tt
 filled-placed l [] (p ∷ ps) h e = cc
 filled-placed l (f ∷ fs) (p ∷ ps) h e =
@@ -53,8 +53,8 @@ filled-placed l (f ∷ fs) (p ∷ ps) h e =
     ]
 
 -- a placement behind `last` is no better than the greedy one, which then takes every part
-pub filled-least : (l : Field) (fs : List Field) (ps : List (List ℕ)) (gs : List Field) → Follows l fs → IsPlacedBehind l ps gs
-    → (unread fs ps ≡ []) × AreNotBehind (filled fs ps) gs
+pub filled-least : (l : Field) (fs : List Field) (ps : List (List ℕ)) (gs : List Field) → Follows l fs → IsPlacedAfter l ps gs
+    → (unread fs ps ≡ []) × AreNotAfter (filled fs ps) gs
 filled-least l fs [] [] h w = (refl, tt)
 filled-least l [] (p ∷ ps) (g ∷ gs) h w = absurd (omega (arith, h, w.0, place_most g))
 filled-least l (f ∷ fs) (p ∷ ps) (g ∷ gs) h w =
@@ -64,63 +64,63 @@ filled-least l (f ∷ fs) (p ∷ ps) (g ∷ gs) h w =
           rw takes (rest.0, (omega (arith, h.0, w.0), rest.1))
       | inr skips ↦
           let other : place g ≢ place f = λ e. let same : g ≡ f = place-injective g f e in let takes = w.1 in cc in
-          let behind : place f < place g = omega (arith, h.0, w.0, other) in
-          let rest = filled-least f fs (p ∷ ps) (g ∷ gs) h.1 (behind, w.1, w.2) in
+          let after : place f < place g = omega (arith, h.0, w.0, other) in
+          let rest = filled-least f fs (p ∷ ps) (g ∷ gs) h.1 (after, w.1, w.2) in
           rw skips rest
     ]
 filled-least l fs _ _ h w = absurd w
 
 -- two lists of fields, neither behind the other, are one
-pub AreNotBehind-antisymmetric : (fs gs : List Field) → AreNotBehind fs gs → AreNotBehind gs fs → fs ≡ gs
-AreNotBehind-antisymmetric [] [] a b = refl
-AreNotBehind-antisymmetric (f ∷ fs) (g ∷ gs) a b =
+pub AreNotAfter-antisymmetric : (fs gs : List Field) → AreNotAfter fs gs → AreNotAfter gs fs → fs ≡ gs
+AreNotAfter-antisymmetric [] [] a b = refl
+AreNotAfter-antisymmetric (f ∷ fs) (g ∷ gs) a b =
     let same : f ≡ g = place-injective f g (omega (arith, a.0, b.0)) in
-    let rest : fs ≡ gs = AreNotBehind-antisymmetric fs gs a.1 b.1 in
+    let rest : fs ≡ gs = AreNotAfter-antisymmetric fs gs a.1 b.1 in
     cc
-AreNotBehind-antisymmetric _ _ a b = absurd a
+AreNotAfter-antisymmetric _ _ a b = absurd a
 
 -- the front of a placement
-placed-front : (n : ℕ) (l : Field) (ps : List (List ℕ)) (gs : List Field) → IsPlacedBehind l ps gs → IsPlacedBehind l (take n ps) (take n gs)
-placed-front zero l ps gs w = tt
-placed-front (suc n) l (p ∷ ps) (g ∷ gs) w = (w.0, w.1, placed-front n g ps gs w.2)
-placed-front (suc n) l [] [] w = tt
-placed-front (suc n) l _ _ w = absurd w
+placed-prefix : (n : ℕ) (l : Field) (ps : List (List ℕ)) (gs : List Field) → IsPlacedAfter l ps gs → IsPlacedAfter l (take n ps) (take n gs)
+placed-prefix zero l ps gs w = tt
+placed-prefix (suc n) l (p ∷ ps) (g ∷ gs) w = (w.0, w.1, placed-prefix n g ps gs w.2)
+placed-prefix (suc n) l [] [] w = tt
+placed-prefix (suc n) l _ _ w = absurd w
 
-pub placement_front : (n : ℕ) (ps : List (List ℕ)) → HasPlacement ps → HasPlacement (take (suc n) ps)
-placement_front n (p ∷ ps) (f ∷ fs, w) = (f ∷ take n fs, (w.0, w.1, placed-front n f ps fs w.2))
-placement_front n _ (_, w) = absurd w
+pub placement_prefix : (n : ℕ) (ps : List (List ℕ)) → HasPlacement ps → HasPlacement (take (suc n) ps)
+placement_prefix n (p ∷ ps) (f ∷ fs, w) = (f ∷ take n fs, (w.0, w.1, placed-prefix n f ps fs w.2))
+placement_prefix n _ (_, w) = absurd w
 
 -- the fields behind the architecture
-abbrev pub behind_architecture : List Field
-behind_architecture = Vendor ∷ OperatingSystem ∷ Environment ∷ BinaryFormat ∷ []
+abbrev pub after_architecture : List Field
+after_architecture = Vendor ∷ OperatingSystem ∷ Environment ∷ BinaryFormat ∷ []
 
-in_order : Follows Architecture behind_architecture
+in_order : Follows Architecture after_architecture
 in_order = (refl, (refl, (refl, (refl, refl))))
 
 -- the greedy placement of parts that begin with an architecture, where no part is left
-pub greedy-least : (p : List ℕ) (ps : List (List ℕ)) → reads Architecture p ≡ true → unread behind_architecture ps ≡ []
-    → IsLeast (p ∷ ps) (Architecture ∷ filled behind_architecture ps)
+pub greedy-least : (p : List ℕ) (ps : List (List ℕ)) → reads Architecture p ≡ true → unread after_architecture ps ≡ []
+    → IsLeast (p ∷ ps) (Architecture ∷ filled after_architecture ps)
 greedy-least p ps takes done = record {
-  placed = (refl, takes, filled-placed Architecture behind_architecture ps in_order done);
+  placed = (refl, takes, filled-placed Architecture after_architecture ps in_order done);
   least = least_of;
 }
   where
-    least_of : (others : List Field) → IsPlacement (p ∷ ps) others → AreNotBehind (Architecture ∷ filled behind_architecture ps) others
+    least_of : (others : List Field) → IsPlacement (p ∷ ps) others → AreNotAfter (Architecture ∷ filled after_architecture ps) others
     least_of [] w = absurd w
     least_of (g ∷ gs) w =
-        let from : IsPlacedBehind Architecture ps gs = subst (λ k. IsPlacedBehind k ps gs) w.0 w.2 in
-        (omega arith, (filled-least Architecture behind_architecture ps gs in_order from).1)
+        let from : IsPlacedAfter Architecture ps gs = subst (λ k. IsPlacedAfter k ps gs) w.0 w.2 in
+        (omega arith, (filled-least Architecture after_architecture ps gs in_order from).1)
 
 -- parts with a placement have the greedy one
-pub greedy-finds : (p : List ℕ) (ps : List (List ℕ)) → HasPlacement (p ∷ ps) → (reads Architecture p ≡ true) × (unread behind_architecture ps ≡ [])
+pub greedy-finds : (p : List ℕ) (ps : List (List ℕ)) → HasPlacement (p ∷ ps) → (reads Architecture p ≡ true) × (unread after_architecture ps ≡ [])
 greedy-finds p ps ([], w) = absurd w
 greedy-finds p ps (g ∷ gs, w) =
-    let from : IsPlacedBehind Architecture ps gs = subst (λ k. IsPlacedBehind k ps gs) w.0 w.2 in
+    let from : IsPlacedAfter Architecture ps gs = subst (λ k. IsPlacedAfter k ps gs) w.0 w.2 in
     let takes : reads Architecture p ≡ true = subst (λ k. reads k p ≡ true) w.0 w.1 in
-    (takes, (filled-least Architecture behind_architecture ps gs in_order from).0)
+    (takes, (filled-least Architecture after_architecture ps gs in_order from).0)
 
 pub least-unique : (ps : List (List ℕ)) (fs gs : List Field) → IsLeast ps fs → IsLeast ps gs → fs ≡ gs
-least-unique ps fs gs a b = AreNotBehind-antisymmetric fs gs (a.least gs b.placed) (b.least fs a.placed)
+least-unique ps fs gs a b = AreNotAfter-antisymmetric fs gs (a.least gs b.placed) (b.least fs a.placed)
 
 -- where there is a placement there is one least
 pub placement_least : (ps : List (List ℕ)) → HasPlacement ps → HasOneLeast ps
@@ -128,4 +128,4 @@ placement_least [] (fs, w) = absurd w
 placement_least (p ∷ ps) some =
     let found = greedy-finds p ps some in
     let least = greedy-least p ps found.0 found.1 in
-    record { fields = Architecture ∷ filled behind_architecture ps; least = least; only = λ others h. least-unique _ _ _ h least }
+    record { fields = Architecture ∷ filled after_architecture ps; least = least; only = λ others h. least-unique _ _ _ h least }

@@ -21,12 +21,12 @@ pub mod Printed
 pub mod QueriesKept
 pub mod ReadValues
 pub mod Refused
-pub mod Rounds
+pub mod RoundTrips
 pub mod SameValues
 pub mod Settled
 pub mod SettlesAs
 pub mod StepCases
-pub mod TextRounds
+pub mod TextRoundTrips
 pub mod Unique
 pub mod Upstream
 pub mod Vendors

@@ -6,9 +6,9 @@ use Rattle.target_lexicon.specs.DataModel.{size_bits, sizes_of}
 use Rattle.target_lexicon.specs.declared.calling_convention.CallingConvention.TheVariants.{SystemV, AppleAarch64}
 use Rattle.target_lexicon.specs.declared.data_model.CDataModel.TheVariants.{ILP32, LLP64, LP64}
 use Rattle.target_lexicon.specs.Queries.{other_model_64, other_model_32, model_64, model_32, model_of_width, model_of, pointer_width, calling_convention, data_model}
-use Rattle.lexicon_fields.specs.{declared.architecture.Architecture.TheVariants.Wasm32, declared.architecture.Architecture.TheVariants.Wasm64, declared.width.PointerWidth.PointerWidth}
-use Rattle.lexicon_fields.specs.{declared.operating_system.OperatingSystem.TheVariants.Windows, declared.width.PointerWidth.TheVariants.U32, declared.width.PointerWidth.TheVariants.U64}
-use Rattle.lexicon_fields.specs.Width.{width_bits}
+use Rattle.lexicon_fields.specs.{declared.architecture.Architecture.TheVariants.Wasm32, declared.architecture.Architecture.TheVariants.Wasm64, declared.pointer_width.PointerWidth.PointerWidth}
+use Rattle.lexicon_fields.specs.{declared.operating_system.OperatingSystem.TheVariants.Windows, declared.pointer_width.PointerWidth.TheVariants.U32, declared.pointer_width.PointerWidth.TheVariants.U64}
+use Rattle.lexicon_fields.specs.PointerWidth.{width_bits}
 
 -- the one model of 64-bit pointers off Windows
 other_64 : (c : Option CallingConvention) (a : Architecture) (m : CDataModel) → other_model_64 c a ≡ Some m → m ≡ LP64

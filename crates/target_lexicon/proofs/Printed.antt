@@ -4,7 +4,7 @@ use Rattle.std.specs.List.{join_with_byte}
 use Rattle.std.proofs.lemmas.List.{append-nil}
 use Rattle.lexicon_fields.specs.{Architecture.architecture_name, Vendor.vendor_name, OperatingSystem.operating_system_name, Environment.environment_name, BinaryFormat.binary_format_name}
 use Rattle.target_lexicon.specs.{ImpliedFormat.implied, Values.Values, Private.part_text, SpecialTexts.special_text}
-use Rattle.target_lexicon.specs.Printing.{shows_vendor, shows_operating_system, shows_environment, shows_binary_format, shows_unknowns, when, shown_parts, text_by, text_of}
+use Rattle.target_lexicon.specs.Printing.{shows_vendor, shows_operating_system, shows_environment, shows_binary_format, shows_unknowns, cons_if, shown_parts, text_by, text_of}
 
 -- each part behind a dash
 unfoldable pub dashed : List (List ℕ) → List ℕ
@@ -16,19 +16,19 @@ unfolding dashed
 dashed_joined part [] = append-nil part
 dashed_joined part (next ∷ parts) = ap (λ (s : List ℕ). part ++ (45 ∷ s)) (dashed_joined next parts)
 
-part_before : (b : Bool) (part : List ℕ) (parts : List (List ℕ)) → dashed (when b part parts) ≡ part_text b part ++ dashed parts
+part_before : (b : Bool) (part : List ℕ) (parts : List (List ℕ)) → dashed (cons_if b part parts) ≡ part_text b part ++ dashed parts
 unfolding dashed
 part_before true part parts = refl
 part_before false part parts = refl
 
-five_parts : (a p q r s : List ℕ) (w x y z : Bool) → (((a ++ part_text w p) ++ part_text x q) ++ part_text y r) ++ part_text z s ≡ join_with_byte 45 (a ∷ when w p (when x q (when y r (when z s []))))
+five_parts : (a p q r s : List ℕ) (w x y z : Bool) → (((a ++ part_text w p) ++ part_text x q) ++ part_text y r) ++ part_text z s ≡ join_with_byte 45 (a ∷ cons_if w p (cons_if x q (cons_if y r (cons_if z s []))))
 unfolding dashed
 five_parts a p q r s w x y z =
     rw (
-      ← dashed_joined a (when w p (when x q (when y r (when z s [])))),
-      part_before w p (when x q (when y r (when z s []))),
-      part_before x q (when y r (when z s [])),
-      part_before y r (when z s []),
+      ← dashed_joined a (cons_if w p (cons_if x q (cons_if y r (cons_if z s [])))),
+      part_before w p (cons_if x q (cons_if y r (cons_if z s []))),
+      part_before x q (cons_if y r (cons_if z s [])),
+      part_before y r (cons_if z s []),
       part_before z s [],
       append-nil (part_text z s),
     ) (simp append_assoc)

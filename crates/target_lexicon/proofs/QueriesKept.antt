@@ -2,7 +2,7 @@
 use Rattle.std.proofs.Common.{◌≡◌, ◌∙◌, sym, ap, refl, true, true≢false, Some, inl, inr}
 use Rattle.target_lexicon.specs.Values.{Architecture, OperatingSystem, Environment, BinaryFormat, VendorValue, Values, values}
 use Rattle.target_lexicon.specs.{NormalStep.normal_step, Families.PrintsAsSpecial, Queries.width_in, Queries.convention_on, Queries.model_of, Queries.model_of_width, QueryLaws.AnswersAlike}
-use Rattle.lexicon_fields.specs.{declared.width.PointerWidth.TheVariants.U32, ArchitectureQueries.is_clever}
+use Rattle.lexicon_fields.specs.{declared.pointer_width.PointerWidth.TheVariants.U32, ArchitectureQueries.is_clever}
 use Rattle.target_lexicon.proofs.StepCases.{step_cases}
 use Rattle.target_lexicon.specs.Values.architecture
 use Rattle.target_lexicon.specs.Values.operating_system

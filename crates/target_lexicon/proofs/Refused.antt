@@ -2,106 +2,106 @@
 use Rattle.std.proofs.Common.{◌≡◌, ℕ, suc, ◌≤◌, List, [], ◌∷◌, ◌++◌, length, take, true, false, refl, sym, ap, subst, Some, arith, inl, inr}
 use Rattle.std.proofs.{Math.Seq.take-append_seam, lemmas.List.take-append-le, lemmas.Bool.cases_Bool}
 use Rattle.std.specs.Prelude.{slice_get}
-use Rattle.target_lexicon.specs.{Field.Field, Field.Architecture, Field.reads, Placement.HasPlacement, Reading.IsRefusal, Reading.IsLackedBehind, Reading.lack_behind, Reading.last_of}
-use Rattle.target_lexicon.specs.Refusal.{Lacks, refused}
-use Rattle.target_lexicon.proofs.Greedy.{filled, unread, behind_architecture, greedy-least, greedy-finds, placement_front}
+use Rattle.target_lexicon.specs.{Field.Field, Field.Architecture, Field.reads, Placement.HasPlacement, Reading.IsRefusal, Reading.IsExpectedAfter, Reading.expected_after, Reading.last_of}
+use Rattle.target_lexicon.specs.Refusal.{Expects, refusal_with}
+use Rattle.target_lexicon.proofs.Greedy.{filled, unread, after_architecture, greedy-least, greedy-finds, placement_prefix}
 
 -- the parts that the fields take, and the part at which they stop
 record Stop (fs : List Field) (ps : List (List ℕ)) (q : List ℕ) (rest : List (List ℕ)) : Type 0 where
-  front : List (List ℕ)
-  split : ps ≡ front ++ (q ∷ rest)
-  taken : unread fs front ≡ []
-  same : filled fs front ≡ filled fs ps
-  stuck : unread fs (front ++ (q ∷ [])) ≡ q ∷ []
+  prefix : List (List ℕ)
+  split : ps ≡ prefix ++ (q ∷ rest)
+  taken_part : unread fs prefix ≡ []
+  same : filled fs prefix ≡ filled fs ps
+  stuck : unread fs (prefix ++ (q ∷ [])) ≡ q ∷ []
 
 stop : (fs : List Field) (ps : List (List ℕ)) (q : List ℕ) (rest : List (List ℕ)) → unread fs ps ≡ q ∷ rest → Stop fs ps q rest
 stop fs [] q rest e = cc
-stop [] (p ∷ ps) q rest e = record { front = []; split = e; taken = refl; same = refl; stuck = refl }
+stop [] (p ∷ ps) q rest e = record { prefix = []; split = e; taken_part = refl; same = refl; stuck = refl }
 stop (f ∷ fs) (p ∷ ps) q rest e =
     elim (cases_Bool (reads f p)) [
       | inl takes ↦
           let s = stop fs ps q rest (rw takes at e) in
           record {
-            front = p ∷ s.front;
+            prefix = p ∷ s.prefix;
             split = ap (λ k. p ∷ k) s.split;
-            taken = rw takes s.taken;
+            taken_part = rw takes s.taken_part;
             same = rw takes (ap (λ k. f ∷ k) s.same);
             stuck = rw takes s.stuck;
           }
       | inr skips ↦
           let s = stop fs (p ∷ ps) q rest (rw skips at e) in
-          by_front f fs p ps q rest s.front skips s.split s.taken s.same s.stuck
+          by_front f fs p ps q rest s.prefix skips s.split s.taken_part s.same s.stuck
     ]
   where
-    by_front : (f : Field) (fs : List Field) (p : List ℕ) (ps : List (List ℕ)) (q : List ℕ) (rest front : List (List ℕ)) → reads f p ≡ false
-        → p ∷ ps ≡ front ++ (q ∷ rest) → unread fs front ≡ [] → filled fs front ≡ filled fs (p ∷ ps)
-        → unread fs (front ++ (q ∷ [])) ≡ q ∷ [] → Stop (f ∷ fs) (p ∷ ps) q rest
-    by_front f fs p ps q rest [] skips split taken same stuck =
+    by_front : (f : Field) (fs : List Field) (p : List ℕ) (ps : List (List ℕ)) (q : List ℕ) (rest prefix : List (List ℕ)) → reads f p ≡ false
+        → p ∷ ps ≡ prefix ++ (q ∷ rest) → unread fs prefix ≡ [] → filled fs prefix ≡ filled fs (p ∷ ps)
+        → unread fs (prefix ++ (q ∷ [])) ≡ q ∷ [] → Stop (f ∷ fs) (p ∷ ps) q rest
+    by_front f fs p ps q rest [] skips split taken_part same stuck =
         let also : reads f q ≡ false = cc in
         record {
-          front = [];
+          prefix = [];
           split = split;
-          taken = refl;
+          taken_part = refl;
           same = rw skips same;
           stuck = rw also stuck;
         }
-    by_front f fs p ps q rest (r ∷ front) skips split taken same stuck =
+    by_front f fs p ps q rest (r ∷ prefix) skips split taken_part same stuck =
         let also : reads f r ≡ false = cc in
         record {
-          front = r ∷ front;
+          prefix = r ∷ prefix;
           split = split;
-          taken = rw also taken;
+          taken_part = rw also taken_part;
           same = rw (also, skips) same;
           stuck = rw also stuck;
         }
 
 -- the first part is refused where it reads as no architecture
-pub first-refused : (p : List ℕ) (ps : List (List ℕ)) → reads Architecture p ≡ false → IsRefusal (p ∷ ps) (refused (Lacks Architecture) p)
-first-refused p ps skips = record {
+pub first-refusal_with : (p : List ℕ) (ps : List (List ℕ)) → reads Architecture p ≡ false → IsRefusal (p ∷ ps) (refusal_with (Expects Architecture) p)
+first-refusal_with p ps skips = record {
   count = 0;
-  refused = refl;
+  refusal_with = refl;
   unplaced = λ h. let found = greedy-finds p [] h in let takes = found.0 in cc;
   placed = λ k h. absurd (omega (arith, h));
-  lacked = refl;
+  expected = refl;
 }
 
 -- a part that the greedy placement leaves: the parts have no placement
-pub left-unplaced : (p : List ℕ) (ps : List (List ℕ)) (q : List ℕ) (rest : List (List ℕ)) → unread behind_architecture ps ≡ q ∷ rest → HasPlacement (p ∷ ps) → ⊥
+pub left-unplaced : (p : List ℕ) (ps : List (List ℕ)) (q : List ℕ) (rest : List (List ℕ)) → unread after_architecture ps ≡ q ∷ rest → HasPlacement (p ∷ ps) → ⊥
 left-unplaced p ps q rest left h = let found = greedy-finds p ps h in let done = found.1 in cc
 
-get-at : (front : List (List ℕ)) (q : List ℕ) (rest : List (List ℕ)) → slice_get (front ++ (q ∷ rest)) (length front) ≡ Some q
+get-at : (prefix : List (List ℕ)) (q : List ℕ) (rest : List (List ℕ)) → slice_get (prefix ++ (q ∷ rest)) (length prefix) ≡ Some q
 get-at [] q rest = refl
-get-at (r ∷ front) q rest = get-at front q rest
+get-at (r ∷ prefix) q rest = get-at prefix q rest
 
-take-past : (front : List (List ℕ)) (q : List ℕ) (rest : List (List ℕ)) → take (suc (length front)) (front ++ (q ∷ rest)) ≡ front ++ (q ∷ [])
+take-past : (prefix : List (List ℕ)) (q : List ℕ) (rest : List (List ℕ)) → take (suc (length prefix)) (prefix ++ (q ∷ rest)) ≡ prefix ++ (q ∷ [])
 take-past [] q rest = refl
-take-past (r ∷ front) q rest = ap (λ k. r ∷ k) (take-past front q rest)
+take-past (r ∷ prefix) q rest = ap (λ k. r ∷ k) (take-past prefix q rest)
 
 -- the part behind a front that the fields take whole, at which they stop, is refused
-refused-at : (p : List ℕ) (front : List (List ℕ)) (q : List ℕ) (rest : List (List ℕ)) → reads Architecture p ≡ true → unread behind_architecture front ≡ []
-    → unread behind_architecture (front ++ (q ∷ [])) ≡ q ∷ []
-    → IsRefusal (p ∷ (front ++ (q ∷ rest))) (refused (lack_behind (last_of Architecture (filled behind_architecture front))) q)
-refused-at p front q rest takes taken stuck =
-    let least = greedy-least p front takes taken in
-    let placed : HasPlacement (p ∷ front) = (Architecture ∷ filled behind_architecture front, least.placed) in
+refusal_with-at : (p : List ℕ) (prefix : List (List ℕ)) (q : List ℕ) (rest : List (List ℕ)) → reads Architecture p ≡ true → unread after_architecture prefix ≡ []
+    → unread after_architecture (prefix ++ (q ∷ [])) ≡ q ∷ []
+    → IsRefusal (p ∷ (prefix ++ (q ∷ rest))) (refusal_with (expected_after (last_of Architecture (filled after_architecture prefix))) q)
+refusal_with-at p prefix q rest takes taken_part stuck =
+    let least = greedy-least p prefix takes taken_part in
+    let placed : HasPlacement (p ∷ prefix) = (Architecture ∷ filled after_architecture prefix, least.placed) in
     record {
-      count = suc (length front);
-      refused = get-at front q rest;
-      unplaced = subst (λ k. HasPlacement (p ∷ k) → ⊥) (sym (take-past front q rest)) (left-unplaced p (front ++ (q ∷ [])) q [] stuck);
-      placed = λ k h. fewer k (omega (arith, h)) (placement_front k (p ∷ front) placed);
-      lacked = subst (λ k. IsLackedBehind (p ∷ k) (lack_behind (last_of Architecture (filled behind_architecture front)))) (sym (take-append_seam front (q ∷ rest)))
-          (Architecture, (filled behind_architecture front, least, refl));
+      count = suc (length prefix);
+      refusal_with = get-at prefix q rest;
+      unplaced = subst (λ k. HasPlacement (p ∷ k) → ⊥) (sym (take-past prefix q rest)) (left-unplaced p (prefix ++ (q ∷ [])) q [] stuck);
+      placed = λ k h. fewer k (omega (arith, h)) (placement_prefix k (p ∷ prefix) placed);
+      expected = subst (λ k. IsExpectedAfter (p ∷ k) (expected_after (last_of Architecture (filled after_architecture prefix)))) (sym (take-append_seam prefix (q ∷ rest)))
+          (Architecture, (filled after_architecture prefix, least, refl));
     }
   where
-    fewer : (k : ℕ) → k ≤ length front → HasPlacement (p ∷ take k front) → HasPlacement (p ∷ take k (front ++ (q ∷ rest)))
-    fewer k h w = subst (λ xs. HasPlacement (p ∷ xs)) (sym (take-append-le k front (q ∷ rest) h)) w
+    fewer : (k : ℕ) → k ≤ length prefix → HasPlacement (p ∷ take k prefix) → HasPlacement (p ∷ take k (prefix ++ (q ∷ rest)))
+    fewer k h w = subst (λ xs. HasPlacement (p ∷ xs)) (sym (take-append-le k prefix (q ∷ rest) h)) w
 
 -- and the first of them is refused
-pub left-refused : (p : List ℕ) (ps : List (List ℕ)) (q : List ℕ) (rest : List (List ℕ)) → reads Architecture p ≡ true → unread behind_architecture ps ≡ q ∷ rest
-    → IsRefusal (p ∷ ps) (refused (lack_behind (last_of Architecture (filled behind_architecture ps))) q)
-left-refused p ps q rest takes left =
-    let s = stop behind_architecture ps q rest left in
-    let at = refused-at p s.front q rest takes s.taken s.stuck in
-    let same : IsRefusal (p ∷ (s.front ++ (q ∷ rest))) (refused (lack_behind (last_of Architecture (filled behind_architecture ps))) q) =
-    subst (λ k. IsRefusal (p ∷ (s.front ++ (q ∷ rest))) (refused (lack_behind (last_of Architecture k)) q)) s.same at in
-    subst (λ k. IsRefusal (p ∷ k) (refused (lack_behind (last_of Architecture (filled behind_architecture ps))) q)) (sym s.split) same
+pub left-refusal_with : (p : List ℕ) (ps : List (List ℕ)) (q : List ℕ) (rest : List (List ℕ)) → reads Architecture p ≡ true → unread after_architecture ps ≡ q ∷ rest
+    → IsRefusal (p ∷ ps) (refusal_with (expected_after (last_of Architecture (filled after_architecture ps))) q)
+left-refusal_with p ps q rest takes left =
+    let s = stop after_architecture ps q rest left in
+    let at = refusal_with-at p s.prefix q rest takes s.taken_part s.stuck in
+    let same : IsRefusal (p ∷ (s.prefix ++ (q ∷ rest))) (refusal_with (expected_after (last_of Architecture (filled after_architecture ps))) q) =
+    subst (λ k. IsRefusal (p ∷ (s.prefix ++ (q ∷ rest))) (refusal_with (expected_after (last_of Architecture k)) q)) s.same at in
+    subst (λ k. IsRefusal (p ∷ k) (refusal_with (expected_after (last_of Architecture (filled after_architecture ps))) q)) (sym s.split) same

@@ -2,7 +2,7 @@
 use Rattle.std.proofs.Common.{◌≡◌, ◌⊎◌, inl, inr, ℕ, List, true, refl, sym, ap, subst}
 use Rattle.target_lexicon.specs.{Values.Architecture, Values.BinaryFormat, Values.VendorValue, Values.Values, Values.values, Laws.ComesBack, NormalStep.normal_step, NormalStep.elf_if_unknown}
 use Rattle.target_lexicon.specs.{Families.IsNintendo3ds, Families.IsEspIdf, Families.HidesNewlib, Families.PrintsTheEspIdfText, Printing.text_of, Reading.ReadsAs, SpecialTexts.esp_idf}
-use Rattle.target_lexicon.specs.FixedPoints.{IsPlainTriple, RoundIsNormalStep, settled, SecondStepChangesNone, SettledTextsAreKeys}
+use Rattle.target_lexicon.specs.FixedPoints.{IsPlainTriple, RoundIsNormalStep, settled_values, SecondStepChangesNone, SettledTextsAreKeys}
 use Rattle.lexicon_fields.specs.{Vendor.is_plain, Laws.HasVersionInRange}
 use Rattle.target_lexicon.proofs.{Fixed.outside-fixed, StepCases.step_cases, Unique.values_unique}
 use Rattle.target_lexicon.specs.Values.operating_system
@@ -61,14 +61,14 @@ step-plain t plain = record { vendor = step-vendor_plain t plain.vendor; version
 -- what is settled comes back, so that its text is its own
 
 module _ (round : RoundIsNormalStep) where
-  pub settled-comes_back : (t : Values) → IsPlainTriple t → ComesBack (settled t)
-  settled-comes_back t plain =
-      subst (λ (u : Values). ReadsAs (text_of (settled t)) u) (second_changes_none (normal_step t)) (round (settled t) (step-plain (normal_step t) (step-plain t plain)))
+  pub settled_values-comes_back : (t : Values) → IsPlainTriple t → ComesBack (settled_values t)
+  settled_values-comes_back t plain =
+      subst (λ (u : Values). ReadsAs (text_of (settled_values t)) u) (second_changes_none (normal_step t)) (round (settled_values t) (step-plain (normal_step t) (step-plain t plain)))
 
   pub settled_are_keys : SettledTextsAreKeys
   settled_are_keys = record {
-    comes_back = settled-comes_back;
+    comes_back = settled_values-comes_back;
     own = λ t u plain_t plain_u same.
-        values_unique (text_of (settled t)) (settled t) (settled u) (settled-comes_back t plain_t)
-        (subst (λ (text : List ℕ). ReadsAs text (settled u)) (sym same) (settled-comes_back u plain_u));
+        values_unique (text_of (settled_values t)) (settled_values t) (settled_values u) (settled_values-comes_back t plain_t)
+        (subst (λ (text : List ℕ). ReadsAs text (settled_values u)) (sym same) (settled_values-comes_back u plain_u));
   }

@@ -3,7 +3,7 @@ use Rattle.std.proofs.Common.{◌≡◌, ◌∙◌, Bool, true, false, ◌&&◌,
 use mathlib.Core.Bool.{true≢false}
 use Rattle.std.specs.Bool.{Decides}
 use Rattle.std.proofs.lemmas.Bool.Decides.{Decides-like, Decides-and, Decides-at}
-use Rattle.target_lexicon.specs.{FixedPoints.settled, NormalStep.normal_step, Values.Values}
+use Rattle.target_lexicon.specs.{FixedPoints.settled_values, NormalStep.normal_step, Values.Values}
 use Rattle.target_lexicon.proofs.{SameValues.same_values, Settled.second_changes_none, StepCases.step-architecture}
 
 -- both tests hold, of which the second is made where the first holds
@@ -38,7 +38,7 @@ fields_of_settled t u same = (
   ap (λ x. x.binary_format) same,
 )
 
-pub settles_alike : (r : Bool) (t u : Values) → Decides r (AreSameFields t u) → Decides r (settled t ≡ settled u)
+pub settles_alike : (r : Bool) (t u : Values) → Decides r (AreSameFields t u) → Decides r (settled_values t ≡ settled_values u)
 settles_alike r t u tests = Decides-like r
     (λ h. second_changes_none t
     ∙ same_values (normal_step t) (normal_step u) (step-architecture t ∙ h.0.0.0.0 ∙ sym (step-architecture u)) h.0.0.0.1 h.0.0.1 h.0.1 h.1

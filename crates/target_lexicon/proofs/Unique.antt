@@ -3,9 +3,9 @@ use Rattle.std.proofs.Common.{◌≡◌, ℕ, ◌<◌, List, [], ◌∷◌, take
 use Rattle.std.specs.Prelude.{MatchOption, slice_get}
 use Rattle.lexicon_fields.specs.{Architecture.architecture_of, Vendor.vendor_of, OperatingSystem.operating_system_of, Environment.environment_of, BinaryFormat.binary_format_of}
 use Rattle.target_lexicon.specs.{Field.Field, ImpliedFormat.implied, Placement.ArePartsOf, Placement.parts_of, Placement.HasPlacement, SpecialTexts.special_values, Values.Values}
-use Rattle.target_lexicon.specs.Refusal.{Lack, LacksAnyField, Refusal, refused}
-use Rattle.target_lexicon.specs.Reading.{IsValueOf, HoldsParts, ReadsAsLeast, ReadsAs, IsRefusal, IsLackedBehind, IsRefusedAs, IsRefused, lack_behind, last_of}
-use Rattle.target_lexicon.proofs.{Greedy.placement_front, Greedy.least-unique, Cuts.parts-only, SameValues.same_values}
+use Rattle.target_lexicon.specs.Refusal.{Expected, ExpectsNone, Refusal, refusal_with}
+use Rattle.target_lexicon.specs.Reading.{IsValueOf, HoldsParts, ReadsAsLeast, ReadsAs, IsRefusal, IsExpectedAfter, IsRefusedAs, IsRefused, expected_after, last_of}
+use Rattle.target_lexicon.proofs.{Greedy.placement_prefix, Greedy.least-unique, Cuts.parts-only, SameValues.same_values}
 
 same_value : {A : Type 0} (find : List ℕ → Option A) (d e : A) (o : Option (List ℕ)) (x y : A) → d ≡ e → IsValueOf find d o x → IsValueOf find e o y → x ≡ y
 same_value find d e None x y same h k = h ∙ same ∙ sym k
@@ -42,23 +42,23 @@ same_count parts x y a b =
     let second : b.count < a.count → ⊥ = λ before. b.unplaced (a.placed b.count before) in
     omega arith
 
-abbrev lack_behind_all : List Field → Lack
-lack_behind_all [] = LacksAnyField
-lack_behind_all (f ∷ fs) = lack_behind (last_of f fs)
+abbrev expected_after_all : List Field → Expected
+expected_after_all [] = ExpectsNone
+expected_after_all (f ∷ fs) = expected_after (last_of f fs)
 
-same_lacked : (front : List (List ℕ)) (j k : Lack) → IsLackedBehind front j → IsLackedBehind front k → j ≡ k
-same_lacked [] j k h l = h ∙ sym l
-same_lacked (p ∷ ps) j k (f, (fs, least, h)) (g, (gs, other, l)) =
-    h ∙ ap lack_behind_all (least-unique (p ∷ ps) (f ∷ fs) (g ∷ gs) least other) ∙ sym l
+same_expected : (prefix : List (List ℕ)) (j k : Expected) → IsExpectedAfter prefix j → IsExpectedAfter prefix k → j ≡ k
+same_expected [] j k h l = h ∙ sym l
+same_expected (p ∷ ps) j k (f, (fs, least, h)) (g, (gs, other, l)) =
+    h ∙ ap expected_after_all (least-unique (p ∷ ps) (f ∷ fs) (g ∷ gs) least other) ∙ sym l
 
 same_refusal : (parts : List (List ℕ)) (x y : Refusal) → IsRefusal parts x → IsRefusal parts y → x ≡ y
 same_refusal parts x y a b =
     let same = same_count parts x y a b in
-    let at : slice_get parts b.count ≡ Some x.part = subst (λ n. slice_get parts n ≡ Some x.part) same a.refused in
-    let other = b.refused in
-    let behind : IsLackedBehind (take b.count parts) x.lack = subst (λ n. IsLackedBehind (take n parts) x.lack) same a.lacked in
+    let at : slice_get parts b.count ≡ Some x.part = subst (λ n. slice_get parts n ≡ Some x.part) same a.refusal_with in
+    let other = b.refusal_with in
+    let after : IsExpectedAfter (take b.count parts) x.expected = subst (λ n. IsExpectedAfter (take n parts) x.expected) same a.expected in
     let part : x.part ≡ y.part = cc in
-    ap (λ lack. refused lack x.part) (same_lacked (take b.count parts) x.lack y.lack behind b.lacked) ∙ ap (refused y.lack) part
+    ap (λ expected. refusal_with expected x.part) (same_expected (take b.count parts) x.expected y.expected after b.expected) ∙ ap (refusal_with y.expected) part
 
 refusal_at : (text : List ℕ) (x : Refusal) → IsRefusedAs text x → IsRefusal (parts_of text) x
 refusal_at text x (ordinary, (parts, are, h)) = subst (λ parts. IsRefusal parts x) (parts-only text parts are) h
@@ -74,4 +74,4 @@ read_not_refused text t h (refusal, r) = by_parts (rw (r.0) at h)
     by_parts : (parts : List (List ℕ)) × ArePartsOf text parts × ReadsAsLeast parts t → ⊥
     by_parts (parts, are, (fs, least, holds)) =
         let at = refusal_at text refusal r in
-        at.unplaced (placement_front at.count (parts_of text) (subst HasPlacement (parts-only text parts are) (fs, least.placed)))
+        at.unplaced (placement_prefix at.count (parts_of text) (subst HasPlacement (parts-only text parts are) (fs, least.placed)))

@@ -4,7 +4,7 @@ use Rattle.std.specs.List.{join_with_byte}
 use Rattle.std.proofs.lemmas.List.{append_cancel_left}
 use Rattle.target_lexicon.specs.Values.{Architecture, OperatingSystem, Environment, BinaryFormat, VendorValue, Values, values}
 use Rattle.target_lexicon.specs.{ImpliedFormat.implied, SpecialTexts.special_text}
-use Rattle.target_lexicon.specs.Printing.{shows_vendor, shows_operating_system, shows_environment, shows_binary_format, shows_unknowns, shown_parts, when, text_by, text_of, upstream_text_of, ShowsUnknowns, OtherTextsThanUpstream}
+use Rattle.target_lexicon.specs.Printing.{shows_vendor, shows_operating_system, shows_environment, shows_binary_format, shows_unknowns, shown_parts, cons_if, text_by, text_of, upstream_text_of, ShowsUnknowns, OtherTextsThanUpstream}
 use Rattle.lexicon_fields.specs.{Architecture.architecture_name, Vendor.vendor_name, OperatingSystem.operating_system_name}
 use Rattle.target_lexicon.proofs.Printed.{dashed, dashed_joined}
 use Rattle.target_lexicon.specs.Values.architecture
@@ -13,7 +13,7 @@ use Rattle.target_lexicon.specs.Values.environment
 use Rattle.target_lexicon.specs.Values.binary_format
 
 -- the same part before two lists changes nothing
-same_parts : (b : Bool) (part : List ℕ) (ps qs : List (List ℕ)) → dashed (when b part ps) ≡ dashed (when b part qs) → dashed ps ≡ dashed qs
+same_parts : (b : Bool) (part : List ℕ) (ps qs : List (List ℕ)) → dashed (cons_if b part ps) ≡ dashed (cons_if b part qs) → dashed ps ≡ dashed qs
 unfolding dashed
 same_parts true part ps qs same = append_cancel_left (45 ∷ part) (dashed ps) (dashed qs) same
 same_parts false part ps qs same = same
@@ -25,27 +25,27 @@ abbrev unknown : List ℕ
 unknown = codes "unknown"
 
 -- two unknown parts more, or one
-two_more : (b : Bool) → dashed (unknown ∷ unknown ∷ when b unknown []) ≢ dashed (when b unknown [])
+two_more : (b : Bool) → dashed (unknown ∷ unknown ∷ cons_if b unknown []) ≢ dashed (cons_if b unknown [])
 unfolding dashed
 two_more true same = cc
 two_more false same = cc
 
-one_more : (b : Bool) → dashed (unknown ∷ when b unknown []) ≢ dashed (when b unknown [])
+one_more : (b : Bool) → dashed (unknown ∷ cons_if b unknown []) ≢ dashed (cons_if b unknown [])
 unfolding dashed
 one_more true same = cc
 one_more false same = cc
 
-longer_tail : (s : OperatingSystem) (a : Architecture) (b : Bool)
-    → dashed (operating_system_name s ∷ unknown ∷ when b unknown []) ≢ dashed (when (shows_operating_system s a) (operating_system_name s) (when b unknown []))
+growth_tail : (s : OperatingSystem) (a : Architecture) (b : Bool)
+    → dashed (operating_system_name s ∷ unknown ∷ cons_if b unknown []) ≢ dashed (cons_if (shows_operating_system s a) (operating_system_name s) (cons_if b unknown []))
 unfolding shows_operating_system
-longer_tail operating_system.Unknown (architecture.Clever sub) b same = two_more b same
-longer_tail s a b same = one_more b (same_parts true (operating_system_name s) (unknown ∷ when b unknown []) (when b unknown []) same)
+growth_tail operating_system.Unknown (architecture.Clever sub) b same = two_more b same
+growth_tail s a b same = one_more b (same_parts true (operating_system_name s) (unknown ∷ cons_if b unknown []) (cons_if b unknown []) same)
 
-longer : (a : Architecture) (v : VendorValue) (s : OperatingSystem)
+max_growth : (a : Architecture) (v : VendorValue) (s : OperatingSystem)
     → join_with_byte 45 (shown_parts true (values a v s environment.Unknown binary_format.Unknown)) ≢ join_with_byte 45 (shown_parts false (values a v s environment.Unknown binary_format.Unknown))
 unfolding shown_parts shows_environment
-longer a v s same =
-    longer_tail s a (shows_binary_format (values a v s environment.Unknown binary_format.Unknown))
+max_growth a v s same =
+    growth_tail s a (shows_binary_format (values a v s environment.Unknown binary_format.Unknown))
     (same_parts (shows_vendor v s environment.Unknown a) (vendor_name v) _ _ (same_first (architecture_name a) _ _ same))
 
 unknowns_shown : (i : BinaryFormat) → i ≢ binary_format.Unknown → shows_unknowns environment.Unknown binary_format.Unknown i ≡ true
@@ -55,7 +55,7 @@ unknowns_shown _ other = refl
 other_text : (t : Values) → ShowsUnknowns t → text_of t ≢ upstream_text_of t
 unfolding text_of upstream_text_of
 other_text t is same =
-    longer t.architecture t.vendor t.operating_system (rw (is.special, is.environment, is.binary_format, unknowns_shown _ (rw (is.environment) at is.implied)) at same)
+    max_growth t.architecture t.vendor t.operating_system (rw (is.special, is.environment, is.binary_format, unknowns_shown _ (rw (is.environment) at is.implied)) at same)
 
 -- which fields they are
 are_unknown : (e : Environment) (f i : BinaryFormat) → shows_unknowns e f i ≡ true → (e ≡ environment.Unknown) × (f ≡ binary_format.Unknown) × (i ≢ binary_format.Unknown)

@@ -38,7 +38,7 @@ PrintsTheEspIdfText t =
     t ≡ values (architecture.Riscv32 riscv32.Riscv32imc) (Custom (codes "esp")) operating_system.Espidf environment.Unknown binary_format.Elf
 
 -- on Clever without a system the environment `none` is shown alone, and reads as the system
-pub record ShowsNoneAlone (t : Values) : Type 0 where
+pub record ShowsOnlyNone (t : Values) : Type 0 where
   pub architecture : is_clever t.architecture ≡ true
   pub operating_system : t.operating_system ≡ operating_system.Unknown
   pub environment : t.environment ≡ environment.None
@@ -46,4 +46,4 @@ pub record ShowsNoneAlone (t : Values) : Type 0 where
 -- the triple is in one of the families, of which the last are those whose vendor no text reads as
 abbrev pub IsInSomeFamily : Values → Type 0
 IsInSomeFamily t =
-    PrintsAsSpecial t ⊎ (HidesNewlib t ⊎ (PrintsTheEspIdfText t ⊎ (ShowsNoneAlone t ⊎ (is_plain t.vendor ≡ false))))
+    PrintsAsSpecial t ⊎ (HidesNewlib t ⊎ (PrintsTheEspIdfText t ⊎ (ShowsOnlyNone t ⊎ (is_plain t.vendor ≡ false))))

@@ -27,25 +27,25 @@ abbrev pub FixedExactlyOutsideFamilies : Type 0
 FixedExactlyOutsideFamilies = (t : Values) → HasVersionInRange t.operating_system → IsFixedExactlyOutside t
 
 -- the normal step, taken twice
-abbrev pub settled : Values → Values
-settled t = normal_step (normal_step t)
+abbrev pub settled_values : Values → Values
+settled_values t = normal_step (normal_step t)
 
 -- the printed text of the settled triple
-abbrev pub settled_text : Values → List ℕ
-settled_text t = text_of (settled t)
+abbrev pub canonical_text : Values → List ℕ
+canonical_text t = text_of (settled_values t)
 
 -- a second step changes no triple
 abbrev pub SecondStepChangesNone : Type 0
-SecondStepChangesNone = (t : Values) → settled t ≡ normal_step t
+SecondStepChangesNone = (t : Values) → settled_values t ≡ normal_step t
 
 -- a settled plain triple comes back, and no other such triple has its text
 pub record SettledTextsAreKeys : Type 0 where
-  pub comes_back : (t : Values) → IsPlainTriple t → ComesBack (settled t)
-  pub own : (t u : Values) → IsPlainTriple t → IsPlainTriple u → settled_text t ≡ settled_text u → settled t ≡ settled u
+  pub comes_back : (t : Values) → IsPlainTriple t → ComesBack (settled_values t)
+  pub own : (t u : Values) → IsPlainTriple t → IsPlainTriple u → canonical_text t ≡ canonical_text u → settled_values t ≡ settled_values u
 
 -- the laws of rounds as one: every text is read or refused in one way, a triple comes back exactly outside the families, a round of a
 -- plain triple succeeds and is the normal step, which keeps the four queries, no triple takes two steps, and settled texts are keys
-pub record RoundsAreKnown : Type 0 where
+pub record RoundTripsAreKnown : Type 0 where
   pub texts : OneOutcomeEach
   pub fixed : FixedExactlyOutsideFamilies
   pub round : RoundIsNormalStep
@@ -54,17 +54,17 @@ pub record RoundsAreKnown : Type 0 where
   pub keys : SettledTextsAreKeys
 
 -- so many bytes longer than a text is at most what is printed of it, as `aarch64-unknown-unknown-elf` than `arm64`
-abbrev pub longer : ℕ
-longer = 22
+abbrev pub max_growth : ℕ
+max_growth = 22
 
 -- the text that a triple prints is that much longer at most than each text that reads as it
-abbrev pub PrintedTextsAreLittleLonger : Type 0
-PrintedTextsAreLittleLonger = (text : List ℕ) (t : Values) → ReadsAs text t → length (text_of t) ≤ length text + longer
+abbrev pub PrintedTextsGrowAtMost : Type 0
+PrintedTextsGrowAtMost = (text : List ℕ) (t : Values) → ReadsAs text t → length (text_of t) ≤ length text + max_growth
 
 -- so is the text of the settled triple
-abbrev pub SettledTextsAreLittleLonger : Type 0
-SettledTextsAreLittleLonger = (text : List ℕ) (t : Values) → ReadsAs text t → length (settled_text t) ≤ length text + longer
+abbrev pub CanonicalTextsGrowAtMost : Type 0
+CanonicalTextsGrowAtMost = (text : List ℕ) (t : Values) → ReadsAs text t → length (canonical_text t) ≤ length text + max_growth
 
 -- a refused part is no longer than the text
-abbrev pub RefusedPartsAreNoLonger : Type 0
-RefusedPartsAreNoLonger = (text : List ℕ) (refusal : Refusal) → IsRefusedAs text refusal → length refusal.part ≤ length text
+abbrev pub RefusedPartsDoNotGrow : Type 0
+RefusedPartsDoNotGrow = (text : List ℕ) (refusal : Refusal) → IsRefusedAs text refusal → length refusal.part ≤ length text

@@ -4,7 +4,7 @@ use Rattle.std.specs.Option.{option_map_or}
 use Rattle.serde_json.specs.Data.{Data, string, array, Items, no_items, item}
 use Rattle.serde_json.specs.Find.{as_str, as_array, get_item}
 use Rattle.serde_json.specs.View.{items_of}
-use Rattle.target_lexicon.specs.{declared.json_error.JsonError.JsonError, declared.list_error.ListError.ListError, Printing.text_of, Reading.ReadsAs, Reading.IsRefusedAs, Reading.MayWantMemory}
+use Rattle.target_lexicon.specs.{declared.json_error.JsonError.JsonError, declared.list_error.ListError.ListError, Printing.text_of, Reading.ReadsAs, Reading.IsRefusedAs, Reading.MayAllocate}
 use Rattle.target_lexicon.specs.{Refusal.Refusal, Refusal.refusal_of, Refusal.refusal_line, Values.Values}
 use Rattle.target_lexicon.specs.declared.json_error.JsonError.TheVariants as json_error
 use Rattle.target_lexicon.specs.declared.list_error.ListError.TheVariants as list_error
@@ -33,7 +33,7 @@ json_fault_of (json_error.Parse error) = Parse (refusal_of error)
 -- why a value doesn't read: it is no string, or its text is refused, or memory is wanted where its text may want it
 abbrev pub IsJsonFault : Data → JsonFault → Type 0
 IsJsonFault value NotText = as_str value ≡ None
-IsJsonFault value (Parse refusal) = MatchOption (as_str value) ⊥ (λ text. MatchOption refusal (MayWantMemory text) (IsRefusedAs text))
+IsJsonFault value (Parse refusal) = MatchOption (as_str value) ⊥ (λ text. MatchOption refusal (MayAllocate text) (IsRefusedAs text))
 
 -- the elements read as these triples, one each, in order
 abbrev pub ElementsReadAs : Items → List Values → Type 0

@@ -1,7 +1,7 @@
 -- Laws of reading and printing.
 use Rattle.std.specs.Prelude.{◌≡◌, ◌↔◌, ℕ, List, true, Ok, Err, ◌⊎◌}
 use Rattle.lexicon_fields.specs.Vendor.{is_plain}
-use Rattle.target_lexicon.specs.{Field.Field, Placement.IsLeast, Printing.text_of, Reading.ReadsAs, Reading.IsRead, Reading.IsRefusedAs, Reading.IsRefused, ReadingByFields.reading, Refusal.Refusal}
+use Rattle.target_lexicon.specs.{Field.Field, Placement.IsLeast, Printing.text_of, Reading.ReadsAs, Reading.IsRead, Reading.IsRefusedAs, Reading.IsRefused, GreedyReading.reading, Refusal.Refusal}
 use Rattle.target_lexicon.specs.Values.{Values}
 
 -- the parts have exactly one least placement
@@ -24,7 +24,7 @@ OneOutcomeEach = (text : List ℕ) → HasOneOutcome text
 -- the function `reading` gives what the text reads as, and how it is refused
 pub record IsComputed (text : List ℕ) : Type 0 where
   pub read : (t : Values) → ReadsAs text t ↔ (reading text ≡ Ok t)
-  pub refused : (refusal : Refusal) → IsRefusedAs text refusal ↔ (reading text ≡ Err refusal)
+  pub refusal_with : (refusal : Refusal) → IsRefusedAs text refusal ↔ (reading text ≡ Err refusal)
 
 -- so it does for every text
 abbrev pub ReadingIsComputed : Type 0

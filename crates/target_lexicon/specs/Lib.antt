@@ -13,7 +13,7 @@ pub mod Private
 pub mod Queries
 pub mod QueryLaws
 pub mod Reading
-pub mod ReadingByFields
+pub mod GreedyReading
 pub mod Refusal
 pub mod SpecialTexts
 pub mod Values

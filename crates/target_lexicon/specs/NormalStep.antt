@@ -32,9 +32,9 @@ abbrev pub prints_the_esp_idf_text : Environment → BinaryFormat → OperatingS
 prints_the_esp_idf_text environment.Unknown binary_format.Elf operating_system.Espidf (architecture.Riscv32 riscv32.Riscv32imc) (Custom text) = bytes_eq text (codes "esp")
 prints_the_esp_idf_text _ _ _ _ _ = false
 
-abbrev pub shows_none_alone : Environment → OperatingSystem → Architecture → Bool
-shows_none_alone environment.None operating_system.Unknown (architecture.Clever sub) = true
-shows_none_alone _ _ _ = false
+abbrev pub shows_only_none : Environment → OperatingSystem → Architecture → Bool
+shows_only_none environment.None operating_system.Unknown (architecture.Clever sub) = true
+shows_only_none _ _ _ = false
 
 abbrev pub elf_if_unknown : BinaryFormat → BinaryFormat
 elf_if_unknown binary_format.Unknown = binary_format.Elf
@@ -46,7 +46,7 @@ is_in_no_family t =
     not (prints_as_special t.operating_system t.vendor t.architecture t.environment t.binary_format)
     && not (hides_newlib t.environment t.operating_system t.vendor t.architecture)
     && not (prints_the_esp_idf_text t.environment t.binary_format t.operating_system t.architecture t.vendor)
-    && not (shows_none_alone t.environment t.operating_system t.architecture)
+    && not (shows_only_none t.environment t.operating_system t.architecture)
     && is_plain t.vendor
 
 -- the first of the families that holds tells what changes; outside them nothing does
@@ -58,6 +58,6 @@ normal_step t =
     then record t { environment = environment.Unknown; binary_format = elf_if_unknown t.binary_format }
     else if prints_the_esp_idf_text t.environment t.binary_format t.operating_system t.architecture t.vendor
     then record t { vendor = Known Espressif; environment = environment.Newlib; binary_format = binary_format.Elf }
-    else if shows_none_alone t.environment t.operating_system t.architecture
+    else if shows_only_none t.environment t.operating_system t.architecture
     then record t { operating_system = operating_system.None_; environment = environment.Unknown }
     else t

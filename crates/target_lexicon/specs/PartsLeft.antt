@@ -1,13 +1,13 @@
 -- What is left of a text while it is read, for the contracts of private functions, which no public contract cites.
 use Rattle.std.specs.Prelude.{ℕ, List, [], ◌∷◌, Option, Some, None}
-use Rattle.target_lexicon.specs.{declared.part.Part.Part, declared.read.Field.Field as Taker, declared.read.Rest.Rest, Private.parts_behind_dash, ReadingByFields.Taken}
+use Rattle.target_lexicon.specs.{declared.part.Part.Part, declared.read.Field.Field as Taker, declared.read.PartCursor.PartCursor, Private.parts_after_dash, GreedyReading.Taken}
 use Rattle.target_lexicon.specs.Field.{Field, Architecture, Vendor, OperatingSystem, Environment, BinaryFormat}
 use Rattle.target_lexicon.specs.declared.read.Field.TheVariants as taker
 
 -- the parts that are left, of which the first is cut off
 abbrev pub parts_left : Option Part → List (List ℕ)
 parts_left None = []
-parts_left (Some part) = part.text.now ∷ parts_behind_dash part.behind
+parts_left (Some part) = part.text.now ∷ parts_after_dash part.after
 
 -- the field that took a part, as the rules name it
 abbrev pub field_of : Taker → Field
@@ -18,5 +18,5 @@ field_of taker.Environment = Environment
 field_of taker.BinaryFormat = BinaryFormat
 
 -- the value of a field, and what is left then
-abbrev pub taken_of : {A : Type 0} → A → Rest → Taken A
+abbrev pub taken_of : {A : Type 0} → A → PartCursor → Taken A
 taken_of value rest = (value, field_of rest.last, parts_left rest.parts)

@@ -16,29 +16,29 @@ abbrev pub parts_of : List ℕ → List (List ℕ)
 parts_of text = slice_split (λ b. b == 45) text
 
 -- the parts read as these fields, one each, which strictly increase and all stand behind `last`
-abbrev pub IsPlacedBehind : Field → List (List ℕ) → List Field → Type 0
-IsPlacedBehind last [] [] = Unit {0}
-IsPlacedBehind last [] (f ∷ fs) = ⊥
-IsPlacedBehind last (p ∷ ps) [] = ⊥
-IsPlacedBehind last (p ∷ ps) (f ∷ fs) = (place last < place f) × (reads f p ≡ true) × IsPlacedBehind f ps fs
+abbrev pub IsPlacedAfter : Field → List (List ℕ) → List Field → Type 0
+IsPlacedAfter last [] [] = Unit {0}
+IsPlacedAfter last [] (f ∷ fs) = ⊥
+IsPlacedAfter last (p ∷ ps) [] = ⊥
+IsPlacedAfter last (p ∷ ps) (f ∷ fs) = (place last < place f) × (reads f p ≡ true) × IsPlacedAfter f ps fs
 
 -- the first part reads as an architecture, the others as strictly increasing fields behind it
 abbrev pub IsPlacement : List (List ℕ) → List Field → Type 0
 IsPlacement [] fs = ⊥
 IsPlacement (p ∷ ps) [] = ⊥
-IsPlacement (p ∷ ps) (f ∷ fs) = (f ≡ field.Architecture) × (reads f p ≡ true) × IsPlacedBehind f ps fs
+IsPlacement (p ∷ ps) (f ∷ fs) = (f ≡ field.Architecture) × (reads f p ≡ true) × IsPlacedAfter f ps fs
 
 -- field by field, the first are not behind the second
-abbrev pub AreNotBehind : List Field → List Field → Type 0
-AreNotBehind [] [] = Unit {0}
-AreNotBehind [] (g ∷ gs) = ⊥
-AreNotBehind (f ∷ fs) [] = ⊥
-AreNotBehind (f ∷ fs) (g ∷ gs) = (place f ≤ place g) × AreNotBehind fs gs
+abbrev pub AreNotAfter : List Field → List Field → Type 0
+AreNotAfter [] [] = Unit {0}
+AreNotAfter [] (g ∷ gs) = ⊥
+AreNotAfter (f ∷ fs) [] = ⊥
+AreNotAfter (f ∷ fs) (g ∷ gs) = (place f ≤ place g) × AreNotAfter fs gs
 
 -- the placement that puts every part at a field not behind its field in any other placement
 pub record IsLeast (parts : List (List ℕ)) (fields : List Field) : Type 0 where
   pub placed : IsPlacement parts fields
-  pub least : (others : List Field) → IsPlacement parts others → AreNotBehind fields others
+  pub least : (others : List Field) → IsPlacement parts others → AreNotAfter fields others
 
 -- the parts have a placement
 abbrev pub HasPlacement : List (List ℕ) → Type 0

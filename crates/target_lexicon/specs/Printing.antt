@@ -30,22 +30,22 @@ is_bare_arm arm.Thumbv8mMain = true
 is_bare_arm _ = false
 
 -- where an unknown vendor goes without saying: Android and kernels on Linux, WASI, machines without a system
-abbrev pub goes_without_vendor : OperatingSystem → Environment → Architecture → Bool
-goes_without_vendor operating_system.Linux environment.Android a = true
-goes_without_vendor operating_system.Linux environment.Androideabi a = true
-goes_without_vendor operating_system.Linux environment.Kernel a = true
-goes_without_vendor operating_system.Wasi e a = true
-goes_without_vendor operating_system.WasiP1 e a = true
-goes_without_vendor operating_system.WasiP2 e a = true
-goes_without_vendor operating_system.None_ e architecture.Msp430 = true
-goes_without_vendor operating_system.None_ e (architecture.Arm sub) = is_bare_arm sub
-goes_without_vendor _ e a = false
+abbrev pub omits_unknown_vendor : OperatingSystem → Environment → Architecture → Bool
+omits_unknown_vendor operating_system.Linux environment.Android a = true
+omits_unknown_vendor operating_system.Linux environment.Androideabi a = true
+omits_unknown_vendor operating_system.Linux environment.Kernel a = true
+omits_unknown_vendor operating_system.Wasi e a = true
+omits_unknown_vendor operating_system.WasiP1 e a = true
+omits_unknown_vendor operating_system.WasiP2 e a = true
+omits_unknown_vendor operating_system.None_ e architecture.Msp430 = true
+omits_unknown_vendor operating_system.None_ e (architecture.Arm sub) = is_bare_arm sub
+omits_unknown_vendor _ e a = false
 
 -- the vendor is left out where it is unknown and that goes without saying, but never beside a kernel of Hermit or Linux
 unfoldable pub shows_vendor : VendorValue → OperatingSystem → Environment → Architecture → Bool
 shows_vendor (Known Unknown) s environment.HermitKernel a = true
 shows_vendor (Known Unknown) s environment.LinuxKernel a = true
-shows_vendor (Known Unknown) s e a = not (goes_without_vendor s e a)
+shows_vendor (Known Unknown) s e a = not (omits_unknown_vendor s e a)
 shows_vendor _ s e a = true
 
 -- the system is left out where it is unknown, on Clever
@@ -61,10 +61,10 @@ shows_environment environment.Newlib operating_system.Espidf (Known Espressif) =
 shows_environment _ _ _ = true
 
 -- the two systems that say that there is none, or none known
-abbrev pub lacks_system : OperatingSystem → Bool
-lacks_system operating_system.None_ = true
-lacks_system operating_system.Unknown = true
-lacks_system _ = false
+abbrev pub names_no_system : OperatingSystem → Bool
+names_no_system operating_system.None_ = true
+names_no_system operating_system.Unknown = true
+names_no_system _ = false
 
 -- the environments and the architectures whose triples leave out an implied format even without a system
 abbrev pub environment_implies_format : Environment → Bool
@@ -93,7 +93,7 @@ same_format _ _ = false
 -- a known format is shown without a system even where it is the implied one
 abbrev pub shows_implied_format : BinaryFormat → OperatingSystem → Environment → Architecture → Bool
 shows_implied_format f s e a =
-    lacks_system s && not (same_format f binary_format.Unknown) && not (environment_implies_format e) && not (architecture_implies_format a)
+    names_no_system s && not (same_format f binary_format.Unknown) && not (environment_implies_format e) && not (architecture_implies_format a)
 
 -- the format is left out where it is the implied one, but for such triples
 unfoldable pub shows_binary_format : Values → Bool
@@ -107,18 +107,18 @@ shows_unknowns environment.Unknown binary_format.Unknown i = true
 shows_unknowns _ _ i = false
 
 -- a part, where it is shown, and the parts behind it
-abbrev pub when : Bool → List ℕ → List (List ℕ) → List (List ℕ)
-when true part parts = part ∷ parts
-when false part parts = parts
+abbrev pub cons_if : Bool → List ℕ → List (List ℕ) → List (List ℕ)
+cons_if true part parts = part ∷ parts
+cons_if false part parts = parts
 
 -- the names of the fields that are shown; the first column tells whether system and environment are shown whatever they are
 unfoldable pub shown_parts : Bool → Values → List (List ℕ)
 shown_parts both t =
     architecture_name t.architecture
-    ∷ when (shows_vendor t.vendor t.operating_system t.environment t.architecture) (vendor_name t.vendor)
-    (when (both || shows_operating_system t.operating_system t.architecture) (operating_system_name t.operating_system)
-    (when (both || shows_environment t.environment t.operating_system t.vendor) (environment_name t.environment)
-    (when (shows_binary_format t) (binary_format_name t.binary_format) [])))
+    ∷ cons_if (shows_vendor t.vendor t.operating_system t.environment t.architecture) (vendor_name t.vendor)
+    (cons_if (both || shows_operating_system t.operating_system t.architecture) (operating_system_name t.operating_system)
+    (cons_if (both || shows_environment t.environment t.operating_system t.vendor) (environment_name t.environment)
+    (cons_if (shows_binary_format t) (binary_format_name t.binary_format) [])))
 
 -- the special text of a triple, or else these names with single dashes between them
 abbrev pub text_by : Bool → Values → List ℕ

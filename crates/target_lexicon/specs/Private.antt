@@ -7,13 +7,13 @@ use Rattle.lexicon_fields.specs.BinaryFormat.{binary_format_of}
 use Rattle.target_lexicon.specs.{Values.Known, Placement.parts_of}
 
 -- the parts behind a dash, if there is one
-abbrev pub parts_behind_dash : Option (Bor (List ℕ)) → List (List ℕ)
-parts_behind_dash None = []
-parts_behind_dash (Some text) = parts_of text.now
+abbrev pub parts_after_dash : Option (Bor (List ℕ)) → List (List ℕ)
+parts_after_dash None = []
+parts_after_dash (Some text) = parts_of text.now
 
 -- the bits of a text's last sixteen bytes, or of fewer, tell which of them are dashes: the highest of sixteen is the last byte's
-pub record TellsDashes (bits : ℕ) (text : List ℕ) : Type 0 where
-  pub tells : (k : ℕ) → k ≤ length text → length text ≤ k + 16 → bits / 2 ^ (16 - (length text - k)) ≡ mask_l (map (λ b. b == 45) (drop k text))
+pub record MarksDashes (bits : ℕ) (text : List ℕ) : Type 0 where
+  pub decides : (k : ℕ) → k ≤ length text → length text ≤ k + 16 → bits / 2 ^ (16 - (length text - k)) ≡ mask_l (map (λ b. b == 45) (drop k text))
 
 -- what the row of a text, or that it has none, tells: what the text reads as in each field, but without a row not the vendor and the system
 pub record IsLookedUp (text : List ℕ) (row : Option FixedRow) : Type 0 where

@@ -5,8 +5,8 @@ use Rattle.target_lexicon.specs.{Values.Architecture, Values.OperatingSystem, Va
 use Rattle.target_lexicon.specs.declared.data_model.CDataModel.{CDataModel}
 use Rattle.target_lexicon.specs.declared.calling_convention.CallingConvention.TheVariants.{SystemV, WasmBasicCAbi, WindowsFastcall, AppleAarch64}
 use Rattle.target_lexicon.specs.declared.data_model.CDataModel.TheVariants.{ILP32, LLP64, LP64}
-use Rattle.lexicon_fields.specs.{declared.width.Endianness.Endianness, declared.width.PointerWidth.PointerWidth, ArchitectureQueries.architecture_endianness, ArchitectureQueries.architecture_width}
-use Rattle.lexicon_fields.specs.declared.width.PointerWidth.TheVariants.{U16, U32, U64}
+use Rattle.lexicon_fields.specs.{declared.endianness.Endianness.Endianness, declared.pointer_width.PointerWidth.PointerWidth, ArchitectureQueries.architecture_endianness, ArchitectureQueries.architecture_width}
+use Rattle.lexicon_fields.specs.declared.pointer_width.PointerWidth.TheVariants.{U16, U32, U64}
 use Rattle.target_lexicon.specs.Values.architecture
 use Rattle.target_lexicon.specs.Values.operating_system
 use Rattle.target_lexicon.specs.Values.environment

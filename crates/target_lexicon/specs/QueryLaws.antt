@@ -1,6 +1,6 @@
 -- Laws of the four queries, and of sizes.
 use Rattle.std.specs.Prelude.{◌≡◌, ◌≤◌, Some, option_map}
-use Rattle.lexicon_fields.specs.Width.{width_bits}
+use Rattle.lexicon_fields.specs.PointerWidth.{width_bits}
 use Rattle.target_lexicon.specs.{declared.data_model.CDataModel.CDataModel, DataModel.size_bits, DataModel.sizes_of, NormalStep.normal_step, Values.Values}
 use Rattle.target_lexicon.specs.Queries.{endianness, pointer_width, calling_convention, data_model}
 

@@ -2,7 +2,7 @@
 use Rattle.std.specs.Prelude.{◌≡◌, ℕ, ◌<◌, suc, List, [], ◌∷◌, Option, Some, None, take, slice_get, if◌then◌else◌, ◌==◌, IfSome, MatchOption, ◌⊎◌}
 use Rattle.lexicon_fields.specs.{Architecture.architecture_of, Vendor.IsCustom, Vendor.vendor_of, OperatingSystem.operating_system_of, Environment.environment_of, BinaryFormat.binary_format_of}
 use Rattle.target_lexicon.specs.{declared.parse_error.ParseError.ParseError, Field.Field, Field.place, ImpliedFormat.implied, Placement.ArePartsOf, Placement.IsLeast, Placement.HasPlacement}
-use Rattle.target_lexicon.specs.{Refusal.Lack, Refusal.Lacks, Refusal.LacksAnyField, Refusal.Refusal, Refusal.refusal_of, SpecialTexts.special_values, Values.Values}
+use Rattle.target_lexicon.specs.{Refusal.Expected, Refusal.Expects, Refusal.ExpectsNone, Refusal.Refusal, Refusal.refusal_of, SpecialTexts.special_values, Values.Values}
 use Rattle.target_lexicon.specs.Values.architecture
 use Rattle.target_lexicon.specs.Values.operating_system
 use Rattle.target_lexicon.specs.Values.environment
@@ -40,12 +40,12 @@ ReadsAs text t = MatchOption (special_values text)
 
 -- what a part lacks whose predecessors fill the fields up to this one: the next field, of which there is none behind the
 -- binary format
-abbrev pub lack_behind : Field → Lack
-lack_behind field.Architecture = Lacks field.Vendor
-lack_behind field.Vendor = Lacks field.OperatingSystem
-lack_behind field.OperatingSystem = Lacks field.Environment
-lack_behind field.Environment = Lacks field.BinaryFormat
-lack_behind field.BinaryFormat = LacksAnyField
+abbrev pub expected_after : Field → Expected
+expected_after field.Architecture = Expects field.Vendor
+expected_after field.Vendor = Expects field.OperatingSystem
+expected_after field.OperatingSystem = Expects field.Environment
+expected_after field.Environment = Expects field.BinaryFormat
+expected_after field.BinaryFormat = ExpectsNone
 
 -- the last of these fields
 abbrev pub last_of : Field → List Field → Field
@@ -54,19 +54,19 @@ last_of f (g ∷ gs) = last_of g gs
 
 -- what a part lacks behind these parts: the field behind the last that their least placement fills, and the architecture
 -- where there are none
-abbrev pub IsLackedBehind : List (List ℕ) → Lack → Type 0
-IsLackedBehind [] lack = lack ≡ Lacks field.Architecture
-IsLackedBehind (p ∷ ps) lack =
-    (first : Field) × ((others : List Field) × IsLeast (p ∷ ps) (first ∷ others) × (lack ≡ lack_behind (last_of first others)))
+abbrev pub IsExpectedAfter : List (List ℕ) → Expected → Type 0
+IsExpectedAfter [] expected = expected ≡ Expects field.Architecture
+IsExpectedAfter (p ∷ ps) expected =
+    (first : Field) × ((others : List Field) × IsLeast (p ∷ ps) (first ∷ others) × (expected ≡ expected_after (last_of first others)))
 
 -- the first part up to which no placement exists, and what it lacks
 pub record IsRefusal (parts : List (List ℕ)) (refusal : Refusal) : Type 0 where
   -- how many parts are before it
   pub count : ℕ
-  pub refused : slice_get parts count ≡ Some refusal.part
+  pub refusal_with : slice_get parts count ≡ Some refusal.part
   pub unplaced : HasPlacement (take (suc count) parts) → ⊥
   pub placed : (k : ℕ) → k < count → HasPlacement (take (suc k) parts)
-  pub lacked : IsLackedBehind (take count parts) refusal.lack
+  pub expected : IsExpectedAfter (take count parts) refusal.expected
 
 -- the text isn't special, and this part of it is refused
 abbrev pub IsRefusedAs : List ℕ → Refusal → Type 0
@@ -82,12 +82,12 @@ abbrev pub IsRefused : List ℕ → Type 0
 IsRefused text = (refusal : Refusal) × IsRefusedAs text refusal
 
 -- the only texts that may want memory: those that are refused, or read with a custom vendor
-abbrev pub MayWantMemory : List ℕ → Type 0
-MayWantMemory text = IsRefused text ⊎ ((t : Values) × ReadsAs text t × IsCustom t.vendor)
+abbrev pub MayAllocate : List ℕ → Type 0
+MayAllocate text = IsRefused text ⊎ ((t : Values) × ReadsAs text t × IsCustom t.vendor)
 
 -- the error names the refusal of the text, or tells of memory where memory may be wanted
-abbrev pub IsFaultOf : List ℕ → ParseError → Type 0
-IsFaultOf text error = MatchOption (refusal_of error) (MayWantMemory text) (λ refusal. IsRefusedAs text refusal)
+abbrev pub IsErrorOf : List ℕ → ParseError → Type 0
+IsErrorOf text error = MatchOption (refusal_of error) (MayAllocate text) (λ refusal. IsRefusedAs text refusal)
 
 -- the error names the refusal of the text, or tells of memory, whatever the text: so of a call that asks for more than the reading does
 abbrev pub IsRefusalOrMemory : List ℕ → ParseError → Type 0

@@ -2,7 +2,7 @@
 ghost use Rattle.std.specs.Prelude.{◌≡◌, ◌≤◌, ◌+◌, ◌==◌, length, take, drop, map};
 ghost use Rattle.std.specs.List.{position};
 ghost use Rattle.std.specs.Simd.Lanes.{mask_l};
-ghost use Rattle.target_lexicon.specs.Private.{TellsDashes};
+ghost use Rattle.target_lexicon.specs.Private.{MarksDashes};
 
 use std::simd::prelude::*;
 
@@ -19,7 +19,7 @@ fn dashes_from(bytes: &[u8], at: usize) -> u64
 
 /// Which of the last sixteen bytes of a text are dashes. Of a shorter text the bits of its bytes are the highest of sixteen.
 pub(crate) fn dashes_at_end(text: &str) -> u64
-    ensures { TellsDashes result text.now }
+    ensures { MarksDashes result text.now }
 {
     let bytes = text.as_bytes();
     if 16 <= bytes.len() {
@@ -32,7 +32,7 @@ pub(crate) fn dashes_at_end(text: &str) -> u64
 
 /// Where the first dash of a text is, the dashes of whose end are known.
 pub(crate) fn dash_in(text: &str, at_end: u64) -> Option<usize>
-    requires { TellsDashes at_end text.now }
+    requires { MarksDashes at_end text.now }
     ensures { result ≡ position (λ b. b == 45) text.now }
 {
     let bytes = text.as_bytes();

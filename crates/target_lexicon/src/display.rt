@@ -2,7 +2,7 @@
 ghost use Rattle.std.specs.Prelude.{◌≡◌, ◌||◌, Some, IfOk, option_map, string_bytes};
 ghost use Rattle.lexicon_fields.specs.Vendor.{vendor_value};
 ghost use Rattle.std.specs.Fmt.{DisplaysStyledOnOk, formatter_spec};
-ghost use Rattle.target_lexicon.specs.Printing.{text_of, is_bare_arm, goes_without_vendor, shows_vendor, shows_operating_system, shows_environment, shows_binary_format, shows_implied_format, shows_unknowns, architecture_implies_format};
+ghost use Rattle.target_lexicon.specs.Printing.{text_of, is_bare_arm, omits_unknown_vendor, shows_vendor, shows_operating_system, shows_environment, shows_binary_format, shows_implied_format, shows_unknowns, architecture_implies_format};
 ghost use Rattle.target_lexicon.specs.ImpliedFormat.{implied};
 ghost use Rattle.target_lexicon.specs.Private.{part_text};
 ghost use Rattle.target_lexicon.specs.Values.{values_of};
@@ -42,7 +42,9 @@ fn write_part<W: fmt::Write, D: fmt::Display>(
     is_shown: bool,
     part: &D,
 ) -> fmt::Result
-    ensures { DisplaysStyledOnOk W.write_str_gives f.old result (option_map (part_text is_shown) (D.styled_output part.now (formatter_spec f.old))) f.new }
+    ensures { DisplaysStyledOnOk W.write_str_gives f.old result
+        (option_map (part_text is_shown) (D.styled_output part.now (formatter_spec f.old)))
+        f.new }
 {
     if !is_shown {
         return Ok(());
@@ -64,18 +66,22 @@ impl Triple {
     /// Whether the vendor is shown.
     #[tactic(auto, unfolding(crate::specs::Printing::shows_vendor))]
     fn shows_vendor(&self) -> bool
-        ensures { result ≡ shows_vendor (vendor_value self.now.vendor) self.now.operating_system self.now.environment self.now.architecture }
+        ensures { result
+            ≡ shows_vendor (vendor_value self.now.vendor) self.now.operating_system
+            self.now.environment self.now.architecture }
     {
         match (&self.vendor, self.environment) {
             (Vendor::Unknown, Environment::HermitKernel | Environment::LinuxKernel) => true,
-            (Vendor::Unknown, _) => !self.goes_without_vendor(),
+            (Vendor::Unknown, _) => !self.omits_unknown_vendor(),
             _ => true,
         }
     }
 
     /// Whether an unknown vendor goes without saying.
-    fn goes_without_vendor(&self) -> bool
-        ensures { result ≡ goes_without_vendor self.now.operating_system self.now.environment self.now.architecture }
+    fn omits_unknown_vendor(&self) -> bool
+        ensures { result
+            ≡ omits_unknown_vendor self.now.operating_system self.now.environment
+            self.now.architecture }
     {
         match self.operating_system {
             OperatingSystem::Linux => matches!(
@@ -94,7 +100,9 @@ impl Triple {
 
     /// Whether environment and format are both shown as unknown.
     fn shows_unknowns(&self) -> bool
-        ensures { result ≡ shows_unknowns self.now.environment self.now.binary_format (implied (values_of self.now)) }
+        ensures { result
+            ≡ shows_unknowns self.now.environment self.now.binary_format
+            (implied (values_of self.now)) }
     {
         matches!(
             (self.environment, self.binary_format),
@@ -105,7 +113,8 @@ impl Triple {
     /// Whether the operating system is shown; always beside an environment and a format that are both shown as unknown.
     #[tactic(auto, unfolding(crate::specs::Printing::shows_operating_system))]
     pub(crate) fn shows_operating_system(&self, both: bool) -> bool
-        ensures { result ≡ (both || shows_operating_system self.now.operating_system self.now.architecture) }
+        ensures { result
+            ≡ (both || shows_operating_system self.now.operating_system self.now.architecture) }
     {
         both || !matches!(
             (self.operating_system, self.architecture),
@@ -116,7 +125,9 @@ impl Triple {
     /// Whether the environment is shown; always where it and the format are both shown as unknown.
     #[tactic(auto, unfolding(crate::specs::Printing::shows_environment))]
     pub(crate) fn shows_environment(&self, both: bool) -> bool
-        ensures { result ≡ (both || shows_environment self.now.environment self.now.operating_system (vendor_value self.now.vendor)) }
+        ensures { result
+            ≡ (both || shows_environment self.now.environment self.now.operating_system
+            (vendor_value self.now.vendor)) }
     {
         match (self.environment, self.operating_system, &self.vendor) {
             (Environment::Unknown, _, _)
@@ -136,7 +147,9 @@ impl Triple {
 
     /// Whether the binary format is shown even where it is the implied one.
     fn shows_implied_format(&self) -> bool
-        ensures { result ≡ shows_implied_format self.now.binary_format self.now.operating_system self.now.environment self.now.architecture }
+        ensures { result
+            ≡ shows_implied_format self.now.binary_format self.now.operating_system
+            self.now.environment self.now.architecture }
     {
         matches!(
             self.operating_system,

@@ -1,9 +1,9 @@
 //! Laws over the definitions alone: each function's contract is one, and it does nothing.
 ghost use Rattle.std.specs.Prelude.{◌≡◌, ◌≢◌, ◌↔◌, ℕ, suc, true, List, All, take, IsTrue};
-ghost use Rattle.target_lexicon.specs.ReadingByFields.{AnswersAreComputed};
+ghost use Rattle.target_lexicon.specs.GreedyReading.{AnswersAreComputed};
 ghost use Rattle.target_lexicon.specs.Laws.{ComesBack, HasOneLeast, OneOutcomeEach, ReadingIsComputed, ReadVendorsArePlain, EqualTextsEqualTriples};
-ghost use Rattle.lexicon_fields.specs.Laws.{FeedsOfTell, FeedsTell, ComparesByValue, CopiesAreTheirSources, HasVersionInRange};
-ghost use Rattle.target_lexicon.specs.FixedPoints.{ReadTriplesArePlain, FixedExactlyOutsideFamilies, RoundIsNormalStep, SecondStepChangesNone, SettledTextsAreKeys, RoundsAreKnown, PrintedTextsAreLittleLonger, SettledTextsAreLittleLonger, RefusedPartsAreNoLonger};
+ghost use Rattle.lexicon_fields.specs.Laws.{HashInjectiveOn, HashInjective, ComparesByValue, CopiesAreTheirSources, HasVersionInRange};
+ghost use Rattle.target_lexicon.specs.FixedPoints.{ReadTriplesArePlain, FixedExactlyOutsideFamilies, RoundIsNormalStep, SecondStepChangesNone, SettledTextsAreKeys, RoundTripsAreKnown, PrintedTextsGrowAtMost, CanonicalTextsGrowAtMost, RefusedPartsDoNotGrow};
 ghost use Rattle.target_lexicon.specs.Json.{ListReadsAs, list_json_of, json_fault_of, list_fault_of};
 ghost use Rattle.target_lexicon.specs.Placement.{HasPlacement};
 ghost use Rattle.target_lexicon.specs.Queries.{data_model};
@@ -30,9 +30,11 @@ pub use lexicon_fields::laws::names_read_back;
 use std::hash::Hash;
 
 /// Parts that have a placement have exactly one least, and so has each front of them.
-#[tactic(auto, using(crate::proofs::Greedy::placement_front, crate::proofs::Greedy::placement_least))]
+#[tactic(auto, using(crate::proofs::Greedy::placement_prefix, crate::proofs::Greedy::placement_least))]
 pub fn one_least_placement()
-    ensures { (parts : List (List ℕ)) → HasPlacement parts → HasOneLeast parts × ((n : ℕ) → HasOneLeast (take (suc n) parts)) }
+    ensures { (parts : List (List ℕ)) →
+        HasPlacement parts →
+        HasOneLeast parts × ((n : ℕ) → HasOneLeast (take (suc n) parts)) }
 {}
 
 /// Every text is read or refused, in one way, and not both.
@@ -69,14 +71,14 @@ pub fn read_triples_are_plain()
 
 /// The text that a triple prints is at most 22 bytes longer than each text that reads as it, and so is that of the settled triple.
 /// A refused part is no longer than the text.
-#[tactic(auto, using(crate::proofs::Lengths::printed_longer, crate::proofs::Lengths::settled_longer, crate::proofs::Lengths::refused_no_longer))]
-pub fn printed_texts_are_little_longer()
-    ensures printed { PrintedTextsAreLittleLonger }
-    ensures settled { SettledTextsAreLittleLonger }
-    ensures refused { RefusedPartsAreNoLonger }
+#[tactic(auto, using(crate::proofs::Lengths::printed_max_growth, crate::proofs::Lengths::canonical_max_growth, crate::proofs::Lengths::refused_does_not_grow))]
+pub fn printed_texts_grow_at_most()
+    ensures printed { PrintedTextsGrowAtMost }
+    ensures settled_values { CanonicalTextsGrowAtMost }
+    ensures refusal_with { RefusedPartsDoNotGrow }
 {
     reading_is_computed();
-    lexicon_fields::laws::names_are_little_longer();
+    lexicon_fields::laws::names_grow_at_most();
 }
 
 /// Two triples that come back when they are printed and read are equal exactly where their texts are.
@@ -94,7 +96,8 @@ pub fn triples_are_equal_by_value()
 
 /// Two errors are equal, as `==` tells, exactly where they name the same refusal, or both want of memory.
 pub fn errors_are_equal_by_value()
-    ensures { (x y : ParseError) → IsTrue (⟦<ParseError as PartialEq>⟧.eq x y) ↔ (refusal_of x ≡ refusal_of y) }
+    ensures { (x y : ParseError) →
+        IsTrue (⟦<ParseError as PartialEq>⟧.eq x y) ↔ (refusal_of x ≡ refusal_of y) }
 {}
 
 /// Where a triple has a data model, the model's pointers have as many bits as the triple's.
@@ -106,7 +109,8 @@ pub fn model_width()
 /// No triple has the data model `LP32` or `ILP64`.
 #[tactic(auto, using(crate::proofs::ModelsKnown::one_of_three))]
 pub fn no_rare_model()
-    ensures { (t : Values) → (data_model t ≢ Some CDataModel.LP32) × (data_model t ≢ Some CDataModel.ILP64) }
+    ensures { (t : Values) →
+        (data_model t ≢ Some CDataModel.LP32) × (data_model t ≢ Some CDataModel.ILP64) }
 {}
 
 /// In each data model `short`, `int`, `long` and `long long` don't decrease.
@@ -129,8 +133,10 @@ pub fn answers_are_equal_by_variant()
 
 /// Triples with a default are equal, as `==` tells, exactly where their five values are.
 pub fn defaults_are_equal_by_value()
-    ensures host { (x y : DefaultToHost) → IsTrue (⟦<DefaultToHost as PartialEq>⟧.eq x y) ↔ (values_of x.0 ≡ values_of y.0) }
-    ensures unknown { (x y : DefaultToUnknown) → IsTrue (⟦<DefaultToUnknown as PartialEq>⟧.eq x y) ↔ (values_of x.0 ≡ values_of y.0) }
+    ensures host { (x y : DefaultToHost) →
+        IsTrue (⟦<DefaultToHost as PartialEq>⟧.eq x y) ↔ (values_of x.0 ≡ values_of y.0) }
+    ensures unknown { (x y : DefaultToUnknown) →
+        IsTrue (⟦<DefaultToUnknown as PartialEq>⟧.eq x y) ↔ (values_of x.0 ≡ values_of y.0) }
 {
     triples_are_equal_by_value();
 }
@@ -145,7 +151,7 @@ pub fn fixed_exactly_outside_families()
 }
 
 /// The text of each triple with a plain vendor is read, as the triple's normal step.
-#[tactic(auto, using(crate::proofs::TextRounds::round))]
+#[tactic(auto, using(crate::proofs::TextRoundTrips::round))]
 pub fn round_is_normal_step()
     ensures { RoundIsNormalStep }
 {
@@ -169,8 +175,8 @@ pub fn settled_texts_are_keys()
 /// The headline, all of these laws in one: every text is read or refused, in one way. A triple that is printed and read
 /// again is itself exactly outside five families. From each triple with a plain vendor that succeeds, is the normal step,
 /// keeps the four queries, and is settled after one round; and what is settled has a text of its own.
-pub fn rounds_are_known()
-    ensures { RoundsAreKnown }
+pub fn round_trips_are_known()
+    ensures { RoundTripsAreKnown }
 {
     one_outcome_each();
     fixed_exactly_outside_families();
@@ -196,35 +202,41 @@ pub fn lists_read_back()
 
 /// Two errors of a JSON value are equal, as `==` tells, exactly where both say that it is no text, or the same of its text.
 pub fn json_errors_are_equal_by_value()
-    ensures { (x y : JsonError) → IsTrue (⟦<JsonError as PartialEq>⟧.eq x y) ↔ (json_fault_of x ≡ json_fault_of y) }
+    ensures { (x y : JsonError) →
+        IsTrue (⟦<JsonError as PartialEq>⟧.eq x y) ↔ (json_fault_of x ≡ json_fault_of y) }
 {}
 
 /// Two errors of a JSON list are equal, as `==` tells, exactly where they are of one kind, and of the same element with the
 /// same fault.
 pub fn list_errors_are_equal_by_value()
-    ensures { (x y : ListError) → IsTrue (⟦<ListError as PartialEq>⟧.eq x y) ↔ (list_fault_of x ≡ list_fault_of y) }
+    ensures { (x y : ListError) →
+        IsTrue (⟦<ListError as PartialEq>⟧.eq x y) ↔ (list_fault_of x ≡ list_fault_of y) }
 {}
 
 /// A copy of a size, a data model or a calling convention is that value, and copying needs no memory.
 pub fn copies_are_their_sources()
     ensures size { CopiesAreTheirSources ⟦<Size as Clone>⟧.is_clone ⟦<Size as Clone>⟧.is_infallible }
     ensures data_model { CopiesAreTheirSources ⟦<CDataModel as Clone>⟧.is_clone ⟦<CDataModel as Clone>⟧.is_infallible }
-    ensures calling_convention { CopiesAreTheirSources ⟦<CallingConvention as Clone>⟧.is_clone ⟦<CallingConvention as Clone>⟧.is_infallible }
+    ensures calling_convention { CopiesAreTheirSources ⟦<CallingConvention as Clone>⟧.is_clone
+        ⟦<CallingConvention as Clone>⟧.is_infallible }
 {}
 
 /// Sizes, data models and calling conventions feed a hasher the same exactly where their variants are the same.
 pub fn answers_feed_by_variant()
-    ensures size { FeedsTell ⟦<Size as Hash>⟧.hash_input }
-    ensures data_model { FeedsTell ⟦<CDataModel as Hash>⟧.hash_input }
-    ensures calling_convention { FeedsTell ⟦<CallingConvention as Hash>⟧.hash_input }
+    ensures size { HashInjective ⟦<Size as Hash>⟧.hash_input }
+    ensures data_model { HashInjective ⟦<CDataModel as Hash>⟧.hash_input }
+    ensures calling_convention { HashInjective ⟦<CallingConvention as Hash>⟧.hash_input }
 {}
 
 /// Two triples, with a default or without, feed a hasher the same exactly where their five values are the same; versions are those
 /// whose numbers fit their fields. What is fed behind a triple is told apart from what it feeds.
 pub fn triples_feed_by_value()
-    ensures triple { FeedsOfTell (λ t. HasVersionInRange t.operating_system) values_of ⟦<Triple as Hash>⟧.hash_input }
-    ensures host { FeedsOfTell (λ t. HasVersionInRange t.0.operating_system) (λ t. values_of t.0) ⟦<DefaultToHost as Hash>⟧.hash_input }
-    ensures unknown { FeedsOfTell (λ t. HasVersionInRange t.0.operating_system) (λ t. values_of t.0) ⟦<DefaultToUnknown as Hash>⟧.hash_input }
+    ensures triple { HashInjectiveOn (λ t. HasVersionInRange t.operating_system) values_of
+        ⟦<Triple as Hash>⟧.hash_input }
+    ensures host { HashInjectiveOn (λ t. HasVersionInRange t.0.operating_system) (λ t. values_of t.0)
+        ⟦<DefaultToHost as Hash>⟧.hash_input }
+    ensures unknown { HashInjectiveOn (λ t. HasVersionInRange t.0.operating_system) (λ t. values_of t.0)
+        ⟦<DefaultToUnknown as Hash>⟧.hash_input }
 {
     lexicon_fields::laws::values_feed_by_variant_and_fields();
 }

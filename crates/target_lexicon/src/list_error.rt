@@ -41,7 +41,8 @@ fn write_element<W: fmt::Write>(
     error: &JsonError,
 ) -> fmt::Result
     ensures { WritesStyledOnOk W.write_str_gives f.old result
-        (codes "Element " ++ (decimal i ++ (codes ": " ++ json_fault_line (json_fault_of error.now)))) f.new }
+        (codes "Element "
+        ++ (decimal i ++ (codes ": " ++ json_fault_line (json_fault_of error.now)))) f.new }
 {
     f.write_str("Element ")?;
     write_decimal(f, i)?;

@@ -2,7 +2,7 @@
 ghost use Rattle.std.specs.Prelude.{◌≡◌, ◌∷◌};
 ghost use Rattle.std.specs.Option.{ForSome};
 ghost use Rattle.target_lexicon.specs.Placement.{parts_of};
-ghost use Rattle.target_lexicon.specs.Private.{IsLookedUp, TellsDashes, parts_behind_dash};
+ghost use Rattle.target_lexicon.specs.Private.{IsLookedUp, MarksDashes, parts_after_dash};
 
 use crate::dashes::{dash_in, dashes_at_end};
 use lexicon_fields::{
@@ -16,10 +16,10 @@ use std::alloc::{AllocError, Global};
 pub(crate) struct Part<'a> {
     pub text: &'a str,
     row: Option<FixedRow>,
-    pub behind: Option<&'a str>,
+    pub after: Option<&'a str>,
     dashes_at_end: u64,
     ghost looked_up: { IsLookedUp text.now row },
-    ghost told: { ForSome behind (λ rest. TellsDashes dashes_at_end rest.now) },
+    ghost dashes_known: { ForSome after (λ rest. MarksDashes dashes_at_end rest.now) },
 }
 
 /// The row of a text in the table of names.
@@ -31,9 +31,9 @@ fn row_of(text: &str) -> Option<FixedRow>
 
 /// Cuts a text at its first dash, the dashes of whose end are known.
 fn cut(text: &str, at_end: u64) -> (&str, Option<&str>)
-    requires { TellsDashes at_end text.now }
-    ensures parts { parts_of text.now ≡ result.0.now ∷ parts_behind_dash result.1 }
-    ensures told { ForSome result.1 (λ rest. TellsDashes at_end rest.now) }
+    requires { MarksDashes at_end text.now }
+    ensures parts { parts_of text.now ≡ result.0.now ∷ parts_after_dash result.1 }
+    ensures dashes_known { ForSome result.1 (λ rest. MarksDashes at_end rest.now) }
 {
     match dash_in(text, at_end) {
         Some(at) => (&text[..at], Some(&text[at + 1..])),
@@ -52,16 +52,16 @@ impl<'a> Part<'a> {
 
     /// The first part of a text.
     pub(crate) fn first(text: &'a str) -> Self
-        ensures { parts_of text.entry.now ≡ result.text.now ∷ parts_behind_dash result.behind }
+        ensures { parts_of text.entry.now ≡ result.text.now ∷ parts_after_dash result.after }
     {
         Part::first_of(text, dashes_at_end(text))
     }
 
     /// The part behind the dash.
     pub(crate) fn next(&self) -> Option<Self>
-        ensures { parts_left result ≡ parts_behind_dash self.now.behind }
+        ensures { parts_left result ≡ parts_after_dash self.now.after }
     {
-        match self.behind {
+        match self.after {
             Some(text) => Some(Part::first_of(text, self.dashes_at_end)),
             None => None,
         }
@@ -69,14 +69,14 @@ impl<'a> Part<'a> {
 
     /// The first part of a text, the dashes of whose end are known.
     fn first_of(text: &'a str, dashes_at_end: u64) -> Self
-        requires { TellsDashes dashes_at_end text.now }
-        ensures { parts_of text.entry.now ≡ result.text.now ∷ parts_behind_dash result.behind }
+        requires { MarksDashes dashes_at_end text.now }
+        ensures { parts_of text.entry.now ≡ result.text.now ∷ parts_after_dash result.after }
     {
-        let (first, behind) = cut(text, dashes_at_end);
+        let (first, after) = cut(text, dashes_at_end);
         Part {
             text: first,
             row: row_of(first),
-            behind,
+            after,
             dashes_at_end,
         }
     }
@@ -99,7 +99,7 @@ impl<'a> Part<'a> {
                 Some(known) => Ok(Some(known.to_vendor())),
                 None => Ok(None),
             },
-            None => match Vendor::of_rowless(alloc, self.text) {
+            None => match Vendor::custom_from_str(alloc, self.text) {
                 Ok(vendor) => Ok(Some(vendor)),
                 Err(VendorError::Unrecognized) => Ok(None),
                 Err(VendorError::OutOfMemory) => Err(AllocError),
@@ -113,7 +113,7 @@ impl<'a> Part<'a> {
     {
         match self.row {
             Some(row) => row.operating_system,
-            None => OperatingSystem::like_darwin(self.text),
+            None => OperatingSystem::parse_darwin_like(self.text),
         }
     }
 

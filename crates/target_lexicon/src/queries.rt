@@ -1,6 +1,6 @@
 //! What a code generator asks of a triple.
 ghost use Rattle.std.specs.Prelude.{◌≡◌, ◌↔◌, IsErr, false};
-ghost use Rattle.lexicon_fields.specs.Names.{Answers};
+ghost use Rattle.lexicon_fields.specs.Names.{MatchesLookup};
 ghost use Rattle.target_lexicon.specs.Queries.{endianness, pointer_width, calling_convention, data_model, is_ilp32, model_64, model_32};
 ghost use Rattle.target_lexicon.specs.Values.{values_of};
 
@@ -12,7 +12,7 @@ use lexicon_fields::{Architecture, Endianness, Environment, OperatingSystem, Poi
 impl Triple {
     /// The byte order, which is the architecture's; the architecture `Unknown` is refused.
     pub fn endianness(&self) -> Result<Endianness, ()>
-        ensures answer { Answers (endianness (values_of self.now)) result }
+        ensures answer { MatchesLookup (endianness (values_of self.now)) result }
         ensures refusal { IsErr result ↔ (self.now.architecture ≡ Architecture.Unknown) }
     {
         self.architecture.endianness()
@@ -22,8 +22,10 @@ impl Triple {
     /// has 32 bits, whatever the architecture. In every other environment the architecture `Unknown` is refused.
     #[tactic(auto, unfolding(crate::specs::Queries::width_in))]
     pub fn pointer_width(&self) -> Result<PointerWidth, ()>
-        ensures answer { Answers (pointer_width (values_of self.now)) result }
-        ensures refusal { IsErr result ↔ ((self.now.architecture ≡ Architecture.Unknown) × (is_ilp32 self.now.environment ≡ false)) }
+        ensures answer { MatchesLookup (pointer_width (values_of self.now)) result }
+        ensures refusal { IsErr result
+            ↔ ((self.now.architecture ≡ Architecture.Unknown)
+            × (is_ilp32 self.now.environment ≡ false)) }
     {
         match self.environment {
             Environment::Gnux32 | Environment::GnuIlp32 => Ok(PointerWidth::U32),
@@ -36,7 +38,7 @@ impl Triple {
     /// `Cygwin`, the triple is refused.
     #[tactic(auto, unfolding(crate::specs::Queries::convention_on))]
     pub fn default_calling_convention(&self) -> Result<CallingConvention, ()>
-        ensures { Answers (calling_convention (values_of self.now)) result }
+        ensures { MatchesLookup (calling_convention (values_of self.now)) result }
     {
         match self.operating_system {
             OperatingSystem::Darwin(_)
@@ -92,7 +94,7 @@ impl Triple {
     /// architecture. Where no model is known, as for pointers of 16 bits, the triple is refused.
     #[tactic(auto, unfolding(crate::specs::Queries::model_of))]
     pub fn data_model(&self) -> Result<CDataModel, ()>
-        ensures { Answers (data_model (values_of self.now)) result }
+        ensures { MatchesLookup (data_model (values_of self.now)) result }
     {
         match self.pointer_width()? {
             PointerWidth::U64 => self.data_model_64(),
@@ -103,7 +105,9 @@ impl Triple {
 
     /// The data model of pointers of 64 bits.
     fn data_model_64(&self) -> Result<CDataModel, ()>
-        ensures { Answers (model_64 self.now.operating_system (calling_convention (values_of self.now)) self.now.architecture) result }
+        ensures { MatchesLookup
+            (model_64 self.now.operating_system (calling_convention (values_of self.now))
+            self.now.architecture) result }
     {
         match self.operating_system {
             OperatingSystem::Windows => Ok(CDataModel::LLP64),
@@ -121,7 +125,9 @@ impl Triple {
 
     /// The data model of pointers of 32 bits.
     fn data_model_32(&self) -> Result<CDataModel, ()>
-        ensures { Answers (model_32 self.now.operating_system (calling_convention (values_of self.now)) self.now.architecture) result }
+        ensures { MatchesLookup
+            (model_32 self.now.operating_system (calling_convention (values_of self.now))
+            self.now.architecture) result }
     {
         match self.operating_system {
             OperatingSystem::Windows => Ok(CDataModel::ILP32),

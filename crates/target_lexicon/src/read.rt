@@ -3,11 +3,11 @@ ghost use Rattle.std.specs.Prelude.{◌≡◌, Some, true, IfOk, IfErr, IfSome, 
 ghost use Rattle.lexicon_fields.specs.declared.known_vendor.KnownVendor.TheVariants.{Unknown};
 ghost use Rattle.lexicon_fields.specs.declared.vendor.Vendor.TheVariants as any_vendor;
 ghost use Rattle.lexicon_fields.specs.Vendor.{IsCustom, Known, OwnsCustomText, vendor_of, vendor_value, is_plain};
-ghost use Rattle.target_lexicon.specs.ReadingByFields.{IsAnswerOf, take_part, read_parts};
+ghost use Rattle.target_lexicon.specs.GreedyReading.{IsAnswerOf, take_part, read_parts};
 ghost use Rattle.target_lexicon.specs.Field as field;
 ghost use Rattle.target_lexicon.specs.PartsLeft.{field_of, parts_left, taken_of};
-ghost use Rattle.target_lexicon.specs.Reading.{ReadsAs, IsFaultOf, lack_behind};
-ghost use Rattle.target_lexicon.specs.Refusal.{refused, refusal_of};
+ghost use Rattle.target_lexicon.specs.Reading.{ReadsAs, IsErrorOf, expected_after};
+ghost use Rattle.target_lexicon.specs.Refusal.{refusal_with, refusal_of};
 ghost use Rattle.target_lexicon.specs.Values.{values_of};
 
 use crate::default_format::implied_format;
@@ -70,20 +70,24 @@ enum Field {
 
 /// The parts that are left, and the last field that took one.
 #[derive(Drop)]
-struct Rest<'a> {
+struct PartCursor<'a> {
     last: Field,
     parts: Option<Part<'a>>,
 }
 
-impl<'a> Rest<'a> {
+impl<'a> PartCursor<'a> {
     /// Takes the first part for the vendor, if it reads as one. `Err` says that the memory for a custom
     /// vendor was refused.
     fn take_vendor(&mut self, alloc: Global) -> Result<Option<Vendor>, AllocError>
-        ensures ok { IfOk result (λ vendor. taken_of (vendor_value (unwrap_or vendor any_vendor.Unknown)) self.new
-            ≡ take_part field.Vendor vendor_of (Known Unknown) (field_of self.old.last) (parts_left self.old.parts)) }
+        ensures ok { IfOk result
+            (λ vendor.
+            taken_of (vendor_value (unwrap_or vendor any_vendor.Unknown)) self.new
+            ≡ take_part field.Vendor vendor_of (Known Unknown) (field_of self.old.last)
+            (parts_left self.old.parts)) }
         ensures owned { IfOk result (λ vendor. IfSome vendor OwnsCustomText) }
         ensures memory { OnErr result
-            (IsCustom (take_part field.Vendor vendor_of (Known Unknown) (field_of self.old.last) (parts_left self.old.parts)).0) }
+            (IsCustom
+            (take_part field.Vendor vendor_of (Known Unknown) (field_of self.old.last) (parts_left self.old.parts)).0) }
     {
         let Some(part) = self.parts else {
             return Ok(None);
@@ -98,8 +102,10 @@ impl<'a> Rest<'a> {
 
     /// Takes the first part for this field, if it reads as a value of it.
     fn take<T: ReadFrom>(&mut self, field: Field) -> Option<T>
-        ensures { (unfilled : T) → taken_of (unwrap_or result unfilled) self.new
-            ≡ take_part (field_of field) T.find unfilled (field_of self.old.last) (parts_left self.old.parts) }
+        ensures { (unfilled : T) →
+            taken_of (unwrap_or result unfilled) self.new
+            ≡ take_part (field_of field) T.find unfilled (field_of self.old.last)
+            (parts_left self.old.parts) }
     {
         let part = self.parts?;
         let value = T::read_from(&part)?;
@@ -111,7 +117,7 @@ impl<'a> Rest<'a> {
 
 /// The refusal of the part that is left behind this field.
 fn refusal(part: String, last: Field) -> ParseError
-    ensures { refusal_of result ≡ Some (refused (lack_behind (field_of last)) (string_bytes part)) }
+    ensures { refusal_of result ≡ Some (refusal_with (expected_after (field_of last)) (string_bytes part)) }
 {
     match last {
         Field::Architecture => ParseError::UnrecognizedVendor(part),
@@ -138,7 +144,7 @@ impl Triple {
         ensures ok { IfOk result (λ triple. ReadsAs text.now (values_of triple)) }
         ensures owned { IfOk result (λ triple. OwnsCustomText triple.vendor) }
         ensures plain { IfOk result (λ triple. is_plain (vendor_value triple.vendor) ≡ true) }
-        ensures err { IfErr result (λ error. IsFaultOf text.now error) }
+        ensures err { IfErr result (λ error. IsErrorOf text.now error) }
     {
         if let Some(triple) = Triple::of_special_text(text) {
             return Ok(triple);
@@ -155,7 +161,7 @@ impl Triple {
             let part = String::from_str(alloc, first.text)?;
             return Err(ParseError::UnrecognizedArchitecture(part));
         };
-        let mut rest = Rest {
+        let mut rest = PartCursor {
             last: Field::Architecture,
             parts: first.next(),
         };

@@ -3,9 +3,9 @@ ghost use Rattle.std.specs.Prelude.{◌≡◌, ◌↔◌, ◌⊎◌, true, IsTru
 ghost use Rattle.lexicon_fields.specs.Laws.{HasVersionInRange};
 ghost use Rattle.lexicon_fields.specs.Vendor.{is_plain, vendor_value};
 ghost use Rattle.lexicon_fields.specs.declared.vendor.Vendor.TheVariants.{Espressif};
-ghost use Rattle.target_lexicon.specs.FixedPoints.{settled};
+ghost use Rattle.target_lexicon.specs.FixedPoints.{settled_values};
 ghost use Rattle.target_lexicon.specs.Laws.{ComesBack};
-ghost use Rattle.target_lexicon.specs.NormalStep.{normal_step, are_newlib_elf, prints_as_special, hides_newlib, prints_the_esp_idf_text, shows_none_alone, elf_if_unknown, is_in_no_family};
+ghost use Rattle.target_lexicon.specs.NormalStep.{normal_step, are_newlib_elf, prints_as_special, hides_newlib, prints_the_esp_idf_text, shows_only_none, elf_if_unknown, is_in_no_family};
 ghost use Rattle.target_lexicon.specs.Printing.{text_of};
 ghost use Rattle.target_lexicon.specs.Reading.{ReadsAs};
 ghost use Rattle.target_lexicon.specs.Values.{values_of};
@@ -43,7 +43,7 @@ impl Triple {
     /// - Second: the environment becomes `Unknown`, and an `Unknown` format becomes `Elf`.
     /// - Third: the vendor becomes `Espressif`, environment and format become `Newlib` and `Elf`.
     /// - Fourth: the system becomes `None_`, and the environment `Unknown`.
-    #[tactic(auto, using(crate::proofs::TextRounds::round_by_step))]
+    #[tactic(auto, using(crate::proofs::TextRoundTrips::round_by_step))]
     pub fn normal(self) -> Triple
         requires { is_plain (vendor_value self.vendor) ≡ true }
         ensures step { values_of result ≡ normal_step (values_of self) }
@@ -60,7 +60,7 @@ impl Triple {
     /// No memory is asked for.
     pub fn settle(self) -> Triple
         requires { is_plain (vendor_value self.vendor) ≡ true }
-        ensures steps { values_of result ≡ settled (values_of self) }
+        ensures steps { values_of result ≡ settled_values (values_of self) }
         ensures back { ComesBack (values_of result) }
         ensures stays { ComesBack (values_of self) → values_of result ≡ values_of self }
         ensures vendor { (result.vendor ≡ self.vendor) ⊎ (result.vendor ≡ Espressif) }
@@ -86,7 +86,7 @@ impl Triple {
             self.vendor = Vendor::Espressif;
             self.environment = Environment::Newlib;
             self.binary_format = BinaryFormat::Elf;
-        } else if self.shows_none_alone() {
+        } else if self.shows_only_none() {
             self.operating_system = OperatingSystem::None_;
             self.environment = Environment::Unknown;
         }
@@ -101,15 +101,16 @@ impl Triple {
         !self.prints_as_special()
             && !self.hides_newlib()
             && !self.prints_the_esp_idf_text()
-            && !self.shows_none_alone()
+            && !self.shows_only_none()
             && self.vendor.is_plain()
     }
 
     /// Whether a special text is printed, and environment and format aren't `Newlib` and `Elf`.
     #[tactic(auto, unfolding(crate::specs::SpecialTexts::special_text))]
     pub(crate) fn prints_as_special(&self) -> bool
-        ensures { result ≡ prints_as_special self.now.operating_system (vendor_value self.now.vendor) self.now.architecture
-            self.now.environment self.now.binary_format }
+        ensures { result
+            ≡ prints_as_special self.now.operating_system (vendor_value self.now.vendor)
+            self.now.architecture self.now.environment self.now.binary_format }
     {
         self.special_text().is_some() && !are_newlib_elf(self.environment, self.binary_format)
     }
@@ -117,7 +118,9 @@ impl Triple {
     /// Whether `Newlib` isn't shown, and the text isn't special.
     #[tactic(auto, unfolding(crate::specs::SpecialTexts::special_text, crate::specs::Printing::shows_environment))]
     pub(crate) fn hides_newlib(&self) -> bool
-        ensures { result ≡ hides_newlib self.now.environment self.now.operating_system (vendor_value self.now.vendor) self.now.architecture }
+        ensures { result
+            ≡ hides_newlib self.now.environment self.now.operating_system
+            (vendor_value self.now.vendor) self.now.architecture }
     {
         match self.environment {
             Environment::Newlib => {
@@ -129,8 +132,9 @@ impl Triple {
 
     /// Whether the vendor is the custom `esp`, and the text the special one.
     pub(crate) fn prints_the_esp_idf_text(&self) -> bool
-        ensures { result ≡ prints_the_esp_idf_text self.now.environment self.now.binary_format self.now.operating_system
-            self.now.architecture (vendor_value self.now.vendor) }
+        ensures { result
+            ≡ prints_the_esp_idf_text self.now.environment self.now.binary_format
+            self.now.operating_system self.now.architecture (vendor_value self.now.vendor) }
     {
         match (
             self.environment,
@@ -152,8 +156,9 @@ impl Triple {
 
     /// Whether the environment `none` is shown alone, on Clever without a system.
     #[tactic(auto, unfolding(crate::specs::Printing::shows_operating_system))]
-    pub(crate) fn shows_none_alone(&self) -> bool
-        ensures { result ≡ shows_none_alone self.now.environment self.now.operating_system self.now.architecture }
+    pub(crate) fn shows_only_none(&self) -> bool
+        ensures { result
+            ≡ shows_only_none self.now.environment self.now.operating_system self.now.architecture }
     {
         match self.environment {
             Environment::None => !self.shows_operating_system(false),

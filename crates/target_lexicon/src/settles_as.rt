@@ -2,7 +2,7 @@
 ghost use Rattle.std.specs.Prelude.{◌≡◌, ◌↔◌, true, IsTrue};
 ghost use Rattle.lexicon_fields.specs.Vendor.{vendor_value};
 ghost use Rattle.lexicon_fields.specs.declared.vendor.Vendor.TheVariants.{Espressif};
-ghost use Rattle.target_lexicon.specs.FixedPoints.{settled};
+ghost use Rattle.target_lexicon.specs.FixedPoints.{settled_values};
 ghost use Rattle.target_lexicon.specs.NormalStep.{normal_step};
 ghost use Rattle.target_lexicon.specs.Values.{values_of};
 
@@ -14,7 +14,8 @@ impl Triple {
     /// Whether the two settle as one: true exactly where their settled triples are equal. Nothing is moved or copied,
     /// and no memory asked for.
     pub fn settles_as(&self, other: &Triple) -> bool
-        ensures { IsTrue result ↔ (settled (values_of self.now) ≡ settled (values_of other.now)) }
+        ensures { IsTrue result
+            ↔ (settled_values (values_of self.now) ≡ settled_values (values_of other.now)) }
     {
         lexicon_fields::laws::values_are_equal_by_variant_and_fields();
         lexicon_fields::laws::vendors_are_equal_by_value();
@@ -57,7 +58,7 @@ fn settled_fields(triple: &Triple) -> (OperatingSystem, Environment, BinaryForma
         (system, Environment::Unknown, elf_if_unknown(format))
     } else if triple.prints_the_esp_idf_text() {
         (system, Environment::Newlib, BinaryFormat::Elf)
-    } else if triple.shows_none_alone() {
+    } else if triple.shows_only_none() {
         (OperatingSystem::None_, Environment::Unknown, format)
     } else {
         (system, triple.environment, format)

@@ -44,7 +44,8 @@ impl Triple {
     #[tactic(auto, unfolding(crate::specs::SpecialTexts::special_text))]
     pub(crate) fn special_text(&self) -> Option<&'static str>
         ensures { option_map {U = List ℕ} (λ text. text.now) result
-            ≡ special_text self.now.operating_system (vendor_value self.now.vendor) self.now.architecture }
+            ≡ special_text self.now.operating_system (vendor_value self.now.vendor)
+            self.now.architecture }
     {
         match (self.operating_system, &self.vendor, self.architecture) {
             (

@@ -6,12 +6,12 @@ use Rattle.std.specs.{BTreeMap.is_at, BTreeSet.BTreeSet, BTreeSet.insert_key, Or
 use Rattle.std.specs.{Cmp.Lexicographic.slice_cmp, Cmp.Lexicographic.same_text, List.list_any, Str.bytes_eq, String.string_bytes, String.string_cmp}
 use Rattle.std.specs.declared.cmp.Ordering.{Ordering}
 use Rattle.std.specs.declared.cmp.Ordering.TheVariants.{Less, Equal, Greater}
-use Rattle.target_lexicon.specs.{FixedPoints.settled_text, Reading.ReadsAs, Reading.IsFaultOf, Refusal.error_line, Values.Values, declared.parse_error.ParseError.ParseError}
+use Rattle.target_lexicon.specs.{FixedPoints.canonical_text, Reading.ReadsAs, Reading.IsErrorOf, Refusal.error_line, Values.Values, declared.parse_error.ParseError.ParseError}
 use Rattle.target_lexicon.specs.declared.parse_error.ParseError.TheVariants.{OutOfMemory}
-use Rattle.triples.specs.declared.matrix.Marked.{Marked}
+use Rattle.triples.specs.declared.matrix.HashedText.{HashedText}
 use Rattle.triples.specs.Words.{line_feed}
-use Rattle.triples.specs.Output.{Answer, Shown, Refused, IsAnswer, AreAnswers, AreAnswered, IsMatrix, shows, stays_behind, staying_behind, matrix_of, answer_bytes, written}
-use Rattle.triples.specs.Private.{mark_of, text_cmp, has_text, HasOneMore, is_repeated, AddsAnswer, AddsEntry}
+use Rattle.triples.specs.Output.{Answer, Shown, Refused, IsAnswer, AreAnswers, AreAnswered, IsMatrix, shows, stays_after, staying_after, matrix_of, answer_bytes, written_lines}
+use Rattle.triples.specs.Private.{hash_of, text_cmp, has_text, HasOneMore, is_repeated, AddsAnswer, AddsEntry}
 
 -- a key that is inserted among others, none of which is equal to it
 module _ {K : Type 0} (cmp : K → K → Ordering) (test : K → Bool) (k : K) where
@@ -43,44 +43,44 @@ so-far-end none far = rw append-nil at (far.whole [] (rw none tt))
 pub record IsSoFar (shown : Values → List ℕ) (lines rest : List (List ℕ)) (output : List ℕ) : Type 0 where
   pub before : List Answer
   pub answers : AreAnswersSoFar shown lines rest before
-  pub written : output ≡ written before
+  pub written_lines : output ≡ written_lines before
 
 pub so-far-none : {shown : Values → List ℕ} {lines : List (List ℕ)} {output : List ℕ} → output ≡ [] → IsSoFar shown lines lines output
-so-far-none empty = record { before = []; answers = record { whole = λ more are. are }; written = empty }
+so-far-none empty = record { before = []; answers = record { whole = λ more are. are }; written_lines = empty }
 
 -- the same for a matrix: the answers that stay were written, and what they show was seen
-pub record IsMatrixSoFar (lines rest : List (List ℕ)) (output : List ℕ) (seen : BTreeSet Marked) : Type 0 where
+pub record IsMatrixSoFar (lines rest : List (List ℕ)) (output : List ℕ) (seen : BTreeSet HashedText) : Type 0 where
   pub before : List Answer
-  pub answers : AreAnswersSoFar settled_text lines rest before
-  pub written : output ≡ written (matrix_of before)
+  pub answers : AreAnswersSoFar canonical_text lines rest before
+  pub written_lines : output ≡ written_lines (matrix_of before)
   pub agree : (text : List ℕ) → has_text seen text ≡ list_any (shows text) before
 
-pub matrix-none : {lines : List (List ℕ)} {output : List ℕ} {seen : BTreeSet Marked} → output ≡ [] → ((text : List ℕ) → has_text seen text ≡ false)
+pub matrix-none : {lines : List (List ℕ)} {output : List ℕ} {seen : BTreeSet HashedText} → output ≡ [] → ((text : List ℕ) → has_text seen text ≡ false)
     → IsMatrixSoFar lines lines output seen
-matrix-none empty none = record { before = []; answers = record { whole = λ more are. are }; written = empty; agree = none }
+matrix-none empty none = record { before = []; answers = record { whole = λ more are. are }; written_lines = empty; agree = none }
 
 -- an answer that is written if it stays after others
 abbrev pub if_stays : Bool → Answer → List Answer
 if_stays stays line = if stays then line ∷ [] else []
 
 pub staying-push : (before lines : List Answer) (line : Answer)
-    → staying_behind before (lines ++ line ∷ []) ≡ staying_behind before lines ++ if_stays (stays_behind (before ++ lines) line) line
-staying-push before [] line = append-nil (if_stays (stays_behind before line) line) ∙ ap (λ (t : List Answer). if_stays (stays_behind t line) line) (sym (append-nil before))
+    → staying_after before (lines ++ line ∷ []) ≡ staying_after before lines ++ if_stays (stays_after (before ++ lines) line) line
+staying-push before [] line = append-nil (if_stays (stays_after before line) line) ∙ ap (λ (t : List Answer). if_stays (stays_after t line) line) (sym (append-nil before))
 staying-push before (first ∷ lines) line =
-    ap (λ (t : List Answer). if_stays (stays_behind before first) first ++ t)
-    (staying-push (before ++ first ∷ []) lines line ∙ ap (λ (t : List Answer). staying_behind (before ++ first ∷ []) lines ++ if_stays (stays_behind t line) line) (append_assoc before (first ∷ []) lines))
-    ∙ sym (append_assoc (if_stays (stays_behind before first) first) _ _)
+    ap (λ (t : List Answer). if_stays (stays_after before first) first ++ t)
+    (staying-push (before ++ first ∷ []) lines line ∙ ap (λ (t : List Answer). staying_after (before ++ first ∷ []) lines ++ if_stays (stays_after t line) line) (append_assoc before (first ∷ []) lines))
+    ∙ sym (append_assoc (if_stays (stays_after before first) first) _ _)
 
-written-append : (xs ys : List Answer) → written (xs ++ ys) ≡ written xs ++ written ys
-written-append [] ys = refl
-written-append (x ∷ xs) ys = ap (λ (t : List ℕ). answer_bytes x ++ (line_feed ∷ t)) (written-append xs ys) ∙ sym (append_assoc (answer_bytes x) (line_feed ∷ written xs) (written ys))
+written_lines-append : (xs ys : List Answer) → written_lines (xs ++ ys) ≡ written_lines xs ++ written_lines ys
+written_lines-append [] ys = refl
+written_lines-append (x ∷ xs) ys = ap (λ (t : List ℕ). answer_bytes x ++ (line_feed ∷ t)) (written_lines-append xs ys) ∙ sym (append_assoc (answer_bytes x) (line_feed ∷ written_lines xs) (written_lines ys))
 
-repeated-stays : (before : List Answer) (seen : BTreeSet Marked) (answer : Answer)
+repeated-stays : (before : List Answer) (seen : BTreeSet HashedText) (answer : Answer)
     → ((text : List ℕ) → has_text seen text ≡ list_any (shows text) before)
-    → (if is_repeated seen answer then [] else answer ∷ []) ≡ if_stays (stays_behind before answer) answer
+    → (if is_repeated seen answer then [] else answer ∷ []) ≡ if_stays (stays_after before answer) answer
 repeated-stays before seen (Shown text) agree =
     rw (agree text) (elim (list_any (shows text) before) as (λ b. (if b then [] else Shown text ∷ []) ≡ if_stays (not b) (Shown text)) [ true ↦ refl | false ↦ refl ])
-repeated-stays before seen (Refused told) agree = refl
+repeated-stays before seen (Refused message) agree = refl
 
 pub push-any : (text : List ℕ) (xs : List Answer) (line : Answer) → list_any (shows text) (xs ++ line ∷ []) ≡ (list_any (shows text) xs || shows text line)
 push-any text xs line = list_any-append (shows text) xs (line ∷ []) ∙ ap (λ (b : Bool). list_any (shows text) xs || b) (or-false (shows text line))
@@ -90,39 +90,39 @@ pub so-far-more : {shown : Values → List ℕ} {lines rest others : List (List 
 so-far-more cut adds far = record {
   before = far.before ++ adds.answer ∷ [];
   answers = so-far-next far.before adds.answer cut adds.is far.answers;
-  written =
+  written_lines =
       adds.grown
-      ∙ ap (λ (t : List ℕ). t ++ written (adds.answer ∷ [])) far.written
-      ∙ sym (written-append far.before (adds.answer ∷ []));
+      ∙ ap (λ (t : List ℕ). t ++ written_lines (adds.answer ∷ [])) far.written_lines
+      ∙ sym (written_lines-append far.before (adds.answer ∷ []));
 }
 
 pub so-far-whole : {shown : Values → List ℕ} {lines rest : List (List ℕ)} {output : List ℕ} → rest ≡ [] → IsSoFar shown lines rest output → AreAnswered shown lines output
-so-far-whole none far = (far.before, so-far-end none far.answers, far.written)
+so-far-whole none far = (far.before, so-far-end none far.answers, far.written_lines)
 
 -- one more answer, which the matrix may keep
-pub matrix-more : {lines rest others : List (List ℕ)} {line old new : List ℕ} {seen_old seen_new : BTreeSet Marked}
+pub matrix-more : {lines rest others : List (List ℕ)} {line old new : List ℕ} {seen_old seen_new : BTreeSet HashedText}
     → rest ≡ line ∷ others → AddsEntry line old new seen_old seen_new → IsMatrixSoFar lines rest old seen_old → IsMatrixSoFar lines others new seen_new
 matrix-more {seen_old} cut adds far = record {
   before = far.before ++ adds.answer ∷ [];
   answers = so-far-next far.before adds.answer cut adds.is far.answers;
-  written =
+  written_lines =
       adds.grown
-      ∙ ap (λ (t : List ℕ). t ++ written (if is_repeated seen_old adds.answer then [] else adds.answer ∷ [])) far.written
-      ∙ sym (written-append (matrix_of far.before) (if is_repeated seen_old adds.answer then [] else adds.answer ∷ []))
-      ∙ ap written (ap (λ (t : List Answer). matrix_of far.before ++ t) (repeated-stays far.before seen_old adds.answer far.agree) ∙ sym (staying-push [] far.before adds.answer));
+      ∙ ap (λ (t : List ℕ). t ++ written_lines (if is_repeated seen_old adds.answer then [] else adds.answer ∷ [])) far.written_lines
+      ∙ sym (written_lines-append (matrix_of far.before) (if is_repeated seen_old adds.answer then [] else adds.answer ∷ []))
+      ∙ ap written_lines (ap (λ (t : List Answer). matrix_of far.before ++ t) (repeated-stays far.before seen_old adds.answer far.agree) ∙ sym (staying-push [] far.before adds.answer));
   agree = λ text.
       adds.seen text
       ∙ ap (λ (b : Bool). b || shows text adds.answer) (far.agree text)
       ∙ sym (push-any text far.before adds.answer);
 }
 
-pub matrix-whole : {lines rest : List (List ℕ)} {output : List ℕ} {seen : BTreeSet Marked} → rest ≡ [] → IsMatrixSoFar lines rest output seen → IsMatrix lines output
-matrix-whole none far = (far.before, so-far-end none far.answers, far.written)
+pub matrix-whole : {lines rest : List (List ℕ)} {output : List ℕ} {seen : BTreeSet HashedText} → rest ≡ [] → IsMatrixSoFar lines rest output seen → IsMatrix lines output
+matrix-whole none far = (far.before, so-far-end none far.answers, far.written_lines)
 
 -- the line of an error other than an allocation failure is the line of the refusal
-refusal_is_told : (shown : Values → List ℕ) (line : List ℕ) (error : ParseError) → error ≢ OutOfMemory → IsFaultOf line error → IsAnswer shown line (Refused (codes "error: " ++ error_line error))
-refusal_is_told shown line OutOfMemory other fault = absurd (other refl)
-refusal_is_told shown line _ other fault = (_, fault, refl)
+refusal_is_answer : (shown : Values → List ℕ) (line : List ℕ) (error : ParseError) → error ≢ OutOfMemory → IsErrorOf line error → IsAnswer shown line (Refused (codes "error: " ++ error_line error))
+refusal_is_answer shown line OutOfMemory other fault = absurd (other refl)
+refusal_is_answer shown line _ other fault = (_, fault, refl)
 
 -- what a line that parses adds, and what a refused line adds
 
@@ -131,21 +131,21 @@ pub read-adds : {T E : Type 0} (done : Result T E) (shown : Values → List ℕ)
 read-adds (Ok _) shown line old new t reads grown = record { answer = Shown (shown t); is = (t, reads, refl); grown = grown }
 read-adds (Err _) shown line old new t reads grown = tt
 
-pub refusal-adds : {T E : Type 0} (done : Result T E) (shown : Values → List ℕ) (line old new : List ℕ) (error : ParseError) → error ≢ OutOfMemory → IsFaultOf line error
+pub refusal-adds : {T E : Type 0} (done : Result T E) (shown : Values → List ℕ) (line old new : List ℕ) (error : ParseError) → error ≢ OutOfMemory → IsErrorOf line error
     → OnOk done (new ≡ old ++ ((codes "error: " ++ error_line error) ++ line_feed ∷ [])) → OnOk done (AddsAnswer shown line old new)
 refusal-adds (Ok _) shown line old new error other fault grown = record {
   answer = Refused (codes "error: " ++ error_line error);
-  is = refusal_is_told shown line error other fault;
+  is = refusal_is_answer shown line error other fault;
   grown = grown;
 }
 refusal-adds (Err _) shown line old new error other fault grown = tt
 
-module _ (line old new : List ℕ) (seen_old seen_new : BTreeSet Marked) where
-  unless-seen : (b : Bool) (text : List ℕ) → (if b then [] else text ++ line_feed ∷ []) ≡ written (if b then [] else Shown text ∷ [])
+module _ (line old new : List ℕ) (seen_old seen_new : BTreeSet HashedText) where
+  unless-seen : (b : Bool) (text : List ℕ) → (if b then [] else text ++ line_feed ∷ []) ≡ written_lines (if b then [] else Shown text ∷ [])
   unless-seen true text = refl
   unless-seen false text = refl
 
-  pub read-enters : {T E : Type 0} (done : Result T E) (t : Values) (text : List ℕ) → ReadsAs line t → text ≡ settled_text t
+  pub read-enters : {T E : Type 0} (done : Result T E) (t : Values) (text : List ℕ) → ReadsAs line t → text ≡ canonical_text t
       → OnOk done (new ≡ old ++ (if has_text seen_old text then [] else text ++ line_feed ∷ []))
       → OnOk done (HasOneMore seen_old seen_new text)
       → OnOk done (AddsEntry line old new seen_old seen_new)
@@ -157,20 +157,20 @@ module _ (line old new : List ℕ) (seen_old seen_new : BTreeSet Marked) where
   }
   read-enters (Err _) t text reads is grown seen = tt
 
-  pub refusal-enters : {T E : Type 0} (done : Result T E) (error : ParseError) → error ≢ OutOfMemory → IsFaultOf line error
+  pub refusal-enters : {T E : Type 0} (done : Result T E) (error : ParseError) → error ≢ OutOfMemory → IsErrorOf line error
       → OnOk done (new ≡ old ++ ((codes "error: " ++ error_line error) ++ line_feed ∷ []))
       → OnOk done (AddsEntry line old new seen_old seen_old)
   refusal-enters (Ok _) error other fault grown = record {
     answer = Refused (codes "error: " ++ error_line error);
-    is = refusal_is_told settled_text line error other fault;
+    is = refusal_is_answer canonical_text line error other fault;
     grown = grown;
     seen = λ text. sym (or-false (has_text seen_old text));
   }
   refusal-enters (Err _) error other fault grown = tt
 
 -- by the hash, then by the text
-abbrev marked_cmp : Marked → Marked → Ordering
-marked_cmp a b = ordering_then (nat_cmp a.mark b.mark) (string_cmp a.text b.text)
+abbrev hashed_cmp : HashedText → HashedText → Ordering
+hashed_cmp a b = ordering_then (nat_cmp a.hash b.hash) (string_cmp a.text b.text)
 
 -- a test that implies another changes nothing beside it
 then-same : (x : Ordering) (order : Ordering) (b : Bool) → is_eq order ≡ b → (b ≡ true → x ≡ Equal) → is_eq (ordering_then x order) ≡ b
@@ -179,18 +179,18 @@ then-same _ order true is implied = absurd (let bad = implied refl in cc)
 then-same _ order false is implied = refl
 
 -- a text with its hash is found by its bytes
-found-by-bytes : (text other : List ℕ) → is_eq (ordering_then (nat_cmp (mark_of other) (mark_of text)) (slice_cmp nat_cmp other text)) ≡ bytes_eq other text
+found-by-bytes : (text other : List ℕ) → is_eq (ordering_then (nat_cmp (hash_of other) (hash_of text)) (slice_cmp nat_cmp other text)) ≡ bytes_eq other text
 found-by-bytes text other =
-    then-same (nat_cmp (mark_of other) (mark_of text)) (slice_cmp nat_cmp other text) (bytes_eq other text) (is_eq-slice_cmp other text)
-    (λ is. ap (λ (t : List ℕ). nat_cmp (mark_of t) (mark_of text)) (same_text other text (sym is)) ∙ tied_itself nat_cmp_total (mark_of text))
+    then-same (nat_cmp (hash_of other) (hash_of text)) (slice_cmp nat_cmp other text) (bytes_eq other text) (is_eq-slice_cmp other text)
+    (λ is. ap (λ (t : List ℕ). nat_cmp (hash_of t) (hash_of text)) (same_text other text (sym is)) ∙ tied_itself nat_cmp_total (hash_of text))
 
 -- a set into which a text is inserted has it and its earlier ones
-pub inserted : {T E : Type 0} (done : Result T E) (key : Marked) (text : List ℕ) (seen_old seen_new : BTreeSet Marked)
-    → key.mark ≡ mark_of text → string_bytes key.text ≡ text → list_any (is_at (marked_cmp key)) seen_old.keys ≡ false
-    → seen_new.keys ≡ insert_key marked_cmp seen_old.keys key
+pub inserted : {T E : Type 0} (done : Result T E) (key : HashedText) (text : List ℕ) (seen_old seen_new : BTreeSet HashedText)
+    → key.hash ≡ hash_of text → string_bytes key.text ≡ text → list_any (is_at (hashed_cmp key)) seen_old.keys ≡ false
+    → seen_new.keys ≡ insert_key hashed_cmp seen_old.keys key
     → OnOk done ((other : List ℕ) → has_text seen_new other ≡ (has_text seen_old other || bytes_eq other text))
-inserted (Ok _) key text seen_old seen_new mark same absent keys = λ other.
-    ap (λ (ks : List Marked). list_any (is_at (text_cmp other)) ks) keys
-    ∙ inserts marked_cmp (is_at (text_cmp other)) key seen_old.keys absent
-    ∙ ap (λ (b : Bool). has_text seen_old other || b) (rw (mark, same) (found-by-bytes text other))
-inserted (Err _) key text seen_old seen_new mark same absent keys = tt
+inserted (Ok _) key text seen_old seen_new hash same absent keys = λ other.
+    ap (λ (ks : List HashedText). list_any (is_at (text_cmp other)) ks) keys
+    ∙ inserts hashed_cmp (is_at (text_cmp other)) key seen_old.keys absent
+    ∙ ap (λ (b : Bool). has_text seen_old other || b) (rw (hash, same) (found-by-bytes text other))
+inserted (Err _) key text seen_old seen_new hash same absent keys = tt

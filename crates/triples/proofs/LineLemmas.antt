@@ -24,11 +24,11 @@ module _ (text : List ℕ) (end : ℕ) (is : end ≡ position_or_len is_line_fee
   pub line_feed_at : get_or text end 0 ≡ 10
   line_feed_at = ap (λ k. get_or text k 0) is ∙ eqb-true _ 10 (not-false _ (prefix_len_stops (λ b. not (is_line_feed b)) text 0 (omega (arith, is, below))))
 
-  pub lines_of-cut : (line behind : List ℕ) → line ≡ slice_range text 0 end → behind ≡ drop (end + 1) text → lines_of text ≡ line ∷ lines_of behind
-  lines_of-cut line behind front back =
+  pub lines_of-cut : (line others : List ℕ) → line ≡ slice_range text 0 end → others ≡ drop (end + 1) text → lines_of text ≡ line ∷ lines_of others
+  lines_of-cut line others earlier back =
       let whole : end - 0 ≡ end = omega arith in
       let rest = after_first is_line_feed text in
-      rw (front ∙ ap (λ n. take n text) (whole ∙ is), back ∙ ap (λ n. drop (n + 1) text) is)
+      rw (earlier ∙ ap (λ n. take n text) (whole ∙ is), back ∙ ap (λ n. drop (n + 1) text) is)
       (ap without_empty_last (slice_split_first is_line_feed text 0 (omega (arith, is, below)))
       ∙ stays-first _ (slice_split is_line_feed rest) (omega (arith, length-slice_split is_line_feed rest)))
 

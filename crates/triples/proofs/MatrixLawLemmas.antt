@@ -3,9 +3,9 @@ use Rattle.std.proofs.Common.{◌≡◌, ℕ, Bool, true, false, ◌||◌, not, 
 use Rattle.std.proofs.{lemmas.List.append-nil, Math.Bool.or-false, Math.Bool.or-true, lemmas.Bool.not-false, lemmas.List.Elements.filter-append}
 use Rattle.std.proofs.lemmas.Slice.Eq.{bytes_eq-Decides}
 use Rattle.std.specs.{Cmp.Lexicographic.same_text, List.filter, List.list_any, Str.bytes_eq}
-use Rattle.target_lexicon.specs.{FixedPoints.ReadTriplesArePlain, FixedPoints.RoundIsNormalStep, FixedPoints.SettledTextsAreKeys, FixedPoints.settled, FixedPoints.settled_text, NormalStep.normal_step, Laws.OneOutcomeEach, Printing.text_of, Reading.ReadsAs, Values.Values}
-use Rattle.triples.specs.MatrixLaws.{EntriesAreSettledTriples, entries_of, is_refusal, FirstEntriesStayInOrder, EachSettledTripleIsThere, entries_alone, MatricesAreTheirOwn}
-use Rattle.triples.specs.Output.{Answer, Shown, Refused, IsAnswer, AreAnswers, shows, stays_behind, staying_behind, matrix_of, answer_bytes}
+use Rattle.target_lexicon.specs.{FixedPoints.ReadTriplesArePlain, FixedPoints.RoundIsNormalStep, FixedPoints.SettledTextsAreKeys, FixedPoints.settled_values, FixedPoints.canonical_text, NormalStep.normal_step, Laws.OneOutcomeEach, Printing.text_of, Reading.ReadsAs, Values.Values}
+use Rattle.triples.specs.MatrixLaws.{EntriesAreSettledTriples, entries_of, is_refusal, FirstEntriesStayInOrder, EachSettledTripleIsThere, only_entries, MatricesAreTheirOwn}
+use Rattle.triples.specs.Output.{Answer, Shown, Refused, IsAnswer, AreAnswers, shows, stays_after, staying_after, matrix_of, answer_bytes}
 use Rattle.triples.proofs.AnswerLemmas.{if_stays, push-any, staying-push}
 
 -- two lines that parse have the same entry exactly if their canonical triples are equal
@@ -16,8 +16,8 @@ entries_are_settled_triples one plain keys a b t u reads_a reads_b = (
       let first : shared.1.0 ≡ t = (one a).values shared.1.0 t shared.1.1 reads_a in
       let second : shared.2.0 ≡ u = (one b).values shared.2.0 u shared.2.1 reads_b in
       keys.own t u (plain a t reads_a) (plain b u reads_b)
-      (ap settled_text (sym first) ∙ sym shared.1.2 ∙ shared.2.2 ∙ ap settled_text second),
-  λ same. (settled_text t, (t, reads_a, refl), (u, reads_b, ap text_of same)),
+      (ap canonical_text (sym first) ∙ sym shared.1.2 ∙ shared.2.2 ∙ ap canonical_text second),
+  λ same. (canonical_text t, (t, reads_a, refl), (u, reads_b, ap text_of same)),
 )
 
 -- the matrix keeps the first entry for each text and no other
@@ -31,30 +31,30 @@ entry-case true false false test line rest is alike = refl
 entry-case false false true test line rest is alike = rw is refl
 entry-case false false false test line rest is alike = refl
 
-stays-alike : (text : List ℕ) (before : List Answer) (line : Answer) → shows text line ≡ true → stays_behind before line ≡ not (list_any (shows text) before)
+stays-alike : (text : List ℕ) (before : List Answer) (line : Answer) → shows text line ≡ true → stays_after before line ≡ not (list_any (shows text) before)
 stays-alike text before (Shown other) is = ap (λ (t : List ℕ). not (list_any (shows t) before)) (sym (same_text text other (sym is)))
-stays-alike text before (Refused told) is = absurd cc
+stays-alike text before (Refused message) is = absurd cc
 
-pub entries-behind : (text : List ℕ) (before lines : List Answer)
-    → entries_of text (staying_behind before lines) ≡ (if list_any (shows text) before then [] else take 1 (entries_of text lines))
-entries-behind text before [] = elim (list_any (shows text) before) as (λ b. ◌≡◌ {A = List Answer} [] (if b then [] else take 1 [])) [ true ↦ refl | false ↦ refl ]
-entries-behind text before (line ∷ lines) =
+pub entries-others : (text : List ℕ) (before lines : List Answer)
+    → entries_of text (staying_after before lines) ≡ (if list_any (shows text) before then [] else take 1 (entries_of text lines))
+entries-others text before [] = elim (list_any (shows text) before) as (λ b. ◌≡◌ {A = List Answer} [] (if b then [] else take 1 [])) [ true ↦ refl | false ↦ refl ]
+entries-others text before (line ∷ lines) =
     let test = shows text in
-    filter-append test (if_stays (stays_behind before line) line) (staying_behind (before ++ line ∷ []) lines)
-    ∙ ap (λ (t : List Answer). filter test (if_stays (stays_behind before line) line) ++ t)
-    (entries-behind text (before ++ line ∷ []) lines
+    filter-append test (if_stays (stays_after before line) line) (staying_after (before ++ line ∷ []) lines)
+    ∙ ap (λ (t : List Answer). filter test (if_stays (stays_after before line) line) ++ t)
+    (entries-others text (before ++ line ∷ []) lines
     ∙ ap (λ (b : Bool). if b then [] else take 1 (filter test lines)) (push-any text before line))
-    ∙ entry-case (list_any test before) (test line) (stays_behind before line) test line (filter test lines) refl (stays-alike text before line)
+    ∙ entry-case (list_any test before) (test line) (stays_after before line) test line (filter test lines) refl (stays-alike text before line)
 
-pub refusals-behind : (before lines : List Answer) → filter is_refusal (staying_behind before lines) ≡ filter is_refusal lines
-refusals-behind before [] = refl
-refusals-behind before (Shown text ∷ lines) =
-    let rest = filter is_refusal (staying_behind (before ++ Shown text ∷ []) lines) in
-    filter-append is_refusal (if_stays (stays_behind before (Shown text)) (Shown text)) (staying_behind (before ++ Shown text ∷ []) lines)
-    ∙ elim (stays_behind before (Shown text)) as (λ stays. filter is_refusal (if_stays stays (Shown text)) ++ rest ≡ rest) [ true ↦ refl | false ↦ refl ]
-    ∙ refusals-behind (before ++ Shown text ∷ []) lines
-refusals-behind before (Refused told ∷ lines) =
-    ap (λ (t : List Answer). Refused told ∷ t) (refusals-behind (before ++ Refused told ∷ []) lines)
+pub refusals-others : (before lines : List Answer) → filter is_refusal (staying_after before lines) ≡ filter is_refusal lines
+refusals-others before [] = refl
+refusals-others before (Shown text ∷ lines) =
+    let rest = filter is_refusal (staying_after (before ++ Shown text ∷ []) lines) in
+    filter-append is_refusal (if_stays (stays_after before (Shown text)) (Shown text)) (staying_after (before ++ Shown text ∷ []) lines)
+    ∙ elim (stays_after before (Shown text)) as (λ stays. filter is_refusal (if_stays stays (Shown text)) ++ rest ≡ rest) [ true ↦ refl | false ↦ refl ]
+    ∙ refusals-others (before ++ Shown text ∷ []) lines
+refusals-others before (Refused message ∷ lines) =
+    ap (λ (t : List Answer). Refused message ∷ t) (refusals-others (before ++ Refused message ∷ []) lines)
 
 -- each line is added to the matrix of the earlier ones
 
@@ -74,8 +74,8 @@ one-passes test (x ∷ xs) some =
 pub first_entries_stay_in_order : FirstEntriesStayInOrder
 first_entries_stay_in_order = record {
   none = refl;
-  behind = λ before. record {
-    refusal = λ told. staying-push [] before (Refused told);
+  others = λ before. record {
+    refusal = λ message. staying-push [] before (Refused message);
     first = λ text none. staying-push [] before (Shown text)
         ∙ ap (λ any. matrix_of before ++ if_stays (not any) (Shown text)) (none-passes (shows text) before none);
     again = λ text some. staying-push [] before (Shown text)
@@ -88,7 +88,7 @@ first_entries_stay_in_order = record {
 
 first-entry : (text : List ℕ) (lines : List Answer) → list_any (shows text) lines ≡ true → take 1 (entries_of text lines) ≡ Shown text ∷ []
 first-entry text [] some = absurd cc
-first-entry text (Refused told ∷ lines) some = first-entry text lines some
+first-entry text (Refused message ∷ lines) some = first-entry text lines some
 first-entry text (Shown other ∷ lines) some =
     let rest = entries_of text lines in
     (elim (bytes_eq text other) as
@@ -96,23 +96,23 @@ first-entry text (Shown other ∷ lines) some =
     [ true ↦ λ is here. ap (λ (t : List ℕ). Shown t ∷ []) (sym (same_text text other (sym is))) | false ↦ λ is later. first-entry text lines later ]) refl some
 
 module _ (one : OneOutcomeEach) (line : List ℕ) (t : Values) (reads : ReadsAs line t) where
-  own-entry : (answer : Answer) → IsAnswer settled_text line answer → shows (settled_text t) answer ≡ true
+  own-entry : (answer : Answer) → IsAnswer canonical_text line answer → shows (canonical_text t) answer ≡ true
   own-entry (Shown text) is =
       let same : is.0 ≡ t = (one line).values is.0 t is.1 reads in
-      (bytes_eq-Decides (settled_text t) text).1 (ap settled_text (sym same) ∙ sym is.2)
-  own-entry (Refused told) is = absurd ((one line).apart t reads (is.0, is.1))
+      (bytes_eq-Decides (canonical_text t) text).1 (ap canonical_text (sym same) ∙ sym is.2)
+  own-entry (Refused message) is = absurd ((one line).apart t reads (is.0, is.1))
 
-  some-entry : (front back : List (List ℕ)) (answers : List Answer) → AreAnswers settled_text (front ++ line ∷ back) answers
-      → list_any (shows (settled_text t)) answers ≡ true
+  some-entry : (earlier back : List (List ℕ)) (answers : List Answer) → AreAnswers canonical_text (earlier ++ line ∷ back) answers
+      → list_any (shows (canonical_text t)) answers ≡ true
   some-entry [] back [] are = absurd are
-  some-entry [] back (first ∷ others) are = ap (λ (b : Bool). b || list_any (shows (settled_text t)) others) (own-entry first are.0)
-  some-entry (other ∷ front) back [] are = absurd are
-  some-entry (other ∷ front) back (first ∷ others) are =
-      ap (λ (b : Bool). shows (settled_text t) first || b) (some-entry front back others are.1) ∙ or-true (shows (settled_text t) first)
+  some-entry [] back (first ∷ others) are = ap (λ (b : Bool). b || list_any (shows (canonical_text t)) others) (own-entry first are.0)
+  some-entry (other ∷ earlier) back [] are = absurd are
+  some-entry (other ∷ earlier) back (first ∷ others) are =
+      ap (λ (b : Bool). shows (canonical_text t) first || b) (some-entry earlier back others are.1) ∙ or-true (shows (canonical_text t) first)
 
 pub each_settled_triple_is_there : OneOutcomeEach → EachSettledTripleIsThere
-each_settled_triple_is_there one front back line answers are t reads =
-    entries-behind (settled_text t) [] answers ∙ first-entry (settled_text t) answers (some-entry one line t reads front back answers are)
+each_settled_triple_is_there one earlier back line answers are t reads =
+    entries-others (canonical_text t) [] answers ∙ first-entry (canonical_text t) answers (some-entry one line t reads earlier back answers are)
 
 -- the entries of a matrix are their own matrix
 
@@ -131,61 +131,61 @@ there-again xs text other stays is = ap (λ (t : List ℕ). list_any (shows t) x
 
 -- the entries that stay after some lines and the entry for a text
 abbrev entries_more : List Answer → List ℕ → List Answer → List Answer
-entries_more before text lines = entries_alone (staying_behind (before ++ Shown text ∷ []) lines)
+entries_more before text lines = only_entries (staying_after (before ++ Shown text ∷ []) lines)
 
 stay-again : (before entries lines : List Answer) → HaveSameEntries before entries
-    → staying_behind entries (entries_alone (staying_behind before lines)) ≡ entries_alone (staying_behind before lines)
+    → staying_after entries (only_entries (staying_after before lines)) ≡ only_entries (staying_after before lines)
 stay-again before entries [] same = refl
-stay-again before entries (Refused told ∷ lines) same =
-    stay-again (before ++ Refused told ∷ []) entries lines (λ text. push-any text before (Refused told) ∙ or-false (list_any (shows text) before) ∙ same text)
+stay-again before entries (Refused message ∷ lines) same =
+    stay-again (before ++ Refused message ∷ []) entries lines (λ text. push-any text before (Refused message) ∙ or-false (list_any (shows text) before) ∙ same text)
 stay-again before entries (Shown text ∷ lines) same =
-    by_stay (stays_behind before (Shown text)) refl
+    by_stay (stays_after before (Shown text)) refl
     (λ is. stay-again (before ++ Shown text ∷ []) entries lines
     (λ other. push-any other before (Shown text) ∙ or-there (list_any (shows other) before) (bytes_eq other text) (there-again before text other is) ∙ same other))
     (stay-again (before ++ Shown text ∷ []) (entries ++ Shown text ∷ []) lines
     (λ other. push-any other before (Shown text) ∙ ap (λ (b : Bool). b || bytes_eq other text) (same other) ∙ sym (push-any other entries (Shown text))))
   where
-    by_stay : (stays : Bool) → stays_behind before (Shown text) ≡ stays → (stays_behind before (Shown text) ≡ false → staying_behind entries (entries_more before text lines) ≡ entries_more before text lines)
-        → staying_behind (entries ++ Shown text ∷ []) (entries_more before text lines) ≡ entries_more before text lines
-        → staying_behind entries (entries_alone (if_stays stays (Shown text) ++ staying_behind (before ++ Shown text ∷ []) lines)) ≡ entries_alone (if_stays stays (Shown text) ++ staying_behind (before ++ Shown text ∷ []) lines)
+    by_stay : (stays : Bool) → stays_after before (Shown text) ≡ stays → (stays_after before (Shown text) ≡ false → staying_after entries (entries_more before text lines) ≡ entries_more before text lines)
+        → staying_after (entries ++ Shown text ∷ []) (entries_more before text lines) ≡ entries_more before text lines
+        → staying_after entries (only_entries (if_stays stays (Shown text) ++ staying_after (before ++ Shown text ∷ []) lines)) ≡ only_entries (if_stays stays (Shown text) ++ staying_after (before ++ Shown text ∷ []) lines)
     by_stay false is gone there = gone is
     by_stay true is gone there =
-        ap (λ (b : Bool). if_stays b (Shown text) ++ staying_behind (entries ++ Shown text ∷ []) (entries_more before text lines)) (ap not (sym (same text)) ∙ is)
+        ap (λ (b : Bool). if_stays b (Shown text) ++ staying_after (entries ++ Shown text ∷ []) (entries_more before text lines)) (ap not (sym (same text)) ∙ is)
         ∙ ap (λ (t : List Answer). Shown text ∷ t) there
 
 -- each entry is what mode `settle` writes for its own text
 abbrev AreOwn : List Answer → Type 0
-AreOwn lines = AreAnswers settled_text (map answer_bytes (entries_alone lines)) (entries_alone lines)
+AreOwn lines = AreAnswers canonical_text (map answer_bytes (only_entries lines)) (only_entries lines)
 
-staying-own : (before lines : List Answer) → AreOwn lines → AreOwn (staying_behind before lines)
+staying-own : (before lines : List Answer) → AreOwn lines → AreOwn (staying_after before lines)
 staying-own before [] own = tt
-staying-own before (Refused told ∷ lines) own = staying-own (before ++ Refused told ∷ []) lines own
+staying-own before (Refused message ∷ lines) own = staying-own (before ++ Refused message ∷ []) lines own
 staying-own before (Shown text ∷ lines) own =
     let more = before ++ Shown text ∷ [] in
     let rest = staying-own more lines own.1 in
-    elim (stays_behind before (Shown text)) as (λ stays. AreOwn (if_stays stays (Shown text) ++ staying_behind more lines)) [ true ↦ (own.0, rest) | false ↦ rest ]
+    elim (stays_after before (Shown text)) as (λ stays. AreOwn (if_stays stays (Shown text) ++ staying_after more lines)) [ true ↦ (own.0, rest) | false ↦ rest ]
 
 module _ (one : OneOutcomeEach) (plain : ReadTriplesArePlain) (round : RoundIsNormalStep) (keys : SettledTextsAreKeys) where
   -- a canonical triple stays, since it comes back and a round trip is a normal step
-  settled-stays : (t : Values) → ReadsAs (text_of (settled t)) (settled t) → settled (settled t) ≡ settled t
-  settled-stays t back =
-      let u = settled t in
+  settled_values-stays : (t : Values) → ReadsAs (text_of (settled_values t)) (settled_values t) → settled_values (settled_values t) ≡ settled_values t
+  settled_values-stays t back =
+      let u = settled_values t in
       let step : normal_step u ≡ u = (one (text_of u)).values (normal_step u) u (round u (plain (text_of u) u back)) back in
       ap normal_step step ∙ step
 
-  own-line : (line text : List ℕ) → IsAnswer settled_text line (Shown text) → IsAnswer settled_text text (Shown text)
+  own-line : (line text : List ℕ) → IsAnswer canonical_text line (Shown text) → IsAnswer canonical_text text (Shown text)
   own-line line text is =
       let back = keys.comes_back is.0 (plain line is.0 is.1) in
-      (settled is.0, subst (λ (x : List ℕ). ReadsAs x (settled is.0)) (sym is.2) back, is.2 ∙ ap text_of (sym (settled-stays is.0 back)))
+      (settled_values is.0, subst (λ (x : List ℕ). ReadsAs x (settled_values is.0)) (sym is.2) back, is.2 ∙ ap text_of (sym (settled_values-stays is.0 back)))
 
-  are-own : (lines : List (List ℕ)) (answers : List Answer) → AreAnswers settled_text lines answers → AreOwn answers
+  are-own : (lines : List (List ℕ)) (answers : List Answer) → AreAnswers canonical_text lines answers → AreOwn answers
   are-own [] [] are = tt
   are-own (line ∷ lines) (Shown text ∷ answers) are = (own-line line text are.0, are-own lines answers are.1)
-  are-own (line ∷ lines) (Refused told ∷ answers) are = are-own lines answers are.1
+  are-own (line ∷ lines) (Refused message ∷ answers) are = are-own lines answers are.1
   are-own _ _ are = absurd are
 
   pub matrices_are_their_own : MatricesAreTheirOwn
   matrices_are_their_own lines answers are = record {
-    settled = staying-own [] answers (are-own lines answers are);
+    settled_values = staying-own [] answers (are-own lines answers are);
     stays = stay-again [] [] answers (λ text. refl);
   }

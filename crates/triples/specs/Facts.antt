@@ -1,8 +1,8 @@
 -- What mode `show` writes of a triple: its text and four words.
 use Rattle.std.specs.Prelude.{ℕ, List, ◌++◌, codes, Option, Some, None}
-use Rattle.lexicon_fields.specs.{declared.width.Endianness.Endianness, declared.width.Endianness.TheVariants.Little, declared.width.Endianness.TheVariants.Big}
-use Rattle.lexicon_fields.specs.declared.width.PointerWidth.{PointerWidth}
-use Rattle.lexicon_fields.specs.declared.width.PointerWidth.TheVariants.{U16, U32, U64}
+use Rattle.lexicon_fields.specs.{declared.endianness.Endianness.Endianness, declared.endianness.Endianness.TheVariants.Little, declared.endianness.Endianness.TheVariants.Big}
+use Rattle.lexicon_fields.specs.declared.pointer_width.PointerWidth.{PointerWidth}
+use Rattle.lexicon_fields.specs.declared.pointer_width.PointerWidth.TheVariants.{U16, U32, U64}
 use Rattle.target_lexicon.specs.{declared.calling_convention.CallingConvention.CallingConvention, declared.data_model.CDataModel.CDataModel, Printing.text_of, Values.Values}
 use Rattle.target_lexicon.specs.declared.calling_convention.CallingConvention.TheVariants.{SystemV, WasmBasicCAbi, WindowsFastcall, AppleAarch64}
 use Rattle.target_lexicon.specs.declared.data_model.CDataModel.TheVariants.{LP32, ILP32, LLP64, LP64, ILP64}
@@ -36,11 +36,11 @@ model_word (Some ILP64) = codes "ILP64"
 model_word None = codes "-"
 
 -- a space and the word
-abbrev pub spaced : List ℕ → List ℕ
-spaced word = codes " " ++ word
+abbrev pub spaced_word : List ℕ → List ℕ
+spaced_word word = codes " " ++ word
 
 -- the text of a triple, and the words for its byte order, pointer width, calling convention and data model
-abbrev pub facts_of : Values → List ℕ
-facts_of t =
-    text_of t ++ (spaced (endianness_word (endianness t)) ++ (spaced (width_word (pointer_width t))
-    ++ (spaced (convention_word (calling_convention t)) ++ spaced (model_word (data_model t)))))
+abbrev pub text_with_facts : Values → List ℕ
+text_with_facts t =
+    text_of t ++ (spaced_word (endianness_word (endianness t)) ++ (spaced_word (width_word (pointer_width t))
+    ++ (spaced_word (convention_word (calling_convention t)) ++ spaced_word (model_word (data_model t)))))

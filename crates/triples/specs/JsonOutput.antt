@@ -15,13 +15,13 @@ abbrev pub IsListWritten : Data → List ℕ → Type 0
 IsListWritten value answer = (ts : List Values) × ListReadsAs value ts × (answer ≡ compact_text (list_json_of ts))
 
 -- `error: ` and the line of the first element that doesn't parse, unless an allocation failed there
-abbrev pub IsElementTold : Data → List ℕ → Type 0
-IsElementTold value answer = (i : ℕ) × ((fault : JsonFault) × (IsListFault value (Element i fault) × (fault ≢ Parse None)
+abbrev pub IsElementLine : Data → List ℕ → Type 0
+IsElementLine value answer = (i : ℕ) × ((fault : JsonFault) × (IsListFault value (Element i fault) × (fault ≢ Parse None)
     × (answer ≡ codes "error: " ++ list_fault_line (Element i fault))))
 
 -- what is written for the value
 abbrev pub IsJsonAnswer : Data → List ℕ → Type 0
-IsJsonAnswer value answer = IsListWritten value answer ⊎ IsElementTold value answer
+IsJsonAnswer value answer = IsListWritten value answer ⊎ IsElementLine value answer
 
 -- the answer for the value of the input, and a line feed
 abbrev pub IsJsonOutput : List ℕ → List ℕ → Type 0

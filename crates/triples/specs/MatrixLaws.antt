@@ -1,16 +1,16 @@
 -- Laws of mode `matrix`.
 use Rattle.std.specs.Prelude.{ℕ, ◌≡◌, ◌↔◌, Bool, true, false, not, List, [], ◌∷◌, ◌++◌, take, map}
 use Rattle.std.specs.List.{filter}
-use Rattle.target_lexicon.specs.{FixedPoints.settled, FixedPoints.settled_text, Reading.ReadsAs, Values.Values}
+use Rattle.target_lexicon.specs.{FixedPoints.settled_values, FixedPoints.canonical_text, Reading.ReadsAs, Values.Values}
 use Rattle.triples.specs.Output.{Answer, Shown, Refused, IsAnswer, AreAnswers, shows, matrix_of, answer_bytes}
 
 -- mode `settle` writes the same text for two lines
 abbrev pub ShareAnEntry : List ℕ → List ℕ → Type 0
-ShareAnEntry a b = (text : List ℕ) × IsAnswer settled_text a (Shown text) × IsAnswer settled_text b (Shown text)
+ShareAnEntry a b = (text : List ℕ) × IsAnswer canonical_text a (Shown text) × IsAnswer canonical_text b (Shown text)
 
 -- two lines that parse have the same entry exactly if their canonical triples are equal
 abbrev pub EntriesAreSettledTriples : Type 0
-EntriesAreSettledTriples = (a b : List ℕ) (t u : Values) → ReadsAs a t → ReadsAs b u → ShareAnEntry a b ↔ (settled t ≡ settled u)
+EntriesAreSettledTriples = (a b : List ℕ) (t u : Values) → ReadsAs a t → ReadsAs b u → ShareAnEntry a b ↔ (settled_values t ≡ settled_values u)
 
 -- the entries for a text among the answers of mode `settle`
 abbrev pub entries_of : List ℕ → List Answer → List Answer
@@ -19,7 +19,7 @@ entries_of text lines = filter (shows text) lines
 -- whether an answer is a refusal
 abbrev pub is_refusal : Answer → Bool
 is_refusal (Shown text) = false
-is_refusal (Refused told) = true
+is_refusal (Refused message) = true
 
 -- the matrix keeps one entry for each text, and every refusal
 pub record KeepsEntriesOnce (lines : List Answer) : Type 0 where
@@ -29,29 +29,29 @@ pub record KeepsEntriesOnce (lines : List Answer) : Type 0 where
 -- An answer that follows others is added at the end of their matrix if it is a refusal or the first entry for its text;
 -- another entry for the same text adds nothing.
 pub record StaysAtItsFirst (before : List Answer) : Type 0 where
-  pub refusal : (told : List ℕ) → matrix_of (before ++ Refused told ∷ []) ≡ matrix_of before ++ Refused told ∷ []
+  pub refusal : (message : List ℕ) → matrix_of (before ++ Refused message ∷ []) ≡ matrix_of before ++ Refused message ∷ []
   pub first : (text : List ℕ) → entries_of text before ≡ [] → matrix_of (before ++ Shown text ∷ []) ≡ matrix_of before ++ Shown text ∷ []
   pub again : (text : List ℕ) → ¬ (entries_of text before ≡ []) → matrix_of (before ++ Shown text ∷ []) ≡ matrix_of before
 
 -- this holds after all lines, and no lines have an empty matrix
 pub record FirstEntriesStayInOrder : Type 0 where
   pub none : matrix_of [] ≡ []
-  pub behind : (before : List Answer) → StaysAtItsFirst before
+  pub others : (before : List Answer) → StaysAtItsFirst before
 
 -- the canonical triple of each line of an input that parses has one entry in the matrix
 abbrev pub EachSettledTripleIsThere : Type 0
-EachSettledTripleIsThere = (front back : List (List ℕ)) (line : List ℕ) (answers : List Answer) → AreAnswers settled_text (front ++ line ∷ back) answers
-    → (t : Values) → ReadsAs line t → entries_of (settled_text t) (matrix_of answers) ≡ Shown (settled_text t) ∷ []
+EachSettledTripleIsThere = (earlier back : List (List ℕ)) (line : List ℕ) (answers : List Answer) → AreAnswers canonical_text (earlier ++ line ∷ back) answers
+    → (t : Values) → ReadsAs line t → entries_of (canonical_text t) (matrix_of answers) ≡ Shown (canonical_text t) ∷ []
 
 -- the entries among answers
-abbrev pub entries_alone : List Answer → List Answer
-entries_alone lines = filter (λ line. not (is_refusal line)) lines
+abbrev pub only_entries : List Answer → List Answer
+only_entries lines = filter (λ line. not (is_refusal line)) lines
 
 -- the entries of a matrix, as lines, give the same entries: mode `settle` writes them unchanged, and all of them stay
 pub record IsItsOwnMatrix (entries : List Answer) : Type 0 where
-  pub settled : AreAnswers settled_text (map answer_bytes entries) entries
+  pub settled_values : AreAnswers canonical_text (map answer_bytes entries) entries
   pub stays : matrix_of entries ≡ entries
 
 -- this holds for every matrix
 abbrev pub MatricesAreTheirOwn : Type 0
-MatricesAreTheirOwn = (lines : List (List ℕ)) (answers : List Answer) → AreAnswers settled_text lines answers → IsItsOwnMatrix (entries_alone (matrix_of answers))
+MatricesAreTheirOwn = (lines : List (List ℕ)) (answers : List Answer) → AreAnswers canonical_text lines answers → IsItsOwnMatrix (only_entries (matrix_of answers))

@@ -2,8 +2,8 @@
 use Rattle.std.specs.Prelude.{ℕ, ◌≡◌, ◌<◌, ◌==◌, Bool, true, false, not, if◌then◌else◌, List, length, [], ◌∷◌, ◌++◌, codes}
 use Rattle.std.specs.List.{AllZip, list_any, slice_split}
 use Rattle.std.specs.Str.{bytes_eq}
-use Rattle.target_lexicon.specs.{FixedPoints.settled_text, Printing.text_of, Reading.ReadsAs, Reading.IsRefusedAs, Refusal.Refusal, Refusal.refusal_line, Values.Values}
-use Rattle.triples.specs.{declared.mode.Mode.Mode, declared.run_error.RunError.RunError, declared.run_error.RunError.TheVariants.OutOfMemory, Facts.facts_of}
+use Rattle.target_lexicon.specs.{FixedPoints.canonical_text, Printing.text_of, Reading.ReadsAs, Reading.IsRefusedAs, Refusal.Refusal, Refusal.refusal_line, Values.Values}
+use Rattle.triples.specs.{declared.mode.Mode.Mode, declared.run_error.RunError.RunError, declared.run_error.RunError.TheVariants.OutOfMemory, Facts.text_with_facts}
 use Rattle.triples.specs.declared.mode.Mode.TheVariants.{Print, Show, Settle, Json, Matrix}
 use Rattle.triples.specs.{declared.output.View.View, declared.output.View.TheVariants.Printed, declared.output.View.TheVariants.WithFacts, declared.output.View.TheVariants.Canonical}
 use Rattle.triples.specs.Words.{line_feed}
@@ -23,8 +23,8 @@ lines_of input = without_empty_last (slice_split (λ b. b == line_feed) input)
 -- what is shown of a triple
 abbrev pub shown_by : View → Values → List ℕ
 shown_by Printed = text_of
-shown_by WithFacts = facts_of
-shown_by Canonical = settled_text
+shown_by WithFacts = text_with_facts
+shown_by Canonical = canonical_text
 
 -- the answer to a line: what is shown of its triple, or the text of its refusal
 pub data Answer : Type 0 where
@@ -34,7 +34,7 @@ pub data Answer : Type 0 where
 -- an answer shows the triple that the line parses as, or is `error: ` and the line of its refusal
 abbrev pub IsAnswer : (Values → List ℕ) → List ℕ → Answer → Type 0
 IsAnswer shown line (Shown text) = (values : Values) × ReadsAs line values × (text ≡ shown values)
-IsAnswer shown line (Refused told) = (refusal : Refusal) × IsRefusedAs line refusal × (told ≡ codes "error: " ++ refusal_line refusal)
+IsAnswer shown line (Refused message) = (refusal : Refusal) × IsRefusedAs line refusal × (message ≡ codes "error: " ++ refusal_line refusal)
 
 -- the answer to each line, in order
 abbrev pub AreAnswers : (Values → List ℕ) → List (List ℕ) → List Answer → Type 0
@@ -43,47 +43,47 @@ AreAnswers shown lines answers = AllZip (IsAnswer shown) lines answers
 -- whether an answer shows this text; a refusal never does, even if it has the same bytes
 abbrev pub shows : List ℕ → Answer → Bool
 shows text (Shown other) = bytes_eq text other
-shows text (Refused told) = false
+shows text (Refused message) = false
 
 -- whether an answer stays after earlier ones: none of them shows the same text
-abbrev pub stays_behind : List Answer → Answer → Bool
-stays_behind before (Shown text) = not (list_any (shows text) before)
-stays_behind before (Refused told) = true
+abbrev pub stays_after : List Answer → Answer → Bool
+stays_after before (Shown text) = not (list_any (shows text) before)
+stays_after before (Refused message) = true
 
 -- the answers that stay after these
-abbrev pub staying_behind : List Answer → List Answer → List Answer
-staying_behind before [] = []
-staying_behind before (answer ∷ answers) =
-    (if stays_behind before answer then answer ∷ [] else []) ++ staying_behind (before ++ answer ∷ []) answers
+abbrev pub staying_after : List Answer → List Answer → List Answer
+staying_after before [] = []
+staying_after before (answer ∷ answers) =
+    (if stays_after before answer then answer ∷ [] else []) ++ staying_after (before ++ answer ∷ []) answers
 
 -- the matrix: the first answer that shows each text, and each refusal
 abbrev pub matrix_of : List Answer → List Answer
-matrix_of answers = staying_behind [] answers
+matrix_of answers = staying_after [] answers
 
 abbrev pub answer_bytes : Answer → List ℕ
 answer_bytes (Shown text) = text
-answer_bytes (Refused told) = told
+answer_bytes (Refused message) = message
 
 -- the answers, with a line feed after each
-abbrev pub written : List Answer → List ℕ
-written [] = []
-written (answer ∷ answers) = answer_bytes answer ++ (line_feed ∷ written answers)
+abbrev pub written_lines : List Answer → List ℕ
+written_lines [] = []
+written_lines (answer ∷ answers) = answer_bytes answer ++ (line_feed ∷ written_lines answers)
 
 -- the output is the answers to these lines, which show their triples in this way
 abbrev pub AreAnswered : (Values → List ℕ) → List (List ℕ) → List ℕ → Type 0
 AreAnswered shown lines output =
-    (answers : List Answer) × AreAnswers shown lines answers × (output ≡ written answers)
+    (answers : List Answer) × AreAnswers shown lines answers × (output ≡ written_lines answers)
 
 -- the output is the matrix of these lines
 abbrev pub IsMatrix : List (List ℕ) → List ℕ → Type 0
 IsMatrix lines output =
-    (answers : List Answer) × AreAnswers settled_text lines answers × (output ≡ written (matrix_of answers))
+    (answers : List Answer) × AreAnswers canonical_text lines answers × (output ≡ written_lines (matrix_of answers))
 
 -- the output of a mode for an input
 abbrev pub IsOutput : Mode → List ℕ → List ℕ → Type 0
 IsOutput Print input output = AreAnswered text_of (lines_of input) output
-IsOutput Show input output = AreAnswered facts_of (lines_of input) output
-IsOutput Settle input output = AreAnswered settled_text (lines_of input) output
+IsOutput Show input output = AreAnswered text_with_facts (lines_of input) output
+IsOutput Settle input output = AreAnswered canonical_text (lines_of input) output
 IsOutput Matrix input output = IsMatrix (lines_of input) output
 IsOutput Json input output = IsJsonOutput input output
 

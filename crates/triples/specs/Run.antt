@@ -5,8 +5,8 @@ use Rattle.std.specs.Str.{IsUtf8}
 use Rattle.std.specs.Io.KnownBytes.{Appends, Consumes}
 
 -- if the bytes are known, they grew by a beginning of this text
-abbrev pub AppendsFront : Option (List ℕ) → Option (List ℕ) → List ℕ → Type 0
-AppendsFront old new bytes = (n : ℕ) × Appends old new (take n bytes)
+abbrev pub AppendsBeginning : Option (List ℕ) → Option (List ℕ) → List ℕ → Type 0
+AppendsBeginning old new bytes = (n : ℕ) × Appends old new (take n bytes)
 
 -- if the bytes are known, at least one was taken
 abbrev pub ConsumesSome : Option (List ℕ) → Option (List ℕ) → Type 0
@@ -18,8 +18,8 @@ WritesOutput GrewBy mode input old new =
     IfSome input (λ text. IsUtf8 text × ((output : List ℕ) × IsOutput mode text output × GrewBy old new output))
 
 -- the reader or writer of a `Counted`
-abbrev pub device : {D : Type 0} → Counted D → D
-device counted = counted.device
+abbrev pub inner : {D : Type 0} → Counted D → D
+inner counted = counted.inner
 
 -- its number of failed calls
 abbrev pub failures : {D : Type 0} → Counted D → ℕ
@@ -32,5 +32,5 @@ failures_of (Err _) = 1
 
 -- 1 for an error, and for a write that took no byte of a piece that is not empty; otherwise 0
 abbrev pub write_failures_of : {E : Type 0} → Result ℕ E → List ℕ → ℕ
-write_failures_of (Ok taken) piece = cond ((taken == 0) && not (length piece == 0)) 1 0
+write_failures_of (Ok taken_part) piece = cond ((taken_part == 0) && not (length piece == 0)) 1 0
 write_failures_of (Err _) piece = 1

@@ -1,7 +1,7 @@
 //! The end of the program: its exit status, and what it prints.
 ghost use Rattle.std.specs.Prelude.{◌≡◌, ◌++◌, codes, OnOk, IfErr};
 ghost use Rattle.std.specs.Io.KnownBytes.{Appends};
-ghost use Rattle.triples.specs.Run.{device, failures, AppendsFront};
+ghost use Rattle.triples.specs.Run.{inner, failures, AppendsBeginning};
 ghost use Rattle.triples.specs.Words.{status_of, closing_words};
 
 use crate::counted::Counted;
@@ -14,8 +14,9 @@ use std::io::Write;
 /// changes no status.
 pub fn conclude<W: Write>(end: Option<Result<(), RunError>>, w: &mut Counted<W>) -> u8
     ensures status { result ≡ status_of end }
-    ensures said { failures w.new ≡ failures w.old → Appends (W.contents (device w.old)) (W.contents (device w.new)) (closing_words end) }
-    ensures begun { AppendsFront (W.contents (device w.old)) (W.contents (device w.new)) (closing_words end) }
+    ensures said { failures w.new ≡ failures w.old →
+        Appends (W.contents (inner w.old)) (W.contents (inner w.new)) (closing_words end) }
+    ensures begun { AppendsBeginning (W.contents (inner w.old)) (W.contents (inner w.new)) (closing_words end) }
 {
     match end {
         Some(Ok(())) => 0,
@@ -31,13 +32,16 @@ pub fn conclude<W: Write>(end: Option<Result<(), RunError>>, w: &mut Counted<W>)
 }
 
 /// Writes a line of two pieces and flushes.
-fn say<W: Write>(w: &mut Counted<W>, front: &str, back: &str) -> Result<(), RunError>
-    ensures said { failures w.new ≡ failures w.old → Appends (W.contents (device w.old)) (W.contents (device w.new)) (front.now ++ (back.now ++ codes "\n")) }
-    ensures begun { AppendsFront (W.contents (device w.old)) (W.contents (device w.new)) (front.now ++ (back.now ++ codes "\n")) }
+fn say<W: Write>(w: &mut Counted<W>, earlier: &str, back: &str) -> Result<(), RunError>
+    ensures said { failures w.new ≡ failures w.old →
+        Appends (W.contents (inner w.old)) (W.contents (inner w.new))
+        (earlier.now ++ (back.now ++ codes "\n")) }
+    ensures begun { AppendsBeginning (W.contents (inner w.old)) (W.contents (inner w.new))
+        (earlier.now ++ (back.now ++ codes "\n")) }
     ensures unfailed { OnOk result (failures w.new ≡ failures w.old) }
     ensures only { IfErr result (λ e. e ≡ RunError.Write) }
 {
-    write_all(w, front.as_bytes())?;
+    write_all(w, earlier.as_bytes())?;
     write_all(w, back.as_bytes())?;
     write_and_flush(w, b"\n")
 }

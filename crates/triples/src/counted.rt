@@ -11,46 +11,44 @@ use target_lexicon::Steps;
 /// upper limit. Each call makes the same call of the reader or writer and returns its result.
 #[derive(Drop)]
 pub struct Counted<D> {
-    device: D,
+    inner: D,
     failures: Steps,
 }
 
 impl<D> Counted<D> {
-    ghost use Rattle.triples.specs.Run.{device, failures};
+    ghost use Rattle.triples.specs.Run.{inner, failures};
 
     /// The reader or writer, with no failure counted.
     pub fn new(of: D) -> Self
-        ensures device { device result ≡ of }
+        ensures inner { inner result ≡ of }
         ensures count { failures result ≡ 0 }
     {
         Counted {
-            device: of,
+            inner: of,
             failures: Steps::new(),
         }
     }
 
     /// The reader or writer.
     pub fn into_inner(self) -> D
-        ensures { result ≡ device self }
+        ensures { result ≡ inner self }
     {
-        let Counted {
-            device,
-            failures: _,
-        } = self;
-        device
+        let Counted { inner, failures: _ } = self;
+        inner
     }
 }
 
 impl<R: Read> Counted<R> {
-    ghost use Rattle.triples.specs.Run.{device, failures, failures_of};
+    ghost use Rattle.triples.specs.Run.{inner, failures, failures_of};
 
     /// One read. The count rises by one exactly if it fails.
     pub fn read(&mut self, buf: &mut [u8]) -> io::Result<usize>
         ensures bound { ReadsAtMost result buf.new }
-        ensures bytes { ReadConsumes (R.remaining (device self.old)) (R.remaining (device self.new)) result buf.new }
+        ensures bytes { ReadConsumes (R.remaining (inner self.old)) (R.remaining (inner self.new)) result
+            buf.new }
         ensures count { failures self.new ≡ failures self.old + failures_of result }
     {
-        let answer = self.device.read(buf);
+        let answer = self.inner.read(buf);
         if answer.is_err() {
             self.failures.tick();
         }
@@ -59,17 +57,17 @@ impl<R: Read> Counted<R> {
 }
 
 impl<W: Write> Counted<W> {
-    ghost use Rattle.triples.specs.Run.{device, failures, failures_of, write_failures_of};
+    ghost use Rattle.triples.specs.Run.{inner, failures, failures_of, write_failures_of};
 
     /// One write. The count rises by one exactly if it fails, or takes no byte of a piece that is not empty.
     pub fn write(&mut self, buf: &[u8]) -> io::Result<usize>
         ensures bound { WritesAtMost result buf.now }
-        ensures bytes { WriteAppends (W.contents (device self.old)) (W.contents (device self.new)) result buf.now }
+        ensures bytes { WriteAppends (W.contents (inner self.old)) (W.contents (inner self.new)) result buf.now }
         ensures count { failures self.new ≡ failures self.old + write_failures_of result buf.now }
     {
-        let answer = self.device.write(buf);
+        let answer = self.inner.write(buf);
         let is_refused = match &answer {
-            Ok(taken) => *taken == 0 && !buf.is_empty(),
+            Ok(taken_part) => *taken_part == 0 && !buf.is_empty(),
             Err(_) => true,
         };
         if is_refused {
@@ -80,10 +78,10 @@ impl<W: Write> Counted<W> {
 
     /// One flush. The count rises by one exactly if it fails.
     pub fn flush(&mut self) -> io::Result<()>
-        ensures bytes { Keeps (W.contents (device self.old)) (W.contents (device self.new)) }
+        ensures bytes { Keeps (W.contents (inner self.old)) (W.contents (inner self.new)) }
         ensures count { failures self.new ≡ failures self.old + failures_of result }
     {
-        let answer = self.device.flush();
+        let answer = self.inner.flush();
         if answer.is_err() {
             self.failures.tick();
         }

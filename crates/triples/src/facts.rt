@@ -1,7 +1,7 @@
 //! What mode `show` writes for a triple.
 ghost use Rattle.std.specs.Prelude.{◌≡◌, ◌++◌, string_bytes, OnOk};
 ghost use Rattle.target_lexicon.specs.Values.{values_of};
-ghost use Rattle.triples.specs.Facts.{endianness_word, width_word, convention_word, model_word, spaced, facts_of};
+ghost use Rattle.triples.specs.Facts.{endianness_word, width_word, convention_word, model_word, spaced_word, text_with_facts};
 
 use std::alloc::AllocError;
 use target_lexicon::{CDataModel, CallingConvention, Endianness, PointerWidth, Triple};
@@ -9,7 +9,9 @@ use target_lexicon::{CDataModel, CallingConvention, Endianness, PointerWidth, Tr
 /// Appends the printed text of a triple, and the words for its byte order, pointer width, calling convention and data
 /// model.
 pub(crate) fn push_facts(output: &mut String, triple: &Triple) -> Result<(), AllocError>
-    ensures { OnOk result (string_bytes output.new ≡ string_bytes output.old ++ facts_of (values_of triple.now)) }
+    ensures { OnOk result
+        (string_bytes output.new
+        ≡ string_bytes output.old ++ text_with_facts (values_of triple.now)) }
 {
     output.write(triple)?;
     push_word(output, endianness_word(triple.endianness().ok()))?;
@@ -23,7 +25,7 @@ pub(crate) fn push_facts(output: &mut String, triple: &Triple) -> Result<(), All
 
 /// Appends a space and a word.
 fn push_word(output: &mut String, word: &str) -> Result<(), AllocError>
-    ensures { OnOk result (string_bytes output.new ≡ string_bytes output.old ++ spaced word.now) }
+    ensures { OnOk result (string_bytes output.new ≡ string_bytes output.old ++ spaced_word word.now) }
 {
     output.push(' ')?;
     output.push_str(word)

@@ -1,7 +1,7 @@
 //! Reading a whole input and writing a whole output.
 ghost use Rattle.std.specs.Prelude.{◌≡◌, ◌<◌, ◌≤◌, ◌↔◌, ◌⊎◌, IsErrOf, IfOk, OnOk, IfErr, OnErr, IfSome};
 ghost use Rattle.std.specs.Io.KnownBytes.{Appends, Consumes, IsAtEnd};
-ghost use Rattle.triples.specs.Run.{device, failures, AppendsFront, ConsumesSome};
+ghost use Rattle.triples.specs.Run.{inner, failures, AppendsBeginning, ConsumesSome};
 
 use crate::counted::Counted;
 use crate::run_error::RunError;
@@ -10,25 +10,30 @@ use std::io::{Read, Write};
 
 /// Reads to the end of the reader.
 pub(crate) fn read_all<R: Read>(alloc: Global, reader: &mut Counted<R>) -> Result<Vec<u8>, RunError>
-    ensures taken { IfOk result (λ bytes. Consumes (R.remaining (device reader.old)) (R.remaining (device reader.new)) bytes.items) }
-    ensures end { OnOk result (IsAtEnd (R.remaining (device reader.new))) }
-    ensures bytes { IfOk result (λ bytes. IfSome (R.remaining (device reader.old)) (λ input. bytes.items ≡ input)) }
+    ensures taken_part { IfOk result
+        (λ bytes.
+        Consumes (R.remaining (inner reader.old)) (R.remaining (inner reader.new))
+        bytes.items) }
+    ensures end { OnOk result (IsAtEnd (R.remaining (inner reader.new))) }
+    ensures bytes { IfOk result
+        (λ bytes. IfSome (R.remaining (inner reader.old)) (λ input. bytes.items ≡ input)) }
     ensures unfailed { OnOk result (failures reader.new ≡ failures reader.old) }
     ensures counted { failures reader.old ≤ failures reader.new }
     ensures read { IsErrOf result RunError.Read ↔ (failures reader.old < failures reader.new) }
-    ensures memory { IsErrOf result RunError.OutOfMemory → ConsumesSome (R.remaining (device reader.old)) (R.remaining (device reader.new)) }
+    ensures memory { IsErrOf result RunError.OutOfMemory →
+        ConsumesSome (R.remaining (inner reader.old)) (R.remaining (inner reader.new)) }
     ensures only { IfErr result (λ e. (e ≡ RunError.Read) ⊎ (e ≡ RunError.OutOfMemory)) }
 {
     let mut bytes = Vec::new(alloc);
     let mut piece = [0u8; 8192];
     loop {
-        let Ok(taken) = reader.read(&mut piece) else {
+        let Ok(taken_part) = reader.read(&mut piece) else {
             return Err(RunError::Read);
         };
-        if taken == 0 {
+        if taken_part == 0 {
             return Ok(bytes);
         }
-        if bytes.extend_from_slice(&piece[..taken]).is_err() {
+        if bytes.extend_from_slice(&piece[..taken_part]).is_err() {
             return Err(RunError::OutOfMemory);
         }
     }
@@ -36,21 +41,22 @@ pub(crate) fn read_all<R: Read>(alloc: Global, reader: &mut Counted<R>) -> Resul
 
 /// Writes all bytes.
 pub(crate) fn write_all<W: Write>(writer: &mut Counted<W>, bytes: &[u8]) -> Result<(), RunError>
-    ensures ok { OnOk result (Appends (W.contents (device writer.old)) (W.contents (device writer.new)) bytes.now) }
+    ensures ok { OnOk result
+        (Appends (W.contents (inner writer.old)) (W.contents (inner writer.new)) bytes.now) }
     ensures unfailed { OnOk result (failures writer.new ≡ failures writer.old) }
     ensures counted { failures writer.old ≤ failures writer.new }
     ensures write { IsErrOf result RunError.Write ↔ (failures writer.old < failures writer.new) }
-    ensures begun { AppendsFront (W.contents (device writer.old)) (W.contents (device writer.new)) bytes.now }
+    ensures begun { AppendsBeginning (W.contents (inner writer.old)) (W.contents (inner writer.new)) bytes.now }
     ensures only { IfErr result (λ e. e ≡ RunError.Write) }
 {
     let mut rest = bytes;
     while !rest.is_empty() {
         match writer.write(rest) {
-            Ok(taken) => {
-                if taken == 0 {
+            Ok(taken_part) => {
+                if taken_part == 0 {
                     return Err(RunError::Write);
                 }
-                rest = &rest[taken..];
+                rest = &rest[taken_part..];
             }
             Err(_) => return Err(RunError::Write),
         }
@@ -63,11 +69,12 @@ pub(crate) fn write_and_flush<W: Write>(
     writer: &mut Counted<W>,
     bytes: &[u8],
 ) -> Result<(), RunError>
-    ensures ok { OnOk result (Appends (W.contents (device writer.old)) (W.contents (device writer.new)) bytes.now) }
+    ensures ok { OnOk result
+        (Appends (W.contents (inner writer.old)) (W.contents (inner writer.new)) bytes.now) }
     ensures unfailed { OnOk result (failures writer.new ≡ failures writer.old) }
     ensures counted { failures writer.old ≤ failures writer.new }
     ensures write { IsErrOf result RunError.Write ↔ (failures writer.old < failures writer.new) }
-    ensures begun { AppendsFront (W.contents (device writer.old)) (W.contents (device writer.new)) bytes.now }
+    ensures begun { AppendsBeginning (W.contents (inner writer.old)) (W.contents (inner writer.new)) bytes.now }
     ensures only { IfErr result (λ e. e ≡ RunError.Write) }
 {
     write_all(writer, bytes)?;

@@ -13,7 +13,8 @@ use target_lexicon::{JsonError, ListError, ParseError, Triple, list_from_json, l
 
 /// The compact JSON text of the triples. They are dropped before it is made, to save memory.
 fn list_text(alloc: Global, triples: Vec<Triple>) -> Result<String, AllocError>
-    ensures { IfOk result (λ text. string_bytes text ≡ compact_text (list_json_of (map values_of triples.items))) }
+    ensures { IfOk result
+        (λ text. string_bytes text ≡ compact_text (list_json_of (map values_of triples.items))) }
 {
     let value = list_to_json(alloc, triples.as_slice())?;
     drop(triples);
@@ -22,14 +23,17 @@ fn list_text(alloc: Global, triples: Vec<Triple>) -> Result<String, AllocError>
 
 /// The line for the refused element.
 fn element_line(alloc: Global, i: usize, error: JsonError) -> Result<String, AllocError>
-    ensures { IfOk result (λ line. string_bytes line ≡ codes "error: " ++ list_fault_line (Element i (json_fault_of error))) }
+    ensures { IfOk result
+        (λ line.
+        string_bytes line
+        ≡ codes "error: " ++ list_fault_line (Element i (json_fault_of error))) }
 {
     let error = ListError::Element(i, error);
     format!(in alloc; "error: {error}")
 }
 
 /// Whether the error is an allocation failure.
-fn is_want_of_memory(error: &JsonError) -> bool
+fn is_out_of_memory(error: &JsonError) -> bool
     ensures { IsTrue result ↔ (json_fault_of error.now ≡ Parse None) }
 {
     matches!(error, JsonError::Parse(ParseError::OutOfMemory))
@@ -48,7 +52,7 @@ fn answer(alloc: Global, value: Value) -> Result<String, RunError>
         Err(ListError::NotList) => Err(RunError::NotList),
         Err(ListError::OutOfMemory) => Err(RunError::OutOfMemory),
         Err(ListError::Element(i, error)) => {
-            if is_want_of_memory(&error) {
+            if is_out_of_memory(&error) {
                 return Err(RunError::OutOfMemory);
             }
             Ok(element_line(alloc, i, error)?)

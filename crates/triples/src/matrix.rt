@@ -2,7 +2,7 @@
 ghost use Rattle.std.specs.Prelude.{◌≡◌, ◌++◌, ◌∷◌, ℕ, List, [], false, string_bytes, if◌then◌else◌, OnOk};
 ghost use Rattle.target_lexicon.specs.Printing.{text_of};
 ghost use Rattle.target_lexicon.specs.Values.{values_of};
-ghost use Rattle.triples.specs.Private.{HasOneMore, has_text, mark_of};
+ghost use Rattle.triples.specs.Private.{HasOneMore, has_text, hash_of};
 ghost use Rattle.triples.specs.Words.{line_feed};
 
 use std::alloc::{AllocError, Global};
@@ -11,40 +11,40 @@ use target_lexicon::Triple;
 
 /// A text after its hash, so that most comparisons are of two numbers.
 #[derive(PartialEq, Eq, PartialOrd, Ord, Drop)]
-pub(crate) struct Marked {
-    mark: u64,
+pub(crate) struct HashedText {
+    hash: u64,
     text: String,
 }
 
 /// The texts that were seen, and a scratch buffer for the next one.
 #[derive(Drop)]
 pub(crate) struct Seen {
-    texts: BTreeSet<Marked>,
-    place: Marked,
+    texts: BTreeSet<HashedText>,
+    scratch: HashedText,
 }
 
 /// A hash of the text.
-#[tactic(auto, unfolding(crate::specs::Private::mark_of))]
-fn mark_of(text: &str) -> u64
-    ensures { result ≡ mark_of text.now }
+#[tactic(auto, unfolding(crate::specs::Private::hash_of))]
+fn hash_of(text: &str) -> u64
+    ensures { result ≡ hash_of text.now }
 {
-    let mut mark = 0u64;
+    let mut hash = 0u64;
     for byte in text.as_bytes() {
-        mark = mark
+        hash = hash
             .wrapping_mul(1_099_511_628_211)
             .wrapping_add(u64::from(*byte));
     }
-    mark
+    hash
 }
 
 /// Replaces the text in the scratch buffer by the printed text of a triple.
-fn put_text(place: &mut Marked, triple: &Triple) -> Result<(), AllocError>
-    ensures text { OnOk result (string_bytes place.new.text ≡ text_of (values_of triple.now)) }
-    ensures mark { OnOk result (place.new.mark ≡ mark_of (string_bytes place.new.text)) }
+fn put_text(scratch: &mut HashedText, triple: &Triple) -> Result<(), AllocError>
+    ensures text { OnOk result (string_bytes scratch.new.text ≡ text_of (values_of triple.now)) }
+    ensures hash { OnOk result (scratch.new.hash ≡ hash_of (string_bytes scratch.new.text)) }
 {
-    place.text.clear();
-    place.text.write(triple)?;
-    place.mark = mark_of(&place.text);
+    scratch.text.clear();
+    scratch.text.write(triple)?;
+    scratch.hash = hash_of(&scratch.text);
     Ok(())
 }
 
@@ -52,19 +52,24 @@ fn put_text(place: &mut Marked, triple: &Triple) -> Result<(), AllocError>
 fn push_unseen(
     alloc: Global,
     output: &mut String,
-    seen: &mut BTreeSet<Marked>,
-    found: &Marked,
+    seen: &mut BTreeSet<HashedText>,
+    found: &HashedText,
 ) -> Result<(), AllocError>
-    requires { found.now.mark ≡ mark_of (string_bytes found.now.text) }
-    ensures output { OnOk result (string_bytes output.new ≡ string_bytes output.old ++ (if has_text seen.old (string_bytes found.now.text) then [] else string_bytes found.now.text ++ line_feed ∷ [])) }
+    requires { found.now.hash ≡ hash_of (string_bytes found.now.text) }
+    ensures output { OnOk result
+        (string_bytes output.new
+        ≡ string_bytes output.old
+        ++ (if has_text seen.old (string_bytes found.now.text) then [] else string_bytes
+        found.now.text
+        ++ line_feed ∷ [])) }
     ensures seen { OnOk result (HasOneMore seen.old seen.new (string_bytes found.now.text)) }
 {
     if seen.contains(found) {
         return Ok(());
     }
     let text = String::from_str(alloc, &found.text)?;
-    seen.insert(Marked {
-        mark: found.mark,
+    seen.insert(HashedText {
+        hash: found.hash,
         text,
     })?;
     output.push_str(&found.text)?;
@@ -78,8 +83,8 @@ impl Seen {
     {
         Seen {
             texts: BTreeSet::new(alloc),
-            place: Marked {
-                mark: 0,
+            scratch: HashedText {
+                hash: 0,
                 text: String::new(alloc),
             },
         }
@@ -92,10 +97,15 @@ impl Seen {
         output: &mut String,
         triple: &Triple,
     ) -> Result<(), AllocError>
-        ensures output { OnOk result (string_bytes output.new ≡ string_bytes output.old ++ (if has_text self.old.texts (text_of (values_of triple.now)) then [] else text_of (values_of triple.now) ++ line_feed ∷ [])) }
+        ensures output { OnOk result
+            (string_bytes output.new
+            ≡ string_bytes output.old
+            ++ (if has_text self.old.texts (text_of (values_of triple.now)) then [] else
+            text_of (values_of triple.now)
+            ++ line_feed ∷ [])) }
         ensures seen { OnOk result (HasOneMore self.old.texts self.new.texts (text_of (values_of triple.now))) }
     {
-        put_text(&mut self.place, triple)?;
-        push_unseen(alloc, output, &mut self.texts, &self.place)
+        put_text(&mut self.scratch, triple)?;
+        push_unseen(alloc, output, &mut self.texts, &self.scratch)
     }
 }

@@ -55,7 +55,8 @@ fn push_line(output: &mut String, view: View, triple: Triple) -> Result<(), Allo
 fn push_refusal(output: &mut String, error: &ParseError) -> Result<(), AllocError>
     ensures { OnOk result
         (string_bytes output.new
-        ≡ string_bytes output.old ++ ((codes "error: " ++ error_line error.now) ++ line_feed ∷ [])) }
+        ≡ string_bytes output.old
+        ++ ((codes "error: " ++ error_line error.now) ++ line_feed ∷ [])) }
 {
     output.push_str("error: ")?;
     output.write(error)?;
@@ -94,7 +95,8 @@ fn push_entry(
 
 /// The answers to the lines of an input, in order, with a line feed after each.
 fn answers(alloc: Global, view: View, input: &str) -> Result<String, AllocError>
-    ensures output { IfOk result (λ output. AreAnswered (shown_by view) (lines_of input.now) (string_bytes output)) }
+    ensures output { IfOk result
+        (λ output. AreAnswered (shown_by view) (lines_of input.now) (string_bytes output)) }
     ensures memory { OnErr result (0 < length input.now) }
 {
     let mut output = String::new(alloc);

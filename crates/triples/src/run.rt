@@ -2,7 +2,7 @@
 ghost use Rattle.std.specs.Prelude.{◌≡◌, ◌≢◌, ◌<◌, ◌≤◌, ◌↔◌, IsErrOf, OnOk, IfErr, IfSome};
 ghost use Rattle.std.specs.Str.{IsUtf8};
 ghost use Rattle.std.specs.Io.KnownBytes.{Appends, Keeps, IsAtEnd};
-ghost use Rattle.triples.specs.Run.{device, failures, AppendsFront, ConsumesSome, WritesOutput};
+ghost use Rattle.triples.specs.Run.{inner, failures, AppendsBeginning, ConsumesSome, WritesOutput};
 ghost use Rattle.triples.specs.JsonOutput.{IsOfJson, IsJsonInputFault};
 
 use crate::counted::Counted;
@@ -36,8 +36,10 @@ pub fn run<R: Read, W: Write>(
     w: &mut Counted<W>,
 ) -> Result<(), RunError>
     // Success: the whole input was read, and its output was written.
-    ensures whole { OnOk result (IsAtEnd (R.remaining (device r.new))) }
-    ensures ok { OnOk result (WritesOutput Appends mode (R.remaining (device r.old)) (W.contents (device w.old)) (W.contents (device w.new))) }
+    ensures whole { OnOk result (IsAtEnd (R.remaining (inner r.new))) }
+    ensures ok { OnOk result
+        (WritesOutput Appends mode (R.remaining (inner r.old)) (W.contents (inner w.old))
+        (W.contents (inner w.new))) }
 
     // An error of the reader or the writer is returned exactly if there was one.
     ensures read { IsErrOf result RunError.Read ↔ (failures r.old < failures r.new) }
@@ -48,16 +50,25 @@ pub fn run<R: Read, W: Write>(
     ensures writer { failures w.old ≤ failures w.new }
 
     // What was written before an error.
-    ensures begun { IsErrOf result RunError.Write → WritesOutput AppendsFront mode (R.remaining (device r.old)) (W.contents (device w.old)) (W.contents (device w.new)) }
-    ensures nothing { IfErr result (λ e. e ≢ RunError.Write → Keeps (W.contents (device w.old)) (W.contents (device w.new))) }
+    ensures begun { IsErrOf result RunError.Write →
+        WritesOutput AppendsBeginning mode (R.remaining (inner r.old)) (W.contents (inner w.old))
+        (W.contents (inner w.new)) }
+    ensures nothing { IfErr result
+        (λ e. e ≢ RunError.Write → Keeps (W.contents (inner w.old)) (W.contents (inner w.new))) }
 
     // Errors of the input, and running out of memory.
-    ensures utf8_whole { IsErrOf result RunError.NotUtf8 → IsAtEnd (R.remaining (device r.new)) }
-    ensures utf8 { IsErrOf result RunError.NotUtf8 → IfSome (R.remaining (device r.old)) (λ input. ¬ (IsUtf8 input)) }
-    ensures json_alone { IfErr result (λ e. IsOfJson e → mode ≡ Mode.Json) }
-    ensures json_whole { IfErr result (λ e. IsOfJson e → IsAtEnd (R.remaining (device r.new))) }
-    ensures json { IfErr result (λ e. IsOfJson e → IfSome (R.remaining (device r.old)) (λ input. IsUtf8 input × IsJsonInputFault input e)) }
-    ensures memory { IsErrOf result RunError.OutOfMemory → ConsumesSome (R.remaining (device r.old)) (R.remaining (device r.new)) }
+    ensures utf8_whole { IsErrOf result RunError.NotUtf8 → IsAtEnd (R.remaining (inner r.new)) }
+    ensures utf8 { IsErrOf result RunError.NotUtf8 →
+        IfSome (R.remaining (inner r.old)) (λ input. ¬ (IsUtf8 input)) }
+    ensures json_only { IfErr result (λ e. IsOfJson e → mode ≡ Mode.Json) }
+    ensures json_whole { IfErr result (λ e. IsOfJson e → IsAtEnd (R.remaining (inner r.new))) }
+    ensures json { IfErr result
+        (λ e.
+        IsOfJson e →
+        IfSome (R.remaining (inner r.old))
+        (λ input. IsUtf8 input × IsJsonInputFault input e)) }
+    ensures memory { IsErrOf result RunError.OutOfMemory →
+        ConsumesSome (R.remaining (inner r.old)) (R.remaining (inner r.new)) }
 {
     let bytes = read_all(alloc, r)?;
     let Ok(input) = str::from_utf8(&bytes) else {

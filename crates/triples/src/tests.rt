@@ -15,4 +15,4 @@ const _: () = prove!(size_of::<Counted<u64>>() == size_of::<u64>());
 const _: () = prove!(size_of::<Counted<Vec<u8>>>() == size_of::<Vec<u8>>());
 
 /// Two kinds of errors that code may treat in its own way.
-const TELLING_KINDS: [ErrorKind; 2] = [ErrorKind::Interrupted, ErrorKind::BrokenPipe];
+const SPECIAL_KINDS: [ErrorKind; 2] = [ErrorKind::Interrupted, ErrorKind::BrokenPipe];

@@ -2,7 +2,7 @@
 use Rattle.std.specs.Prelude.{◌≡◌, ◌≢◌, ◌<◌, ◌⊎◌, ℕ, List, [], ◌∷◌, ◌++◌, length, take, All, String, string_bytes}
 use Rattle.std.specs.List.{HoldsAt}
 use Rattle.std.specs.declared.alloc.Global.{Global}
-use Rattle.target_lexicon.specs.{declared.triple.Triple.Triple, FixedPoints.settled, Printing.text_of, Reading.ReadsAs, Reading.IsRead, Reading.IsFaultOf, Values.Values, Values.values_of}
+use Rattle.target_lexicon.specs.{declared.triple.Triple.Triple, FixedPoints.settled_values, Printing.text_of, Reading.ReadsAs, Reading.IsRead, Reading.IsErrorOf, Values.Values, Values.values_of}
 use Rattle.uses.specs.{declared.matrix.MatrixError.MatrixError, declared.matrix.MatrixError.TheVariants.Refused, declared.matrix.MatrixError.TheVariants.OutOfMemory}
 
 -- a text is that of a `String`
@@ -20,7 +20,7 @@ IsAdded triple before after =
 
 -- the text reads, and its triple settles as this one
 abbrev pub SettlesAs : Text → Values → Type 0
-SettlesAs text u = (t : Values) × ReadsAs (string_bytes text) t × (u ≡ settled t)
+SettlesAs text u = (t : Values) × ReadsAs (string_bytes text) t × (u ≡ settled_values t)
 
 -- one more text: the triple that it settles as is added
 abbrev pub IsOneMore : List Triple → Text → List Triple → Type 0
@@ -36,5 +36,5 @@ HaveOtherTexts x y = text_of (values_of x) ≢ text_of (values_of y)
 
 -- why a list has no matrix: the text at i has this fault, and each before it reads; or the list itself wants memory
 abbrev pub IsMatrixFault : List Text → MatrixError → Type 0
-IsMatrixFault texts (Refused i error) = (i < length texts) × HoldsAt (λ text. IsFaultOf (string_bytes text) error) texts i × All (λ text. IsRead (string_bytes text)) (take i texts)
+IsMatrixFault texts (Refused i error) = (i < length texts) × HoldsAt (λ text. IsErrorOf (string_bytes text) error) texts i × All (λ text. IsRead (string_bytes text)) (take i texts)
 IsMatrixFault texts OutOfMemory = 0 < length texts

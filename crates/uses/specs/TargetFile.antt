@@ -2,7 +2,7 @@
 use Rattle.std.specs.Prelude.{◌≡◌, Option, None, MatchOption, IsSome, codes}
 use Rattle.serde_json.specs.Data.{Data}
 use Rattle.serde_json.specs.Find.{get, as_object, as_str}
-use Rattle.target_lexicon.specs.{Json.JsonReadsAs, Reading.IsFaultOf, Values.Values}
+use Rattle.target_lexicon.specs.{Json.JsonReadsAs, Reading.IsErrorOf, Values.Values}
 use Rattle.uses.specs.declared.target_file.TargetFileError.{TargetFileError}
 use Rattle.uses.specs.declared.target_file.TargetFileError.TheVariants.{NoObject, NoKey, NoText, Refused}
 
@@ -20,4 +20,4 @@ IsTargetFileFault file NoObject = as_object file ≡ None
 IsTargetFileFault file NoKey = IsSome (as_object file) × (llvm_target file ≡ None)
 IsTargetFileFault file NoText = MatchOption (llvm_target file) ⊥ (λ value. as_str value ≡ None)
 IsTargetFileFault file (Refused error) =
-    MatchOption (llvm_target file) ⊥ (λ value. MatchOption (as_str value) ⊥ (λ text. IsFaultOf text error))
+    MatchOption (llvm_target file) ⊥ (λ value. MatchOption (as_str value) ⊥ (λ text. IsErrorOf text error))

@@ -1,6 +1,6 @@
 //! A compiler's driver: the format of object files, and how a linker is called.
 ghost use Rattle.std.specs.Prelude.{◌≡◌, IfOk, IfErr};
-ghost use Rattle.target_lexicon.specs.Reading.{ReadsAs, IsFaultOf};
+ghost use Rattle.target_lexicon.specs.Reading.{ReadsAs, IsErrorOf};
 ghost use Rattle.target_lexicon.specs.Values.{Values, values_of};
 ghost use Rattle.uses.specs.Driver.{is_wasm, object_format, coff_linker, linker_for, linker};
 
@@ -26,8 +26,13 @@ pub enum Linker {
 
 /// The object format and the linker of the target that the text names. A format that stays unknown has no linker.
 pub fn link_plan(alloc: Global, text: &str) -> Result<(BinaryFormat, Option<Linker>), ParseError>
-    ensures ok { IfOk result (λ plan. (t : Values) × ReadsAs text.now t × (plan.0 ≡ object_format t) × (plan.1 ≡ linker t)) }
-    ensures err { IfErr result (λ error. IsFaultOf text.now error) }
+    ensures ok { IfOk result
+        (λ plan.
+        (t : Values)
+        × ReadsAs text.now t
+        × (plan.0 ≡ object_format t)
+        × (plan.1 ≡ linker t)) }
+    ensures err { IfErr result (λ error. IsErrorOf text.now error) }
 {
     let triple = Triple::from_str(alloc, text)?;
     let format = object_format(&triple);

@@ -1,10 +1,10 @@
 //! A build cache: a key for each target.
 ghost use Rattle.std.specs.Prelude.{◌≡◌, ◌↔◌, true, None, IfOk, IfErr, IsTrue, MatchResult, string_bytes};
 ghost use Rattle.lexicon_fields.specs.Vendor.{is_plain, vendor_value};
-ghost use Rattle.target_lexicon.specs.FixedPoints.{settled};
+ghost use Rattle.target_lexicon.specs.FixedPoints.{settled_values};
 ghost use Rattle.target_lexicon.specs.Laws.{ComesBack};
 ghost use Rattle.target_lexicon.specs.Printing.{text_of};
-ghost use Rattle.target_lexicon.specs.Reading.{ReadsAs, IsFaultOf};
+ghost use Rattle.target_lexicon.specs.Reading.{ReadsAs, IsErrorOf};
 ghost use Rattle.target_lexicon.specs.Refusal.{refusal_of};
 ghost use Rattle.target_lexicon.specs.Values.{Values, values_of};
 
@@ -21,7 +21,7 @@ impl CacheKey {
     /// The key of a triple, whose vendor must be plain, as that of every triple is that was read.
     pub fn new(triple: Triple) -> Self
         requires { is_plain (vendor_value triple.vendor) ≡ true }
-        ensures settled { values_of result.triple ≡ settled (values_of triple) }
+        ensures settled_values { values_of result.triple ≡ settled_values (values_of triple) }
         ensures back { ComesBack (values_of result.triple) }
         ensures stays { ComesBack (values_of triple) → values_of result.triple ≡ values_of triple }
     {
@@ -32,10 +32,15 @@ impl CacheKey {
 
     /// The key of the target that a text names. A key's own text gives that key again.
     pub fn read(alloc: Global, text: &str) -> Result<Self, ParseError>
-        ensures ok { IfOk result (λ key. (t : Values) × ReadsAs text.now t × (values_of key.triple ≡ settled t)) }
+        ensures ok { IfOk result
+            (λ key.
+            (t : Values) × ReadsAs text.now t × (values_of key.triple ≡ settled_values t)) }
         ensures back { IfOk result (λ key. ComesBack (values_of key.triple)) }
-        ensures err { IfErr result (λ error. IsFaultOf text.now error) }
-        ensures again { (t : Values) → ComesBack t → text.now ≡ text_of t → MatchResult result (λ key. values_of key.triple ≡ t) (λ error. refusal_of error ≡ None) }
+        ensures err { IfErr result (λ error. IsErrorOf text.now error) }
+        ensures again { (t : Values) →
+            ComesBack t →
+            text.now ≡ text_of t →
+            MatchResult result (λ key. values_of key.triple ≡ t) (λ error. refusal_of error ≡ None) }
     {
         laws::reading_is_computed();
         laws::answers_are_computed();
@@ -57,7 +62,7 @@ impl CacheKey {
 pub fn share_key(a: Triple, b: Triple) -> bool
     requires first { is_plain (vendor_value a.vendor) ≡ true }
     requires second { is_plain (vendor_value b.vendor) ≡ true }
-    ensures { IsTrue result ↔ (settled (values_of a) ≡ settled (values_of b)) }
+    ensures { IsTrue result ↔ (settled_values (values_of a) ≡ settled_values (values_of b)) }
 {
     laws::triples_are_equal_by_value();
     CacheKey::new(a) == CacheKey::new(b)

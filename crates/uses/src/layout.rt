@@ -1,6 +1,6 @@
 //! A code generator: how C's types lie in memory.
 ghost use Rattle.std.specs.Prelude.{◌≡◌, ◌*◌, Some, IfSome, option_map};
-ghost use Rattle.lexicon_fields.specs.Width.{width_bits};
+ghost use Rattle.lexicon_fields.specs.PointerWidth.{width_bits};
 ghost use Rattle.target_lexicon.specs.DataModel.{size_bits};
 ghost use Rattle.target_lexicon.specs.Queries.{pointer_width};
 ghost use Rattle.target_lexicon.specs.Values.{values_of};
@@ -27,7 +27,10 @@ pub struct CLayout {
 /// The layout of C's types on a target, where its data model is known. A pointer has the target's pointer width.
 pub fn c_layout(triple: &Triple) -> Option<CLayout>
     ensures answer { result ≡ c_layout (values_of triple.now) }
-    ensures width { IfSome result (λ layout. option_map width_bits (pointer_width (values_of triple.now)) ≡ Some (8 * layout.pointer.size)) }
+    ensures width { IfSome result
+        (λ layout.
+        option_map width_bits (pointer_width (values_of triple.now))
+        ≡ Some (8 * layout.pointer.size)) }
 {
     laws::model_width();
     let Ok(model) = triple.data_model() else {

@@ -18,5 +18,5 @@ pub use layout::{CLayout, TypeLayout, c_layout};
 pub use literals::{host_by_text, refused_text, wasi_text};
 pub use matrix::{MatrixError, release_matrix};
 pub use same_target::names_target;
-pub use spelling::settled_text;
+pub use spelling::canonical_text;
 pub use target_file::{TargetFileError, llvm_target};

@@ -2,7 +2,7 @@
 ghost use Rattle.std.specs.Prelude.{◌≡◌, codes, IfOk, IfErr, IsOkAnd, IsErrAnd, Some, None, IfSome, string_bytes};
 ghost use Rattle.target_lexicon.specs.Field.{OperatingSystem};
 ghost use Rattle.target_lexicon.specs.Values.{host_values, values_of};
-ghost use Rattle.target_lexicon.specs.Refusal.{Lacks, refused, refusal_of};
+ghost use Rattle.target_lexicon.specs.Refusal.{Expects, refusal_with, refusal_of};
 
 use std::alloc::Global;
 use target_lexicon::{ParseError, Triple, laws};
@@ -29,7 +29,10 @@ pub fn wasi_text(alloc: Global) -> Result<String, ParseError>
 
 /// Why a text is refused: `bar` is no operating system. The memory to tell it may be wanted.
 pub fn refused_text(alloc: Global) -> Result<Triple, ParseError>
-    ensures { IsErrAnd result (λ error. IfSome (refusal_of error) (λ refusal. refusal ≡ refused (Lacks OperatingSystem) (codes "bar"))) }
+    ensures { IsErrAnd result
+        (λ error.
+        IfSome (refusal_of error)
+        (λ refusal. refusal ≡ refusal_with (Expects OperatingSystem) (codes "bar"))) }
 {
     laws::answers_are_computed();
     Triple::from_str(alloc, "x86_64-foo-bar")

@@ -1,7 +1,7 @@
 //! A text beside a triple: whether they name one target.
 ghost use Rattle.std.specs.Prelude.{◌≡◌, ◌↔◌, IfOk, IfErr, IsTrue};
-ghost use Rattle.target_lexicon.specs.FixedPoints.{settled};
-ghost use Rattle.target_lexicon.specs.Reading.{ReadsAs, IsFaultOf};
+ghost use Rattle.target_lexicon.specs.FixedPoints.{settled_values};
+ghost use Rattle.target_lexicon.specs.Reading.{ReadsAs, IsErrorOf};
 ghost use Rattle.target_lexicon.specs.Values.{Values, values_of};
 
 use std::alloc::Global;
@@ -9,9 +9,13 @@ use target_lexicon::{ParseError, Triple};
 
 /// Whether a text names the target of a triple, however it spells it. The triple stays the caller's, and isn't copied.
 pub fn names_target(alloc: Global, text: &str, target: &Triple) -> Result<bool, ParseError>
-    ensures ok { IfOk result (λ same. (t : Values) × ReadsAs text.now t × (IsTrue same ↔ (settled t ≡ settled (values_of target.now)))) }
-    ensures err { IfErr result (λ error. IsFaultOf text.now error) }
+    ensures ok { IfOk result
+        (λ same.
+        (t : Values)
+        × ReadsAs text.now t
+        × (IsTrue same ↔ (settled_values t ≡ settled_values (values_of target.now)))) }
+    ensures err { IfErr result (λ error. IsErrorOf text.now error) }
 {
-    let named = Triple::from_str(alloc, text)?;
-    Ok(named.settles_as(target))
+    let value = Triple::from_str(alloc, text)?;
+    Ok(value.settles_as(target))
 }

@@ -1,6 +1,6 @@
 //! The commonest job: a text is read, settled and printed.
 ghost use Rattle.std.specs.Prelude.{◌≡◌, IfOk, IfErr, string_bytes};
-ghost use Rattle.target_lexicon.specs.FixedPoints.{settled};
+ghost use Rattle.target_lexicon.specs.FixedPoints.{settled_values};
 ghost use Rattle.target_lexicon.specs.Printing.{text_of};
 ghost use Rattle.target_lexicon.specs.Reading.{ReadsAs, IsRefusalOrMemory};
 ghost use Rattle.target_lexicon.specs.Values.{Values};
@@ -9,8 +9,10 @@ use std::alloc::Global;
 use target_lexicon::{ParseError, Triple};
 
 /// The one text of the target that a text names, however that is spelled.
-pub fn settled_text(alloc: Global, text: &str) -> Result<String, ParseError>
-    ensures ok { IfOk result (λ out. (t : Values) × ReadsAs text.now t × (string_bytes out ≡ text_of (settled t))) }
+pub fn canonical_text(alloc: Global, text: &str) -> Result<String, ParseError>
+    ensures ok { IfOk result
+        (λ out.
+        (t : Values) × ReadsAs text.now t × (string_bytes out ≡ text_of (settled_values t))) }
     ensures err { IfErr result (λ error. IsRefusalOrMemory text.now error) }
 {
     let triple = Triple::from_str(alloc, text)?;

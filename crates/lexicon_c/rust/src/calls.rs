@@ -50,7 +50,7 @@ unsafe extern "C" {
         second_size: usize,
         answer: *mut bool,
     ) -> u32;
-    fn lexicon_read_name(
+    fn lexicon_canonical_name(
         text: *const u8,
         text_size: usize,
         field: u32,
@@ -77,7 +77,7 @@ pub fn field(text: &[u8], number: u32) -> Result<String, Error> {
 
 /// The name of the value that a text is in one field.
 pub fn read_name(text: &[u8], number: u32) -> Result<String, Error> {
-    name(lexicon_read_name, text, number)
+    name(lexicon_canonical_name, text, number)
 }
 
 /// The numbers of the triple's facts. A refusal is without its part.

@@ -1,13 +1,14 @@
 //! The 64-bit Arm architectures.
 ghost use Rattle.std.specs.Prelude.{◌≡◌, false, Some};
 ghost use Rattle.std.specs.Cow.{cow_str_bytes, IsBorrowedStr};
-ghost use Rattle.lexicon_fields.specs.Names.{Answers};
+ghost use Rattle.lexicon_fields.specs.Names.{MatchesLookup};
 ghost use Rattle.lexicon_fields.specs.Architecture.{as_aarch64, sub_architecture_of};
 ghost use Rattle.lexicon_fields.specs.SubArchitecture.{aarch64_name};
 ghost use Rattle.lexicon_fields.specs.ArchitectureQueries.{aarch64_endianness};
 
 use crate::architecture::Architecture;
-use crate::width::{Endianness, PointerWidth};
+use crate::endianness::Endianness;
+use crate::pointer_width::PointerWidth;
 use std::borrow::CowStr;
 use std::fmt;
 use std::str::FromStr;
@@ -48,7 +49,7 @@ impl Aarch64Architecture {
 
     /// The value with this name; `arm64` is an alias of `aarch64`. `Err` for every other text.
     pub fn from_str(s: &str) -> Result<Self, ()>
-        ensures { Answers (sub_architecture_of as_aarch64 s.now) result }
+        ensures { MatchesLookup (sub_architecture_of as_aarch64 s.now) result }
     {
         match Architecture::from_str(s) {
             Ok(Architecture::Aarch64(sub)) => Ok(sub),
@@ -77,7 +78,7 @@ impl Aarch64Architecture {
 impl FromStr for Aarch64Architecture {
     type Err = ();
 
-    ghost from_str_gives = { λ s. Answers (sub_architecture_of as_aarch64 s) };
+    ghost from_str_gives = { λ s. MatchesLookup (sub_architecture_of as_aarch64 s) };
 
     fn from_str(s: &str) -> Result<Aarch64Architecture, ()> {
         Aarch64Architecture::from_str(s)

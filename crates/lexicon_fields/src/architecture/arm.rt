@@ -1,13 +1,14 @@
 //! The 32-bit Arm architectures.
 ghost use Rattle.std.specs.Prelude.{◌≡◌, Some};
 ghost use Rattle.std.specs.Cow.{cow_str_bytes, IsBorrowedStr};
-ghost use Rattle.lexicon_fields.specs.Names.{Answers};
+ghost use Rattle.lexicon_fields.specs.Names.{MatchesLookup};
 ghost use Rattle.lexicon_fields.specs.Architecture.{as_arm, sub_architecture_of};
 ghost use Rattle.lexicon_fields.specs.SubArchitecture.{arm_name};
 ghost use Rattle.lexicon_fields.specs.ArchitectureQueries.{is_thumb, arm_endianness};
 
 use crate::architecture::Architecture;
-use crate::width::{Endianness, PointerWidth};
+use crate::endianness::Endianness;
+use crate::pointer_width::PointerWidth;
 use std::borrow::CowStr;
 use std::fmt;
 use std::str::FromStr;
@@ -110,7 +111,7 @@ impl ArmArchitecture {
 
     /// The value with this name. `Err` for every other text.
     pub fn from_str(s: &str) -> Result<Self, ()>
-        ensures { Answers (sub_architecture_of as_arm s.now) result }
+        ensures { MatchesLookup (sub_architecture_of as_arm s.now) result }
     {
         match Architecture::from_str(s) {
             Ok(Architecture::Arm(sub)) => Ok(sub),
@@ -179,7 +180,7 @@ impl ArmArchitecture {
 impl FromStr for ArmArchitecture {
     type Err = ();
 
-    ghost from_str_gives = { λ s. Answers (sub_architecture_of as_arm s) };
+    ghost from_str_gives = { λ s. MatchesLookup (sub_architecture_of as_arm s) };
 
     fn from_str(s: &str) -> Result<ArmArchitecture, ()> {
         ArmArchitecture::from_str(s)

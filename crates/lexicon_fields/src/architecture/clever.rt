@@ -1,7 +1,7 @@
 //! The Clever architectures.
 ghost use Rattle.std.specs.Prelude.{◌≡◌, Some};
 ghost use Rattle.std.specs.Cow.{cow_str_bytes, IsBorrowedStr};
-ghost use Rattle.lexicon_fields.specs.Names.{Answers};
+ghost use Rattle.lexicon_fields.specs.Names.{MatchesLookup};
 ghost use Rattle.lexicon_fields.specs.Architecture.{as_clever, sub_architecture_of};
 ghost use Rattle.lexicon_fields.specs.SubArchitecture.{clever_name};
 
@@ -21,7 +21,7 @@ pub enum CleverArchitecture {
 impl CleverArchitecture {
     /// The value with this name. `Err` for every other text.
     pub fn from_str(s: &str) -> Result<Self, ()>
-        ensures { Answers (sub_architecture_of as_clever s.now) result }
+        ensures { MatchesLookup (sub_architecture_of as_clever s.now) result }
     {
         match Architecture::from_str(s) {
             Ok(Architecture::Clever(sub)) => Ok(sub),
@@ -50,7 +50,7 @@ impl CleverArchitecture {
 impl FromStr for CleverArchitecture {
     type Err = ();
 
-    ghost from_str_gives = { λ s. Answers (sub_architecture_of as_clever s) };
+    ghost from_str_gives = { λ s. MatchesLookup (sub_architecture_of as_clever s) };
 
     fn from_str(s: &str) -> Result<CleverArchitecture, ()> {
         CleverArchitecture::from_str(s)

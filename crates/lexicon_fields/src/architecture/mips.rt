@@ -1,7 +1,7 @@
 //! The MIPS architectures.
 ghost use Rattle.std.specs.Prelude.{◌≡◌, Some};
 ghost use Rattle.std.specs.Cow.{cow_str_bytes, IsBorrowedStr};
-ghost use Rattle.lexicon_fields.specs.Names.{Answers};
+ghost use Rattle.lexicon_fields.specs.Names.{MatchesLookup};
 ghost use Rattle.lexicon_fields.specs.Architecture.{as_mips32, as_mips64, sub_architecture_of};
 ghost use Rattle.lexicon_fields.specs.SubArchitecture.{mips32_name, mips64_name};
 
@@ -26,7 +26,7 @@ pub enum Mips32Architecture {
 impl Mips32Architecture {
     /// The value with this name. `Err` for every other text.
     pub fn from_str(s: &str) -> Result<Self, ()>
-        ensures { Answers (sub_architecture_of as_mips32 s.now) result }
+        ensures { MatchesLookup (sub_architecture_of as_mips32 s.now) result }
     {
         match Architecture::from_str(s) {
             Ok(Architecture::Mips32(sub)) => Ok(sub),
@@ -57,7 +57,7 @@ impl Mips32Architecture {
 impl FromStr for Mips32Architecture {
     type Err = ();
 
-    ghost from_str_gives = { λ s. Answers (sub_architecture_of as_mips32 s) };
+    ghost from_str_gives = { λ s. MatchesLookup (sub_architecture_of as_mips32 s) };
 
     fn from_str(s: &str) -> Result<Mips32Architecture, ()> {
         Mips32Architecture::from_str(s)
@@ -90,7 +90,7 @@ pub enum Mips64Architecture {
 impl Mips64Architecture {
     /// The value with this name. `Err` for every other text.
     pub fn from_str(s: &str) -> Result<Self, ()>
-        ensures { Answers (sub_architecture_of as_mips64 s.now) result }
+        ensures { MatchesLookup (sub_architecture_of as_mips64 s.now) result }
     {
         match Architecture::from_str(s) {
             Ok(Architecture::Mips64(sub)) => Ok(sub),
@@ -121,7 +121,7 @@ impl Mips64Architecture {
 impl FromStr for Mips64Architecture {
     type Err = ();
 
-    ghost from_str_gives = { λ s. Answers (sub_architecture_of as_mips64 s) };
+    ghost from_str_gives = { λ s. MatchesLookup (sub_architecture_of as_mips64 s) };
 
     fn from_str(s: &str) -> Result<Mips64Architecture, ()> {
         Mips64Architecture::from_str(s)

@@ -1,7 +1,7 @@
 //! The RISC-V architectures.
 ghost use Rattle.std.specs.Prelude.{◌≡◌, Some};
 ghost use Rattle.std.specs.Cow.{cow_str_bytes, IsBorrowedStr};
-ghost use Rattle.lexicon_fields.specs.Names.{Answers};
+ghost use Rattle.lexicon_fields.specs.Names.{MatchesLookup};
 ghost use Rattle.lexicon_fields.specs.Architecture.{as_riscv32, as_riscv64, sub_architecture_of};
 ghost use Rattle.lexicon_fields.specs.SubArchitecture.{riscv32_name, riscv64_name};
 
@@ -28,7 +28,7 @@ pub enum Riscv32Architecture {
 impl Riscv32Architecture {
     /// The value with this name. `Err` for every other text.
     pub fn from_str(s: &str) -> Result<Self, ()>
-        ensures { Answers (sub_architecture_of as_riscv32 s.now) result }
+        ensures { MatchesLookup (sub_architecture_of as_riscv32 s.now) result }
     {
         match Architecture::from_str(s) {
             Ok(Architecture::Riscv32(sub)) => Ok(sub),
@@ -63,7 +63,7 @@ impl Riscv32Architecture {
 impl FromStr for Riscv32Architecture {
     type Err = ();
 
-    ghost from_str_gives = { λ s. Answers (sub_architecture_of as_riscv32 s) };
+    ghost from_str_gives = { λ s. MatchesLookup (sub_architecture_of as_riscv32 s) };
 
     fn from_str(s: &str) -> Result<Riscv32Architecture, ()> {
         Riscv32Architecture::from_str(s)
@@ -95,7 +95,7 @@ pub enum Riscv64Architecture {
 impl Riscv64Architecture {
     /// The value with this name. `Err` for every other text.
     pub fn from_str(s: &str) -> Result<Self, ()>
-        ensures { Answers (sub_architecture_of as_riscv64 s.now) result }
+        ensures { MatchesLookup (sub_architecture_of as_riscv64 s.now) result }
     {
         match Architecture::from_str(s) {
             Ok(Architecture::Riscv64(sub)) => Ok(sub),
@@ -126,7 +126,7 @@ impl Riscv64Architecture {
 impl FromStr for Riscv64Architecture {
     type Err = ();
 
-    ghost from_str_gives = { λ s. Answers (sub_architecture_of as_riscv64 s) };
+    ghost from_str_gives = { λ s. MatchesLookup (sub_architecture_of as_riscv64 s) };
 
     fn from_str(s: &str) -> Result<Riscv64Architecture, ()> {
         Riscv64Architecture::from_str(s)

@@ -1,7 +1,7 @@
 //! The 32-bit x86 architectures.
 ghost use Rattle.std.specs.Prelude.{◌≡◌, Some};
 ghost use Rattle.std.specs.Cow.{cow_str_bytes, IsBorrowedStr};
-ghost use Rattle.lexicon_fields.specs.Names.{Answers};
+ghost use Rattle.lexicon_fields.specs.Names.{MatchesLookup};
 ghost use Rattle.lexicon_fields.specs.Architecture.{as_x86_32, sub_architecture_of};
 ghost use Rattle.lexicon_fields.specs.SubArchitecture.{x86_32_name};
 
@@ -21,7 +21,7 @@ pub enum X86_32Architecture {
 impl X86_32Architecture {
     /// The value with this name. `Err` for every other text.
     pub fn from_str(s: &str) -> Result<Self, ()>
-        ensures { Answers (sub_architecture_of as_x86_32 s.now) result }
+        ensures { MatchesLookup (sub_architecture_of as_x86_32 s.now) result }
     {
         match Architecture::from_str(s) {
             Ok(Architecture::X86_32(sub)) => Ok(sub),
@@ -51,7 +51,7 @@ impl X86_32Architecture {
 impl FromStr for X86_32Architecture {
     type Err = ();
 
-    ghost from_str_gives = { λ s. Answers (sub_architecture_of as_x86_32 s) };
+    ghost from_str_gives = { λ s. MatchesLookup (sub_architecture_of as_x86_32 s) };
 
     fn from_str(s: &str) -> Result<X86_32Architecture, ()> {
         X86_32Architecture::from_str(s)

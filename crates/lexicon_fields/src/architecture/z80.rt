@@ -1,7 +1,7 @@
 //! The architectures of the Z80 family.
 ghost use Rattle.std.specs.Prelude.{◌≡◌, Some};
 ghost use Rattle.std.specs.Cow.{cow_str_bytes, IsBorrowedStr};
-ghost use Rattle.lexicon_fields.specs.Names.{Answers};
+ghost use Rattle.lexicon_fields.specs.Names.{MatchesLookup};
 ghost use Rattle.lexicon_fields.specs.Architecture.{as_z80, sub_architecture_of};
 ghost use Rattle.lexicon_fields.specs.SubArchitecture.{z80_name};
 
@@ -31,7 +31,7 @@ pub enum Z80Architecture {
 impl Z80Architecture {
     /// The value with this name. `Err` for every other text.
     pub fn from_str(s: &str) -> Result<Self, ()>
-        ensures { Answers (sub_architecture_of as_z80 s.now) result }
+        ensures { MatchesLookup (sub_architecture_of as_z80 s.now) result }
     {
         match Architecture::from_str(s) {
             Ok(Architecture::Z80(sub)) => Ok(sub),
@@ -68,7 +68,7 @@ impl Z80Architecture {
 impl FromStr for Z80Architecture {
     type Err = ();
 
-    ghost from_str_gives = { λ s. Answers (sub_architecture_of as_z80 s) };
+    ghost from_str_gives = { λ s. MatchesLookup (sub_architecture_of as_z80 s) };
 
     fn from_str(s: &str) -> Result<Z80Architecture, ()> {
         Z80Architecture::from_str(s)

@@ -6,7 +6,7 @@ ghost use Rattle.lexicon_fields.specs.OperatingSystem.{fixed_operating_system_of
 ghost use Rattle.lexicon_fields.specs.Environment.{environment_of};
 ghost use Rattle.lexicon_fields.specs.BinaryFormat.{binary_format_of};
 ghost use Rattle.lexicon_fields.specs.FixedRow.{row_count, row_text, row_texts};
-ghost use Rattle.lexicon_fields.specs.Private.{front_of};
+ghost use Rattle.lexicon_fields.specs.Private.{prefix_key_of};
 
 use crate::architecture::{
     Aarch64Architecture, Architecture, ArmArchitecture, CleverArchitecture, Mips32Architecture,
@@ -35,7 +35,7 @@ pub(crate) type Row = (
 pub(crate) fn row(i: usize) -> Row
     requires { i < row_count }
     ensures text { result.0.now ≡ row_text i }
-    ensures front { result.1 ≡ front_of 8 (row_text i) }
+    ensures prefix_key { result.1 ≡ prefix_key_of 8 (row_text i) }
     ensures architecture { result.2 ≡ architecture_of (row_text i) }
     ensures vendor { result.3 ≡ known_vendor_of (row_text i) }
     ensures operating_system { result.4 ≡ fixed_operating_system_of (row_text i) }
@@ -50,7 +50,7 @@ pub(crate) fn row(i: usize) -> Row
 #[tactic(auto, unfolding(crate::specs::FixedRow::row_texts, crate::specs::Architecture::architecture_of, crate::specs::Vendor::known_vendor_of, crate::specs::OperatingSystem::fixed_operating_system_of, crate::specs::Environment::environment_of, crate::specs::BinaryFormat::binary_format_of))]
 fn rows() -> &'static [Row]
     ensures texts { map (λ r. r.0.now) result.now ≡ row_texts }
-    ensures fronts { map (λ r. r.1) result.now ≡ map (front_of 8) row_texts }
+    ensures prefix_keys { map (λ r. r.1) result.now ≡ map (prefix_key_of 8) row_texts }
     ensures architectures { map (λ r. r.2) result.now ≡ map architecture_of row_texts }
     ensures vendors { map (λ r. r.3) result.now ≡ map known_vendor_of row_texts }
     ensures operating_systems { map (λ r. r.4) result.now ≡ map fixed_operating_system_of row_texts }

@@ -1,6 +1,6 @@
 //! Runs over the rows: each output is written whole, and each read, write and flush fails in turn.
 
-use super::TELLING_KINDS;
+use super::SPECIAL_KINDS;
 use super::faulty::{Fault, FaultyReader, FaultyWriter, WriterCalls};
 use super::rows::{REFUSED_ROWS, ROWS, Row};
 use crate::counted::Counted;
@@ -69,7 +69,7 @@ fn ends_at_each_read(alloc: Global, row: Row, kind: ErrorKind) -> bool {
 #[test]
 fn each_read_fails_in_turn(rt: HostRuntime) {
     for row in &ROWS {
-        for kind in TELLING_KINDS {
+        for kind in SPECIAL_KINDS {
             assert!(rt; ends_at_each_read(rt.alloc(), *row, kind), "{row:?}");
         }
     }
@@ -112,7 +112,7 @@ fn ends_at_each_write(alloc: Global, row: Row, fault: Fault) -> bool {
 #[test]
 fn each_write_fails_in_turn(rt: HostRuntime) {
     for row in &ROWS {
-        for kind in TELLING_KINDS {
+        for kind in SPECIAL_KINDS {
             let fault = Fault::Error(kind);
             assert!(rt; ends_at_each_write(rt.alloc(), *row, fault), "{row:?}");
         }
@@ -151,7 +151,7 @@ fn writes_whole(
 fn each_output_is_written_whole(rt: HostRuntime) {
     for row in &ROWS {
         assert!(rt; writes_whole(rt.alloc(), *row, Ok(()), Ok(())), "{row:?}");
-        for kind in TELLING_KINDS {
+        for kind in SPECIAL_KINDS {
             let outcome = Err(RunError::Write);
             assert!(rt;
                 writes_whole(rt.alloc(), *row, Err(kind), outcome),

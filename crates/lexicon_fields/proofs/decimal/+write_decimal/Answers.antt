@@ -7,6 +7,6 @@ returns-then-n-lt10 g t c = λ flush ok. has_written_styled_of_eq _ _ _ _ _ (sym
 
 pub returns : goal.returns
 returns g t c = λ flush ok.
-    let front = c.write_decimal.ensures flush (search rules) in
-    let last = c.write_digit-2.ensures front.flush ok in
-    has_written_styled_of_eq _ _ _ _ _ (sym (decimal_step c.args.n (omega arith) (omega arith))) (has_written_styled_append _ _ _ _ _ _ front last)
+    let prefix_key = c.write_decimal.ensures flush (search rules) in
+    let last = c.write_digit-2.ensures prefix_key.flush ok in
+    has_written_styled_of_eq _ _ _ _ _ (sym (decimal_step c.args.n (omega arith) (omega arith))) (has_written_styled_append _ _ _ _ _ _ prefix_key last)

@@ -1,9 +1,9 @@
 use Rattle.std.proofs.Common.{◌≡◌, ◌++◌, ◌∙◌, Option, Some, None, IfSome, length, arith, refl, sym, ap}
 use Rattle.std.specs.Hash.{HashWrites, le_bytes, option, usize, str}
 use Rattle.lexicon_fields.specs.declared.architecture.Architecture.TheVariants.{Arm, Aarch64, X86_32, Mips32, Mips64, Riscv32, Riscv64, Clever, Z80}
-use Rattle.lexicon_fields.specs.{declared.deployment_target.DeploymentTarget.DeploymentTarget, declared.vendor.CustomVendor.CustomVendor, declared.vendor.Vendor.Vendor, Laws.FeedsOfTell, Laws.IsVersionInRange, Vendor.VendorValue, Vendor.Known, Vendor.Custom, Vendor.known_vendors, Vendor.custom_text, Vendor.vendor_value}
+use Rattle.lexicon_fields.specs.{declared.deployment_target.DeploymentTarget.DeploymentTarget, declared.vendor.CustomVendor.CustomVendor, declared.vendor.Vendor.Vendor, Laws.HashInjectiveOn, Laws.IsVersionInRange, Vendor.VendorValue, Vendor.Known, Vendor.Custom, Vendor.known_vendors, Vendor.custom_text, Vendor.vendor_value}
 use Rattle.lexicon_fields.specs.declared.operating_system.OperatingSystem.TheVariants.{Darwin, IOS, MacOSX, TvOS, VisionOS, WatchOS, XROS}
-use Rattle.lexicon_fields.proofs.Feeds.{Tells, behind_first, first_write, first_byte, same_u16, feeds_of_tell, bare_feeds, enum_feeds, variants_tell, one_field}
+use Rattle.lexicon_fields.proofs.Feeds.{Distinguishes, after_first, first_write, first_byte, same_u16, hash_injective_on, bare_feeds, enum_feeds, variants_distinguish, one_field}
 use denote.Enum.Declared.{tag_of}
 use Rattle.lexicon_fields.specs.declared.vendor.Vendor.TheVariants as vendors
 use Rattle.lexicon_fields.specs.contracts.vendor.VendorHash.TheImpl as vendor_hash
@@ -21,8 +21,8 @@ use Rattle.lexicon_fields.specs.contracts.architecture.clever.CleverArchitecture
 use Rattle.lexicon_fields.specs.contracts.architecture.z80.Z80Architecture as z80
 use Rattle.lexicon_fields.specs.contracts.environment.Environment as environment
 use Rattle.lexicon_fields.specs.contracts.binary_format.BinaryFormat as binary_format
-use Rattle.lexicon_fields.specs.contracts.width.Endianness as endianness
-use Rattle.lexicon_fields.specs.contracts.width.PointerWidth as pointer_width
+use Rattle.lexicon_fields.specs.contracts.endianness.Endianness as endianness
+use Rattle.lexicon_fields.specs.contracts.pointer_width.PointerWidth as pointer_width
 use Rattle.lexicon_fields.specs.contracts.known_vendor.KnownVendor as known_vendor
 use Rattle.lexicon_fields.specs.contracts.operating_system.OperatingSystem as operating_system
 use Rattle.lexicon_fields.specs.contracts.vendor.Vendor as vendor
@@ -67,26 +67,26 @@ returns-clause-endianness c = bare_feeds endianness.enum tt (omega arith)
 pub returns-clause-pointer_width : goal.returns-clause-pointer_width
 returns-clause-pointer_width c = bare_feeds pointer_width.enum tt (omega arith)
 
-version_tells : (x y : DeploymentTarget) → Tells IsVersionInRange (λ v. v) version_hash.ghosts.hash_input x y
-version_tells x y a b hx hy same =
+version_distinguishes : (x y : DeploymentTarget) → Distinguishes IsVersionInRange (λ v. v) version_hash.ghosts.hash_input x y
+version_distinguishes x y a b hx hy same =
     let major : x.major ≡ y.major = same_u16 x.major y.major hx.0 hy.0 (ap first_write same) in
-    let minor : x.minor ≡ y.minor = ap first_byte (ap behind_first same) in
-    let patch : x.patch ≡ y.patch = ap first_byte (ap behind_first (ap behind_first same)) in
-    ((λ i. record { major = major i; minor = minor i; patch = patch i }), ap behind_first (ap behind_first (ap behind_first same)))
+    let minor : x.minor ≡ y.minor = ap first_byte (ap after_first same) in
+    let patch : x.patch ≡ y.patch = ap first_byte (ap after_first (ap after_first same)) in
+    ((λ i. record { major = major i; minor = minor i; patch = patch i }), ap after_first (ap after_first (ap after_first same)))
 
 pub returns-clause-version : goal.returns-clause-version
-returns-clause-version c = feeds_of_tell version_tells (λ x y. ap version_hash.ghosts.hash_input)
+returns-clause-version c = hash_injective_on version_distinguishes (λ x y. ap version_hash.ghosts.hash_input)
 
 -- an optional version
-held_tells : (x y : Option DeploymentTarget) → Tells (λ v. IfSome v IsVersionInRange) (λ v. v) (option version_hash.ghosts.hash_input) x y
+held_distinguishes : (x y : Option DeploymentTarget) → Distinguishes (λ v. IfSome v IsVersionInRange) (λ v. v) (option version_hash.ghosts.hash_input) x y
 unfolding le_bytes
-held_tells None None a b hx hy same = (refl, ap behind_first same)
-held_tells (Some x) (Some y) a b hx hy same =
-    let versions = version_tells x y a b hx hy (ap behind_first same) in (ap Some versions.0, versions.1)
-held_tells _ _ a b hx hy same = absurd (let bytes = ap first_byte same in omega arith)
+held_distinguishes None None a b hx hy same = (refl, ap after_first same)
+held_distinguishes (Some x) (Some y) a b hx hy same =
+    let versions = version_distinguishes x y a b hx hy (ap after_first same) in (ap Some versions.0, versions.1)
+held_distinguishes _ _ a b hx hy same = absurd (let bytes = ap first_byte same in omega arith)
 
-held_feeds : FeedsOfTell (λ v. IfSome v IsVersionInRange) (λ v. v) (option version_hash.ghosts.hash_input)
-held_feeds = feeds_of_tell held_tells (λ x y. ap (option version_hash.ghosts.hash_input))
+held_feeds : HashInjectiveOn (λ v. IfSome v IsVersionInRange) (λ v. v) (option version_hash.ghosts.hash_input)
+held_feeds = hash_injective_on held_distinguishes (λ x y. ap (option version_hash.ghosts.hash_input))
 
 pub returns-clause-architecture : goal.returns-clause-architecture
 returns-clause-architecture c =
@@ -104,7 +104,7 @@ returns-clause-architecture c =
 
 pub returns-clause-operating_system : goal.returns-clause-operating_system
 returns-clause-operating_system c =
-    feeds_of_tell (variants_tell operating_system.enum operating_system_hash.ghosts.hash_input (omega arith) (λ x. refl) _ _ (assumption (
+    hash_injective_on (variants_distinguish operating_system.enum operating_system_hash.ghosts.hash_input (omega arith) (λ x. refl) _ _ (assumption (
       one_field Darwin held_feeds,
       one_field IOS held_feeds,
       one_field MacOSX held_feeds,
@@ -114,8 +114,8 @@ returns-clause-operating_system c =
       one_field XROS held_feeds,
     ))) (λ x y. ap operating_system_hash.ghosts.hash_input)
 
-custom_feeds : FeedsOfTell (λ (x : CustomVendor). Unit {0}) custom_text (λ x. str (custom_text x))
-custom_feeds = feeds_of_tell (λ x y a b _ _ same. (ap first_write same, ap behind_first (ap behind_first same))) (λ x y. ap str)
+custom_feeds : HashInjectiveOn (λ (x : CustomVendor). Unit {0}) custom_text (λ x. str (custom_text x))
+custom_feeds = hash_injective_on (λ x y a b _ _ same. (ap first_write same, ap after_first (ap after_first same))) (λ x y. ap str)
 
 -- what a vendor value feeds
 abbrev value_feed : VendorValue → HashWrites
@@ -128,5 +128,5 @@ feeds_by_value _ = refl
 
 pub returns-clause-vendor : goal.returns-clause-vendor
 returns-clause-vendor c =
-    feeds_of_tell (variants_tell vendor.enum vendor_hash.ghosts.hash_input (omega arith) (λ x. refl) _ _ (one_field Custom custom_feeds, tt))
+    hash_injective_on (variants_distinguish vendor.enum vendor_hash.ghosts.hash_input (omega arith) (λ x. refl) _ _ (one_field Custom custom_feeds, tt))
     (λ x y same. feeds_by_value x ∙ ap value_feed same ∙ sym (feeds_by_value y))

@@ -1,24 +1,24 @@
 use Rattle.std.proofs.Common.{ap}
 use Rattle.target_lexicon.specs.{Values.Values, Values.values, declared.triple.Triple.Triple}
-use Rattle.target_lexicon.proofs.FeedsTogether.{both_tell}
+use Rattle.target_lexicon.proofs.FeedsTogether.{both_mark}
 use Rattle.target_lexicon.proofs.laws.triples_feed_by_value.Goals as goal
 
 pub returns-clause-triple : goal.returns-clause-triple
 returns-clause-triple c =
     let law = c.values_feed_by_variant_and_fields.ensures in
-    let ends = both_tell (λ (t : Triple). t.environment) (λ t. t.binary_format) law.environment law.binary_format in
-    let systems = both_tell (λ (t : Triple). t.operating_system) (λ t. t) law.operating_system ends in
-    let vendors = both_tell (λ (t : Triple). t.vendor) (λ t. t) law.vendor systems in
-    let five = both_tell (λ (t : Triple). t.architecture) (λ t. t) law.architecture vendors in
+    let ends = both_mark (λ (t : Triple). t.environment) (λ t. t.binary_format) law.environment law.binary_format in
+    let systems = both_mark (λ (t : Triple). t.operating_system) (λ t. t) law.operating_system ends in
+    let vendors = both_mark (λ (t : Triple). t.vendor) (λ t. t) law.vendor systems in
+    let five = both_mark (λ (t : Triple). t.architecture) (λ t. t) law.architecture vendors in
     record {
       exactly = λ x y hx hy.
-          let told = five.exactly x y (tt, (tt, (hx, (tt, tt)))) (tt, (tt, (hy, (tt, tt)))) in (
-            λ same. ap (λ v. values v.0 v.1.0 v.1.1.0 v.1.1.1.0 v.1.1.1.1) (told.0 same),
-            λ same. told.1 (ap (λ (v : Values). (v.architecture, (v.vendor, (v.operating_system, (v.environment, v.binary_format))))) same),
+          let dashes_known = five.exactly x y (tt, (tt, (hx, (tt, tt)))) (tt, (tt, (hy, (tt, tt)))) in (
+            λ same. ap (λ v. values v.0 v.1.0 v.1.1.0 v.1.1.1.0 v.1.1.1.1) (dashes_known.0 same),
+            λ same. dashes_known.1 (ap (λ (v : Values). (v.architecture, (v.vendor, (v.operating_system, (v.environment, v.binary_format))))) same),
           );
       with_more = λ x y a b hx hy same.
-          let told = five.with_more x y a b (tt, (tt, (hx, (tt, tt)))) (tt, (tt, (hy, (tt, tt)))) same in
-          (ap (λ v. values v.0 v.1.0 v.1.1.0 v.1.1.1.0 v.1.1.1.1) told.0, told.1);
+          let dashes_known = five.with_more x y a b (tt, (tt, (hx, (tt, tt)))) (tt, (tt, (hy, (tt, tt)))) same in
+          (ap (λ v. values v.0 v.1.0 v.1.1.0 v.1.1.1.0 v.1.1.1.1) dashes_known.0, dashes_known.1);
     }
 
 pub returns-clause-host : goal.returns-clause-host

@@ -6,10 +6,10 @@ use Rattle.target_lexicon.proofs.list_error.write_element.Goals as goal
 
 pub returns : goal.returns
 returns g c = λ flush ok.
-    let front = c.write_str.ensures.styled flush (search rules) in
-    let i = c.write_decimal.ensures front.flush (search rules) in
+    let prefix = c.write_str.ensures.styled flush (search rules) in
+    let i = c.write_decimal.ensures prefix.flush (search rules) in
     let colon = c.write_str-2.ensures.styled i.flush (search rules) in
     let line = c.fmt.ensures.styled colon.flush ok in
     has_written_styled_of_eq _ _ _ _ _
     (append_assoc (codes "Element " ++ decimal c.args.i) (codes ": ") (json_fault_line (json_fault_of c.args.error.now)) ∙ append_assoc (codes "Element ") (decimal c.args.i) (codes ": " ++ json_fault_line (json_fault_of c.args.error.now)))
-    (has_written_styled_append _ _ _ _ _ _ (has_written_styled_append _ _ _ _ _ _ (has_written_styled_append _ _ _ _ _ _ front i) colon) line)
+    (has_written_styled_append _ _ _ _ _ _ (has_written_styled_append _ _ _ _ _ _ (has_written_styled_append _ _ _ _ _ _ prefix i) colon) line)

@@ -6,5 +6,5 @@ use Rattle.triples.proofs.matrix.push_unseen.Goals as goal
 
 pub returns-clause-seen : goal.returns-clause-seen
 returns-clause-seen c =
-    inserted c.push.result (record { mark = c.args.found.now.mark; text = c.in_ok-text.text }) (string_bytes c.args.found.now.text) c.args.seen.now c.insert.new.self
+    inserted c.push.result (record { hash = c.args.found.now.hash; text = c.in_ok-text.text }) (string_bytes c.args.found.now.text) c.args.seen.now c.insert.new.self
     c.requires (grind (arith, common_steps)) (grind (arith, common_steps)) c.in_ok-insert.ensures.keys

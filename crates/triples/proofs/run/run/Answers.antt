@@ -7,4 +7,4 @@ pub returns-in_default-clause-write : goal.returns-in_default-clause-write
 returns-in_default-clause-write g c = (λ bad. absurd cc, λ more. absurd (omega arith))
 
 pub returns-in_default-clause-nothing : goal.returns-in_default-clause-nothing
-returns-in_default-clause-nothing g c = λ _. Keeps-refl (g.W.Write.contents c.args.w.now.device)
+returns-in_default-clause-nothing g c = λ _. Keeps-refl (g.W.Write.contents c.args.w.now.inner)

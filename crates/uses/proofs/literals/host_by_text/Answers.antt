@@ -1,6 +1,6 @@
 use Rattle.std.proofs.Common.{◌≡◌, Ok, Err, codes}
 use Rattle.std.specs.Prelude.{IsOkAnd}
-use Rattle.target_lexicon.specs.{ReadingByFields.IsAnswerOf, Values.host_values, Values.values_of}
+use Rattle.target_lexicon.specs.{GreedyReading.IsAnswerOf, Values.host_values, Values.values_of}
 use Rattle.target_lexicon.proofs.OnLiterals.{target_lexicon_on_literals}
 use Rattle.uses.proofs.literals.host_by_text.Goals as goal
 

@@ -1,7 +1,7 @@
 use Rattle.std.proofs.Common.{[], ◌∷◌, ◌++◌, string_bytes, sym, ap, ◌∙◌, take}
 use Rattle.std.proofs.lemmas.List.{take_all, take_more}
 use Rattle.std.proofs.lemmas.List.Elements.{All-weaker, at_read}
-use Rattle.target_lexicon.specs.{Reading.IsRead, Reading.IsFaultOf, Values.values_of}
+use Rattle.target_lexicon.specs.{Reading.IsRead, Reading.IsErrorOf, Values.values_of}
 use Rattle.uses.specs.Matrix.{IsCovered}
 use Rattle.uses.proofs.OneMore.{more}
 use Rattle.uses.proofs.matrix.release_matrix.Goals as goal
@@ -9,7 +9,7 @@ use Rattle.uses.proofs.matrix.release_matrix.Goals as goal
 pub returns-in-Err-clause-err : goal.returns-in-Err-clause-err
 returns-in-Err-clause-err c = (
   c.loop-i-test.true,
-  at_read c.args.texts.now (λ text. IsFaultOf (string_bytes text) c.in-Err.error) c.loop-i.i _ c.loop-i-test.true c.index-texts-i.is (rw (sym c.as_str.ensures.value) c.in-Err.ensures.err),
+  at_read c.args.texts.now (λ text. IsErrorOf (string_bytes text) c.in-Err.error) c.loop-i.i _ c.loop-i-test.true c.index-texts-i.is (rw (sym c.as_str.ensures.value) c.in-Err.ensures.err),
   All-weaker (IsCovered c.loop-i.matrix.items) (λ text. IsRead (string_bytes text)) (λ text covered. (covered.1.0, covered.1.1)) _ c.loop-i.invariant.each,
 )
 

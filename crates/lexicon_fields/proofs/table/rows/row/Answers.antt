@@ -1,5 +1,5 @@
 use Rattle.std.proofs.Common.{arith}
-use Rattle.lexicon_fields.specs.{Architecture.architecture_of, Vendor.known_vendor_of, OperatingSystem.fixed_operating_system_of, Environment.environment_of, BinaryFormat.binary_format_of, Private.front_of}
+use Rattle.lexicon_fields.specs.{Architecture.architecture_of, Vendor.known_vendor_of, OperatingSystem.fixed_operating_system_of, Environment.environment_of, BinaryFormat.binary_format_of, Private.prefix_key_of}
 use Rattle.lexicon_fields.proofs.RowReads.{rows-length, column-is}
 use Rattle.lexicon_fields.proofs.table.rows.row.Goals as goal
 
@@ -21,5 +21,5 @@ returns-clause-environment c = column-is _ environment_of _ _ _ c.requires (rows
 pub returns-clause-binary_format : goal.returns-clause-binary_format
 returns-clause-binary_format c = column-is _ binary_format_of _ _ _ c.requires (rows-length _ _ c.rows.ensures.texts) c.rows.ensures.binary_formats
 
-pub returns-clause-front : goal.returns-clause-front
-returns-clause-front c = column-is _ (front_of 8) _ _ _ c.requires (rows-length _ _ c.rows.ensures.texts) c.rows.ensures.fronts
+pub returns-clause-prefix_key : goal.returns-clause-prefix_key
+returns-clause-prefix_key c = column-is _ (prefix_key_of 8) _ _ _ c.requires (rows-length _ _ c.rows.ensures.texts) c.rows.ensures.prefix_keys

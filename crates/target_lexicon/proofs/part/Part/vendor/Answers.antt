@@ -1,6 +1,6 @@
 use Rattle.std.proofs.Common.{◌∙◌, Some, ap, sym, option_map}
 use Rattle.target_lexicon.specs.Values.{Known}
-use Rattle.target_lexicon.proofs.{LookedUp.rowless, Vendors.owns_custom_text}
+use Rattle.target_lexicon.proofs.{LookedUp.without_row, Vendors.owns_custom_text}
 use Rattle.target_lexicon.proofs.part.Part.vendor.Goals as goal
 
 pub returns-in-Some-vendor-clause-ok : goal.returns-in-Some-vendor-clause-ok
@@ -16,5 +16,5 @@ returns-in-Ok-clause-owned c = owns_custom_text c.args.self.now.text.now c.in-Ok
 pub returns-in-Err-OutOfMemory-clause-ok : goal.returns-in-Err-OutOfMemory-clause-ok
 returns-in-Err-OutOfMemory-clause-ok c = tt
 
-pub of_rowless-requires : goal.of_rowless-requires
-of_rowless-requires c = rowless c.args.self.now.text.now _ c.args.self.now.looked_up c.in-None.is
+pub custom_from_str-requires : goal.custom_from_str-requires
+custom_from_str-requires c = without_row c.args.self.now.text.now _ c.args.self.now.looked_up c.in-None.is

@@ -1,7 +1,7 @@
 use Rattle.std.proofs.Common.{◌≡◌, ℕ, List, [], ◌∷◌, Result, Ok, Err, refl, sym, ◌∙◌, subst, rules}
 use Rattle.std.specs.Prelude.{IsErrAnd}
 use Rattle.lexicon_fields.specs.{declared.known_vendor.KnownVendor.TheVariants.Unknown, Vendor.IsCustom, Vendor.vendor_of}
-use Rattle.target_lexicon.specs.{Values.Known, Values.Values, ReadingByFields.IsAnswerOf, ReadingByFields.finish, ReadingByFields.take_part, Field.Field, Field.Architecture, Field.Vendor, declared.parse_error.ParseError.ParseError, declared.triple.Triple.Triple}
+use Rattle.target_lexicon.specs.{Values.Known, Values.Values, GreedyReading.IsAnswerOf, GreedyReading.finish, GreedyReading.take_part, Field.Field, Field.Architecture, Field.Vendor, declared.parse_error.ParseError.ParseError, declared.triple.Triple.Triple}
 use Rattle.target_lexicon.specs.declared.parse_error.ParseError.TheVariants as error
 use Rattle.target_lexicon.proofs.triple.Triple.from_parts.Goals as goal
 

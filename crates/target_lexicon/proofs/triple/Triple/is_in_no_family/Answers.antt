@@ -2,6 +2,6 @@ use Rattle.std.proofs.Common.{rules}
 use Rattle.target_lexicon.specs.NormalStep.{is_in_no_family}
 use Rattle.target_lexicon.proofs.triple.Triple.is_in_no_family.Goals as goal
 
-pub returns-then-not-shows_none_alone : goal.returns-then-not-shows_none_alone
+pub returns-then-not-shows_only_none : goal.returns-then-not-shows_only_none
 unfolding is_in_no_family
-returns-then-not-shows_none_alone c = search rules
+returns-then-not-shows_only_none c = search rules

@@ -1,0 +1,36 @@
+-- How a text goes out, into a buffer that the caller lends, with its length beside it; and how a refusal does, with a status.
+use Rattle.std.specs.Prelude.{◌≡◌, ◌⊎◌, ℕ, suc, ◌+◌, ◌≤◌, ◌<◌, List, ◌++◌, length, drop}
+use Rattle.target_lexicon.specs.{FixedPoints.max_growth, Reading.IsRead, Reading.IsRefusedAs, Field.place, Refusal.Expected, Refusal.Expects, Refusal.ExpectsNone, Refusal.Refusal}
+
+-- the text is told: its whole length always; its bytes at the front of the buffer where they all fit, the bytes behind them and a
+-- buffer that is too small being left as they were
+pub record IsWritten (text old new : List ℕ) (size : ℕ) : Type 0 where
+  pub counted : size ≡ length text
+  pub fits : length text ≤ length old → new ≡ text ++ drop (length text) old
+  pub overflows : length old < length text → new ≡ old
+
+-- no text is told: the length is 0, and the buffer is as it was
+abbrev pub IsNothingWritten : List ℕ → List ℕ → ℕ → Type 0
+IsNothingWritten old new size = (new ≡ old) × (size ≡ 0)
+
+-- a buffer that is so much longer than the text has room for what is told
+abbrev pub GrowsAtMost : List ℕ → ℕ → Type 0
+GrowsAtMost text size = size ≤ length text + max_growth
+
+-- the status of a refusal: 1 to 5 for the field that the part lacks, 6 where it lacks any
+abbrev pub refusal_status : Expected → ℕ
+refusal_status (Expects field) = suc (place field)
+refusal_status ExpectsNone = 6
+
+-- the text is refused, and this is the status of it
+abbrev pub IsRefusedBy : ℕ → List ℕ → Type 0
+IsRefusedBy status text = (refusal : Refusal) × (status ≡ refusal_status refusal.expected) × IsRefusedAs text refusal
+
+-- the first text is refused, or it is read and the second refused
+abbrev pub IsEitherRefusedBy : ℕ → List ℕ → List ℕ → Type 0
+IsEitherRefusedBy status first second = IsRefusedBy status first ⊎ (IsRead first × IsRefusedBy status second)
+
+-- the text is refused with this status, and what is said of the refusal is told
+abbrev pub IsRefusalWritten : (Refusal → List ℕ) → ℕ → List ℕ → List ℕ → List ℕ → ℕ → Type 0
+IsRefusalWritten said status text old new size =
+    (refusal : Refusal) × (status ≡ refusal_status refusal.expected) × IsRefusedAs text refusal × IsWritten (said refusal) old new size

@@ -1,0 +1,79 @@
+-- Prefix keys are ordered as their texts are.
+use Rattle.std.proofs.Common.{◌≡◌, ℕ, zero, suc, ◌+◌, ◌*◌, ◌^◌, ◌<◌, ◌≤◌, List, [], ◌∷◌, arith, refl, sym, ap, ◌∙◌, Less, Equal, Greater, nat_cmp, inl, inr, get_or, length, take, drop, ◌-◌, ◌%◌, w32}
+use Rattle.std.specs.{Cmp.Lexicographic.slice_cmp, Cmp.nat_cmp_is, Int.from_be_bytes, Ordering.ordering_reverse}
+use Rattle.std.proofs.{lemmas.Bool.cases_order, lemmas.Cmp.nat_list_cmp_total, Math.Nat.mul-le-mul_right, Math.Nat.pow-suc}
+use Rattle.lexicon_fields.specs.Private.{prefix_key_of}
+
+abbrev pub AreBytes : List ℕ → Type 0
+AreBytes s = (i : ℕ) → get_or s i 0 < 256
+
+-- the key is below a power of 256
+pub prefix_key_below : (k : ℕ) (s : List ℕ) → AreBytes s → prefix_key_of k s < 256 ^ k
+prefix_key_below zero s h = omega arith
+prefix_key_below (suc k) [] h = omega (arith, pow-suc 256 k, prefix_key_below k [] (λ i. omega arith))
+prefix_key_below (suc k) (x ∷ xs) h = omega (arith, pow-suc 256 k, mul-le-mul_right {m = x} {n = 255} (256 ^ k) (omega (arith, h 0)), prefix_key_below k xs (λ i. h (suc i)))
+
+is_less : (x y : ℕ) → x < y → nat_cmp x y ≡ Less
+is_less x y h = sym (nat_cmp_is x y Less h)
+
+is_equal : (x y : ℕ) → x ≡ y → nat_cmp x y ≡ Equal
+is_equal x y h = sym (nat_cmp_is x y Equal h)
+
+-- the text with the smaller key comes first
+pub less_by_key : (k : ℕ) (a b : List ℕ) → AreBytes a → AreBytes b → prefix_key_of k a < prefix_key_of k b → slice_cmp nat_cmp a b ≡ Less
+less_by_key zero a b _ _ h = absurd (omega (arith, h))
+less_by_key (suc k) [] [] _ _ h = absurd (omega (arith, h))
+less_by_key (suc k) [] (y ∷ ys) _ _ h = refl
+less_by_key (suc k) (x ∷ xs) [] _ _ h = absurd (omega (arith, h))
+less_by_key (suc k) (x ∷ xs) (y ∷ ys) p q h = elim (cases_order x y) [
+  | inl same ↦ rw (is_equal x y same) (less_by_key k xs ys (λ i. p (suc i)) (λ i. q (suc i)) (omega (arith, h, ap (λ n. n * 256 ^ k) same)))
+  | inr other ↦ elim other [
+    | inl less ↦ rw (is_less x y less) refl
+    | inr more ↦ absurd (omega (arith, h, prefix_key_below k ys (λ i. q (suc i)), mul-le-mul_right {m = y + 1} {n = x} (256 ^ k) (omega (arith, more))))
+  ]
+]
+
+pub greater_by_key : (k : ℕ) (a b : List ℕ) → AreBytes a → AreBytes b → prefix_key_of k b < prefix_key_of k a → slice_cmp nat_cmp a b ≡ Greater
+greater_by_key k a b p q h = nat_list_cmp_total.antisymm a b ∙ ap ordering_reverse (less_by_key k b a q p h)
+
+suc_cmp : (m n : ℕ) → nat_cmp m n ≡ nat_cmp (suc m) (suc n)
+suc_cmp m n = elim (cases_order m n) [
+  | inl same ↦ is_equal m n same ∙ sym (is_equal (suc m) (suc n) (omega (arith, same)))
+  | inr other ↦ elim other [
+    | inl less ↦ is_less m n less ∙ sym (is_less (suc m) (suc n) (omega (arith, less)))
+    | inr more ↦ sym (nat_cmp_is m n Greater more) ∙ nat_cmp_is (suc m) (suc n) Greater (omega (arith, more))
+  ]
+]
+
+-- of two texts with the same key, the second of at most that many bytes, the shorter comes first
+pub order_of_same_key : (k : ℕ) (a b : List ℕ) → AreBytes a → AreBytes b → length b ≤ k → prefix_key_of k a ≡ prefix_key_of k b → slice_cmp nat_cmp a b ≡ nat_cmp (length a) (length b)
+order_of_same_key k [] [] _ _ _ h = sym (is_equal 0 0 refl)
+order_of_same_key k [] (y ∷ ys) _ _ _ h = sym (is_less 0 (length (y ∷ ys)) (omega arith))
+order_of_same_key k (x ∷ xs) [] _ _ _ h = nat_cmp_is (length (x ∷ xs)) 0 Greater (omega arith)
+order_of_same_key zero (x ∷ xs) (y ∷ ys) _ _ n h = absurd (omega (arith, n))
+order_of_same_key (suc k) (x ∷ xs) (y ∷ ys) p q n h = elim (cases_order x y) [
+  | inl same ↦ rw (is_equal x y same) (order_of_same_key k xs ys (λ i. p (suc i)) (λ i. q (suc i)) (omega (arith, n)) (omega (arith, h, ap (λ n. n * 256 ^ k) same)) ∙ suc_cmp (length xs) (length ys))
+  | inr other ↦ elim other [
+    | inl less ↦ absurd (omega (arith, h, prefix_key_below k xs (λ i. p (suc i)), mul-le-mul_right {m = x + 1} {n = y} (256 ^ k) (omega (arith, less))))
+    | inr more ↦ absurd (omega (arith, h, prefix_key_below k ys (λ i. q (suc i)), mul-le-mul_right {m = y + 1} {n = x} (256 ^ k) (omega (arith, more))))
+  ]
+]
+
+-- the key of four to eight bytes, from the first four and the last four; bytes in both are shifted out of the last
+pub prefix_key_of_ends : (s head tail : List ℕ) (x y : ℕ) → AreBytes s → 4 ≤ length s → length s ≤ 8 → head ≡ take 4 s → tail ≡ drop (length s - 4) s
+    → x ≡ from_be_bytes w32 head → y ≡ from_be_bytes w32 tail
+    → x * 4294967296 + y * 2 ^ (64 - 8 * length s) % 18446744073709551616 % 4294967296 ≡ prefix_key_of 8 s
+prefix_key_of_ends s head tail x y h some few first last number rest = rw (number, rest, first, last) (by_length s h some few)
+  where
+    by_length : (s : List ℕ) → AreBytes s → 4 ≤ length s → length s ≤ 8
+        → from_be_bytes w32 (take 4 s) * 4294967296 + from_be_bytes w32 (drop (length s - 4) s) * 2 ^ (64 - 8 * length s) % 18446744073709551616 % 4294967296 ≡ prefix_key_of 8 s
+    by_length (a ∷ b ∷ c ∷ d ∷ []) h some few = omega (arith, h 0, h 1, h 2, h 3)
+    by_length (a ∷ b ∷ c ∷ d ∷ e ∷ []) h some few = omega (arith, h 0, h 1, h 2, h 3, h 4)
+    by_length (a ∷ b ∷ c ∷ d ∷ e ∷ f ∷ []) h some few = omega (arith, h 0, h 1, h 2, h 3, h 4, h 5)
+    by_length (a ∷ b ∷ c ∷ d ∷ e ∷ f ∷ g ∷ []) h some few = omega (arith, h 0, h 1, h 2, h 3, h 4, h 5, h 6)
+    by_length (a ∷ b ∷ c ∷ d ∷ e ∷ f ∷ g ∷ i ∷ []) h some few = omega (arith, h 0, h 1, h 2, h 3, h 4, h 5, h 6, h 7)
+    by_length (a ∷ b ∷ c ∷ d ∷ e ∷ f ∷ g ∷ i ∷ j ∷ more) h some few = absurd (omega (arith, few))
+    by_length (a ∷ b ∷ c ∷ []) h some few = absurd (omega (arith, some))
+    by_length (a ∷ b ∷ []) h some few = absurd (omega (arith, some))
+    by_length (a ∷ []) h some few = absurd (omega (arith, some))
+    by_length [] h some few = absurd (omega (arith, some))

@@ -1,0 +1,37 @@
+//! Pointer widths.
+ghost use Rattle.std.specs.Prelude.{◌≡◌, ◌*◌};
+ghost use Rattle.lexicon_fields.specs.PointerWidth.{width_bits, width_bytes};
+
+/// The width of a pointer in the default address space.
+#[derive(Clone, Copy, Debug, PartialEq, Eq, Hash)]
+pub enum PointerWidth {
+    U16,
+    U32,
+    U64,
+}
+
+impl PointerWidth {
+    /// The number of bits in a pointer.
+    pub fn bits(self) -> u8
+        ensures value { result ≡ width_bits self }
+        ensures of_bytes { result ≡ 8 * width_bytes self }
+    {
+        match self {
+            PointerWidth::U16 => 16,
+            PointerWidth::U32 => 32,
+            PointerWidth::U64 => 64,
+        }
+    }
+
+    /// The number of bytes in a pointer, of 8 bits each.
+    pub fn bytes(self) -> u8
+        ensures value { result ≡ width_bytes self }
+        ensures in_bits { 8 * result ≡ width_bits self }
+    {
+        match self {
+            PointerWidth::U16 => 2,
+            PointerWidth::U32 => 4,
+            PointerWidth::U64 => 8,
+        }
+    }
+}

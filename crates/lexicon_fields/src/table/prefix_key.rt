@@ -1,0 +1,62 @@
+//! The prefix key of a text: its first eight bytes as a number, by which texts are compared first.
+ghost use Rattle.std.specs.Prelude.{◌≡◌, ◌<◌, length};
+ghost use Rattle.std.specs.Cmp.Lexicographic.{slice_cmp};
+ghost use Rattle.std.specs.Ordering.{nat_cmp};
+ghost use Rattle.lexicon_fields.specs.Private.{prefix_key_of};
+
+use std::cmp::Ordering;
+
+/// The order by bytes of two texts with these prefix keys.
+#[inline(always)]
+pub(crate) fn order(own_key: u64, own: &str, wanted: u64, text: &str) -> Ordering
+    requires own { own_key ≡ prefix_key_of 8 own.now }
+    requires text { wanted ≡ prefix_key_of 8 text.now }
+    ensures { result ≡ slice_cmp nat_cmp own.now text.now }
+{
+    if own_key < wanted {
+        return Ordering::Less;
+    }
+    if wanted < own_key {
+        return Ordering::Greater;
+    }
+    if text.len() <= 8 {
+        own.len().cmp(&text.len())
+    } else {
+        own.cmp(text)
+    }
+}
+
+/// The first eight bytes as a big-endian number; a missing byte is zero. If the caller has tested that the length is
+/// above eight, or from four to eight, no branch is left, so that a search computes the key once.
+#[inline(always)]
+pub(crate) fn prefix_key(text: &str) -> u64
+    ensures { result ≡ prefix_key_of 8 text.now }
+{
+    let bytes = text.as_bytes();
+    if bytes.len() > 8 {
+        return match bytes.first_chunk::<8>() {
+            Some(eight) => u64::from_be_bytes(*eight),
+            None => unreachable!(),
+        };
+    }
+    if let (Some(head), Some(tail)) = (bytes.first_chunk::<4>(), bytes.last_chunk::<4>()) {
+        let head = u64::from(u32::from_be_bytes(*head));
+        let tail = u64::from(u32::from_be_bytes(*tail));
+        return head * 0x1_0000_0000 + (tail << (64 - 8 * bytes.len())) % 0x1_0000_0000;
+    }
+    prefix_key_of_few(bytes)
+}
+
+/// The prefix key of at most three bytes.
+#[inline(never)]
+fn prefix_key_of_few(bytes: &[u8]) -> u64
+    requires { length bytes.now < 4 }
+    ensures { result ≡ prefix_key_of 8 bytes.now }
+{
+    match bytes {
+        [a, b, c] => u64::from_be_bytes([*a, *b, *c, 0, 0, 0, 0, 0]),
+        [a, b] => u64::from_be_bytes([*a, *b, 0, 0, 0, 0, 0, 0]),
+        [a] => u64::from_be_bytes([*a, 0, 0, 0, 0, 0, 0, 0]),
+        _ => 0,
+    }
+}
