@@ -1,5 +1,5 @@
-//! Tests of the public calls of `lexicon_fields`, and what tests walk their rows by. They stand in a crate of their own, so that
-//! `lexicon_fields` isn't proved once more with them, and wait for no other.
+//! Tests of the public calls of `lexicon_fields`, and what tests walk their rows by. They are a crate of their own, so
+//! that `lexicon_fields` isn't proved a second time for them.
 #![tactic(auto)]
 
 #[cfg(test)]

@@ -1,5 +1,5 @@
-//! The names of all values without a version, and what architectures answer: as a Rust program printed them that asks
-//! target-lexicon 0.13.5 for each of its values.
+//! The names of all values without a version, and the queries of architectures, as a Rust program printed them that
+//! asks target-lexicon 0.13.5 for each of its values.
 
 use crate::rows::{Question, check_rows, order_word, prints, shows, width_word, writes};
 use lexicon_fields::{
@@ -14,7 +14,7 @@ use std::marker::PhantomData;
 use std::process::Abort;
 use std::str::FromStr;
 
-/// The name, and behind `=` the value, its byte order and pointer width, and whether it is Thumb or Clever.
+/// The name, and after `=` the value, its byte order and pointer width, and whether it is Thumb or Clever.
 const ARCHITECTURES: &str = "\
 unknown=Unknown - -
 amdgcn=AmdGcn little 64
@@ -124,7 +124,7 @@ rabbit3000a=Z80(Rabbit3000A) little 16
 tlcs90=Z80(Tlcs90) little 16
 r800=Z80(R800) little 16";
 
-/// The name, and behind `=` the value.
+/// The name, and after `=` the value.
 const OPERATING_SYSTEMS: &str = "\
 unknown=Unknown
 aix=Aix
@@ -212,7 +212,7 @@ macho=Macho
 wasm=Wasm
 xcoff=Xcoff";
 
-/// The name reads as this value of a type, which prints it.
+/// The name parses as this value of a type, which prints it.
 struct IsNamed<T>(PhantomData<T>);
 
 impl<T: Debug + Display + Drop + FromStr<Err = ()>> Question for IsNamed<T> {
@@ -245,7 +245,7 @@ fn architectures_of_each_type_have_their_names(rt: HostRuntime) -> Result<(), &'
     check_rows::<IsNamed<Z80Architecture>>(alloc, "z80=Z80")
 }
 
-/// What an architecture is besides its byte order and width.
+/// Whether an architecture is Thumb or Clever.
 fn kind(value: Architecture) -> &'static str {
     match value {
         Architecture::Arm(arm) if arm.is_thumb() => " thumb",
@@ -255,7 +255,7 @@ fn kind(value: Architecture) -> &'static str {
     }
 }
 
-/// The name reads as this architecture, which prints it and answers so.
+/// The name parses as this architecture, which prints it and has these answers.
 struct IsArchitecture;
 
 impl Question for IsArchitecture {
@@ -275,7 +275,7 @@ fn every_architecture_has_its_name_and_answers(rt: HostRuntime) -> Result<(), &'
     check_rows::<IsArchitecture>(rt.alloc(), ARCHITECTURES)
 }
 
-/// A type and a text, and behind `=` the name of the value that it reads as, or `-`.
+/// A type and a text, and after `=` the name of the value that the text parses as, or `-`.
 const READ: &str = "\
 arm armv8.1a=armv8.1a
 arm thumbv8m.base=thumbv8m.base
@@ -307,7 +307,7 @@ format xcoff=xcoff
 format ELF=-
 format none=-";
 
-/// The name of a value that was read, or `-`.
+/// The name of a parsed value, or `-`.
 macro_rules! name {
     ($read:expr) => {
         match $read {
@@ -317,7 +317,7 @@ macro_rules! name {
     };
 }
 
-/// The name of the value that a text reads as, by the calls of each type, or `-`.
+/// The name of the value that a text parses as, by the calls of each type, or `-`.
 fn name_of(family: &str, text: &str) -> CowStr<'static> {
     match family {
         "arm" => name!(ArmArchitecture::from_str(text)),
@@ -330,7 +330,7 @@ fn name_of(family: &str, text: &str) -> CowStr<'static> {
     }
 }
 
-/// The same, of the other types.
+/// The same for the other types.
 fn other_name_of(family: &str, text: &str) -> CowStr<'static> {
     match family {
         "riscv64" => name!(Riscv64Architecture::from_str(text)),
@@ -342,7 +342,7 @@ fn other_name_of(family: &str, text: &str) -> CowStr<'static> {
     }
 }
 
-/// The text reads as a value with this name in its type.
+/// The text parses as a value with this name in its type.
 struct ReadsInType;
 
 impl Question for ReadsInType {

@@ -1,4 +1,4 @@
-//! What tests walk their rows by, and look at values by.
+//! How tests walk their rows, and how they look at values.
 
 use lexicon_fields::{Endianness, PointerWidth};
 use std::alloc::{AllocError, Global};
@@ -6,13 +6,13 @@ use std::fmt;
 use std::fmt::{Debug, Display, Write as _};
 use std::hash::{DefaultHasher, Hash, Hasher};
 
-/// What is asked of a text beside what stands behind it in its row.
+/// A question about a text and what follows it in its row.
 pub trait Question {
     fn holds(alloc: Global, text: &str, want: &str) -> bool;
 }
 
-/// Whether the question holds of each line of the rows: of what stands before its first `=`, and of what stands behind it. Where not, the
-/// first line of which it doesn't.
+/// Checks the question for each line of the rows: for the text up to the first `=` and the text after it. `Err` is the
+/// first line for which it doesn't hold.
 pub fn check_rows<'a, Q: Question>(alloc: Global, rows: &'a str) -> Result<(), &'a str> {
     for row in rows.lines() {
         match row.split_once("=") {
@@ -23,7 +23,7 @@ pub fn check_rows<'a, Q: Question>(alloc: Global, rows: &'a str) -> Result<(), &
     Ok(())
 }
 
-/// How many the words are, where the question holds of each beside itself. Where not, the first of which it doesn't.
+/// The number of words, if the question holds for each with itself. `Err` is the first for which it doesn't hold.
 pub fn check_words<'a, Q: Question>(alloc: Global, words: &'a str) -> Result<u32, &'a str> {
     let mut count = 0u32;
     for word in words.split_whitespace() {
@@ -35,25 +35,25 @@ pub fn check_words<'a, Q: Question>(alloc: Global, words: &'a str) -> Result<u32
     Ok(count)
 }
 
-/// The rows, with a thousand of this digit or dash for each star.
-pub fn lengthened_rows(alloc: Global, rows: &str, mark: &str) -> Result<String, AllocError> {
-    let many = mark.repeat(alloc, 1000)?;
+/// The rows, with a thousand of this character for each star.
+pub fn lengthened_rows(alloc: Global, rows: &str, filler: &str) -> Result<String, AllocError> {
+    let many = filler.repeat(alloc, 1000)?;
     rows.replace(alloc, "*", many.as_str())
 }
 
-/// What the value feeds a hasher.
-fn fed<T: Hash>(value: &T) -> u64 {
+/// The hash of the value.
+fn hash_value<T: Hash>(value: &T) -> u64 {
     let mut hasher = DefaultHasher::new();
     value.hash(&mut hasher);
     hasher.finish()
 }
 
-/// Two values are equal, and feed a hasher alike.
+/// Whether two values are equal and feed a hasher the same.
 pub fn feed_alike<T: Hash + PartialEq + Drop>(first: T, second: T) -> bool {
-    first == second && fed(&first) == fed(&second)
+    first == second && hash_value(&first) == hash_value(&second)
 }
 
-/// What is left of a text that is to be written.
+/// The rest of a text that should be written.
 #[derive(Drop)]
 struct Left<'a> {
     text: &'a str,
@@ -80,7 +80,7 @@ pub fn shows<T: Debug>(value: &T, text: &str) -> bool {
     writes(&format_args!("{value:?}"), text)
 }
 
-/// Counts its pieces, and fails at its `fails_at`th one alone.
+/// Counts the pieces written to it, and fails only at piece number `fails_at`, counted from 0.
 #[derive(Drop)]
 struct Pieces {
     fails_at: usize,
@@ -98,30 +98,30 @@ impl fmt::Write for Pieces {
     }
 }
 
-/// Whether a print of the value answers a fault exactly where its target failed, and hands it nothing more.
+/// Whether printing the value fails exactly if its target failed, and writes no piece after that.
 pub fn reports_each_failure<T: Display>(value: &T) -> bool {
     for fails_at in 0..100 {
         let mut target = Pieces {
             fails_at,
             pieces: 0,
         };
-        let is_told = write!(target, "{value}").is_err();
+        let has_failed = write!(target, "{value}").is_err();
         if target.pieces <= fails_at {
-            return !is_told;
+            return !has_failed;
         }
-        if !is_told || target.pieces > fails_at + 1 {
+        if !has_failed || target.pieces > fails_at + 1 {
             return false;
         }
     }
     false
 }
 
-/// Whether the value prints this text, whatever the width that is asked for, and tells each fault of what it is printed to.
+/// Whether the value prints this text at any width, and reports each failure of the target that it is printed to.
 pub fn prints<T: Display>(value: &T, text: &str) -> bool {
     writes(&format_args!("{value:*>60}"), text) && reports_each_failure(value)
 }
 
-/// The byte order as rows write it, `-` for a refusal.
+/// The word for a byte order in rows, `-` for no answer.
 pub fn order_word(answer: Result<Endianness, ()>) -> &'static str {
     match answer {
         Ok(Endianness::Little) => "little",
@@ -130,7 +130,7 @@ pub fn order_word(answer: Result<Endianness, ()>) -> &'static str {
     }
 }
 
-/// The pointer width in bits as rows write it, `-` for a refusal.
+/// The pointer width in bits in rows, `-` for no answer.
 pub fn width_word(answer: Result<PointerWidth, ()>) -> &'static str {
     match answer {
         Ok(PointerWidth::U16) => "16",

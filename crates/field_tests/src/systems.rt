@@ -1,4 +1,4 @@
-//! Operating systems: versions both ways.
+//! Operating systems: versions, parsed and printed.
 
 use crate::rows::{Question, check_rows, lengthened_rows, prints};
 use lexicon_fields::{DeploymentTarget, OperatingSystem};
@@ -6,7 +6,7 @@ use std::alloc::Global;
 use std::borrow::CowStr;
 use std::process::Abort;
 
-/// A text, and behind `=` the name of the system that it reads as, or nothing where it is refused; as upstream answers.
+/// A text, and after `=` the name of the system that it parses as, or nothing if it is refused, as upstream answers.
 const VERSIONS: &str = "\
 darwin=darwin
 darwin7.8.9=darwin7.8.9
@@ -99,7 +99,7 @@ xrosvisionos1=
 None_=
 =";
 
-/// The text reads as a system with this name, or is refused where the name is empty.
+/// The text parses as a system with this name, or is refused if the name is empty.
 struct IsSystem;
 
 impl Question for IsSystem {
@@ -116,7 +116,7 @@ fn versions_are_read_and_named(rt: HostRuntime) -> Result<(), &'static str> {
     check_rows::<IsSystem>(rt.alloc(), VERSIONS)
 }
 
-/// As above, with a thousand zeros for each star.
+/// The same, with a thousand zeros for each star.
 const LONG_VERSIONS: &str = "\
 tvos*17.+*3.*=tvos17.3.0
 tvos1.2.*256=";
@@ -142,7 +142,7 @@ fn versions_are_ordered(rt: HostRuntime) {
     assert!(rt; version(9, 255, 255) < version(10, 0, 0));
 }
 
-/// The name of the system, and whether it is lent.
+/// Whether the system has this name, and whether the name is borrowed.
 fn is_called(alloc: Global, system: OperatingSystem, name: &str, is_borrowed: bool) -> bool {
     match system.into_str(alloc) {
         Ok(text) => text.as_str() == name && matches!(&text, CowStr::Borrowed(_)) == is_borrowed,

@@ -1,4 +1,4 @@
-//! The table of fixed names beside a plain scan of them.
+//! The table of names, compared with a plain scan of the names.
 
 ghost use Rattle.std.specs.Prelude.{◌<◌};
 ghost use Rattle.lexicon_fields.specs.FixedRow.{row_count};
@@ -12,8 +12,8 @@ use std::alloc::Global;
 use std::cmp::Ordering;
 use std::process::Abort;
 
-// The fixed names of each field, in the order in which target-lexicon 0.13.5 declares its values; behind those of the
-// architectures stands the alias `arm64`.
+// The fixed names of each field, in the order of target-lexicon 0.13.5's declarations. The alias `arm64` follows
+// those of the architectures.
 
 const ARCHITECTURES: &str = "\
 unknown amdgcn asmjs avr bpfeb bpfel hexagon m68k loongarch64 msp430 nvptx64 pulley32 pulley64
@@ -58,7 +58,7 @@ fn fields(row: &FixedRow) -> [bool; 5] {
     ]
 }
 
-/// The fields of the row of the text are those of which a plain scan finds it.
+/// The row of the text has the fields in which a plain scan finds it.
 struct IsAsScanned;
 
 impl Question for IsAsScanned {
@@ -96,7 +96,7 @@ fn holds_what_a_scan_finds(rt: HostRuntime) {
     assert!(rt; IsAsScanned::holds(rt.alloc(), "", ""));
 }
 
-/// The row of a text that no field reads.
+/// A row for a text without a value in any field.
 fn empty_row(text: &'static str) -> FixedRow {
     FixedRow {
         text,
@@ -108,7 +108,7 @@ fn empty_row(text: &'static str) -> FixedRow {
     }
 }
 
-/// The look-up of the row's text gives this row, in each of its fields.
+/// The look-up of the row's text gives exactly this row.
 fn check_row(rt: &impl Abort, row: FixedRow) {
     assert!(rt;
         fixed_row(row.text, &mut Steps::new()) == Some(row),

@@ -5,7 +5,7 @@ use lexicon_fields::{CustomVendor, Vendor, VendorError};
 use std::alloc::Global;
 use std::process::Abort;
 
-/// The name of each known vendor, and behind `=` the vendor; and custom vendors that are read.
+/// The name of each known vendor, and after `=` the vendor; and texts that parse as custom vendors.
 const READ: &str = "\
 unknown=Unknown
 amd=Amd
@@ -33,7 +33,7 @@ customvendor=Custom(Owned(\"customvendor\"))
 foo=Custom(Owned(\"foo\"))
 owned=Custom(Owned(\"owned\"))";
 
-/// A clone of the vendor is this one, as `{:?}` writes it.
+/// A clone of the vendor is this one, in the form of `{:?}`.
 fn is_cloned(alloc: Global, vendor: &Vendor, want: &str) -> bool {
     match vendor.clone(alloc) {
         Ok(copy) => shows(&copy, want),
@@ -41,7 +41,7 @@ fn is_cloned(alloc: Global, vendor: &Vendor, want: &str) -> bool {
     }
 }
 
-/// The text reads as this vendor, which has it as its name.
+/// The text parses as this vendor, and is its name.
 struct ReadsAs;
 
 impl Question for ReadsAs {
@@ -90,7 +90,7 @@ fn other_texts_are_refused(rt: HostRuntime) {
     }
 }
 
-/// The text reads as the custom vendor of the same fixed text.
+/// The text parses as a custom vendor that equals the one with the same static text.
 fn is_equal_to_fixed(alloc: Global, text: &'static str) -> bool {
     let fixed = Vendor::Custom(CustomVendor::Static(text));
     match Vendor::from_str(alloc, text) {
@@ -106,7 +106,7 @@ fn custom_vendors_are_compared_by_text(rt: HostRuntime) {
     assert!(rt; apple != Vendor::Apple && !apple.is_plain());
 }
 
-/// A clone of the vendor has this text, and is this one, as `{:?}` writes it.
+/// A clone of the vendor has this text, and is this one, in the form of `{:?}`.
 fn is_custom_cloned(alloc: Global, custom: &CustomVendor, text: &str, want: &str) -> bool {
     match custom.clone(alloc) {
         Ok(copy) => copy.as_str() == text && shows(&copy, want),

@@ -1,4 +1,4 @@
-//! The walks over rows name the row that doesn't hold, and each look at a value can fail.
+//! The walks over rows name the row that fails, and each question about a value can fail.
 
 use crate::rows::{
     Question, check_rows, check_words, feed_alike, lengthened_rows, order_word, prints,
@@ -10,7 +10,7 @@ use std::fmt;
 use std::fmt::{Display, Formatter, Write};
 use std::process::Abort;
 
-/// The text is what stands behind it.
+/// The text is what follows it in its row.
 struct IsSame;
 
 impl Question for IsSame {
@@ -44,7 +44,7 @@ fn the_first_row_that_fails_is_named(rt: HostRuntime) {
     assert!(rt; words == [Ok(2), Err("bc")]);
 }
 
-/// Says nothing of a fault.
+/// Reports no failure.
 struct Deaf;
 
 impl Display for Deaf {

@@ -30,7 +30,8 @@ pub(crate) fn write_system(
     out: &mut [u8],
     length: &mut usize,
 ) -> u32
-    ensures done { result ≡ 0 → IsWritten (operating_system_name system) out.old out.new length.new }
+    ensures done { result ≡ 0 →
+        IsWritten (operating_system_name system) out.old out.new length.new }
     ensures memory { 0 < result →
         (result ≡ 8) × IsSome (version_held system) × IsNothingWritten out.old out.new length.new }
 {

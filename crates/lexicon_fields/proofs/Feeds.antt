@@ -24,7 +24,7 @@ abbrev pub after_first : HashWrites → HashWrites
 after_first [] = []
 after_first (write ∷ writes) = writes
 
--- from what two values feed, and what follows, one can tell what they represent, and what follows
+-- what two values feed, with what follows, determines what they represent, and what follows
 abbrev pub Distinguishes : {V W : Type 0} → (V → Type 0) → (V → W) → (V → HashWrites) → V → V → Type 0
 Distinguishes IsOfKind value feed x y = (a b : HashWrites) → IsOfKind x → IsOfKind y → feed x ++ a ≡ feed y ++ b → (value x ≡ value y) × (a ≡ b)
 

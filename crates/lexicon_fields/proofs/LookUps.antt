@@ -30,7 +30,8 @@ pub value_of-named_values : {V : Type 0} (name : V → List ℕ) (values : List 
 value_of-named_values name values text v all found =
     sym ((bytes_eq-Decides text (name v)).0 (value_of-all (λ pair. bytes_eq pair.0 (name pair.1)) (named_values name values) text v all found))
 
--- a property of every parsed value carries over: from a part to the whole, to the next step, and to the first of two parsers that succeeds
+-- a property of every parsed value carries over: from a part to the whole, to the next step, and to the first of two
+-- parsers that succeeds
 
 pub holds-if_read : {V : Type 0} (P : V → Type 0) (reading : Option V) → ((v : V) → reading ≡ Some v → P v) → IfSome reading P
 holds-if_read P (Some v) holds = holds v refl

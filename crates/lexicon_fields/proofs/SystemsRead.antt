@@ -1,4 +1,5 @@
--- Texts that parse as a system: they have no dash, the system's version is in range, and its name is at most 4 bytes longer.
+-- Texts that parse as a system: they have no dash, the system's version is in range, and its name is at most 4 bytes
+-- longer.
 use Rattle.std.proofs.Common.{◌≡◌, ◌∙◌, ℕ, ◌+◌, ◌^◌, ◌<◌, ◌≤◌, List, [], ◌∷◌, ◌++◌, length, take, drop, Bool, true, false, cond, nat_eq, nat_le, ◌&&◌, Option, Some, None, IfSome, is_none, option_and_then, refl, sym, ap, subst, arith}
 use Rattle.std.specs.{Char.is_ascii_digit, List.list_all, List.join_with_byte, List.starts_with, Fmt.decimal}
 use Rattle.std.specs.Str.Parse.{digits_value, without_leading_plus}

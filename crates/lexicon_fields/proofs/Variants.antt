@@ -13,16 +13,16 @@ EachPair ((F ∷ Fs) ∷ Fss) P = ((x y : Values (F ∷ Fs)) → P (inl x) (inl 
 
 choices_pair : (Fss : List (List Field)) (P : Choice Fss → Choice Fss → Type 0) → ((c : Choice Fss) → P c c) → EachPair Fss P
     → (c d : Choice Fss) → tag (rowss Fss) (intoss Fss c) ≡ tag (rowss Fss) (intoss Fss d) → P c d
-choices_pair [] P alone pairs c d same = absurd c
-choices_pair (Fs ∷ Fss) P alone pairs (inl x) (inr y) same = absurd (omega arith)
-choices_pair (Fs ∷ Fss) P alone pairs (inr x) (inl y) same = absurd (omega arith)
-choices_pair ([] ∷ Fss) P alone pairs (inl x) (inl y) same = alone (inl x)
-choices_pair ([] ∷ Fss) P alone pairs (inr x) (inr y) same = choices_pair Fss (λ c d. P (inr c) (inr d)) (λ c. alone (inr c)) pairs x y (omega arith)
-choices_pair ((F ∷ Fs) ∷ Fss) P alone pairs (inl x) (inl y) same = pairs.0 x y
-choices_pair ((F ∷ Fs) ∷ Fss) P alone pairs (inr x) (inr y) same = choices_pair Fss (λ c d. P (inr c) (inr d)) (λ c. alone (inr c)) pairs.1 x y (omega arith)
+choices_pair [] P itself pairs c d same = absurd c
+choices_pair (Fs ∷ Fss) P itself pairs (inl x) (inr y) same = absurd (omega arith)
+choices_pair (Fs ∷ Fss) P itself pairs (inr x) (inl y) same = absurd (omega arith)
+choices_pair ([] ∷ Fss) P itself pairs (inl x) (inl y) same = itself (inl x)
+choices_pair ([] ∷ Fss) P itself pairs (inr x) (inr y) same = choices_pair Fss (λ c d. P (inr c) (inr d)) (λ c. itself (inr c)) pairs x y (omega arith)
+choices_pair ((F ∷ Fs) ∷ Fss) P itself pairs (inl x) (inl y) same = pairs.0 x y
+choices_pair ((F ∷ Fs) ∷ Fss) P itself pairs (inr x) (inr y) same = choices_pair Fss (λ c d. P (inr c) (inr d)) (λ c. itself (inr c)) pairs.1 x y (omega arith)
 
 pub variants_pair : (N : Record) (P : N.D → N.D → Type 0) → ((x : N.D) → P x x) → EachPair N.parts (λ c d. P (N.make c) (N.make d))
     → (x y : N.D) → tag_of (declared N) x ≡ tag_of (declared N) y → P x y
-variants_pair N P alone pairs x y same =
+variants_pair N P itself pairs x y same =
     subst (λ z. P z y) (N.eta x) (subst (P (N.make (N.as_values x))) (N.eta y)
-    (choices_pair N.parts (λ c d. P (N.make c) (N.make d)) (λ c. alone (N.make c)) pairs (N.as_values x) (N.as_values y) same))
+    (choices_pair N.parts (λ c d. P (N.make c) (N.make d)) (λ c. itself (N.make c)) pairs (N.as_values x) (N.as_values y) same))

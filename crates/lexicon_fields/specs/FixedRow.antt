@@ -9,8 +9,8 @@ has_row text =
     is_some (architecture_of text) || is_some (known_vendor_of text) || is_some (fixed_operating_system_of text)
     || is_some (environment_of text) || is_some (binary_format_of text)
 
--- the row of a text that has one: the text, and the value that it parses as in each field; it parses as no other vendor or
--- system, since custom vendors and versions have no row
+-- the row of a text that has one: the text, and the value that it parses as in each field; it parses as no other
+-- vendor or system, since custom vendors and versions have no row
 pub record IsRowOf (name : List ℕ) (row : FixedRow) : Type 0 where
   pub exists : has_row name ≡ true
   pub text : row.text.now ≡ name

@@ -6,7 +6,8 @@ use Rattle.std.specs.declared.cmp.Ordering.{Ordering}
 use Rattle.lexicon_fields.specs.{declared.deployment_target.DeploymentTarget.DeploymentTarget, declared.operating_system.OperatingSystem.OperatingSystem, Names.is_dash_free}
 use Rattle.lexicon_fields.specs.OperatingSystem.{version_held}
 
--- each value of this kind parses back from its name, and neither such a name nor any text that parses as a value has a dash
+-- each value of this kind parses back from its name, and neither such a name nor any text that parses as a value has
+-- a dash
 pub record NamesOfReadBack {V : Type 0} (IsOfKind : V → Type 0) (name : V → List ℕ) (find : List ℕ → Option V) : Type 0 where
   pub reads_back : (v : V) → IsOfKind v → find (name v) ≡ Some v
   pub name_dash_free : (v : V) → IsOfKind v → is_dash_free (name v) ≡ true
@@ -44,8 +45,8 @@ ComparesByValue {V} eq = (x y : V) → IsTrue (eq x y) ↔ (x ≡ y)
 abbrev pub CopiesAreTheirSources : {V : Type 0} → (V → V → Type 0) → (V → Type 0) → Type 0
 CopiesAreTheirSources {V} IsCopy NeedsNoMemory = (source : V) → NeedsNoMemory source × ((copy : V) → IsCopy source copy → copy ≡ source)
 
--- two values of this kind feed a hasher the same exactly if what they represent is the same, and what is fed after them, such
--- as the next field of a struct, can be told apart from what they feed
+-- two values of this kind feed a hasher the same exactly if what they represent is the same, and what is fed after
+-- them, such as the next field of a struct, can be distinguished from what they feed
 pub record HashInjectiveOn {V W : Type 0} (IsOfKind : V → Type 0) (value : V → W) (feed : V → HashWrites) : Type 0 where
   pub exactly : (x y : V) → IsOfKind x → IsOfKind y → (feed x ≡ feed y) ↔ (value x ≡ value y)
   pub with_more : (x y : V) (a b : HashWrites) → IsOfKind x → IsOfKind y → feed x ++ a ≡ feed y ++ b → (value x ≡ value y) × (a ≡ b)

@@ -8,9 +8,12 @@ abbrev pub pieces_left : Option (Bor (List ℕ)) → List (List ℕ)
 pieces_left None = []
 pieces_left (Some rest) = pieces_of rest.now
 
+abbrev pub zero_digit : ℕ
+zero_digit = 48
+
 -- the ASCII digit for a number below 10
 abbrev pub digit_byte : ℕ → ℕ
-digit_byte n = 48 + n
+digit_byte n = zero_digit + n
 
 -- the first bytes of a text as a big-endian number; a missing byte is zero
 abbrev pub prefix_key_of : ℕ → List ℕ → ℕ

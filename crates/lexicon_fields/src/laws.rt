@@ -43,7 +43,8 @@ pub fn names_read_back()
     ensures riscv64 { NamesReadBack riscv64_name (sub_architecture_of as_riscv64) }
     ensures clever { NamesReadBack clever_name (sub_architecture_of as_clever) }
     ensures z80 { NamesReadBack z80_name (sub_architecture_of as_z80) }
-    ensures operating_system { NamesOfReadBack HasVersionInRange operating_system_name operating_system_of }
+    ensures operating_system { NamesOfReadBack HasVersionInRange operating_system_name
+        operating_system_of }
     ensures environment { NamesReadBack environment_name environment_of }
     ensures binary_format { NamesReadBack binary_format_name binary_format_of }
     ensures vendor { NamesOfReadBack (λ v. is_plain v ≡ true) vendor_name vendor_of }
@@ -80,14 +81,15 @@ pub fn custom_vendors_are_equal_by_text()
 
 /// Known vendors are equal by variant, custom ones by text, and a custom vendor never equals a known one.
 pub fn vendors_are_equal_by_value()
-    ensures { (x y : Vendor) → IsTrue (⟦<Vendor as PartialEq>⟧.eq x y) ↔ (vendor_value x ≡ vendor_value y) }
+    ensures { (x y : Vendor) →
+        IsTrue (⟦<Vendor as PartialEq>⟧.eq x y) ↔ (vendor_value x ≡ vendor_value y) }
 {}
 
 /// The texts of the rows are the fixed names of all fields and the alias, each once, in the order of their bytes.
 pub fn rows_are_sorted_and_whole()
     ensures sorted { IsStrictlySortedBy (slice_cmp nat_cmp) row_texts }
     ensures count { length row_texts ≡ row_count }
-    ensures whole { (text : List ℕ) → Contains row_texts text ↔ (has_row text ≡ true) }
+    ensures whole { (text : List ℕ) → IsTrue (has_row text) ↔ Contains row_texts text }
 {}
 
 /// Values of each other type are equal exactly if their variants and fields are, the texts of rows by bytes.
@@ -110,7 +112,8 @@ pub fn values_are_equal_by_variant_and_fields()
     ensures pointer_width { ComparesByValue ⟦<PointerWidth as PartialEq>⟧.eq }
     ensures vendor_error { ComparesByValue ⟦<VendorError as PartialEq>⟧.eq }
     ensures known_vendor { ComparesByValue ⟦<KnownVendor as PartialEq>⟧.eq }
-    ensures fixed_row { (x y : FixedRow) → IsTrue (⟦<FixedRow as PartialEq>⟧.eq x y) ↔ HoldSameValues x y }
+    ensures fixed_row { (x y : FixedRow) →
+        IsTrue (⟦<FixedRow as PartialEq>⟧.eq x y) ↔ HoldSameValues x y }
 {}
 
 /// Two custom vendors feed a hasher equally exactly if their texts are equal.
@@ -120,8 +123,8 @@ pub fn custom_vendors_feed_by_text()
         ↔ (custom_text x ≡ custom_text y) }
 {}
 
-/// Two values of a type feed a hasher the same exactly if they are equal, and what is fed after a value can be told
-/// apart from what the value feeds. For systems with a version this holds if the version is in range.
+/// Two values of a type feed a hasher the same exactly if they are equal, and what is fed after a value can be
+/// distinguished from what the value feeds. For systems with a version this holds if the version is in range.
 pub fn values_feed_by_variant_and_fields()
     ensures architecture { HashInjective ⟦<Architecture as Hash>⟧.hash_input }
     ensures arm { HashInjective ⟦<ArmArchitecture as Hash>⟧.hash_input }
@@ -133,9 +136,12 @@ pub fn values_feed_by_variant_and_fields()
     ensures riscv64 { HashInjective ⟦<Riscv64Architecture as Hash>⟧.hash_input }
     ensures clever { HashInjective ⟦<CleverArchitecture as Hash>⟧.hash_input }
     ensures z80 { HashInjective ⟦<Z80Architecture as Hash>⟧.hash_input }
-    ensures vendor { HashInjectiveOn (λ (v : Vendor). Unit {0}) vendor_value ⟦<Vendor as Hash>⟧.hash_input }
-    ensures version { HashInjectiveOn IsVersionInRange (λ v. v) ⟦<DeploymentTarget as Hash>⟧.hash_input }
-    ensures operating_system { HashInjectiveOn HasVersionInRange (λ s. s) ⟦<OperatingSystem as Hash>⟧.hash_input }
+    ensures vendor { HashInjectiveOn (λ (v : Vendor). Unit {0}) vendor_value
+        ⟦<Vendor as Hash>⟧.hash_input }
+    ensures version { HashInjectiveOn IsVersionInRange (λ v. v)
+        ⟦<DeploymentTarget as Hash>⟧.hash_input }
+    ensures operating_system { HashInjectiveOn HasVersionInRange (λ s. s)
+        ⟦<OperatingSystem as Hash>⟧.hash_input }
     ensures environment { HashInjective ⟦<Environment as Hash>⟧.hash_input }
     ensures binary_format { HashInjective ⟦<BinaryFormat as Hash>⟧.hash_input }
     ensures endianness { HashInjective ⟦<Endianness as Hash>⟧.hash_input }
@@ -172,12 +178,14 @@ pub fn copies_are_their_sources()
         ⟦<Environment as Clone>⟧.is_infallible }
     ensures binary_format { CopiesAreTheirSources ⟦<BinaryFormat as Clone>⟧.is_clone
         ⟦<BinaryFormat as Clone>⟧.is_infallible }
-    ensures endianness { CopiesAreTheirSources ⟦<Endianness as Clone>⟧.is_clone ⟦<Endianness as Clone>⟧.is_infallible }
+    ensures endianness { CopiesAreTheirSources ⟦<Endianness as Clone>⟧.is_clone
+        ⟦<Endianness as Clone>⟧.is_infallible }
     ensures pointer_width { CopiesAreTheirSources ⟦<PointerWidth as Clone>⟧.is_clone
         ⟦<PointerWidth as Clone>⟧.is_infallible }
     ensures vendor_error { CopiesAreTheirSources ⟦<VendorError as Clone>⟧.is_clone
         ⟦<VendorError as Clone>⟧.is_infallible }
     ensures known_vendor { CopiesAreTheirSources ⟦<KnownVendor as Clone>⟧.is_clone
         ⟦<KnownVendor as Clone>⟧.is_infallible }
-    ensures fixed_row { CopiesAreTheirSources ⟦<FixedRow as Clone>⟧.is_clone ⟦<FixedRow as Clone>⟧.is_infallible }
+    ensures fixed_row { CopiesAreTheirSources ⟦<FixedRow as Clone>⟧.is_clone
+        ⟦<FixedRow as Clone>⟧.is_infallible }
 {}

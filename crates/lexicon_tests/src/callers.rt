@@ -1,4 +1,4 @@
-//! Each call of `uses`, run once; those of two targets stand in `same_targets`.
+//! Each call of `uses`, run once. Those that take two targets are in `same_targets`.
 
 use crate::fixtures::{OfTriple, OfValue, QuestionOf, is_found};
 use crate::reading::{has_values, is_answer, is_host};
@@ -12,7 +12,7 @@ use uses::{
     refused_text, release_matrix, triple_by_macro, wasi_text,
 };
 
-/// Targets whose objects LLVM 14 doesn't write in the format that the triple has, and behind `=` the format that it writes.
+/// Targets whose objects LLVM 14 writes in another format than the triple has, and after `=` that format.
 const OTHER_FORMATS: &str = "\
 aarch64-unknown-none=elf
 aarch64-unknown-none-softfloat=elf
@@ -32,7 +32,7 @@ wasm32-wasip1-threads=wasm
 wasm32-wasip2=wasm
 x86_64-pc-cygwin=coff";
 
-/// The triple of the text has another format than this.
+/// The triple of the text has a format other than this one.
 fn has_other_format(alloc: Global, text: &str, format: BinaryFormat) -> bool {
     match Triple::from_str(alloc, text) {
         Ok(triple) => triple.binary_format != format,
@@ -40,7 +40,7 @@ fn has_other_format(alloc: Global, text: &str, format: BinaryFormat) -> bool {
     }
 }
 
-/// Objects for the target are of the format of this name, which isn't that of its triple.
+/// Objects for the target have the format of this name, which isn't that of its triple.
 struct IsPlanned;
 
 impl Question for IsPlanned {
@@ -57,7 +57,7 @@ fn formats_are_those_of_llvm(rt: HostRuntime) -> Result<(), &'static str> {
     check_rows::<IsPlanned>(rt.alloc(), OTHER_FORMATS)
 }
 
-/// The target is linked so.
+/// The target is linked by this linker.
 fn check_linker(rt: &impl Abort, alloc: Global, text: &str, linker: Linker) {
     match link_plan(alloc, text) {
         Ok((_, planned)) => assert!(rt; planned == Some(linker), "{text}"),
@@ -73,7 +73,7 @@ fn linkers_follow_the_format(rt: HostRuntime) {
     check_linker(&rt, rt.alloc(), "wasm32-wasip1", Linker::WasmLd);
 }
 
-/// A target, and behind `=` the bytes and the alignment of its `long long`, or `-` where no layout is known.
+/// A target, and after `=` the size and alignment of its `long long`, or `-` if no layout is known.
 const LAYOUTS: &str = "\
 i686-unknown-linux-gnu=8 4
 armv7s-apple-ios=8 4
@@ -99,7 +99,7 @@ fn types_have_their_layout(rt: HostRuntime) -> Result<(), &'static str> {
     check_rows::<OfTriple<HasLayout>>(rt.alloc(), LAYOUTS)
 }
 
-/// The words, each a text of its own.
+/// The words as separate texts.
 fn texts_of(alloc: Global, words: &str) -> Result<Vec<String>, AllocError> {
     let mut texts = Vec::new(alloc);
     for word in words.split(' ') {
@@ -108,7 +108,8 @@ fn texts_of(alloc: Global, words: &str) -> Result<Vec<String>, AllocError> {
     Ok(texts)
 }
 
-/// The matrix of the texts has two targets, of which the second prints so; or the text of a place is refused so.
+/// The matrix of the texts has two targets, and this is the second one's text; or the text at an index is refused with
+/// this line.
 fn is_matrix(alloc: Global, texts: &[String], want: &str) -> bool {
     match release_matrix(alloc, texts) {
         Ok(matrix) => matrix.len() == 2 && prints(&matrix[1], want),
@@ -137,7 +138,7 @@ fn a_matrix_has_each_target_once(rt: HostRuntime) -> Result<(), &'static str> {
     check_rows::<HasMatrix>(rt.alloc(), MATRICES)
 }
 
-/// A target file, and behind `=` the five values of its triple, or `-` where it has no key for it.
+/// A target file, and after `=` the five values of its triple, or `-` if the file doesn't name it.
 const TARGET_FILES: &str = "\
 {\"llvm-target\": \"avr-none\"}=Avr Unknown None_ Unknown Unknown
 {\"cpu\": \"m4\"}=-";
@@ -158,7 +159,7 @@ fn a_target_file_names_its_triple(rt: HostRuntime) -> Result<(), &'static str> {
     check_rows::<OfValue<NamesTriple>>(rt.alloc(), TARGET_FILES)
 }
 
-/// The text is found, and is this one.
+/// There is a text, and it is this one.
 fn is_text<E: Drop>(found: Result<String, E>, wanted: &str) -> bool {
     match found {
         Ok(text) => text.as_str() == wanted,
@@ -166,7 +167,7 @@ fn is_text<E: Drop>(found: Result<String, E>, wanted: &str) -> bool {
     }
 }
 
-/// A text, and behind `=` the text of its key.
+/// A text, and after `=` the text of its key.
 const KEYS: &str = "\
 x86_64-apple-darwin23.6=x86_64-apple-darwin23.6.0
 x86_64-apple-darwin23.6.0=x86_64-apple-darwin23.6.0";

@@ -16,7 +16,7 @@ fn defaults_are_the_host_and_the_unknown_triple(rt: HostRuntime) {
     );
 }
 
-/// The vendor, as `{:?}` writes it.
+/// The vendor, in the form of `{:?}`.
 struct HasVendor;
 
 impl QuestionOf<DefaultToHost> for HasVendor {
@@ -45,7 +45,7 @@ fn is_copy<Q: QuestionOf<T>, T: PartialEq + Drop>(
 }
 
 /// The triple of a text with a custom vendor.
-fn customized(rt: &impl Abort, alloc: Global) -> Triple {
+fn custom_triple(rt: &impl Abort, alloc: Global) -> Triple {
     match Triple::from_str(alloc, "x86_64-customvendor-linux") {
         Ok(triple) => triple,
         Err(_) => panic!(rt; "refused"),
@@ -55,17 +55,17 @@ fn customized(rt: &impl Abort, alloc: Global) -> Triple {
 #[test]
 fn a_clone_keeps_a_custom_vendor(rt: HostRuntime) {
     let vendor = "Custom(Owned(\"customvendor\"))";
-    let host = DefaultToHost(customized(&rt, rt.alloc()));
+    let host = DefaultToHost(custom_triple(&rt, rt.alloc()));
     let copy = host.clone(rt.alloc());
     assert!(rt; is_copy::<HasVendor, DefaultToHost>(rt.alloc(), copy, host, vendor));
-    let unknown = DefaultToUnknown(customized(&rt, rt.alloc()));
+    let unknown = DefaultToUnknown(custom_triple(&rt, rt.alloc()));
     let copy = unknown.clone(rt.alloc());
     assert!(rt; is_copy::<HasVendor, DefaultToUnknown>(rt.alloc(), copy, unknown, vendor));
 }
 
 #[test]
 fn equal_triples_feed_a_hasher_alike(rt: HostRuntime) {
-    let triple = customized(&rt, rt.alloc());
+    let triple = custom_triple(&rt, rt.alloc());
     let fixed = with_vendor(
         rt.alloc(),
         "x86_64-unknown-linux-unknown-elf",

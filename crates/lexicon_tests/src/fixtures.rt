@@ -1,4 +1,4 @@
-//! What the tests ask of triples and of JSON values, and build triples from.
+//! What the tests have in common: questions about triples and JSON values, and how triples are built.
 
 use field_tests::{Question, prints};
 use serde_json::Value;
@@ -8,12 +8,12 @@ use std::marker::PhantomData;
 use std::process::Abort;
 use target_lexicon::{CDataModel, CallingConvention, CustomVendor, ParseError, Triple, Vendor};
 
-/// What is asked of a value of which a row has the text.
+/// A question about a value that a row gives as a text.
 pub(crate) trait QuestionOf<T> {
     fn holds(alloc: Global, value: &T, want: &str) -> bool;
 }
 
-/// What was read is this.
+/// The parsed value is this one.
 pub(crate) fn is_read<T: PartialEq + Drop, E: Drop>(read: Result<T, E>, wanted: &T) -> bool {
     match read {
         Ok(value) => value == *wanted,
@@ -21,7 +21,7 @@ pub(crate) fn is_read<T: PartialEq + Drop, E: Drop>(read: Result<T, E>, wanted: 
     }
 }
 
-/// Something was found, and the question holds of it.
+/// There is a value, and the question holds for it.
 pub(crate) fn is_found<Q: QuestionOf<T>, T: Drop, E: Drop>(
     alloc: Global,
     found: Result<T, E>,
@@ -33,7 +33,7 @@ pub(crate) fn is_found<Q: QuestionOf<T>, T: Drop, E: Drop>(
     }
 }
 
-/// The text reads as a triple of which the question holds.
+/// The text parses as a triple for which the question holds.
 pub(crate) struct OfTriple<Q>(PhantomData<Q>);
 
 impl<Q: QuestionOf<Triple>> Question for OfTriple<Q> {
@@ -42,7 +42,7 @@ impl<Q: QuestionOf<Triple>> Question for OfTriple<Q> {
     }
 }
 
-/// The text is of a JSON value of which the question holds.
+/// The text is a JSON value for which the question holds.
 pub(crate) struct OfValue<Q>(PhantomData<Q>);
 
 impl<Q: QuestionOf<Value>> Question for OfValue<Q> {
@@ -56,7 +56,7 @@ pub(crate) fn check_line<T: Display + Drop>(rt: &impl Abort, value: T, line: &st
     assert!(rt; prints(&value, line), "{line}");
 }
 
-/// The triple that the text reads as, with a custom vendor of this name, whatever it is.
+/// The triple that the text parses as, with the custom vendor of this text, plain or not.
 pub(crate) fn with_vendor(alloc: Global, text: &str, name: &'static str) -> Option<Triple> {
     match Triple::from_str(alloc, text) {
         Ok(triple) => Some(Triple {
@@ -67,7 +67,7 @@ pub(crate) fn with_vendor(alloc: Global, text: &str, name: &'static str) -> Opti
     }
 }
 
-/// The triple prints this text, and has it.
+/// The triple displays this text, and `to_text` returns it.
 pub(crate) fn is_printed(alloc: Global, triple: &Triple, text: &str) -> bool {
     match triple.to_text(alloc) {
         Ok(printed) => printed.as_str() == text && prints(triple, text),

@@ -1,4 +1,4 @@
-//! Texts that were made to mislead a reader, to be long, or to hold what no name holds.
+//! Hostile texts: misleading, very long, or with characters that no name has.
 
 use crate::fixtures::OfTriple;
 use crate::printing::Prints;
@@ -6,7 +6,7 @@ use crate::reading::IsRefused;
 use field_tests::{check_rows, lengthened_rows};
 use std::process::Abort;
 
-/// A text, and behind `=` the line that tells why it is refused.
+/// A text, and after `=` the line that says why it is refused.
 const REFUSED: &str = "\
 x86_64-custom\u{200d}vendor-linux=Unrecognized vendor: custom\u{200d}vendor
 x86_64-customvendor\u{feff}-linux=Unrecognized vendor: customvendor\u{feff}
@@ -33,7 +33,7 @@ fn misleading_texts_are_refused(rt: HostRuntime) -> Result<(), &'static str> {
     check_rows::<IsRefused>(rt.alloc(), REFUSED)
 }
 
-/// Apple systems with a thousand nines for each star, and the lines that tell why they are refused.
+/// Apple systems with a thousand nines for each star, and the lines that say why they are refused.
 const NINES: &str = "\
 x86_64-apple-ios*=Unrecognized operating system: ios*
 x86_64-apple-ios1.*=Unrecognized operating system: ios1.*
@@ -46,11 +46,11 @@ fn a_number_may_be_too_long(rt: HostRuntime) {
     assert_eq!(rt; check_rows::<IsRefused>(rt.alloc(), rows.as_str()), Ok(()));
 }
 
-/// An Apple system with a thousand zeros for each star, and what its triple prints.
+/// An Apple system with a thousand zeros for each star, and the printed triple.
 const ZEROS: &str = "x86_64-apple-darwin*23.*=x86_64-apple-darwin23.0.0";
 
 #[test]
-fn zeros_may_stand_in_front(rt: HostRuntime) {
+fn a_version_may_have_leading_zeros(rt: HostRuntime) {
     let rows = lengthened_rows(rt.alloc(), ZEROS, "0").expect(&rt, "memory");
     assert_eq!(rt;
         check_rows::<OfTriple<Prints>>(rt.alloc(), rows.as_str()),

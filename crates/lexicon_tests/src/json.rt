@@ -1,4 +1,4 @@
-//! JSON strings and lists, both ways.
+//! JSON strings and lists, parsed and written.
 
 use crate::fixtures::{OfValue, QuestionOf, check_line};
 use crate::reading::is_answer;
@@ -8,7 +8,7 @@ use std::alloc::{AllocError, Global};
 use std::process::Abort;
 use target_lexicon::{JsonError, ListError, ParseError, Triple, list_from_json, list_to_json};
 
-/// The value is written so.
+/// The value is written as this text.
 fn is_written(value: Result<Value, AllocError>, want: &str) -> bool {
     match value {
         Ok(value) => prints(&value, want),
@@ -22,7 +22,7 @@ fn a_triple_is_the_string_of_its_text(rt: HostRuntime) {
     assert!(rt; is_written(value, "\"x86_64-unknown-linux-gnu\""));
 }
 
-/// A JSON value, and behind `=` the five values of the triple that it reads as, or the line that tells why it is none.
+/// A JSON value, and after `=` the five values of the triple that it parses as, or the line of the error.
 const VALUES: &str = "\
 \"x86_64-unknown-linux-gnu\"=X86_64 Unknown Linux Gnu Elf
 \"x86_64-customvendor-linux\"=X86_64 Custom(Owned(\"customvendor\")) Linux Unknown Elf
@@ -38,7 +38,7 @@ true=Not a text
 {}=Not a text
 [\"x86_64\"]=Not a text";
 
-/// The value has this answer.
+/// The value parses with this result.
 struct ValueAnswers;
 
 impl QuestionOf<Value> for ValueAnswers {
@@ -52,7 +52,7 @@ fn values_are_read_or_refused(rt: HostRuntime) -> Result<(), &'static str> {
     check_rows::<OfValue<ValueAnswers>>(rt.alloc(), VALUES)
 }
 
-/// A JSON text, and behind `=` what its list of triples is written as, or the line that tells why it is none.
+/// A JSON text, and after `=` the text of its list of triples, or the line of the error.
 const LISTS: &str = "\
 []=[]
 [\"x86_64-unknown-linux-gnu\",\"i686-pc-windows-gnu\"]=[\"x86_64-unknown-linux-gnu\",\"i686-pc-windows-gnu\"]
@@ -67,7 +67,7 @@ null=Not a list
 [[\"x86_64\"]]=Element 0: Not a text
 [\"x86_64\",18446744073709551616]=Element 1: Not a text";
 
-/// The list has this answer.
+/// The list parses with this result.
 struct ListAnswers;
 
 impl QuestionOf<Value> for ListAnswers {
@@ -84,7 +84,7 @@ fn lists_are_read_and_written_or_refused(rt: HostRuntime) -> Result<(), &'static
     check_rows::<OfValue<ListAnswers>>(rt.alloc(), LISTS)
 }
 
-/// The value is no list of triples, for this reason, as `{:?}` writes it.
+/// The value is no list of triples, for this reason, in the form of `{:?}`.
 struct IsRefusedAs;
 
 impl QuestionOf<Value> for IsRefusedAs {

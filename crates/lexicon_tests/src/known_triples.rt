@@ -1,5 +1,5 @@
-//! The known triples, from upstream's own test of round trips: each is read, its architecture is known, and it prints
-//! as itself and comes back.
+//! The known triples, from upstream's own test of round trips: each parses, has a known architecture, prints as itself
+//! and comes back.
 
 use crate::fixtures::{OfTriple, QuestionOf};
 use field_tests::{check_words, prints};
@@ -86,7 +86,7 @@ z80-zilog-none sm83-nintendo-none tlcs90-toshiba-none";
 /// Further texts that print as themselves.
 const OTHER_TRIPLES: &str = "x86_64-apple-ios-gnu-elf x86_64-customvendor-xros65535.255.255";
 
-/// The architecture is known, and the triple comes back and prints so.
+/// The architecture is known, and the triple comes back and prints this text.
 struct IsKnown;
 
 impl QuestionOf<Triple> for IsKnown {

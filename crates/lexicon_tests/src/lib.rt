@@ -1,5 +1,5 @@
-//! Tests of the public calls of `target_lexicon` and `uses`. They stand in a crate of their own, so that these aren't proved once more
-//! with them.
+//! Tests of the public calls of `target_lexicon` and `uses`. They are a crate of their own, so that those crates aren't
+//! proved a second time for them.
 #![tactic(auto)]
 
 #[cfg(test)]
@@ -21,6 +21,6 @@ mod queries;
 #[cfg(test)]
 mod reading;
 #[cfg(test)]
-mod rounds;
+mod round_trips;
 #[cfg(test)]
 mod same_targets;

@@ -1,4 +1,4 @@
-//! What triples print, read or built, and the lines of errors.
+//! The printed texts of triples, parsed and built, and the lines of errors.
 
 use crate::fixtures::{OfTriple, QuestionOf, is_printed, with_vendor};
 use crate::reading::is_answer;
@@ -16,7 +16,7 @@ impl QuestionOf<Triple> for Prints {
     }
 }
 
-/// A text, and behind `=` what the triple that it reads as prints.
+/// A text, and after `=` the printed text of its triple.
 const READ: &str = "\
 unknown-unknown-unknown=unknown-unknown-unknown
 unknown-unknown-unknown-unknown=unknown-unknown-unknown
@@ -63,7 +63,7 @@ fn read_triples_print(rt: HostRuntime) -> Result<(), &'static str> {
     check_rows::<OfTriple<Prints>>(rt.alloc(), READ)
 }
 
-/// The triple of the text, with this vendor, prints this, and comes back or doesn't.
+/// The triple of the text with this vendor prints this text, and comes back or doesn't.
 fn is_built(alloc: Global, text: &str, vendor: &'static str, print: &str, is_back: bool) -> bool {
     match with_vendor(alloc, text, vendor) {
         Some(triple) => triple.comes_back() == is_back && is_printed(alloc, &triple, print),
@@ -87,7 +87,7 @@ impl QuestionOf<Triple> for Implies {
     }
 }
 
-/// A text, and behind `=` the format that its other fields imply, and not the one that it has.
+/// A text, and after `=` the format that its other fields imply, not the one that it has.
 const IMPLIED: &str = "\
 x86_64-unknown-linux-gnu-coff=elf
 x86_64-unknown-xros-gnu-coff=macho
@@ -99,8 +99,8 @@ fn the_implied_format_is_of_the_other_fields(rt: HostRuntime) -> Result<(), &'st
     check_rows::<OfTriple<Implies>>(rt.alloc(), IMPLIED)
 }
 
-/// A vendor that isn't plain, and a text; what the text's triple prints with that vendor; and what that reads as or why it
-/// is refused.
+/// A vendor that isn't plain, and a text; the printed text of the text's triple with that vendor; and the triple that
+/// this text parses as, or why it is refused.
 const NOT_PLAIN: &str = "\
 a-b x86_64-unknown-linux-unknown-elf=x86_64-a-b-linux=Unrecognized operating system: b
  x86_64-unknown-linux-unknown-elf=x86_64--linux=Unrecognized vendor:\u{20}
@@ -109,7 +109,7 @@ pc x86_64-unknown-windows-msvc-coff=x86_64-pc-windows-msvc=X86_64 Pc Windows Msv
 unknown-linux x86_64-unknown-unknown-unknown-elf=x86_64-unknown-linux-unknown-elf=X86_64 Unknown Linux Unknown Elf
 none x86_64-unknown-linux-unknown-elf=x86_64-none-linux=Unrecognized environment: linux";
 
-/// The triple of a vendor and a text prints and is read so, and doesn't come back.
+/// The triple of a vendor and a text prints this text, which parses with this result, and doesn't come back.
 fn is_not_plain(alloc: Global, names: &'static str, rest: &str) -> bool {
     let (vendor, text) = names.split_once(' ').unwrap_or((names, ""));
     let (print, want) = rest.split_once('=').unwrap_or((rest, ""));

@@ -1,4 +1,4 @@
-//! What triples and data models answer.
+//! The queries of triples and data models.
 
 use crate::fixtures::{OfTriple, QuestionOf, convention_word, model_word};
 use field_tests::{check_rows, order_word, width_word, writes};
@@ -6,7 +6,8 @@ use std::alloc::Global;
 use std::process::Abort;
 use target_lexicon::{Architecture, CDataModel, OperatingSystem, Size, Triple};
 
-/// A text, and behind `=` the byte order, pointer width, calling convention and data model of its triple; `-` for a refusal.
+/// A text, and after `=` the byte order, pointer width, calling convention and data model of its triple; `-` for no
+/// answer.
 const ANSWERS: &str = "\
 wasm32-wasip1=little 32 - ILP32
 wasm32-wasi=little 32 WasmBasicCAbi ILP32
@@ -56,7 +57,7 @@ unknown-apple-darwin=- - SystemV -
 unknown-pc-windows-gnu_ilp32=- 32 WindowsFastcall ILP32
 x86_64-customvendor-linux=little 64 SystemV LP64";
 
-/// The triple answers so.
+/// The queries of the triple have these answers.
 struct HasAnswers;
 
 impl QuestionOf<Triple> for HasAnswers {

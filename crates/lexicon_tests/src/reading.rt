@@ -1,4 +1,4 @@
-//! Texts that read as a triple, and texts that are refused.
+//! Texts that parse as a triple, and texts that are refused.
 
 use crate::fixtures::{OfTriple, QuestionOf, is_read};
 use field_tests::{Question, check_rows, lengthened_rows, prints, reports_each_failure, writes};
@@ -7,7 +7,7 @@ use std::fmt::Display;
 use std::process::Abort;
 use target_lexicon::{JsonError, ListError, ParseError, Triple, triple};
 
-/// The five values of the triple are these, as `{:?}` writes each.
+/// The five values of the triple are these, each in the form of `{:?}`.
 pub(crate) fn has_values(triple: &Triple, want: &str) -> bool {
     writes(
         &format_args!(
@@ -22,7 +22,7 @@ pub(crate) fn has_values(triple: &Triple, want: &str) -> bool {
     )
 }
 
-/// What was read has these values, or the line tells why nothing was.
+/// The parsed triple has these values, or this is the line of the error.
 pub(crate) fn is_answer<E: Display + Drop>(read: Result<Triple, E>, want: &str) -> bool {
     match read {
         Ok(triple) => has_values(&triple, want),
@@ -47,7 +47,7 @@ impl QuestionOf<Triple> for ReadsAs {
     }
 }
 
-/// A text, and behind `=` the five values of the triple that it reads as.
+/// A text, and after `=` the five values of the triple that it parses as.
 const READ: &str = "\
 unknown-unknown-unknown=Unknown Unknown Unknown Unknown Unknown
 unknown-unknown-unknown-unknown=Unknown Unknown Unknown Unknown Unknown
@@ -102,12 +102,12 @@ fn is_error_cloned(alloc: Global, error: &ParseError, line: &str) -> bool {
     }
 }
 
-/// Of an element of a list, the error tells each fault of what it is printed to.
-fn tells_in_list(error: ParseError) -> bool {
+/// As the error of an element of a list, it reports each failure of the target that it is printed to.
+fn reports_failures_in_list(error: ParseError) -> bool {
     reports_each_failure(&ListError::Element(190, JsonError::Parse(error)))
 }
 
-/// The line tells why the text is refused.
+/// The line says why the text is refused.
 pub(crate) struct IsRefused;
 
 impl Question for IsRefused {
@@ -115,13 +115,15 @@ impl Question for IsRefused {
         match Triple::from_str(alloc, text) {
             Ok(_) => false,
             Err(error) => {
-                prints(&error, line) && is_error_cloned(alloc, &error, line) && tells_in_list(error)
+                prints(&error, line)
+                    && is_error_cloned(alloc, &error, line)
+                    && reports_failures_in_list(error)
             }
         }
     }
 }
 
-/// A text, and behind `=` the line that tells why it is refused. Some letters only look like those of a vendor.
+/// A text, and after `=` the line that says why it is refused. Some letters only look like those of a vendor.
 const REFUSED: &str = "\
 =Unrecognized architecture: 
 -=Unrecognized architecture: 
@@ -172,7 +174,7 @@ fn other_texts_are_refused(rt: HostRuntime) -> Result<(), &'static str> {
     check_rows::<IsRefused>(rt.alloc(), REFUSED)
 }
 
-/// Texts with a thousand dashes for each star: behind nothing, behind an architecture, and behind all five fields.
+/// Texts with a thousand dashes for each star: as the whole text, after an architecture, and after all five fields.
 const DASHES: &str = "\
 *****=Unrecognized architecture: 
 x86_64*****=Unrecognized vendor: 

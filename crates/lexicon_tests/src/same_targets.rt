@@ -5,7 +5,7 @@ use std::alloc::Global;
 use target_lexicon::Triple;
 use uses::{canonical_text, names_target, share_key};
 
-/// Two spellings of one target each: aliases, a custom vendor, and each family that doesn't come back.
+/// Two spellings of each target: aliases, a custom vendor, and each family that doesn't come back.
 const SAME: &str = "\
 x86_64-linux=x86_64-unknown-linux-unknown-elf
 x86_64-linux-gnu=x86_64-unknown-linux-gnu
@@ -17,7 +17,7 @@ riscv32imc-esp-espidf-elf=riscv32imc-esp-espidf
 riscv32imc-esp-espidf-elf=riscv32imc-espressif-espidf-gnu
 clever-unknown-unknown-none=clever-unknown-none-elf";
 
-/// Two targets that differ in one field each.
+/// Pairs of targets that differ in one field.
 const OTHER: &str = "\
 x86_64-unknown-linux-gnu=aarch64-unknown-linux-gnu
 x86_64-customvendor-linux=x86_64-customvendos-linux
@@ -27,7 +27,7 @@ x86_64-unknown-linux-gnu=x86_64-unknown-linux-musl
 x86_64-unknown-linux=x86_64-unknown-linux-unknown-coff
 x86_64-esp-espidf-elf=x86_64-espressif-espidf-elf";
 
-/// Whether both texts have one settled text.
+/// Whether both texts have the same canonical text.
 fn have_one_text(alloc: Global, first: &str, second: &str) -> Option<bool> {
     let text = canonical_text(alloc, first).ok()?;
     Some(text == canonical_text(alloc, second).ok()?)
@@ -38,17 +38,17 @@ fn is_named(alloc: Global, text: &str, triple: &Triple) -> Option<bool> {
     names_target(alloc, text, triple).ok()
 }
 
-/// Each call tells whether the two texts are spellings of one target.
-fn are_told(alloc: Global, first: &str, second: &str, is_same: bool) -> bool {
+/// Each call reports whether the two texts are spellings of one target.
+fn agree_on(alloc: Global, first: &str, second: &str, is_same: bool) -> bool {
     match (
         Triple::from_str(alloc, first),
         Triple::from_str(alloc, second),
     ) {
         (Ok(one), Ok(other)) => {
-            let is_told = one.settles_as(&other) == is_same
+            let is_agreed = one.settles_as(&other) == is_same
                 && other.settles_as(&one) == is_same
                 && is_named(alloc, first, &other) == Some(is_same);
-            share_key(one, other) == is_same && is_told
+            share_key(one, other) == is_same && is_agreed
         }
         _ => false,
     }
@@ -59,7 +59,7 @@ struct NameOneTarget;
 
 impl Question for NameOneTarget {
     fn holds(alloc: Global, first: &str, second: &str) -> bool {
-        are_told(alloc, first, second, true) && have_one_text(alloc, first, second) == Some(true)
+        agree_on(alloc, first, second, true) && have_one_text(alloc, first, second) == Some(true)
     }
 }
 
@@ -68,7 +68,7 @@ struct NameTwoTargets;
 
 impl Question for NameTwoTargets {
     fn holds(alloc: Global, first: &str, second: &str) -> bool {
-        are_told(alloc, first, second, false) && have_one_text(alloc, first, second) == Some(false)
+        agree_on(alloc, first, second, false) && have_one_text(alloc, first, second) == Some(false)
     }
 }
 

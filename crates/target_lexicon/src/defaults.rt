@@ -24,7 +24,8 @@ impl DefaultToHost {
     /// A copy, whose vendor owns its text where this one's does. `Err` says that the memory for that text was refused.
     pub fn clone(&self, alloc: Global) -> Result<Self, AllocError>
         ensures values { IfOk result (λ copy. values_of copy.0 ≡ values_of self.now.0) }
-        ensures variant { IfOk result (λ copy. owns_text copy.0.vendor ≡ owns_text self.now.0.vendor) }
+        ensures variant { IfOk result
+            (λ copy. owns_text copy.0.vendor ≡ owns_text self.now.0.vendor) }
         ensures succeeds { owns_text self.now.0.vendor ≡ false → IsOk result }
     {
         Ok(DefaultToHost(self.0.clone(alloc)?))
@@ -49,7 +50,8 @@ impl DefaultToUnknown {
     /// A copy, whose vendor owns its text where this one's does. `Err` says that the memory for that text was refused.
     pub fn clone(&self, alloc: Global) -> Result<Self, AllocError>
         ensures values { IfOk result (λ copy. values_of copy.0 ≡ values_of self.now.0) }
-        ensures variant { IfOk result (λ copy. owns_text copy.0.vendor ≡ owns_text self.now.0.vendor) }
+        ensures variant { IfOk result
+            (λ copy. owns_text copy.0.vendor ≡ owns_text self.now.0.vendor) }
         ensures succeeds { owns_text self.now.0.vendor ≡ false → IsOk result }
     {
         Ok(DefaultToUnknown(self.0.clone(alloc)?))

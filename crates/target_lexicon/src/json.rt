@@ -61,8 +61,10 @@ pub fn list_to_json(alloc: Global, triples: &[Triple]) -> Result<Value, AllocErr
 /// - [`ListError::OutOfMemory`] where the memory for the list itself was refused, which is asked for only behind an element that
 ///   reads.
 pub fn list_from_json(alloc: Global, value: &Value) -> Result<Vec<Triple>, ListError>
-    ensures ok { IfOk result (λ triples. ListReadsAs (view value.now) (map values_of triples.items)) }
-    ensures owned { IfOk result (λ triples. All (λ triple. OwnsCustomText triple.vendor) triples.items) }
+    ensures ok { IfOk result
+        (λ triples. ListReadsAs (view value.now) (map values_of triples.items)) }
+    ensures owned { IfOk result
+        (λ triples. All (λ triple. OwnsCustomText triple.vendor) triples.items) }
     ensures plain { IfOk result
         (λ triples. All (λ triple. is_plain (vendor_value triple.vendor) ≡ true) triples.items) }
     ensures err { IfErr result (λ error. IsListFault (view value.now) (list_fault_of error)) }

@@ -88,7 +88,8 @@ pub fn equal_texts_equal_triples()
 
 /// Two triples are equal, as `==` tells, exactly where their five values are; a custom vendor is its text.
 pub fn triples_are_equal_by_value()
-    ensures { (x y : Triple) → IsTrue (⟦<Triple as PartialEq>⟧.eq x y) ↔ (values_of x ≡ values_of y) }
+    ensures { (x y : Triple) →
+        IsTrue (⟦<Triple as PartialEq>⟧.eq x y) ↔ (values_of x ≡ values_of y) }
 {
     lexicon_fields::laws::values_are_equal_by_variant_and_fields();
     lexicon_fields::laws::vendors_are_equal_by_value();
@@ -195,7 +196,9 @@ pub fn other_texts_than_upstream()
 
 /// A list of triples that come back when they are printed and read, written as JSON and read, is itself and no other.
 pub fn lists_read_back()
-    ensures { (ts us : List Values) → All ComesBack ts → ListReadsAs (list_json_of ts) us ↔ (us ≡ ts) }
+    ensures { (ts us : List Values) →
+        All ComesBack ts →
+        ListReadsAs (list_json_of ts) us ↔ (us ≡ ts) }
 {
     one_outcome_each();
 }
@@ -215,8 +218,10 @@ pub fn list_errors_are_equal_by_value()
 
 /// A copy of a size, a data model or a calling convention is that value, and copying needs no memory.
 pub fn copies_are_their_sources()
-    ensures size { CopiesAreTheirSources ⟦<Size as Clone>⟧.is_clone ⟦<Size as Clone>⟧.is_infallible }
-    ensures data_model { CopiesAreTheirSources ⟦<CDataModel as Clone>⟧.is_clone ⟦<CDataModel as Clone>⟧.is_infallible }
+    ensures size { CopiesAreTheirSources ⟦<Size as Clone>⟧.is_clone
+        ⟦<Size as Clone>⟧.is_infallible }
+    ensures data_model { CopiesAreTheirSources ⟦<CDataModel as Clone>⟧.is_clone
+        ⟦<CDataModel as Clone>⟧.is_infallible }
     ensures calling_convention { CopiesAreTheirSources ⟦<CallingConvention as Clone>⟧.is_clone
         ⟦<CallingConvention as Clone>⟧.is_infallible }
 {}
@@ -233,10 +238,10 @@ pub fn answers_feed_by_variant()
 pub fn triples_feed_by_value()
     ensures triple { HashInjectiveOn (λ t. HasVersionInRange t.operating_system) values_of
         ⟦<Triple as Hash>⟧.hash_input }
-    ensures host { HashInjectiveOn (λ t. HasVersionInRange t.0.operating_system) (λ t. values_of t.0)
-        ⟦<DefaultToHost as Hash>⟧.hash_input }
-    ensures unknown { HashInjectiveOn (λ t. HasVersionInRange t.0.operating_system) (λ t. values_of t.0)
-        ⟦<DefaultToUnknown as Hash>⟧.hash_input }
+    ensures host { HashInjectiveOn (λ t. HasVersionInRange t.0.operating_system)
+        (λ t. values_of t.0) ⟦<DefaultToHost as Hash>⟧.hash_input }
+    ensures unknown { HashInjectiveOn (λ t. HasVersionInRange t.0.operating_system)
+        (λ t. values_of t.0) ⟦<DefaultToUnknown as Hash>⟧.hash_input }
 {
     lexicon_fields::laws::values_feed_by_variant_and_fields();
 }

@@ -90,7 +90,8 @@ impl<'a> Part<'a> {
 
     /// A part that has no row may be a custom vendor. `Err` says that the memory for its text was refused.
     pub(crate) fn vendor(&self, alloc: Global) -> Result<Option<Vendor>, AllocError>
-        ensures ok { IfOk result (λ vendor. option_map vendor_value vendor ≡ vendor_of self.now.text.now) }
+        ensures ok { IfOk result
+            (λ vendor. option_map vendor_value vendor ≡ vendor_of self.now.text.now) }
         ensures owned { IfOk result (λ vendor. IfSome vendor OwnsCustomText) }
         ensures memory { OnErr result (is_admitted self.now.text.now ≡ true) }
     {

@@ -117,7 +117,8 @@ impl<'a> PartCursor<'a> {
 
 /// The refusal of the part that is left behind this field.
 fn refusal(part: String, last: Field) -> ParseError
-    ensures { refusal_of result ≡ Some (refusal_with (expected_after (field_of last)) (string_bytes part)) }
+    ensures { refusal_of result
+        ≡ Some (refusal_with (expected_after (field_of last)) (string_bytes part)) }
 {
     match last {
         Field::Architecture => ParseError::UnrecognizedVendor(part),

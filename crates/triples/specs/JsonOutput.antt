@@ -33,7 +33,8 @@ IsJsonAnswerFault value run_error.NotList = as_array value ≡ None
 IsJsonAnswerFault value run_error.OutOfMemory = Unit {0}
 IsJsonAnswerFault value _ = ⊥
 
--- why the input has no output: it is not JSON, or not a list, or an allocation failed, which can't be for an empty input
+-- why the input has no output: it is not JSON, or not a list, or an allocation failed, which can't be for an empty
+-- input
 abbrev pub IsJsonInputFault : List ℕ → RunError → Type 0
 IsJsonInputFault input run_error.NotJson = read input ≡ None
 IsJsonInputFault input run_error.NotList = MatchOption (read input) ⊥ (λ value. as_array value ≡ None)

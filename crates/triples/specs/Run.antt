@@ -1,5 +1,5 @@
 -- What a run does to its reader and writer, and what counts as a failure of them.
-use Rattle.std.specs.Prelude.{ℕ, ◌<◌, List, length, take, Option, IfSome, cond, ◌==◌, ◌&&◌, not, Result, Ok, Err}
+use Rattle.std.specs.Prelude.{if◌then◌else◌, ℕ, ◌<◌, List, length, take, Option, IfSome, ◌==◌, ◌&&◌, not, Result, Ok, Err}
 use Rattle.triples.specs.{declared.counted.Counted.Counted, declared.mode.Mode.Mode, Output.IsOutput}
 use Rattle.std.specs.Str.{IsUtf8}
 use Rattle.std.specs.Io.KnownBytes.{Appends, Consumes}
@@ -32,5 +32,5 @@ failures_of (Err _) = 1
 
 -- 1 for an error, and for a write that took no byte of a piece that is not empty; otherwise 0
 abbrev pub write_failures_of : {E : Type 0} → Result ℕ E → List ℕ → ℕ
-write_failures_of (Ok taken_part) piece = cond ((taken_part == 0) && not (length piece == 0)) 1 0
+write_failures_of (Ok count) piece = if (count == 0) && not (length piece == 0) then 1 else 0
 write_failures_of (Err _) piece = 1

@@ -16,7 +16,8 @@ pub fn conclude<W: Write>(end: Option<Result<(), RunError>>, w: &mut Counted<W>)
     ensures status { result ≡ status_of end }
     ensures said { failures w.new ≡ failures w.old →
         Appends (W.contents (inner w.old)) (W.contents (inner w.new)) (closing_words end) }
-    ensures begun { AppendsBeginning (W.contents (inner w.old)) (W.contents (inner w.new)) (closing_words end) }
+    ensures begun { AppendsBeginning (W.contents (inner w.old)) (W.contents (inner w.new))
+        (closing_words end) }
 {
     match end {
         Some(Ok(())) => 0,

@@ -44,8 +44,8 @@ impl<R: Read> Counted<R> {
     /// One read. The count rises by one exactly if it fails.
     pub fn read(&mut self, buf: &mut [u8]) -> io::Result<usize>
         ensures bound { ReadsAtMost result buf.new }
-        ensures bytes { ReadConsumes (R.remaining (inner self.old)) (R.remaining (inner self.new)) result
-            buf.new }
+        ensures bytes { ReadConsumes (R.remaining (inner self.old)) (R.remaining (inner self.new))
+            result buf.new }
         ensures count { failures self.new ≡ failures self.old + failures_of result }
     {
         let answer = self.inner.read(buf);
@@ -62,7 +62,8 @@ impl<W: Write> Counted<W> {
     /// One write. The count rises by one exactly if it fails, or takes no byte of a piece that is not empty.
     pub fn write(&mut self, buf: &[u8]) -> io::Result<usize>
         ensures bound { WritesAtMost result buf.now }
-        ensures bytes { WriteAppends (W.contents (inner self.old)) (W.contents (inner self.new)) result buf.now }
+        ensures bytes { WriteAppends (W.contents (inner self.old)) (W.contents (inner self.new))
+            result buf.now }
         ensures count { failures self.new ≡ failures self.old + write_failures_of result buf.now }
     {
         let answer = self.inner.write(buf);

@@ -25,7 +25,8 @@ pub(crate) fn push_facts(output: &mut String, triple: &Triple) -> Result<(), All
 
 /// Appends a space and a word.
 fn push_word(output: &mut String, word: &str) -> Result<(), AllocError>
-    ensures { OnOk result (string_bytes output.new ≡ string_bytes output.old ++ spaced_word word.now) }
+    ensures { OnOk result
+        (string_bytes output.new ≡ string_bytes output.old ++ spaced_word word.now) }
 {
     output.push(' ')?;
     output.push_str(word)

@@ -46,7 +46,8 @@ pub(crate) fn write_all<W: Write>(writer: &mut Counted<W>, bytes: &[u8]) -> Resu
     ensures unfailed { OnOk result (failures writer.new ≡ failures writer.old) }
     ensures counted { failures writer.old ≤ failures writer.new }
     ensures write { IsErrOf result RunError.Write ↔ (failures writer.old < failures writer.new) }
-    ensures begun { AppendsBeginning (W.contents (inner writer.old)) (W.contents (inner writer.new)) bytes.now }
+    ensures begun { AppendsBeginning (W.contents (inner writer.old)) (W.contents (inner writer.new))
+        bytes.now }
     ensures only { IfErr result (λ e. e ≡ RunError.Write) }
 {
     let mut rest = bytes;
@@ -74,7 +75,8 @@ pub(crate) fn write_and_flush<W: Write>(
     ensures unfailed { OnOk result (failures writer.new ≡ failures writer.old) }
     ensures counted { failures writer.old ≤ failures writer.new }
     ensures write { IsErrOf result RunError.Write ↔ (failures writer.old < failures writer.new) }
-    ensures begun { AppendsBeginning (W.contents (inner writer.old)) (W.contents (inner writer.new)) bytes.now }
+    ensures begun { AppendsBeginning (W.contents (inner writer.old)) (W.contents (inner writer.new))
+        bytes.now }
     ensures only { IfErr result (λ e. e ≡ RunError.Write) }
 {
     write_all(writer, bytes)?;

@@ -39,8 +39,8 @@ fn is_out_of_memory(error: &JsonError) -> bool
     matches!(error, JsonError::Parse(ParseError::OutOfMemory))
 }
 
-/// The text of the list that the value parses as, or the line for its first refused element. The value is dropped before
-/// the text is made, to save memory.
+/// The text of the list that the value parses as, or the line for its first refused element. The value is dropped
+/// before the text is made, to save memory.
 fn answer(alloc: Global, value: Value) -> Result<String, RunError>
     ensures ok { IfOk result (λ answer. IsJsonAnswer (view value) (string_bytes answer)) }
     ensures err { IfErr result (λ e. IsJsonAnswerFault (view value) e) }

@@ -17,8 +17,10 @@ pub fn words_are_equal_by_variant()
 
 /// A copy of a mode or an error is that value, and copying allocates nothing.
 pub fn copies_are_their_sources()
-    ensures mode { CopiesAreTheirSources ⟦<Mode as Clone>⟧.is_clone ⟦<Mode as Clone>⟧.is_infallible }
-    ensures error { CopiesAreTheirSources ⟦<RunError as Clone>⟧.is_clone ⟦<RunError as Clone>⟧.is_infallible }
+    ensures mode { CopiesAreTheirSources ⟦<Mode as Clone>⟧.is_clone
+        ⟦<Mode as Clone>⟧.is_infallible }
+    ensures error { CopiesAreTheirSources ⟦<RunError as Clone>⟧.is_clone
+        ⟦<RunError as Clone>⟧.is_infallible }
 {}
 
 /// Mode `settle` writes the same text for two lines that parse exactly if their canonical triples are equal.

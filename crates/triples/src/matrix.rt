@@ -103,7 +103,8 @@ impl Seen {
             ++ (if has_text self.old.texts (text_of (values_of triple.now)) then [] else
             text_of (values_of triple.now)
             ++ line_feed ∷ [])) }
-        ensures seen { OnOk result (HasOneMore self.old.texts self.new.texts (text_of (values_of triple.now))) }
+        ensures seen { OnOk result
+            (HasOneMore self.old.texts self.new.texts (text_of (values_of triple.now))) }
     {
         put_text(&mut self.scratch, triple)?;
         push_unseen(alloc, output, &mut self.texts, &self.scratch)

@@ -1,4 +1,4 @@
--- What a matrix of texts is; and that each triple comes back, so that equal texts are equal triples.
+-- The matrix of a list of texts. Each of its triples comes back, so equal texts are equal triples.
 use Rattle.std.proofs.Common.{List, [], All}
 use Rattle.std.specs.List.{AllPairs, FoldsTo}
 use Rattle.target_lexicon.specs.{declared.triple.Triple.Triple, Laws.ComesBack, Values.values_of}

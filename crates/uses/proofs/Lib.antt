@@ -1,3 +1,3 @@
--- IsMatrix: what the release matrix is, as far as it has come. OneMore: the matrix of one more text.
+-- IsMatrix: the release matrix of the texts so far. OneMore: the matrix with one more text.
 pub mod IsMatrix
 pub mod OneMore

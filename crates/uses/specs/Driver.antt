@@ -1,4 +1,4 @@
--- What a compiler's driver makes of a triple: the format of its object files, and how a linker is called.
+-- What a compiler driver derives from a triple: the format of its object files, and the linker.
 use Rattle.std.specs.Prelude.{Bool, true, false, Option, Some, None}
 use Rattle.lexicon_fields.specs.{declared.architecture.Architecture.Architecture, declared.operating_system.OperatingSystem.OperatingSystem, declared.environment.Environment.Environment}
 use Rattle.lexicon_fields.specs.declared.binary_format.BinaryFormat.{BinaryFormat}
@@ -10,13 +10,14 @@ use Rattle.lexicon_fields.specs.declared.operating_system.OperatingSystem.TheVar
 use Rattle.lexicon_fields.specs.declared.environment.Environment.TheVariants as environment
 use Rattle.lexicon_fields.specs.declared.binary_format.BinaryFormat.TheVariants as binary_format
 
--- whether the machine is WebAssembly's
+-- whether the architecture is WebAssembly
 abbrev pub is_wasm : Architecture → Bool
 is_wasm architecture.Wasm32 = true
 is_wasm architecture.Wasm64 = true
 is_wasm a = false
 
--- the format that LLVM writes: WebAssembly has its own, Cygwin that of Windows, and a machine without a system has one too
+-- the format that LLVM writes: WebAssembly has its own, Cygwin has that of Windows, and a machine without a system has
+-- one too
 abbrev pub format_for : BinaryFormat → Bool → OperatingSystem → BinaryFormat
 format_for binary_format.Elf true s = binary_format.Wasm
 format_for binary_format.Elf false operating_system.Cygwin = binary_format.Coff
@@ -27,7 +28,7 @@ format_for f w s = f
 abbrev pub object_format : Values → BinaryFormat
 object_format t = format_for t.binary_format (is_wasm t.architecture) t.operating_system
 
--- objects of Windows are linked as Microsoft's or as GNU's, by the environment
+-- on Windows the linker is Microsoft's or GNU's, by the environment
 abbrev pub coff_linker : OperatingSystem → Environment → Linker
 coff_linker operating_system.Cygwin e = Gnu
 coff_linker s environment.Gnu = Gnu

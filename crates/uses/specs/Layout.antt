@@ -1,4 +1,4 @@
--- How a code generator lays out C's types.
+-- The layout of C's types in a code generator.
 use Rattle.std.specs.Prelude.{ℕ, Option, option_map, if◌then◌else◌}
 use Rattle.lexicon_fields.specs.{declared.architecture.Architecture.Architecture, declared.operating_system.OperatingSystem.OperatingSystem, OperatingSystem.is_like_darwin}
 use Rattle.target_lexicon.specs.{declared.data_model.CDataModel.CDataModel, declared.data_model.Size.Size, DataModel.size_bytes, DataModel.sizes_of, Queries.data_model, Values.Values}
@@ -6,7 +6,7 @@ use Rattle.uses.specs.{declared.layout.TypeLayout.TypeLayout, declared.layout.CL
 use Rattle.lexicon_fields.specs.declared.architecture.Architecture.TheVariants as architecture
 use Rattle.lexicon_fields.specs.declared.operating_system.OperatingSystem.TheVariants as operating_system
 
--- the bytes to which a `long long` is aligned: 4 on 32-bit x86 but Windows, and on 32-bit Arm of Apple but watchOS
+-- the alignment of a `long long`: 4 on 32-bit x86 except Windows, and on Apple's 32-bit Arm except watchOS
 abbrev pub long_long_alignment : Architecture → OperatingSystem → ℕ
 long_long_alignment (architecture.X86_32 sub) operating_system.Windows = 8
 long_long_alignment (architecture.X86_32 sub) s = 4
@@ -30,6 +30,6 @@ layout_in model a s = record {
   long_long = aligned_to (long_long_alignment a s) (sizes_of model).long_long;
 }
 
--- the layout of a triple, where its data model is known
+-- the layout for a triple, if its data model is known
 abbrev pub c_layout : Values → Option CLayout
 c_layout t = option_map (λ model. layout_in model t.architecture t.operating_system) (data_model t)

@@ -1,4 +1,4 @@
--- What a target file says of its triple.
+-- The triple in a target file.
 use Rattle.std.specs.Prelude.{◌≡◌, Option, None, MatchOption, IsSome, codes}
 use Rattle.serde_json.specs.Data.{Data}
 use Rattle.serde_json.specs.Find.{get, as_object, as_str}
@@ -10,11 +10,11 @@ use Rattle.uses.specs.declared.target_file.TargetFileError.TheVariants.{NoObject
 abbrev pub llvm_target : Data → Option Data
 llvm_target file = get (codes "llvm-target") file
 
--- the text at `llvm-target` reads as the triple
+-- the text at `llvm-target` parses as the triple
 abbrev pub LlvmTargetReadsAs : Data → Values → Type 0
 LlvmTargetReadsAs file t = MatchOption (llvm_target file) ⊥ (λ value. JsonReadsAs value t)
 
--- why the file names no triple: the first of these that is so
+-- why the file names no triple: the first of these that holds
 abbrev pub IsTargetFileFault : Data → TargetFileError → Type 0
 IsTargetFileFault file NoObject = as_object file ≡ None
 IsTargetFileFault file NoKey = IsSome (as_object file) × (llvm_target file ≡ None)

@@ -1,4 +1,4 @@
-//! A compiler's driver: the format of object files, and how a linker is called.
+//! A compiler driver: the format of object files, and the linker.
 ghost use Rattle.std.specs.Prelude.{◌≡◌, IfOk, IfErr};
 ghost use Rattle.target_lexicon.specs.Reading.{ReadsAs, IsErrorOf};
 ghost use Rattle.target_lexicon.specs.Values.{Values, values_of};
@@ -9,22 +9,22 @@ use target_lexicon::{
     Architecture, BinaryFormat, Environment, OperatingSystem, ParseError, Triple,
 };
 
-/// How a linker is called.
+/// A kind of linker, by its command line.
 #[derive(Clone, Copy, PartialEq, Eq)]
 pub enum Linker {
-    /// As GNU's `ld`.
+    /// GNU's `ld`.
     Gnu,
-    /// As Apple's `ld64`.
+    /// Apple's `ld64`.
     Ld64,
-    /// As Microsoft's `link`.
+    /// Microsoft's `link`.
     Link,
-    /// As LLVM's `wasm-ld`.
+    /// LLVM's `wasm-ld`.
     WasmLd,
-    /// As the `ld` of AIX.
+    /// The `ld` of AIX.
     Aix,
 }
 
-/// The object format and the linker of the target that the text names. A format that stays unknown has no linker.
+/// The object format and the linker for the target that the text names. An unknown format has no linker.
 pub fn link_plan(alloc: Global, text: &str) -> Result<(BinaryFormat, Option<Linker>), ParseError>
     ensures ok { IfOk result
         (λ plan.
@@ -42,7 +42,8 @@ pub fn link_plan(alloc: Global, text: &str) -> Result<(BinaryFormat, Option<Link
     ))
 }
 
-/// The format in which LLVM writes objects, which is the triple's own but on WebAssembly, Cygwin and machines without a system.
+/// The format in which LLVM writes objects. It is the triple's own, except on WebAssembly, Cygwin and machines
+/// without a system.
 fn object_format(triple: &Triple) -> BinaryFormat
     ensures { result ≡ object_format (values_of triple.now) }
 {
@@ -59,7 +60,7 @@ fn object_format(triple: &Triple) -> BinaryFormat
     }
 }
 
-/// Whether the machine is WebAssembly's.
+/// Whether the architecture is WebAssembly.
 fn is_wasm(architecture: Architecture) -> bool
     ensures { result ≡ is_wasm architecture }
 {
@@ -84,7 +85,7 @@ fn linker_for(
     }
 }
 
-/// The linker for objects of Windows.
+/// The linker for Windows.
 fn coff_linker(operating_system: OperatingSystem, environment: Environment) -> Linker
     ensures { result ≡ coff_linker operating_system environment }
 {

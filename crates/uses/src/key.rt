@@ -11,14 +11,14 @@ ghost use Rattle.target_lexicon.specs.Values.{Values, values_of};
 use std::alloc::{AllocError, Global};
 use target_lexicon::{ParseError, Triple, laws};
 
-/// The key of a target: its settled triple.
+/// The key of a target: its canonical triple.
 #[derive(PartialEq, Eq, Hash, Drop)]
 pub struct CacheKey {
     pub triple: Triple,
 }
 
 impl CacheKey {
-    /// The key of a triple, whose vendor must be plain, as that of every triple is that was read.
+    /// The key of a triple. Its vendor must be plain, as that of every parsed triple is.
     pub fn new(triple: Triple) -> Self
         requires { is_plain (vendor_value triple.vendor) ≡ true }
         ensures settled_values { values_of result.triple ≡ settled_values (values_of triple) }
@@ -30,7 +30,7 @@ impl CacheKey {
         }
     }
 
-    /// The key of the target that a text names. A key's own text gives that key again.
+    /// The key of the target that a text names. The text of a key gives the same key again.
     pub fn read(alloc: Global, text: &str) -> Result<Self, ParseError>
         ensures ok { IfOk result
             (λ key.
@@ -40,7 +40,8 @@ impl CacheKey {
         ensures again { (t : Values) →
             ComesBack t →
             text.now ≡ text_of t →
-            MatchResult result (λ key. values_of key.triple ≡ t) (λ error. refusal_of error ≡ None) }
+            MatchResult result (λ key. values_of key.triple ≡ t)
+            (λ error. refusal_of error ≡ None) }
     {
         laws::reading_is_computed();
         laws::answers_are_computed();
@@ -58,7 +59,7 @@ impl CacheKey {
     }
 }
 
-/// Whether two targets share a key, as they do exactly where their settled triples are equal.
+/// Whether two targets share a key: exactly if their canonical triples are equal.
 pub fn share_key(a: Triple, b: Triple) -> bool
     requires first { is_plain (vendor_value a.vendor) ≡ true }
     requires second { is_plain (vendor_value b.vendor) ≡ true }

@@ -1,4 +1,4 @@
-//! A code generator: how C's types lie in memory.
+//! A code generator: the layout of C's types in memory.
 ghost use Rattle.std.specs.Prelude.{◌≡◌, ◌*◌, Some, IfSome, option_map};
 ghost use Rattle.lexicon_fields.specs.PointerWidth.{width_bits};
 ghost use Rattle.target_lexicon.specs.DataModel.{size_bits};
@@ -8,14 +8,14 @@ ghost use Rattle.uses.specs.Layout.{c_layout, long_long_alignment, aligned_to, n
 
 use target_lexicon::{Architecture, OperatingSystem, Size, Triple, laws};
 
-/// The bytes of a type, and the bytes that its address is a multiple of.
+/// The size and the alignment of a type, in bytes.
 #[derive(Clone, Copy, PartialEq, Eq)]
 pub struct TypeLayout {
     pub size: u8,
     pub alignment: u8,
 }
 
-/// The layout of C's pointers and of three of its integers.
+/// The layout of C's pointers and three of its integer types.
 #[derive(Clone, Copy)]
 pub struct CLayout {
     pub pointer: TypeLayout,
@@ -24,7 +24,7 @@ pub struct CLayout {
     pub long_long: TypeLayout,
 }
 
-/// The layout of C's types on a target, where its data model is known. A pointer has the target's pointer width.
+/// The layout of C's types on a target, if its data model is known. A pointer has the target's pointer width.
 pub fn c_layout(triple: &Triple) -> Option<CLayout>
     ensures answer { result ≡ c_layout (values_of triple.now) }
     ensures width { IfSome result
@@ -59,7 +59,7 @@ fn natural(size: Size) -> TypeLayout
     }
 }
 
-/// The bytes to which a `long long` is aligned.
+/// The alignment of a `long long` in bytes.
 fn long_long_alignment(architecture: Architecture, operating_system: OperatingSystem) -> u8
     ensures { result ≡ long_long_alignment architecture operating_system }
 {

@@ -1,4 +1,5 @@
-//! Uses of `target_lexicon`, as a caller writes them: each function is proved from the library's public contracts and definitions alone.
+//! Uses of `target_lexicon`, as a caller writes them: each function is proved only from the library's public contracts
+//! and definitions.
 #![tactic(auto)]
 
 mod by_macro;

@@ -9,13 +9,13 @@ use target_lexicon::{ParseError, Triple, laws};
 /// Why a list of targets has no matrix.
 #[derive(Drop)]
 pub enum MatrixError {
-    /// The first text that is refused, counted from 0, and why; the memory for it may be what was refused.
+    /// The index of the first text that doesn't parse, and why: it is refused, or an allocation failed there.
     Refused(usize, ParseError),
-    /// The memory for the list itself was refused.
+    /// An allocation for the list itself failed.
     OutOfMemory,
 }
 
-/// The settled triples of a list of texts, in order, each where it first comes.
+/// The canonical triples of a list of texts, in order of their first occurrence.
 pub fn release_matrix(alloc: Global, texts: &[String]) -> Result<Vec<Triple>, MatrixError>
     ensures built { IfOk result (λ matrix. FoldsTo IsOneMore [] texts.now matrix.items) }
     ensures each { IfOk result (λ matrix. All (IsCovered matrix.items) texts.now) }
@@ -37,7 +37,7 @@ pub fn release_matrix(alloc: Global, texts: &[String]) -> Result<Vec<Triple>, Ma
     Ok(matrix)
 }
 
-/// Adds a triple, unless an equal one is there.
+/// Adds a triple unless an equal one is there.
 fn push_new(triples: &mut Vec<Triple>, triple: Triple) -> Result<(), AllocError>
     ensures { OnOk result (IsAdded triple triples.old.items triples.new.items) }
 {

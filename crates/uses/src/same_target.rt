@@ -1,4 +1,4 @@
-//! A text beside a triple: whether they name one target.
+//! Whether a text and a triple name the same target.
 ghost use Rattle.std.specs.Prelude.{◌≡◌, ◌↔◌, IfOk, IfErr, IsTrue};
 ghost use Rattle.target_lexicon.specs.FixedPoints.{settled_values};
 ghost use Rattle.target_lexicon.specs.Reading.{ReadsAs, IsErrorOf};
@@ -7,7 +7,7 @@ ghost use Rattle.target_lexicon.specs.Values.{Values, values_of};
 use std::alloc::Global;
 use target_lexicon::{ParseError, Triple};
 
-/// Whether a text names the target of a triple, however it spells it. The triple stays the caller's, and isn't copied.
+/// Whether a text names the target of a triple, in any spelling. The triple is borrowed and not copied.
 pub fn names_target(alloc: Global, text: &str, target: &Triple) -> Result<bool, ParseError>
     ensures ok { IfOk result
         (λ same.

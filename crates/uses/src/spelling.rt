@@ -1,4 +1,4 @@
-//! The commonest job: a text is read, settled and printed.
+//! The most common use: a text is parsed, settled and printed.
 ghost use Rattle.std.specs.Prelude.{◌≡◌, IfOk, IfErr, string_bytes};
 ghost use Rattle.target_lexicon.specs.FixedPoints.{settled_values};
 ghost use Rattle.target_lexicon.specs.Printing.{text_of};
@@ -8,7 +8,7 @@ ghost use Rattle.target_lexicon.specs.Values.{Values};
 use std::alloc::Global;
 use target_lexicon::{ParseError, Triple};
 
-/// The one text of the target that a text names, however that is spelled.
+/// The canonical text of the target that a text names, in any spelling.
 pub fn canonical_text(alloc: Global, text: &str) -> Result<String, ParseError>
     ensures ok { IfOk result
         (λ out.

@@ -15,9 +15,9 @@ pub enum TargetFileError {
     NoObject,
     /// The object has no `llvm-target`.
     NoKey,
-    /// The `llvm-target` is no text.
+    /// The `llvm-target` is no string.
     NoText,
-    /// The text is refused; the memory for it may be what was refused.
+    /// The text doesn't parse: it is refused, or an allocation failed.
     Refused(ParseError),
 }
 

@@ -53,7 +53,8 @@ fn rows() -> &'static [Row]
     ensures prefix_keys { map (λ r. r.1) result.now ≡ map (prefix_key_of 8) row_texts }
     ensures architectures { map (λ r. r.2) result.now ≡ map architecture_of row_texts }
     ensures vendors { map (λ r. r.3) result.now ≡ map known_vendor_of row_texts }
-    ensures operating_systems { map (λ r. r.4) result.now ≡ map fixed_operating_system_of row_texts }
+    ensures operating_systems { map (λ r. r.4) result.now
+        ≡ map fixed_operating_system_of row_texts }
     ensures environments { map (λ r. r.5) result.now ≡ map environment_of row_texts }
     ensures binary_formats { map (λ r. r.6) result.now ≡ map binary_format_of row_texts }
 {

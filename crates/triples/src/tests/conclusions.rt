@@ -1,5 +1,5 @@
-//! The end of the program: each status and closing line, over a writer that fails at each write, and errors printed over a
-//! target that fails at each piece.
+//! The end of the program: each status and closing line, over a writer that fails at each write, and errors printed
+//! over a target that fails at each piece.
 
 use super::faulty::{Fault, FaultyTarget, FaultyWriter, WriterCalls};
 use crate::conclude::conclude;

@@ -70,8 +70,8 @@ impl Read for FaultyReader<'_> {
     }
 }
 
-/// Keeps what it takes, at most `most` bytes a write. Its write number `fault_at`, counted from 0, has a fault, and a flush
-/// has the result `flush`.
+/// Keeps what it takes, at most `most` bytes a write. Its write number `fault_at`, counted from 0, has a fault, and a
+/// flush has the result `flush`.
 #[derive(Drop)]
 pub(super) struct FaultyWriter {
     pub kept: Vec<u8>,

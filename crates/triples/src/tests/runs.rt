@@ -75,8 +75,8 @@ fn each_read_fails_in_turn(rt: HostRuntime) {
     }
 }
 
-/// Whether a run whose writes take one byte each ends at write number `fault_at`, which has a fault: it writes no more. If
-/// all bytes are written before, the run is successful.
+/// Whether a run whose writes take one byte each ends at write number `fault_at`, which has a fault: it writes no
+/// more. If all bytes are written before, the run is successful.
 fn ends_at_write(alloc: Global, row: Row, fault: Fault, fault_at: usize) -> bool {
     let (mode, input, output) = row;
     let reader = FaultyReader::sound(input.as_bytes());
@@ -123,7 +123,8 @@ fn each_write_fails_in_turn(rt: HostRuntime) {
     }
 }
 
-/// Whether a run writes its output whole, by one write and one flush, and has this outcome if the flush has that result.
+/// Whether a run writes its output whole, by one write and one flush, and has this outcome if the flush has that
+/// result.
 fn writes_whole(
     alloc: Global,
     row: Row,

@@ -10,5 +10,5 @@ returns-in-Some c = sym (row_not_admitted c.args.s.now c.in-Some.ensures.row.exi
 
 pub returns-in-None : goal.returns-in-None
 returns-in-None c =
-    let told : c.is_none.result ≡ is_none c.parse_darwin_like.result = search rules in
-    told ∙ sym (admitted_without_row c.args.s.now _ c.in-None.ensures.row (search rules) c.parse_darwin_like.ensures.like)
+    let tested : c.is_none.result ≡ is_none c.parse_darwin_like.result = search rules in
+    tested ∙ sym (admitted_without_row c.args.s.now _ c.in-None.ensures.row (search rules) c.parse_darwin_like.ensures.like)

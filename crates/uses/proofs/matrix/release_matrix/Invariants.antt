@@ -1,4 +1,4 @@
--- The triples are a matrix of the texts so far.
+-- The triples are the matrix of the texts so far.
 use Rattle.std.proofs.Common.{take}
 use Rattle.uses.proofs.IsMatrix.{IsMatrix}
 use Rattle.uses.proofs.matrix.release_matrix.Given as goal

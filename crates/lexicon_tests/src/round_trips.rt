@@ -1,4 +1,4 @@
-//! Rounds: what a triple prints, read again; its normal step; and the triple that it settles as.
+//! Round trips: the printed text of a triple, parsed again; its normal step; and its canonical triple.
 
 use crate::fixtures::{is_printed, is_read, with_vendor};
 use field_tests::{Question, check_rows, shows};
@@ -6,8 +6,9 @@ use std::alloc::Global;
 use std::process::Abort;
 use target_lexicon::Triple;
 
-/// A text, and behind `=` the print of the triple that it reads as, and that of its normal step, if it differs or is shown to stay.
-const ROUNDS: &str = "\
+/// A text, and after `=` the printed text of its triple, and that of the triple's normal step, if it differs or is
+/// given to show that it doesn't.
+const ROUND_TRIPS: &str = "\
 armv6k-nintendo-horizon-gnu-coff=armv6k-nintendo-3ds armv6k-nintendo-3ds
 armv6k-nintendo-horizon-unknown-unknown=armv6k-nintendo-3ds armv6k-nintendo-3ds
 aarch64-nintendo-horizon-newlib-unknown=aarch64-nintendo-horizon-unknown aarch64-nintendo-horizon
@@ -23,7 +24,8 @@ riscv32imc-esp-espidf-unknown=riscv32imc-esp-espidf riscv32imc-esp-espidf
 aarch64-nintendo-horizon-newlib-coff=aarch64-nintendo-horizon-coff aarch64-nintendo-horizon-coff
 clever1.0-pc-unknown-none-coff=clever1.0-pc-none-coff clever1.0-pc-none-coff";
 
-/// The text's triple prints so, comes back exactly where that reads as it, and has what that reads as as its normal step.
+/// The triple of the text prints this text, comes back exactly if that parses as the triple, and its normal step is the
+/// triple that the printed text parses as.
 fn is_step(alloc: Global, text: &str, print: &str) -> bool {
     let Ok(triple) = Triple::from_str(alloc, text) else {
         return false;
@@ -33,7 +35,7 @@ fn is_step(alloc: Global, text: &str, print: &str) -> bool {
     is_read(Triple::from_str(alloc, print), &triple.normal()) && is_printed
 }
 
-/// The text's triple settles as that of the last print.
+/// The canonical triple of the text is that of the last printed text.
 fn ends_at(alloc: Global, text: &str, last: &str) -> bool {
     match Triple::from_str(alloc, text) {
         Ok(triple) => is_read(Triple::from_str(alloc, last), &triple.settle()),
@@ -41,10 +43,10 @@ fn ends_at(alloc: Global, text: &str, last: &str) -> bool {
     }
 }
 
-/// The prints are those of the text's triple and of its steps, and the last comes back.
-struct HasRounds;
+/// The printed texts are those of the triple and of its steps, and the last triple comes back.
+struct HasRoundTrips;
 
-impl Question for HasRounds {
+impl Question for HasRoundTrips {
     fn holds(alloc: Global, text: &str, prints: &str) -> bool {
         let (print, last) = prints.split_once(" ").unwrap_or((prints, prints));
         is_step(alloc, text, print)
@@ -56,10 +58,10 @@ impl Question for HasRounds {
 
 #[test]
 fn each_step_is_a_round(rt: HostRuntime) -> Result<(), &'static str> {
-    check_rows::<HasRounds>(rt.alloc(), ROUNDS)
+    check_rows::<HasRoundTrips>(rt.alloc(), ROUND_TRIPS)
 }
 
-/// What the triple settles as has this vendor, as `{:?}` writes it.
+/// The canonical triple has this vendor, in the form of `{:?}`.
 fn settles_with(triple: Option<Triple>, vendor: &str) -> bool {
     match triple {
         Some(triple) if triple.vendor.is_plain() => shows(&triple.settle().vendor, vendor),
@@ -67,7 +69,7 @@ fn settles_with(triple: Option<Triple>, vendor: &str) -> bool {
     }
 }
 
-/// The vendor that is kept is owned or fixed, as it was.
+/// A vendor that is kept stays owned or static.
 #[test]
 fn a_vendor_that_is_kept_stays_owned(rt: HostRuntime) {
     let owned = Triple::from_str(rt.alloc(), "x86_64-foo-linux").ok();
