@@ -43,7 +43,7 @@ pub extern "C" fn lexicon_print(
 ) -> u32
     ensures done { result ≡ 0 → IsTextWritten text_of text.now out.old out.new length.new }
     ensures room { GrowsAtMost text.now length.new }
-    ensures refusal_with { 1 ≤ result →
+    ensures refused { 1 ≤ result →
         result ≤ 6 →
         IsRefusalWritten (λ refusal. refusal.part) result text.now out.old out.new length.new }
     ensures utf8 { (result ≡ 7) ↔ ¬ (IsUtf8 text.now) }
@@ -75,7 +75,7 @@ pub extern "C" fn lexicon_settle(
 ) -> u32
     ensures done { result ≡ 0 → IsTextWritten canonical_text text.now out.old out.new length.new }
     ensures room { GrowsAtMost text.now length.new }
-    ensures refusal_with { 1 ≤ result →
+    ensures refused { 1 ≤ result →
         result ≤ 6 →
         IsRefusalWritten (λ refusal. refusal.part) result text.now out.old out.new length.new }
     ensures utf8 { (result ≡ 7) ↔ ¬ (IsUtf8 text.now) }
@@ -107,7 +107,7 @@ pub extern "C" fn lexicon_field(
     length: &mut usize,
 ) -> u32
     ensures done { result ≡ 0 → IsNameWritten field text.now out.old out.new length.new }
-    ensures refusal_with { 1 ≤ result →
+    ensures refused { 1 ≤ result →
         result ≤ 6 →
         IsRefusalWritten (λ refusal. refusal.part) result text.now out.old out.new length.new }
     ensures utf8 { (result ≡ 7) ↔ ((field ≤ 4) × ¬ (IsUtf8 text.now)) }
@@ -133,7 +133,7 @@ pub extern "C" fn lexicon_field(
 #[unsafe(no_mangle)]
 pub extern "C" fn lexicon_facts(alloc: Global, text: &[u8], facts: &mut LexiconFacts) -> u32
     ensures done { result ≡ 0 → AreFactsRead text.now facts.new }
-    ensures refusal_with { 1 ≤ result → result ≤ 6 → IsRefusedBy result text.now }
+    ensures refused { 1 ≤ result → result ≤ 6 → IsRefusedBy result text.now }
     ensures utf8 { (result ≡ 7) ↔ ¬ (IsUtf8 text.now) }
     ensures memory { result ≡ 8 → MayAllocate text.now }
     ensures nothing { 0 < result → facts.new ≡ facts.old }
@@ -155,7 +155,7 @@ pub extern "C" fn lexicon_facts(alloc: Global, text: &[u8], facts: &mut LexiconF
 #[unsafe(no_mangle)]
 pub extern "C" fn lexicon_comes_back(alloc: Global, text: &[u8], answer: &mut bool) -> u32
     ensures done { result ≡ 0 → IsComesBackAnswer text.now answer.new }
-    ensures refusal_with { 1 ≤ result → result ≤ 6 → IsRefusedBy result text.now }
+    ensures refused { 1 ≤ result → result ≤ 6 → IsRefusedBy result text.now }
     ensures utf8 { (result ≡ 7) ↔ ¬ (IsUtf8 text.now) }
     ensures memory { result ≡ 8 → MayAllocate text.now }
     ensures nothing { 0 < result → answer.new ≡ answer.old }
@@ -183,7 +183,7 @@ pub extern "C" fn lexicon_equal(
     answer: &mut bool,
 ) -> u32
     ensures done { result ≡ 0 → IsEqualAnswer first.now second.now answer.new }
-    ensures refusal_with { 1 ≤ result → result ≤ 6 → IsEitherRefusedBy result first.now second.now }
+    ensures refused { 1 ≤ result → result ≤ 6 → IsEitherRefusedBy result first.now second.now }
     ensures utf8 { (result ≡ 7) ↔ ((¬ (IsUtf8 first.now)) ⊎ (¬ (IsUtf8 second.now))) }
     ensures memory { result ≡ 8 → MayAllocate first.now ⊎ MayAllocate second.now }
     ensures nothing { 0 < result → answer.new ≡ answer.old }
@@ -218,7 +218,7 @@ pub extern "C" fn lexicon_error_line(
     length: &mut usize,
 ) -> u32
     ensures done { result ≡ 0 → IsRead text.now × IsNothingWritten out.old out.new length.new }
-    ensures refusal_with { 1 ≤ result →
+    ensures refused { 1 ≤ result →
         result ≤ 6 →
         IsRefusalWritten refusal_line result text.now out.old out.new length.new }
     ensures utf8 { (result ≡ 7) ↔ ¬ (IsUtf8 text.now) }
@@ -247,7 +247,7 @@ pub extern "C" fn lexicon_canonical_name(
     length: &mut usize,
 ) -> u32
     ensures done { result ≡ 0 → IsCanonicalNameWritten field text.now out.old out.new length.new }
-    ensures refusal_with { 1 ≤ result →
+    ensures refused { 1 ≤ result →
         result ≤ 6 →
         IsUnknownNameWritten result field text.now out.old out.new length.new }
     ensures utf8 { (result ≡ 7) ↔ ((field ≤ 4) × ¬ (IsUtf8 text.now)) }

@@ -14,7 +14,7 @@ use target_lexicon::laws::triples_are_equal_by_value;
 #[inline(always)]
 pub(crate) fn read(alloc: Global, text: &str) -> Result<Triple, u32>
     ensures ok { IfOk result (λ triple. ReadsAs text.now (values_of triple)) }
-    ensures refusal_with { IfErr result (λ status. status ≤ 6 → IsRefusedBy status text.now) }
+    ensures refused { IfErr result (λ status. status ≤ 6 → IsRefusedBy status text.now) }
     ensures memory { IfErr result (λ status. status ≡ 8 → MayAllocate text.now) }
     ensures range { IfErr result (λ status. (1 ≤ status) × (status ≤ 8) × (status ≢ 7)) }
 {

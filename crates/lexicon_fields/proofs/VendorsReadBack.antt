@@ -53,7 +53,7 @@ custom_read text none admitted = rw (none, admitted) refl
 
 pub none_read : (text : List ℕ) → known_vendor_of text ≡ None → is_admitted text ≡ false → vendor_of text ≡ None
 unfolding vendor_of
-none_read text none refusal_with = rw (none, refusal_with) refl
+none_read text none refused = rw (none, refused) refl
 
 pub formless_not_admitted : (text : List ℕ) → has_vendor_form text ≡ false → is_admitted text ≡ false
 unfolding is_admitted

@@ -36,7 +36,7 @@ parse_piece k limit piece r fits parses =
 -- what `parse` gives for a piece
 pub number_read : {E : Type 0} (k limit : ℕ) (piece : List ℕ) (r : Result ℕ E) (o x : Option ℕ)
     → limit + 1 ≡ 2 ^ k → ParsesUnsigned k 10 piece r → o ≡ result_ok r → o ≡ x → piece_within limit piece ≡ x
-number_read k limit piece r o x fits parses taken_part is = sym (parse_piece k limit piece r fits parses) ∙ sym taken_part ∙ is
+number_read k limit piece r o x fits parses taken is = sym (parse_piece k limit piece r fits parses) ∙ sym taken ∙ is
 
 -- the pieces of a text after its first dot, and those of a text without a dot
 pub pieces_of-first : (text piece rest : List ℕ) → piece ≡ before_first (λ c. nat_eq c dot) text → rest ≡ after_first (λ c. nat_eq c dot) text → position_or_len (λ c. nat_eq c dot) text < length text → pieces_of text ≡ piece ∷ pieces_of rest

@@ -193,6 +193,6 @@ pub(crate) fn is_host(read: Result<Triple, ParseError>) -> bool {
 #[test]
 fn the_macro_reads_its_text(rt: HostRuntime) {
     assert!(rt; is_host(triple!(rt.alloc(), "x86_64-unknown-linux-gnu")));
-    let refusal_with = triple!(rt.alloc(), "foo\n",);
-    assert!(rt; is_answer(refusal_with, "Unrecognized architecture: foo\n"));
+    let refused = triple!(rt.alloc(), "foo\n",);
+    assert!(rt; is_answer(refused, "Unrecognized architecture: foo\n"));
 }

@@ -11,11 +11,11 @@ pub(crate) fn given_bytes<R: Read>(alloc: Global, reader: &mut R) -> Option<Vec<
     let mut bytes = Vec::new(alloc);
     let mut piece = [0u8; 8192];
     for _ in 0..u64::MAX {
-        let taken_part = reader.read(&mut piece).ok()?;
-        if taken_part == 0 {
+        let taken = reader.read(&mut piece).ok()?;
+        if taken == 0 {
             break;
         }
-        bytes.extend_from_slice(&piece[..taken_part]).ok()?;
+        bytes.extend_from_slice(&piece[..taken]).ok()?;
     }
     Some(bytes)
 }

@@ -7,7 +7,7 @@ use Rattle.target_lexicon.specs.{Values.VendorValue, Values.Known, Values.Values
 use Rattle.target_lexicon.specs.Field.{Field, Architecture, Vendor, OperatingSystem, Environment, BinaryFormat, place, reads}
 use Rattle.target_lexicon.specs.Reading.{part_at, IsValueOf, HoldsParts, ReadsAs, IsRefusal, IsRefusedAs, IsRefused, expected_after, last_of}
 use Rattle.target_lexicon.specs.GreedyReading.{taken_part, take_part, finish, read_binary_format, read_environment, read_operating_system, read_vendor, read_after, read_parts, read_unless_special, reading}
-use Rattle.target_lexicon.proofs.{Cuts.parts_of-are, Cuts.parts_of-some, Greedy.Follows, Greedy.filled, Greedy.unread, Greedy.filled-placed, Greedy.after_architecture, Greedy.greedy-least, Refused.first-refusal_with, Refused.left-refusal_with, Unique.values_unique, Unique.refusal_unique, Unique.read_not_refused}
+use Rattle.target_lexicon.proofs.{Cuts.parts_of-are, Cuts.parts_of-some, Greedy.Follows, Greedy.filled, Greedy.unread, Greedy.filled-placed, Greedy.after_architecture, Greedy.greedy-least, Refused.first-refused, Refused.left-refused, Unique.values_unique, Unique.refusal_unique, Unique.read_not_refused}
 use Rattle.target_lexicon.specs.Values.operating_system
 use Rattle.target_lexicon.specs.Values.environment
 
@@ -104,11 +104,11 @@ module _ (text p : List ℕ) (ps : List (List ℕ)) (ordinary : special_values t
       let holds : HoldsParts (p ∷ ps) (Architecture ∷ filled after_architecture ps) t =
       rw same (record { architecture = first; vendor = hv; operating_system = hs; environment = he; binary_format = hf }) in
       rw ordinary (parts_of text, parts_of-are text, rw are (Architecture ∷ filled after_architecture ps, greedy-least p ps takes done, holds))
-  by_given a (Err x) first takes (q, rest, left, same) = rw same (is_refused _ (left-refusal_with p ps q rest takes left))
+  by_given a (Err x) first takes (q, rest, left, same) = rw same (is_refused _ (left-refused p ps q rest takes left))
 
   by_architecture : (o : Option AnyArchitecture) → architecture_of p ≡ o → Holds text (read_after o p ps)
   unfolding reads
-  by_architecture None h = is_refused _ (first-refusal_with p ps (ap is_some h))
+  by_architecture None h = is_refused _ (first-refused p ps (ap is_some h))
   by_architecture (Some a) h = by_given a (read_vendor a ps) h (ap is_some h) (vendor-gives a ps)
 
   pub parts-hold : Holds text (read_parts (p ∷ ps))
@@ -139,7 +139,7 @@ computed text (Err y) h = (
 )
 
 pub reading_computed : ReadingIsComputed
-reading_computed text = let both = computed text (reading text) (reading-holds text) in record { read = both.0; refusal_with = both.1 }
+reading_computed text = let both = computed text (reading text) (reading-holds text) in record { read = both.0; refused = both.1 }
 
 -- a text is read or refused
 outcome : (text : List ℕ) (found : Result Values Refusal) → Holds text found → ((t : Values) × ReadsAs text t) ⊎ IsRefused text

@@ -39,8 +39,8 @@ read-before (y ∷ ys) (suc i) (u ∷ us) (suc k) before within read = read-befo
 -- the element at i is the first that doesn't read
 pub elements_refused : (xs : List Value) (i : ℕ) (x : Value) (ts : List Values) (fault : JsonFault) → i < length xs → x ≡ get_or xs i x
     → ElementsReadAs (items_view (take i xs)) ts → IsJsonFault (view x) fault → IsFirstFault (items_view xs) i fault
-elements_refused xs i x ts fault within is read refusal_with =
-    let here : IsJsonFault (view (get_or xs i x)) fault = subst (λ (v : Value). IsJsonFault (view v) fault) is refusal_with in
+elements_refused xs i x ts fault within is read refused =
+    let here : IsJsonFault (view (get_or xs i x)) fault = subst (λ (v : Value). IsJsonFault (view v) fault) is refused in
     record {
       here = subst (λ (o : Option Data). MatchOption o ⊥ (λ value. IsJsonFault value fault)) (get_item_within xs i x within) here;
       before = λ k before. read-before xs i ts k before (omega arith) read;

@@ -186,7 +186,7 @@ part-lighter (p ∷ ps) (suc n) part is = omega (arith, part-lighter ps n part i
 pub refused_does_not_grow : RefusedPartsDoNotGrow
 refused_does_not_grow text refusal (ordinary, ([], are, is)) = absurd (are.some refl)
 refused_does_not_grow text refusal (ordinary, (p ∷ ps, are, is)) =
-    omega (arith, part-lighter (p ∷ ps) is.count refusal.part is.refusal_with, weight-joined p ps, ap length are.joined)
+    omega (arith, part-lighter (p ∷ ps) is.count refusal.part is.refused, weight-joined p ps, ap length are.joined)
 
 -- no step of settling makes a text longer
 

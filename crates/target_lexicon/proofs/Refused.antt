@@ -10,13 +10,13 @@ use Rattle.target_lexicon.proofs.Greedy.{filled, unread, after_architecture, gre
 record Stop (fs : List Field) (ps : List (List ℕ)) (q : List ℕ) (rest : List (List ℕ)) : Type 0 where
   prefix : List (List ℕ)
   split : ps ≡ prefix ++ (q ∷ rest)
-  taken_part : unread fs prefix ≡ []
+  taken : unread fs prefix ≡ []
   same : filled fs prefix ≡ filled fs ps
   stuck : unread fs (prefix ++ (q ∷ [])) ≡ q ∷ []
 
 stop : (fs : List Field) (ps : List (List ℕ)) (q : List ℕ) (rest : List (List ℕ)) → unread fs ps ≡ q ∷ rest → Stop fs ps q rest
 stop fs [] q rest e = cc
-stop [] (p ∷ ps) q rest e = record { prefix = []; split = e; taken_part = refl; same = refl; stuck = refl }
+stop [] (p ∷ ps) q rest e = record { prefix = []; split = e; taken = refl; same = refl; stuck = refl }
 stop (f ∷ fs) (p ∷ ps) q rest e =
     elim (cases_Bool (reads f p)) [
       | inl takes ↦
@@ -24,42 +24,42 @@ stop (f ∷ fs) (p ∷ ps) q rest e =
           record {
             prefix = p ∷ s.prefix;
             split = ap (λ k. p ∷ k) s.split;
-            taken_part = rw takes s.taken_part;
+            taken = rw takes s.taken;
             same = rw takes (ap (λ k. f ∷ k) s.same);
             stuck = rw takes s.stuck;
           }
       | inr skips ↦
           let s = stop fs (p ∷ ps) q rest (rw skips at e) in
-          by_front f fs p ps q rest s.prefix skips s.split s.taken_part s.same s.stuck
+          by_front f fs p ps q rest s.prefix skips s.split s.taken s.same s.stuck
     ]
   where
     by_front : (f : Field) (fs : List Field) (p : List ℕ) (ps : List (List ℕ)) (q : List ℕ) (rest prefix : List (List ℕ)) → reads f p ≡ false
         → p ∷ ps ≡ prefix ++ (q ∷ rest) → unread fs prefix ≡ [] → filled fs prefix ≡ filled fs (p ∷ ps)
         → unread fs (prefix ++ (q ∷ [])) ≡ q ∷ [] → Stop (f ∷ fs) (p ∷ ps) q rest
-    by_front f fs p ps q rest [] skips split taken_part same stuck =
+    by_front f fs p ps q rest [] skips split taken same stuck =
         let also : reads f q ≡ false = cc in
         record {
           prefix = [];
           split = split;
-          taken_part = refl;
+          taken = refl;
           same = rw skips same;
           stuck = rw also stuck;
         }
-    by_front f fs p ps q rest (r ∷ prefix) skips split taken_part same stuck =
+    by_front f fs p ps q rest (r ∷ prefix) skips split taken same stuck =
         let also : reads f r ≡ false = cc in
         record {
           prefix = r ∷ prefix;
           split = split;
-          taken_part = rw also taken_part;
+          taken = rw also taken;
           same = rw (also, skips) same;
           stuck = rw also stuck;
         }
 
 -- the first part is refused where it reads as no architecture
-pub first-refusal_with : (p : List ℕ) (ps : List (List ℕ)) → reads Architecture p ≡ false → IsRefusal (p ∷ ps) (refusal_with (Expects Architecture) p)
-first-refusal_with p ps skips = record {
+pub first-refused : (p : List ℕ) (ps : List (List ℕ)) → reads Architecture p ≡ false → IsRefusal (p ∷ ps) (refusal_with (Expects Architecture) p)
+first-refused p ps skips = record {
   count = 0;
-  refusal_with = refl;
+  refused = refl;
   unplaced = λ h. let found = greedy-finds p [] h in let takes = found.0 in cc;
   placed = λ k h. absurd (omega (arith, h));
   expected = refl;
@@ -78,15 +78,15 @@ take-past [] q rest = refl
 take-past (r ∷ prefix) q rest = ap (λ k. r ∷ k) (take-past prefix q rest)
 
 -- the part behind a front that the fields take whole, at which they stop, is refused
-refusal_with-at : (p : List ℕ) (prefix : List (List ℕ)) (q : List ℕ) (rest : List (List ℕ)) → reads Architecture p ≡ true → unread after_architecture prefix ≡ []
+refused-at : (p : List ℕ) (prefix : List (List ℕ)) (q : List ℕ) (rest : List (List ℕ)) → reads Architecture p ≡ true → unread after_architecture prefix ≡ []
     → unread after_architecture (prefix ++ (q ∷ [])) ≡ q ∷ []
     → IsRefusal (p ∷ (prefix ++ (q ∷ rest))) (refusal_with (expected_after (last_of Architecture (filled after_architecture prefix))) q)
-refusal_with-at p prefix q rest takes taken_part stuck =
-    let least = greedy-least p prefix takes taken_part in
+refused-at p prefix q rest takes taken stuck =
+    let least = greedy-least p prefix takes taken in
     let placed : HasPlacement (p ∷ prefix) = (Architecture ∷ filled after_architecture prefix, least.placed) in
     record {
       count = suc (length prefix);
-      refusal_with = get-at prefix q rest;
+      refused = get-at prefix q rest;
       unplaced = subst (λ k. HasPlacement (p ∷ k) → ⊥) (sym (take-past prefix q rest)) (left-unplaced p (prefix ++ (q ∷ [])) q [] stuck);
       placed = λ k h. fewer k (omega (arith, h)) (placement_prefix k (p ∷ prefix) placed);
       expected = subst (λ k. IsExpectedAfter (p ∷ k) (expected_after (last_of Architecture (filled after_architecture prefix)))) (sym (take-append_seam prefix (q ∷ rest)))
@@ -97,11 +97,11 @@ refusal_with-at p prefix q rest takes taken_part stuck =
     fewer k h w = subst (λ xs. HasPlacement (p ∷ xs)) (sym (take-append-le k prefix (q ∷ rest) h)) w
 
 -- and the first of them is refused
-pub left-refusal_with : (p : List ℕ) (ps : List (List ℕ)) (q : List ℕ) (rest : List (List ℕ)) → reads Architecture p ≡ true → unread after_architecture ps ≡ q ∷ rest
+pub left-refused : (p : List ℕ) (ps : List (List ℕ)) (q : List ℕ) (rest : List (List ℕ)) → reads Architecture p ≡ true → unread after_architecture ps ≡ q ∷ rest
     → IsRefusal (p ∷ ps) (refusal_with (expected_after (last_of Architecture (filled after_architecture ps))) q)
-left-refusal_with p ps q rest takes left =
+left-refused p ps q rest takes left =
     let s = stop after_architecture ps q rest left in
-    let at = refusal_with-at p s.prefix q rest takes s.taken_part s.stuck in
+    let at = refused-at p s.prefix q rest takes s.taken s.stuck in
     let same : IsRefusal (p ∷ (s.prefix ++ (q ∷ rest))) (refusal_with (expected_after (last_of Architecture (filled after_architecture ps))) q) =
     subst (λ k. IsRefusal (p ∷ (s.prefix ++ (q ∷ rest))) (refusal_with (expected_after (last_of Architecture k)) q)) s.same at in
     subst (λ k. IsRefusal (p ∷ k) (refusal_with (expected_after (last_of Architecture (filled after_architecture ps))) q)) (sym s.split) same

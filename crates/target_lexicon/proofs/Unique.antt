@@ -54,8 +54,8 @@ same_expected (p ∷ ps) j k (f, (fs, least, h)) (g, (gs, other, l)) =
 same_refusal : (parts : List (List ℕ)) (x y : Refusal) → IsRefusal parts x → IsRefusal parts y → x ≡ y
 same_refusal parts x y a b =
     let same = same_count parts x y a b in
-    let at : slice_get parts b.count ≡ Some x.part = subst (λ n. slice_get parts n ≡ Some x.part) same a.refusal_with in
-    let other = b.refusal_with in
+    let at : slice_get parts b.count ≡ Some x.part = subst (λ n. slice_get parts n ≡ Some x.part) same a.refused in
+    let other = b.refused in
     let after : IsExpectedAfter (take b.count parts) x.expected = subst (λ n. IsExpectedAfter (take n parts) x.expected) same a.expected in
     let part : x.part ≡ y.part = cc in
     ap (λ expected. refusal_with expected x.part) (same_expected (take b.count parts) x.expected y.expected after b.expected) ∙ ap (refusal_with y.expected) part

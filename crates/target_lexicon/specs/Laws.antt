@@ -24,7 +24,7 @@ OneOutcomeEach = (text : List ℕ) → HasOneOutcome text
 -- the function `reading` gives what the text reads as, and how it is refused
 pub record IsComputed (text : List ℕ) : Type 0 where
   pub read : (t : Values) → ReadsAs text t ↔ (reading text ≡ Ok t)
-  pub refusal_with : (refusal : Refusal) → IsRefusedAs text refusal ↔ (reading text ≡ Err refusal)
+  pub refused : (refusal : Refusal) → IsRefusedAs text refusal ↔ (reading text ≡ Err refusal)
 
 -- so it does for every text
 abbrev pub ReadingIsComputed : Type 0

@@ -63,7 +63,7 @@ IsExpectedAfter (p ∷ ps) expected =
 pub record IsRefusal (parts : List (List ℕ)) (refusal : Refusal) : Type 0 where
   -- how many parts are before it
   pub count : ℕ
-  pub refusal_with : slice_get parts count ≡ Some refusal.part
+  pub refused : slice_get parts count ≡ Some refusal.part
   pub unplaced : HasPlacement (take (suc count) parts) → ⊥
   pub placed : (k : ℕ) → k < count → HasPlacement (take (suc k) parts)
   pub expected : IsExpectedAfter (take count parts) refusal.expected

@@ -75,7 +75,7 @@ pub fn read_triples_are_plain()
 pub fn printed_texts_grow_at_most()
     ensures printed { PrintedTextsGrowAtMost }
     ensures settled_values { CanonicalTextsGrowAtMost }
-    ensures refusal_with { RefusedPartsDoNotGrow }
+    ensures refused { RefusedPartsDoNotGrow }
 {
     reading_is_computed();
     lexicon_fields::laws::names_grow_at_most();

@@ -68,7 +68,7 @@ impl<W: Write> Counted<W> {
     {
         let answer = self.inner.write(buf);
         let is_refused = match &answer {
-            Ok(taken_part) => *taken_part == 0 && !buf.is_empty(),
+            Ok(taken) => *taken == 0 && !buf.is_empty(),
             Err(_) => true,
         };
         if is_refused {

@@ -10,7 +10,7 @@ use std::io::{Read, Write};
 
 /// Reads to the end of the reader.
 pub(crate) fn read_all<R: Read>(alloc: Global, reader: &mut Counted<R>) -> Result<Vec<u8>, RunError>
-    ensures taken_part { IfOk result
+    ensures taken { IfOk result
         (λ bytes.
         Consumes (R.remaining (inner reader.old)) (R.remaining (inner reader.new))
         bytes.items) }
@@ -27,13 +27,13 @@ pub(crate) fn read_all<R: Read>(alloc: Global, reader: &mut Counted<R>) -> Resul
     let mut bytes = Vec::new(alloc);
     let mut piece = [0u8; 8192];
     loop {
-        let Ok(taken_part) = reader.read(&mut piece) else {
+        let Ok(taken) = reader.read(&mut piece) else {
             return Err(RunError::Read);
         };
-        if taken_part == 0 {
+        if taken == 0 {
             return Ok(bytes);
         }
-        if bytes.extend_from_slice(&piece[..taken_part]).is_err() {
+        if bytes.extend_from_slice(&piece[..taken]).is_err() {
             return Err(RunError::OutOfMemory);
         }
     }
@@ -53,11 +53,11 @@ pub(crate) fn write_all<W: Write>(writer: &mut Counted<W>, bytes: &[u8]) -> Resu
     let mut rest = bytes;
     while !rest.is_empty() {
         match writer.write(rest) {
-            Ok(taken_part) => {
-                if taken_part == 0 {
+            Ok(taken) => {
+                if taken == 0 {
                     return Err(RunError::Write);
                 }
-                rest = &rest[taken_part..];
+                rest = &rest[taken..];
             }
             Err(_) => return Err(RunError::Write),
         }

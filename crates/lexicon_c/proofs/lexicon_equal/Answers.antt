@@ -2,17 +2,17 @@ use Rattle.std.proofs.Common.{inl, inr}
 use Rattle.target_lexicon.specs.Values.{values_of}
 use Rattle.lexicon_c.proofs.lexicon_equal.Goals as goal
 
-pub returns-in-Err-clause-refusal_with : goal.returns-in-Err-clause-refusal_with
-returns-in-Err-clause-refusal_with c = λ _ high. inl (rw c.in-Ok.ensures.cases.0 at c.in-Err.ensures.refusal_with high)
+pub returns-in-Err-clause-refused : goal.returns-in-Err-clause-refused
+returns-in-Err-clause-refused c = λ _ high. inl (rw c.in-Ok.ensures.cases.0 at c.in-Err.ensures.refused high)
 
 pub returns-in-Err-clause-memory : goal.returns-in-Err-clause-memory
 returns-in-Err-clause-memory c = λ eight. inl (rw c.in-Ok.ensures.cases.0 at c.in-Err.ensures.memory eight)
 
-pub returns-clause-refusal_with : goal.returns-clause-refusal_with
-returns-clause-refusal_with c =
+pub returns-clause-refused : goal.returns-clause-refused
+returns-clause-refused c =
     λ _ high. inr (
       (values_of c.in-Ok-read.triple, rw c.in-Ok.ensures.cases.0 at c.in-Ok-read.ensures.ok),
-      rw c.in-Ok-from_utf8.ensures.cases.0 at c.in-Err-read.ensures.refusal_with high,
+      rw c.in-Ok-from_utf8.ensures.cases.0 at c.in-Err-read.ensures.refused high,
     )
 
 pub returns-clause-utf8 : goal.returns-clause-utf8

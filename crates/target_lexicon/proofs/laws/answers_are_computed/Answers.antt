@@ -6,9 +6,9 @@ use Rattle.target_lexicon.proofs.laws.answers_are_computed.Goals as goal
 
 fault : (text : List ℕ) (error : ParseError) (other : Option Refusal) → refusal_of error ≡ other
     → MatchOption other (MayAllocate text) (λ refusal. IsRefusedAs text refusal) → IsAnswerOf (reading text) (Err error)
-fault text error None is (inl (x, h)) = rw (((reading_computed text).refusal_with x).0 h, is) tt
+fault text error None is (inl (x, h)) = rw (((reading_computed text).refused x).0 h, is) tt
 fault text error None is (inr (t, h, custom)) = rw (((reading_computed text).read t).0 h) (is, custom)
-fault text error (Some x) is h = rw (((reading_computed text).refusal_with x).0 h, is) refl
+fault text error (Some x) is h = rw (((reading_computed text).refused x).0 h, is) refl
 
 answers : AnswersAreComputed
 answers text (Ok triple) ok err = rw (((reading_computed text).read (values_of triple)).0 ok) refl

@@ -4,10 +4,10 @@ use Rattle.triples.proofs.input.read_all.Goals as goal
 
 pub returns-then-is_err-clause-memory : goal.returns-then-is_err-clause-memory
 returns-then-is_err-clause-memory g c = λ is.
-    let old = c.loop-taken_part.bytes.items in
-    let piece = take c.in-Ok.taken_part c.read.new.buf in
+    let old = c.loop-taken.bytes.items in
+    let piece = take c.in-Ok.taken c.read.new.buf in
     let some : 0 < length (old ++ piece) = simp (length-append, length-take) (omega arith) in
-    (old ++ piece, some, Consumes-trans _ _ _ old piece c.loop-taken_part.invariant.taken_part c.in-Ok.ensures.bytes.0)
+    (old ++ piece, some, Consumes-trans _ _ _ old piece c.loop-taken.invariant.taken c.in-Ok.ensures.bytes.0)
 
-pub loop-taken_part-preserved : goal.loop-taken_part-preserved
-loop-taken_part-preserved g c = grind (arith, common_steps)
+pub loop-taken-preserved : goal.loop-taken-preserved
+loop-taken-preserved g c = grind (arith, common_steps)
