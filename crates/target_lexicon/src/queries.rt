@@ -20,7 +20,7 @@ impl Triple {
 
     /// The width of a pointer, which is the architecture's; but in the environments `Gnux32` and `GnuIlp32` a pointer
     /// has 32 bits, whatever the architecture. In every other environment the architecture `Unknown` is refused.
-    #[tactic(auto, unfolding(crate::specs::Queries::width_in))]
+    #[tactic(auto, unfolding(crate::specs::Queries::pointer_width))]
     pub fn pointer_width(&self) -> Result<PointerWidth, ()>
         ensures answer { MatchesLookup (pointer_width (values_of self.now)) result }
         ensures refusal { IsErr result
@@ -92,7 +92,7 @@ impl Triple {
 
     /// The data model of C, which follows from the pointer width, the operating system, the calling convention and the
     /// architecture. Where no model is known, as for pointers of 16 bits, the triple is refused.
-    #[tactic(auto, unfolding(crate::specs::Queries::model_of))]
+    #[tactic(auto, unfolding(crate::specs::Queries::data_model))]
     pub fn data_model(&self) -> Result<CDataModel, ()>
         ensures { MatchesLookup (data_model (values_of self.now)) result }
     {
@@ -105,9 +105,7 @@ impl Triple {
 
     /// The data model of pointers of 64 bits.
     fn data_model_64(&self) -> Result<CDataModel, ()>
-        ensures { MatchesLookup
-            (model_64 self.now.operating_system (calling_convention (values_of self.now))
-            self.now.architecture) result }
+        ensures { MatchesLookup (model_64 self.now.architecture self.now.operating_system) result }
     {
         match self.operating_system {
             OperatingSystem::Windows => Ok(CDataModel::LLP64),
@@ -125,9 +123,7 @@ impl Triple {
 
     /// The data model of pointers of 32 bits.
     fn data_model_32(&self) -> Result<CDataModel, ()>
-        ensures { MatchesLookup
-            (model_32 self.now.operating_system (calling_convention (values_of self.now))
-            self.now.architecture) result }
+        ensures { MatchesLookup (model_32 self.now.architecture self.now.operating_system) result }
     {
         match self.operating_system {
             OperatingSystem::Windows => Ok(CDataModel::ILP32),

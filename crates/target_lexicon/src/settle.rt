@@ -5,7 +5,7 @@ ghost use Rattle.lexicon_fields.specs.Vendor.{is_plain, vendor_value};
 ghost use Rattle.lexicon_fields.specs.declared.vendor.Vendor.TheVariants.{Espressif};
 ghost use Rattle.target_lexicon.specs.FixedPoints.{settled_values};
 ghost use Rattle.target_lexicon.specs.Laws.{ComesBack};
-ghost use Rattle.target_lexicon.specs.NormalStep.{normal_step, are_newlib_elf, prints_as_special, hides_newlib, prints_the_esp_idf_text, shows_only_none, elf_if_unknown, is_in_no_family};
+ghost use Rattle.target_lexicon.specs.NormalStep.{normal_step, prints_as_special, hides_newlib, prints_the_esp_idf_text, shows_only_none, elf_if_unknown, is_in_no_family};
 ghost use Rattle.target_lexicon.specs.Printing.{text_of};
 ghost use Rattle.target_lexicon.specs.Reading.{ReadsAs};
 ghost use Rattle.target_lexicon.specs.Values.{values_of};
@@ -106,49 +106,42 @@ impl Triple {
     }
 
     /// Whether a special text is printed, and environment and format aren't `Newlib` and `Elf`.
-    #[tactic(auto, unfolding(crate::specs::SpecialTexts::special_text))]
     pub(crate) fn prints_as_special(&self) -> bool
-        ensures { result
-            ≡ prints_as_special self.now.operating_system (vendor_value self.now.vendor)
-            self.now.architecture self.now.environment self.now.binary_format }
+        ensures { result ≡ prints_as_special (values_of self.now) }
     {
-        self.special_text().is_some() && !are_newlib_elf(self.environment, self.binary_format)
+        self.special_text().is_some()
+            && !matches!(
+                (self.environment, self.binary_format),
+                (Environment::Newlib, BinaryFormat::Elf)
+            )
     }
 
     /// Whether `Newlib` isn't shown, and the text isn't special.
-    #[tactic(auto, unfolding(crate::specs::SpecialTexts::special_text, crate::specs::Printing::shows_environment))]
     pub(crate) fn hides_newlib(&self) -> bool
-        ensures { result
-            ≡ hides_newlib self.now.environment self.now.operating_system
-            (vendor_value self.now.vendor) self.now.architecture }
+        ensures { result ≡ hides_newlib (values_of self.now) }
     {
-        match self.environment {
-            Environment::Newlib => {
-                self.special_text().is_none() && !self.shows_environment(false)
-            }
-            _ => false,
-        }
+        self.implies_newlib()
+            && matches!(self.environment, Environment::Newlib)
+            && self.special_text().is_none()
     }
 
     /// Whether the vendor is the custom `esp`, and the text the special one.
     pub(crate) fn prints_the_esp_idf_text(&self) -> bool
-        ensures { result
-            ≡ prints_the_esp_idf_text self.now.environment self.now.binary_format
-            self.now.operating_system self.now.architecture (vendor_value self.now.vendor) }
+        ensures { result ≡ prints_the_esp_idf_text (values_of self.now) }
     {
         match (
-            self.environment,
-            self.binary_format,
-            self.operating_system,
             self.architecture,
             &self.vendor,
+            self.operating_system,
+            self.environment,
+            self.binary_format,
         ) {
             (
-                Environment::Unknown,
-                BinaryFormat::Elf,
-                OperatingSystem::Espidf,
                 Architecture::Riscv32(Riscv32Architecture::Riscv32imc),
                 Vendor::Custom(custom),
+                OperatingSystem::Espidf,
+                Environment::Unknown,
+                BinaryFormat::Elf,
             ) => custom.as_str() == "esp",
             _ => false,
         }
@@ -157,24 +150,13 @@ impl Triple {
     /// Whether the environment `none` is shown alone, on Clever without a system.
     #[tactic(auto, unfolding(crate::specs::Printing::shows_operating_system))]
     pub(crate) fn shows_only_none(&self) -> bool
-        ensures { result
-            ≡ shows_only_none self.now.environment self.now.operating_system self.now.architecture }
+        ensures { result ≡ shows_only_none (values_of self.now) }
     {
         match self.environment {
-            Environment::None => !self.shows_operating_system(false),
+            Environment::None => !self.shows_operating_system(),
             _ => false,
         }
     }
-}
-
-/// Whether environment and format are those with which a special text reads.
-fn are_newlib_elf(environment: Environment, binary_format: BinaryFormat) -> bool
-    ensures { result ≡ are_newlib_elf environment binary_format }
-{
-    matches!(
-        (environment, binary_format),
-        (Environment::Newlib, BinaryFormat::Elf)
-    )
 }
 
 /// The format, or `Elf` for an unknown one.
