@@ -1,4 +1,4 @@
--- The function that reads field by field gives what a text reads as by placements, and how it is refused.
+-- The function that parses field by field gives the triple that a text reads as by placements, and how it is refused.
 use Rattle.std.proofs.Common.{◌≡◌, ℕ, ◌≤◌, List, [], ◌∷◌, true, false, nat_eq, refl, ◌∙◌, ap, subst, Option, Some, None, Result, Ok, Err, arith, inl, inr, ◌↔◌, ◌⊎◌}
 use Rattle.std.specs.Prelude.{MatchResult, is_some}
 use Rattle.lexicon_fields.specs.{declared.architecture.Architecture.Architecture as AnyArchitecture, declared.operating_system.OperatingSystem.OperatingSystem as AnySystem, Environment.environment_of}
@@ -15,7 +15,8 @@ use Rattle.target_lexicon.specs.Values.environment
 abbrev Claim : Type 1
 Claim = List (List ℕ) → List Field → Values → Type 0
 
--- what reading these fields gives behind `last`: values of which this stands, where they take every part, or the refusal of the first part that they leave
+-- what reading these fields gives behind `last`: values of which this stands, where they take every part, or the
+-- refusal of the first part that they leave
 abbrev Gives : List Field → Field → List (List ℕ) → Claim → Result Values Refusal → Type 0
 Gives fs last ps P (Ok t) = (unread fs ps ≡ []) × P ps (filled fs ps) t
 Gives fs last ps P (Err x) = (q : List ℕ) × (rest : List (List ℕ)) × (unread fs ps ≡ q ∷ rest) × (x ≡ refusal_with (expected_after (last_of last (filled fs ps))) q)
@@ -126,7 +127,7 @@ reading-holds : (text : List ℕ) → Holds text (reading text)
 unfolding reading
 reading-holds text = by_special text (special_values text) refl
 
--- a text has one outcome at most, so it has the one that the function gives
+-- a text has at most one outcome, so it has the one that the function gives
 computed : (text : List ℕ) (found : Result Values Refusal) → Holds text found
     → ((t : Values) → ReadsAs text t ↔ (found ≡ Ok t)) × ((x : Refusal) → IsRefusedAs text x ↔ (found ≡ Err x))
 computed text (Ok u) h = (
@@ -141,7 +142,7 @@ computed text (Err y) h = (
 pub reading_computed : ReadingIsComputed
 reading_computed text = let both = computed text (reading text) (reading-holds text) in record { read = both.0; refused = both.1 }
 
--- a text is read or refused
+-- a text reads or is refused
 outcome : (text : List ℕ) (found : Result Values Refusal) → Holds text found → ((t : Values) × ReadsAs text t) ⊎ IsRefused text
 outcome text (Ok t) h = inl (t, h)
 outcome text (Err x) h = inr (x, h)

@@ -1,4 +1,4 @@
--- The parts of a text are one list.
+-- A text has exactly one list of parts.
 use Rattle.std.proofs.Common.{◌≡◌, ◌≢◌, ℕ, List, [], ◌∷◌, ◌++◌, ◌+◌, ◌-◌, take, drop, get_or, Bool, true, false, nat_eq, Some, None, refl, sym, length, ◌<◌, ◌∙◌, ap, arith, ◌≤◌, inl, inr}
 use Rattle.std.specs.List.{list_all, list_any, join_with_byte, onto_first, slice_range, position, position_or_len}
 use Rattle.std.specs.Prelude.{◌==◌, ◌||◌, not}
@@ -8,7 +8,7 @@ use Rattle.std.proofs.lemmas.List.Splits.{join_with_byte-slice_split, slice_spli
 use Rattle.lexicon_fields.specs.Names.{is_dash_free}
 use Rattle.target_lexicon.specs.Placement.{ArePartsOf, parts_of}
 
--- the first byte of a text without dashes is none, and the others have none
+-- the first byte of a text without dashes is no dash, and the rest has none
 dash_free-parts : (b : ℕ) (bs : List ℕ) → is_dash_free (b ∷ bs) ≡ true → (nat_eq b 45 ≡ false) × (is_dash_free bs ≡ true)
 dash_free-parts b bs free = by_head (nat_eq b 45) (list_any (λ c. c == 45) bs) free
   where
@@ -65,7 +65,7 @@ pub parts-only : (text : List ℕ) (others : List (List ℕ)) → ArePartsOf tex
 parts-only text [] are = absurd (are.some refl)
 parts-only text (p ∷ ps) are = sym (parts_of-joined p ps are.dash_free) ∙ ap parts_of are.joined
 
--- where a text is cut at its first dash
+-- a text that is cut at its first dash
 module _ (text : List ℕ) (i : ℕ) (found : position (λ b. b == 45) text ≡ Some i) where
   pub dash_at : (i < length text) × (get_or text i 0 ≡ 45)
   dash_at = let at = position-Some (λ b. b == 45) text i 0 found in (at.0, eqb-true (get_or text i 0) 45 at.1)

@@ -1,4 +1,4 @@
--- What variants without fields tell that are fed, and fields that are fed one behind another.
+-- Variants without fields feed a hasher injectively, and so do fields that are fed one after another.
 use Rattle.std.proofs.Common.{◌≡◌, ℕ, ◌≤◌, ◌++◌, [], ◌∷◌, ◌∙◌, sym, ap, append_assoc, length, arith}
 use Rattle.std.specs.Hash.{HashWrites, le_bytes, usize}
 use Rattle.lexicon_fields.specs.Laws.{HashInjectiveOn, HashInjective}
@@ -56,7 +56,7 @@ module _ {T V W X Y : Type 0} {IsFirst : V → Type 0} {IsSecond : X → Type 0}
       let seconds = (other.exactly (q t) (q u) ht.1 hu.1).1 (ap (λ w. w.1) same) in
       λ i. firsts i ++ seconds i
 
-  -- of a value two parts are fed, one behind the other
+  -- two parts of a value are fed, one after the other
   pub both_mark : HashInjectiveOn AreBoth both feed_both
   both_mark = record {
     exactly = λ t u ht hu. (λ same. (both_marked t u [] [] ht hu (ap (λ fed. fed ++ []) same)).0, both_fed t u ht hu);

@@ -1,4 +1,4 @@
--- How much longer what is printed is than the text that was read, and that settling makes no text longer.
+-- Printed texts are at most so much longer than the text that was parsed, and the canonical form makes no text longer.
 use Rattle.std.proofs.Common.{◌≡◌, ℕ, zero, suc, ◌+◌, ◌≤◌, List, [], ◌∷◌, length, codes, Bool, true, false, true≢false, not, ◌&&◌, ◌||◌, cond, Option, Some, None, Ok, ◌⊎◌, inl, inr, unwrap_or, refl, sym, ap, subst, arith}
 use Rattle.std.specs.List.{join_with_byte, slice_get}
 use Rattle.std.proofs.{lemmas.List.length-append, lemmas.List.Splits.join_with_byte-slice_split, lemmas.Option.MatchOption-at_some, lemmas.Bool.and_parts, lemmas.Bool.not-true, Math.Bool.and-false, Math.Bool.or-true}
@@ -22,7 +22,7 @@ use Rattle.target_lexicon.specs.Values.environment
 use Rattle.target_lexicon.specs.Values.binary_format
 use Rattle.target_lexicon.specs.Field as field
 
--- the bytes of parts, each with its dash
+-- the number of bytes of the parts, each with a dash
 abbrev weight : List (List ℕ) → ℕ
 weight [] = 0
 weight (part ∷ parts) = suc (length part) + weight parts
@@ -35,7 +35,7 @@ weight-cons_if : (b : Bool) (part : List ℕ) (parts : List (List ℕ)) → weig
 weight-cons_if true part parts = omega arith
 weight-cons_if false part parts = omega arith
 
--- what is shown behind the system
+-- the parts that are shown after the system
 abbrev after_system : Bool → Values → List (List ℕ)
 after_system b t = cond b (environment_name t.environment ∷ binary_format_name t.binary_format ∷ [])
     (cons_if (shows_environment t) (environment_name t.environment) (cons_if (shows_binary_format t) (binary_format_name t.binary_format) []))
@@ -53,7 +53,7 @@ unfolding parts_with_unknowns upstream_parts
 weight-shown t true = weight-joined _ _
 weight-shown t false = weight-joined _ _
 
--- the name of what a field takes, and the parts that are left
+-- the name of a field's value, and the parts that are left
 take_part-max_growth : {A : Type 0} (f : Field) (name : A → List ℕ) (find : List ℕ → Option A) (unfilled : A) (bytes : ℕ) (last : Field) (parts : List (List ℕ))
     → NamesGrowAtMost bytes name find → bytes ≤ 8 → length (name unfilled) ≤ 7
     → let step = take_part f find unfilled last parts in weight (name step.0 ∷ step.2) ≤ weight parts + 8
@@ -64,7 +64,7 @@ take_part-max_growth {A} f name find unfilled bytes last (p ∷ ps) max_growth s
     by_reading None is = omega arith
     by_reading (Some x) is = omega (arith, max_growth p x is)
 
--- a format that is implied, and shown, is `elf`
+-- an implied format that is shown is `elf`
 
 same_format-self : (f : BinaryFormat) → same_format f f ≡ true
 same_format-self binary_format.Unknown = refl
@@ -89,7 +89,7 @@ shows_unknowns-implied : (f : BinaryFormat) → (same_format f binary_format.Unk
 shows_unknowns-implied binary_format.Unknown = refl
 shows_unknowns-implied _ = refl
 
--- the format is shown beside an unknown environment that is
+-- the format is shown with an unknown environment that is shown
 unknowns-shown : (t : Values) → shows_unknowns t ≡ true → shows_binary_format t ≡ true
 unfolding shows_binary_format
 unknowns-shown t shown = let other : same_format t.binary_format (implied t) ≡ false = not-true _ (and_parts _ _ shown).1 in rw other refl
@@ -125,7 +125,7 @@ module _ (formats : TextsAreNames binary_format_name binary_format_of) (environm
         by_reading None is none = absurd cc
         by_reading (Some f) is none = omega (arith, weight-cons_if (shows_binary_format (values a v s e f)) (binary_format_name f) [], ap length (formats p f is))
 
-    -- an environment that no part fills is not shown, since a part that is an unknown format would be an unknown environment
+    -- an unfilled environment is not shown, since a part that is an unknown format would be an unknown environment
     unfilled-hidden : (last : Field) (p : List ℕ) (ps : List (List ℕ)) → environment_of p ≡ None → (format_taken environment.Unknown last (p ∷ ps)).2 ≡ []
         → shows_unknowns (values a v s environment.Unknown (format_taken environment.Unknown last (p ∷ ps)).0) ≡ false
     unfilled-hidden last p ps unfilled none = by_reading (binary_format_of p) refl none
@@ -141,7 +141,7 @@ module _ (formats : TextsAreNames binary_format_name binary_format_of) (environm
     environment_growth parts e =
         let f = format_taken e.0 e.1 e.2 in let t = values a v s e.0 f.0 in f.2 ≡ [] → weight (after_system (shows_unknowns t) t) ≤ weight parts + 4
 
-    -- a part that is the environment, and what is shown of the parts behind it
+    -- a part that is the environment, and the shown parts after it
     shown-max_growth : (p : List ℕ) (ps : List (List ℕ)) (e : Environment) (f : BinaryFormat) (b : Bool) → environment_of p ≡ Some e → shows_unknowns (values a v s e f) ≡ b
         → weight (format_shown e f) ≤ weight ps + 4 → weight (after_system b (values a v s e f)) ≤ weight (p ∷ ps) + 4
     shown-max_growth p ps e f true is shown max_growth = omega (arith, rw (unknowns-shown (values a v s e f) shown) at max_growth, ap length (environments p e is))
@@ -197,7 +197,7 @@ module _ (formats : TextsAreNames binary_format_name binary_format_of) (environm
     unfolding reading
     printed_max_growth computed text t reads = by_special text (special_values text) t refl (((computed text).read t).0 reads)
 
--- a refused part is one of the text's
+-- a refused part is a part of the text
 
 part-lighter : (parts : List (List ℕ)) (n : ℕ) (part : List ℕ) → slice_get parts n ≡ Some part → suc (length part) ≤ weight parts
 part-lighter [] n part is = absurd cc
@@ -209,12 +209,12 @@ refused_does_not_grow text refusal (ordinary, ([], are, is)) = absurd (are.some 
 refused_does_not_grow text refusal (ordinary, (p ∷ ps, are, is)) =
     omega (arith, part-lighter (p ∷ ps) is.count refusal.part is.refused, weight-joined p ps, ap length are.joined)
 
--- no step of settling makes a text longer
+-- the normal step makes no text longer
 
 abbrev DoesNotGrow : Values → Values → Type 0
 DoesNotGrow u t = length (text_of u) ≤ length (text_of t)
 
--- where the same special text is printed, if one is
+-- if both print the same special text or none
 by_weight : (u t : Values) → special_text u ≡ special_text t → weight (shown_parts u) ≤ weight (shown_parts t) → DoesNotGrow u t
 unfolding text_of
 by_weight u t special lighter = rw special (by_option (special_text t))
@@ -232,7 +232,7 @@ esp-does_not_grow : (t : Values) → PrintsTheEspIdfText t → DoesNotGrow (valu
 unfolding text_of upstream_parts shows_vendor shows_operating_system shows_environment shows_binary_format implied_format special_text
 esp-does_not_grow t is = rw is (omega arith)
 
--- Clever is no device of a special text
+-- Clever is the architecture of no special text
 never_clever : (a : Architecture) → (is_clever_without_system a operating_system.Horizon ≡ false) × (is_clever_without_system a operating_system.Espidf ≡ false)
 never_clever (architecture.Clever sub) = (refl, refl)
 never_clever _ = (refl, refl)

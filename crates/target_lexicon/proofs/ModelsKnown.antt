@@ -1,4 +1,4 @@
--- Which data models triples have.
+-- The data models of triples.
 use Rattle.std.proofs.Common.{◌≡◌, ◌⊎◌, inl, inr, Option, Some, None, is_none, true≢false, refl, ap}
 use Rattle.std.specs.Prelude.{option_map}
 use Rattle.target_lexicon.specs.{Values.Architecture, Values.OperatingSystem, Values.Values, declared.calling_convention.CallingConvention.CallingConvention, declared.data_model.CDataModel.CDataModel}
@@ -48,7 +48,7 @@ pub one_of_three : (t : Values) (m : CDataModel) → data_model t ≡ Some m →
 unfolding data_model
 one_of_three t m h = (chosen (pointer_width t) t.architecture t.operating_system m h).1
 
--- where no row of a table fits, there is no model
+-- if no case of the table fits, there is no model
 no_convention_64 : (c : CallingConvention) → (c ≡ SystemV → ⊥) → (c ≡ AppleAarch64 → ⊥) → convention_model_64 (Some c) ≡ None
 no_convention_64 SystemV p q = absurd (p refl)
 no_convention_64 AppleAarch64 p q = absurd (q refl)

@@ -1,4 +1,4 @@
--- What a caller's answer unfolds to compute what a literal reads as, and what it prints.
+-- The definitions that a caller's proof unfolds to compute how a literal parses and prints.
 use Rattle.std.specs.Prelude.{⊤}
 use Rattle.lexicon_fields.specs.{Architecture.architecture_of, Vendor.known_vendor_of, Vendor.is_admitted, Vendor.vendor_of, Version.version_of, Environment.environment_of, OperatingSystem.fixed_operating_system_of, OperatingSystem.operating_system_of, BinaryFormat.binary_format_of}
 use Rattle.target_lexicon.specs.{ImpliedFormat.implied_format, SpecialTexts.special_values, SpecialTexts.special_text, GreedyReading.reading, NormalStep.normal_step}

@@ -7,7 +7,7 @@ use Rattle.target_lexicon.specs.{Values.Values, Private.part_text, SpecialTexts.
 use Rattle.target_lexicon.specs.Printing.{shows_vendor, shows_operating_system, shows_environment, shows_binary_format, cons_if, upstream_parts, shows_unknowns, parts_with_unknowns, shown_parts, text_of}
 use Rattle.target_lexicon.proofs.RoundTrips.{are_unknown}
 
--- each part behind a dash
+-- each part after a dash
 unfoldable pub dashed : List (List ℕ) → List ℕ
 dashed [] = []
 dashed (part ∷ parts) = 45 ∷ part ++ dashed parts
@@ -38,7 +38,7 @@ four_parts : (a p q r s : List ℕ) (w : Bool) → ((a ++ part_text w p) ++ (45 
 unfolding dashed
 four_parts a p q r s w = rw (← dashed_joined a (cons_if w p (q ∷ r ∷ s ∷ [])), part_before w p (q ∷ r ∷ s ∷ []), append-nil s) (simp append_assoc)
 
--- where there is no special text: the names of the fields that upstream shows
+-- without a special text: the names of the fields that upstream shows
 pub prints_parts : (t : Values) → false ≡ shows_unknowns t → None ≡ special_text t
     → (((architecture_name t.architecture ++ part_text (shows_vendor t) (vendor_name t.vendor))
     ++ part_text (shows_operating_system t) (operating_system_name t.operating_system))
@@ -47,7 +47,7 @@ pub prints_parts : (t : Values) → false ≡ shows_unknowns t → None ≡ spec
 unfolding text_of upstream_parts
 prints_parts t hidden none = rw (sym none, sym hidden) (five_parts _ _ _ _ _ _ _ _ _)
 
--- or those with the unknown ones
+-- or those with the unknown fields
 pub prints_unknowns : (t : Values) → true ≡ shows_unknowns t → None ≡ special_text t
     → ((architecture_name t.architecture ++ part_text (shows_vendor t) (vendor_name t.vendor)) ++ part_text true (operating_system_name t.operating_system)) ++ codes "-unknown-unknown" ≡ text_of t
 unfolding text_of parts_with_unknowns

@@ -1,4 +1,4 @@
--- The normal step keeps what the four queries answer.
+-- The normal step keeps the answers of the four queries.
 use Rattle.std.proofs.Common.{◌≡◌, ◌∙◌, sym, ap, refl, Bool, true, false, cond, true≢false, Some, inl, inr}
 use Rattle.target_lexicon.specs.Values.{Architecture, OperatingSystem, Environment, BinaryFormat, VendorValue, Values, values}
 use Rattle.target_lexicon.specs.{NormalStep.normal_step, Families.PrintsAsSpecial, Queries.is_ilp32, Queries.convention_on, Queries.model_of_width, Queries.pointer_width, Queries.data_model, QueryLaws.AnswersAlike}
@@ -8,7 +8,7 @@ use Rattle.target_lexicon.specs.Values.architecture
 use Rattle.target_lexicon.specs.Values.operating_system
 use Rattle.target_lexicon.specs.Values.environment
 
--- vendor and format have no part, and the environment has one in the width alone
+-- vendor and format don't matter, and the environment only for the width
 alike_by_width : (a : Architecture) (v w : VendorValue) (s : OperatingSystem) (e d : Environment) (f g : BinaryFormat)
     → pointer_width (values a v s e f) ≡ pointer_width (values a w s d g) → AnswersAlike (values a v s e f) (values a w s d g)
 unfolding data_model
@@ -37,7 +37,7 @@ newlib-width : (a : Architecture) (v w : VendorValue) (s : OperatingSystem) (f g
 unfolding pointer_width
 newlib-width a v w s f g = refl
 
--- on Clever neither the system nor the environment has a part
+-- on Clever neither the system nor the environment matters
 clever-alike : (a : Architecture) (v : VendorValue) (f : BinaryFormat) → is_clever a ≡ true
     → AnswersAlike (values a v operating_system.None_ environment.Unknown f) (values a v operating_system.Unknown environment.None f)
 unfolding pointer_width convention_on data_model

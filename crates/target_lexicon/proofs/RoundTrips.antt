@@ -1,4 +1,4 @@
--- The shown parts of a triple with a plain vendor read as its normal step, where no special text is printed.
+-- The shown parts of a triple with a plain vendor parse as its normal step, if no special text is printed.
 use Rattle.std.proofs.Common.{◌≡◌, ◌∙◌, ℕ, Bool, true, false, not, ◌&&◌, ◌||◌, cond, List, [], ◌∷◌, None, Result, Ok, refl, sym, ap, ◌⊎◌, inl, inr}
 use Rattle.target_lexicon.specs.Values.{Architecture, Environment, OperatingSystem, BinaryFormat, VendorValue, Known, Values, values, implies_newlib, same_format}
 use Rattle.target_lexicon.specs.{Field.Field, ImpliedFormat.implied, ImpliedFormat.implied_format, Families.PrintsAsSpecial, Families.HidesNewlib, Refusal.Refusal, SpecialTexts.special_text}
@@ -33,22 +33,22 @@ shown_by true true f g h = refl
 shown_by true false f g h = sym (h refl)
 shown_by false too f g h = refl
 
--- the format is read back, shown or implied
+-- the format is parsed back, shown or implied
 shown_or_implied : (t : Values) → cond (shows_binary_format t) t.binary_format (implied t) ≡ t.binary_format
 unfolding shows_binary_format
 shown_or_implied t = shown_by (same_format t.binary_format (implied t)) _ t.binary_format (implied t) (same_format-is t.binary_format (implied t))
 
--- with a system a format isn't shown for the lack of one
+-- with a system an implied format isn't shown
 pub with_system : (t : Values) → names_no_system t.operating_system ≡ false → shows_implied_format t ≡ false
 with_system t has = rw (has, and-false) refl
 
--- which fields are unknown where both are shown as unknown
+-- the fields that are unknown if both are shown as unknown
 pub are_unknown : (a : Architecture) (v : VendorValue) (s : OperatingSystem) (e : Environment) (f : BinaryFormat) → shows_unknowns (values a v s e f) ≡ true
     → (e ≡ environment.Unknown) × (f ≡ binary_format.Unknown)
 are_unknown a v s environment.Unknown binary_format.Unknown shown = (refl, refl)
 are_unknown a v s _ _ shown = absurd (false≢true shown)
 
--- where no special text is printed
+-- if no special text is printed
 
 none-apart : (t : Values) → special_text t ≡ None → ¬ PrintsAsSpecial t
 unfolding special_text
@@ -67,7 +67,7 @@ not_shown a (Known Espressif) operating_system.Espidf environment.Newlib f none 
 not_shown a _ _ environment.Newlib f none hidden = absurd (true≢false hidden)
 not_shown a v s _ f none hidden = absurd (true≢false (rw and-false at hidden))
 
--- the format that is read where the environment isn't shown
+-- the format that is parsed if the environment isn't shown
 
 shown_unless_elf : (f : BinaryFormat) → cond (known_format f && (not (same_format f binary_format.Elf) || false)) f binary_format.Elf ≡ elf_if_unknown f
 shown_unless_elf binary_format.Unknown = refl
@@ -78,7 +78,7 @@ shown_unless_unknown binary_format.Unknown binary_format.Unknown b hidden same =
 shown_unless_unknown binary_format.Unknown _ b hidden same = absurd cc
 shown_unless_unknown _ i b hidden same = same
 
--- vendor and system, where they aren't shown
+-- vendor and system that aren't shown
 
 hidden_vendor : (a : Architecture) (v : VendorValue) (s : OperatingSystem) (e : Environment) (f : BinaryFormat) → shows_vendor (values a v s e f) ≡ false
     → (v ≡ Known Unknown) × (omits_unknown_vendor a s e ≡ true)
@@ -98,7 +98,7 @@ unfolding shows_operating_system
 hidden_system (architecture.Clever sub) v operating_system.Unknown e f h = (refl, (sub, refl))
 hidden_system _ v _ e f h = absurd (true≢false h)
 
--- where the system is shown
+-- if the system is shown
 shown_system : (t : Values) → shows_operating_system t ≡ true → shows_only_none t ≡ false
 unfolding shows_operating_system
 shown_system t h = rw (not-true _ h) refl
@@ -109,7 +109,7 @@ without_system (Known Nintendo) = refl
 without_system _ = refl
 
 module _ (names : NamesAreRead) where
-  -- the format, read back behind an environment that is shown or not
+  -- the format, parsed back after an environment that is shown or not
 
   shown-read : (a : Architecture) (v : VendorValue) (s : OperatingSystem) (e : Environment) (f : BinaryFormat) (b : Bool) (last : Field)
       → read_environment a v s last (environment_name e ∷ cons_if b (binary_format_name f) []) ≡ Ok (values a v s e (cond b f (implied_format a s e)))
@@ -123,7 +123,7 @@ module _ (names : NamesAreRead) where
   hidden-read a v s binary_format.Unknown true last = rw (environment_of-format binary_format.Unknown) refl
   hidden-read a v s f true last = rw (environment_of-format f, names.binary_format.reads_back f tt) refl
 
-  -- what upstream shows behind the system, read back
+  -- the parts that upstream shows after the system, parsed back
   abbrev ReadsAfter : Values → Field → Values → Type 0
   ReadsAfter t last u = read_environment t.architecture t.vendor t.operating_system last
       (cons_if (shows_environment t) (environment_name t.environment) (cons_if (shows_binary_format t) (binary_format_name t.binary_format) [])) ≡ Ok u
@@ -160,7 +160,7 @@ module _ (names : NamesAreRead) where
         (λ is. absurd (not_from_Decides _ (shows_only_none-decides (values a v s e f)) alone is))
         (λ outside. outside-read last outside.newlib _ refl)
 
-  -- architecture, vendor and system, read back
+  -- architecture, vendor and system, parsed back
 
   prefix : (a : Architecture) (v : VendorValue) (b : Bool) (rest : List (List ℕ)) (result : Result Values Refusal) → is_plain v ≡ true
       → (b ≡ false → (v ≡ Known Unknown) × (read_vendor a rest ≡ read_operating_system a (Known Unknown) field.Architecture rest))
@@ -169,7 +169,7 @@ module _ (names : NamesAreRead) where
   prefix a v true rest result plain hidden reads = rw (names.architecture.reads_back a tt, names.vendor.reads_back v plain) (reads field.Vendor)
   prefix a v false rest result plain hidden reads = rw (names.architecture.reads_back a tt) ((hidden refl).1 ∙ rw (sym (hidden refl).0) (reads field.Architecture))
 
-  -- where the system is shown, and these parts behind it
+  -- if the system is shown, with these parts after it
   after_system : (a : Architecture) (v : VendorValue) (s : OperatingSystem) (e : Environment) (f : BinaryFormat) (rest : List (List ℕ)) (result : Result Values Refusal) → is_plain v ≡ true → HasVersionInRange s
       → read_environment a v s field.OperatingSystem rest ≡ result
       → read_parts (architecture_name a ∷ cons_if (shows_vendor (values a v s e f)) (vendor_name v) (operating_system_name s ∷ rest)) ≡ result
@@ -177,7 +177,7 @@ module _ (names : NamesAreRead) where
       (λ h. let is = hidden_vendor a v s e f h in (is.0, rw (vendor_of-operating_system names s range ∙ no_vendor a s e is.1) refl))
       (λ last. rw (names.operating_system.reads_back s range) reads)
 
-  -- where it isn't: Clever without a system
+  -- if it isn't: Clever without a system
   clever-read : (c : CleverArchitecture) (v : VendorValue) (e : Environment) (f : BinaryFormat) (last : Field) → shows_unknowns (values (architecture.Clever c) v operating_system.Unknown e f) ≡ false
       → read_operating_system (architecture.Clever c) v last (cons_if (shows_environment (values (architecture.Clever c) v operating_system.Unknown e f)) (environment_name e)
       (cons_if (shows_binary_format (values (architecture.Clever c) v operating_system.Unknown e f)) (binary_format_name f) []))
@@ -226,6 +226,6 @@ module _ (names : NamesAreRead) where
     parts_by true shown = unknowns-round (are_unknown a v s e f shown)
     parts_by false hidden = upstream-round _ refl hidden
 
-    -- where no special text is printed, the shown parts read as the step
+    -- if no special text is printed, the shown parts parse as the step
     pub parts-round : read_parts (shown_parts (values a v s e f)) ≡ Ok (normal_step (values a v s e f))
     parts-round = parts_by (shows_unknowns (values a v s e f)) refl

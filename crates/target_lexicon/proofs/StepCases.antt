@@ -1,4 +1,5 @@
--- The tests by which the step is written tell the families; so what holds in the case of each family, and outside them, holds of the step.
+-- The tests in the normal step decide the families. So a fact that holds in the case of each family, and outside
+-- them, holds for the step.
 use Rattle.std.proofs.Common.{◌≡◌, ◌≢◌, inl, inr, true, not, ◌&&◌, codes, refl, ap}
 use Rattle.std.specs.Bool.{Decides}
 use Rattle.std.proofs.{lemmas.Slice.Eq.bytes_eq-Decides, lemmas.Bool.cond_both, lemmas.Bool.false≢true, lemmas.Bool.Decides.not_from_Decides}
@@ -38,7 +39,7 @@ prints_as_special-decides t = (
   ],
 )
 
--- `Newlib` isn't shown
+-- a `Newlib` that isn't shown
 
 newlib-fields : (a : Architecture) (v : VendorValue) (s : OperatingSystem) (e : Environment) (f : BinaryFormat) → hides_newlib (values a v s e f) ≡ true → HidesNewlib (values a v s e f)
 unfolding special_text
@@ -80,7 +81,7 @@ pub prints_the_esp_idf_text-decides : (t : Values) → Decides (prints_the_esp_i
 prints_the_esp_idf_text-decides t =
     (esp_fields t.architecture t.vendor t.operating_system t.environment t.binary_format, ap prints_the_esp_idf_text)
 
--- `none` alone, on Clever
+-- `none` without a system, on Clever
 
 none-fields : (a : Architecture) (v : VendorValue) (s : OperatingSystem) (e : Environment) (f : BinaryFormat) → shows_only_none (values a v s e f) ≡ true → ShowsOnlyNone (values a v s e f)
 none-fields (architecture.Clever sub) v operating_system.Unknown environment.None f h = record { architecture = refl; operating_system = refl; environment = refl }
@@ -96,7 +97,7 @@ shows_only_none-decides t = (
   λ is. rw (is.operating_system, is.environment, on_clever t.architecture is.architecture) refl,
 )
 
--- none of the four families in which a plain vendor's triple changes
+-- in none of the four families in which a triple with a plain vendor changes
 pub record IsOutside (t : Values) : Type 0 where
   pub special : ¬ PrintsAsSpecial t
   pub newlib : ¬ HidesNewlib t

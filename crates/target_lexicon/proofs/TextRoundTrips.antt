@@ -1,4 +1,4 @@
--- The text of a triple with a plain vendor reads as its normal step.
+-- The printed text of a triple with a plain vendor reads as its normal step.
 use Rattle.std.proofs.Common.{◌≡◌, ◌≢◌, ◌∙◌, ℕ, Bool, true, false, cond, is_none, true≢false, inl, inr, List, [], ◌∷◌, Option, Some, None, Ok, Err, codes, refl, sym, ap, subst}
 use Rattle.std.specs.{List.list_all, List.join_with_byte, Str.bytes_eq}
 use Rattle.std.proofs.lemmas.Slice.Eq.{bytes_eq-Decides}
@@ -20,7 +20,7 @@ use Rattle.target_lexicon.specs.Values.environment
 use Rattle.target_lexicon.specs.Values.binary_format
 use Rattle.target_lexicon.specs.Field as field
 
--- parts without dashes are the parts of the text that joins them
+-- texts without dashes are the parts of the text that joins them
 
 parts_of-join : (p : List ℕ) (ps : List (List ℕ)) → is_dash_free p ≡ true → list_all is_dash_free ps ≡ true → parts_of (join_with_byte 45 (p ∷ ps)) ≡ p ∷ ps
 parts_of-join p ps free others = parts_of-joined p ps (rw (free, others) refl)
@@ -49,7 +49,7 @@ custom_esp-round : reading (text_of custom_esp) ≡ Ok (normal_step custom_esp)
 unfolding reading text_of special_text special_values upstream_parts shows_vendor shows_operating_system shows_environment shows_binary_format implied_format normal_step
 custom_esp-round = refl
 
--- the special texts, read by their parts
+-- the special texts, parsed by their parts
 
 nintendo-parts : read_parts (parts_of nintendo_3ds_text) ≡ Err (refusal_with (Expects field.OperatingSystem) (codes "3ds"))
 unfolding architecture_of vendor_of known_vendor_of operating_system_of fixed_operating_system_of environment_of binary_format_of
@@ -59,7 +59,7 @@ esp_idf-parts : read_parts (parts_of esp_idf_text) ≡ Ok custom_esp
 unfolding architecture_of vendor_of known_vendor_of is_admitted operating_system_of fixed_operating_system_of environment_of binary_format_of implied_format
 esp_idf-parts = refl
 
--- a text that isn't special is read by its parts
+-- a text that isn't special is parsed by its parts
 by_tests : (text : List ℕ) (ps : List (List ℕ)) (t : Values) (x y : Bool) → bytes_eq text nintendo_3ds_text ≡ x → bytes_eq text esp_idf_text ≡ y → parts_of text ≡ ps
     → read_parts ps ≡ Ok t → ps ≢ parts_of esp_idf_text → read_unless_special (cond x (Some nintendo_3ds) (cond y (Some esp_idf) None)) text ≡ Ok t
 by_tests text ps t true y is_x is_y are reads apart =
@@ -103,7 +103,7 @@ round_by names t (Some text) b plain range is is_b = special-round t.architectur
 round_by names t None true plain range is is_b = rw ((prints_the_esp_idf_text-decides t).0 is_b) custom_esp-round
 round_by names t None false plain range is is_b = shown-round names t.architecture t.vendor t.operating_system t.environment t.binary_format plain range is is_b
 
--- a round of a plain triple is its step
+-- the round trip of a plain triple is its normal step
 pub round : NamesAreRead → RoundIsNormalStep
 round names t plain = ((reading_computed (text_of t)).read (normal_step t)).1 (round_by names t _ _ plain.vendor plain.version refl refl)
 

@@ -1,4 +1,4 @@
--- Where an unknown environment and an unknown format are shown, the text is longer than upstream's.
+-- If an unknown environment and an unknown format are shown, the text is longer than upstream's.
 use Rattle.std.proofs.Common.{◌≡◌, ◌≢◌, ℕ, Bool, true, false, List, [], ◌∷◌, Option, Some, None, codes, length, arith, refl, sym, ap, ◌∙◌}
 use Rattle.std.specs.List.{join_with_byte}
 use Rattle.std.proofs.{lemmas.List.append_cancel_left, lemmas.List.length-append, lemmas.Bool.and_parts, lemmas.Bool.not-true, lemmas.Bool.true≢false}
@@ -22,7 +22,7 @@ same_first part ps qs same = append_cancel_left part (dashed ps) (dashed qs) (da
 abbrev unknown : List ℕ
 unknown = codes "unknown"
 
--- two unknown parts more, or one
+-- two more unknown parts, or one
 growth_tail : (b c : Bool) (system : List ℕ) → dashed (system ∷ unknown ∷ unknown ∷ []) ≢ dashed (cons_if b system (cons_if c unknown []))
 unfolding dashed
 growth_tail true true system same = let rest = append_cancel_left (45 ∷ system) (dashed (unknown ∷ unknown ∷ [])) (dashed (unknown ∷ [])) same in cc
@@ -47,7 +47,7 @@ unfolding text_of upstream_text_of
 other_text t is same =
     max_growth t.architecture t.vendor t.operating_system (rw (is.special, is.environment, is.binary_format, unknowns_shown _ (rw (is.environment) at is.implied)) at same)
 
--- which triples they are
+-- the triples for which this is so
 shows_unknowns_by : (t : Values) (special : Option (List ℕ)) (b : Bool) → special_text t ≡ special → shows_unknowns t ≡ b → text_of t ≢ upstream_text_of t → ShowsUnknowns t
 unfolding text_of upstream_text_of
 shows_unknowns_by t (Some text) b special shown other = absurd (other (rw special refl))

@@ -1,4 +1,4 @@
--- What a triple with a plain vendor becomes by a round, that is when it is printed and read again.
+-- The triple that the printed text of a triple with a plain vendor reads as.
 use Rattle.std.specs.Prelude.{Bool, false, not, ◌&&◌, is_some, is_none, codes, if◌then◌else◌}
 use Rattle.std.specs.Str.{bytes_eq}
 use Rattle.target_lexicon.specs.Values.{Architecture, OperatingSystem, Environment, BinaryFormat, VendorValue, Known, Custom, Values}
@@ -10,7 +10,7 @@ use Rattle.target_lexicon.specs.Values.operating_system
 use Rattle.target_lexicon.specs.Values.environment
 use Rattle.target_lexicon.specs.Values.binary_format
 
--- the tests of the families but the last, one for each, with its name
+-- a test for each family except the last
 abbrev pub prints_as_special : Values → Bool
 prints_as_special t = is_some (special_text t) && not (is_newlib t.environment && same_format t.binary_format binary_format.Elf)
 
@@ -31,12 +31,12 @@ abbrev pub elf_if_unknown : BinaryFormat → BinaryFormat
 elf_if_unknown binary_format.Unknown = binary_format.Elf
 elf_if_unknown f = f
 
--- whether none of them holds, and the vendor is plain
+-- whether none of these holds and the vendor is plain
 unfoldable pub is_in_no_family : Values → Bool
 is_in_no_family t =
     not (prints_as_special t) && not (hides_newlib t) && not (prints_the_esp_idf_text t) && not (shows_only_none t) && is_plain t.vendor
 
--- the first of the families that holds tells what changes; outside them nothing does
+-- the first family that the triple is in decides the change; a triple in none is unchanged
 unfoldable pub normal_step : Values → Values
 normal_step t =
     if prints_as_special t then record t { environment = environment.Newlib; binary_format = binary_format.Elf }

@@ -1,6 +1,7 @@
--- What a triple prints: upstream's rules, and the one rule on top of them, `shows_unknowns`. What holds them to their subject is that
--- every text is compared with upstream's (`checks/compare_upstream`) and differs from it by that rule alone (`OtherTextsThanUpstream`),
--- and that it reads as the triple that was printed, or as its normal step (`RoundIsNormalStep`).
+-- The printed text of a triple: upstream's rules, and one rule on top of them, `shows_unknowns`. These definitions
+-- are held to their subject by a comparison with upstream (`checks/compare_upstream`), from which the texts differ
+-- only by that rule (`OtherTextsThanUpstream`), and by the round trip: a printed text reads as the triple or its
+-- normal step (`RoundIsNormalStep`).
 use Rattle.std.specs.Prelude.{◌≡◌, ◌≢◌, ◌↔◌, ℕ, Bool, true, false, not, ◌&&◌, ◌||◌, List, [], ◌∷◌, None, unwrap_or, if◌then◌else◌}
 use Rattle.std.specs.List.{join_with_byte}
 use Rattle.target_lexicon.specs.Values.{Architecture, OperatingSystem, Environment, Values, is_unknown_vendor, is_unknown_environment, is_newlib, is_clever_without_system, implies_newlib, same_format}
@@ -12,7 +13,7 @@ use Rattle.target_lexicon.specs.Values.operating_system
 use Rattle.target_lexicon.specs.Values.environment
 use Rattle.target_lexicon.specs.Values.binary_format
 
--- the Arm architectures whose triples without a system name no vendor
+-- the Arm architectures whose triples without a system omit an unknown vendor
 abbrev pub is_bare_arm : ArmArchitecture → Bool
 is_bare_arm arm.Armv4t = true
 is_bare_arm arm.Armv5te = true
@@ -29,7 +30,7 @@ is_bare_arm arm.Thumbv8mBase = true
 is_bare_arm arm.Thumbv8mMain = true
 is_bare_arm _ = false
 
--- where an unknown vendor goes without saying: Android and kernels on Linux, WASI, machines without a system
+-- where an unknown vendor is omitted: Android and kernels on Linux, WASI, some architectures without a system
 abbrev pub omits_unknown_vendor : Architecture → OperatingSystem → Environment → Bool
 omits_unknown_vendor a operating_system.Linux environment.Android = true
 omits_unknown_vendor a operating_system.Linux environment.Androideabi = true
@@ -47,25 +48,25 @@ is_kernel environment.HermitKernel = true
 is_kernel environment.LinuxKernel = true
 is_kernel _ = false
 
--- the vendor is left out where it is unknown and that goes without saying, but never beside such a kernel
+-- an unknown vendor is omitted in these cases, but never with such a kernel
 unfoldable pub shows_vendor : Values → Bool
 shows_vendor t = not (is_unknown_vendor t.vendor) || is_kernel t.environment || not (omits_unknown_vendor t.architecture t.operating_system t.environment)
 
--- the system is left out where it is unknown, on Clever
+-- an unknown system is omitted on Clever
 unfoldable pub shows_operating_system : Values → Bool
 shows_operating_system t = not (is_clever_without_system t.architecture t.operating_system)
 
--- the environment is left out where it is unknown, and where it is a `Newlib` that goes without saying
+-- an unknown environment is omitted, and so is a `Newlib` that vendor and system imply
 unfoldable pub shows_environment : Values → Bool
 shows_environment t = not (is_unknown_environment t.environment) && not (implies_newlib t.vendor t.operating_system && is_newlib t.environment)
 
--- the two systems that say that there is none, or none known
+-- the two systems for no operating system and an unknown one
 abbrev pub names_no_system : OperatingSystem → Bool
 names_no_system operating_system.None_ = true
 names_no_system operating_system.Unknown = true
 names_no_system _ = false
 
--- the environments and the architectures whose triples leave out an implied format even without a system
+-- the environments and the architectures whose triples omit an implied format even without a system
 abbrev pub environment_implies_format : Environment → Bool
 environment_implies_format environment.Eabi = true
 environment_implies_format environment.Eabihf = true
@@ -79,16 +80,16 @@ architecture_implies_format architecture.Wasm32 = true
 architecture_implies_format architecture.Wasm64 = true
 architecture_implies_format _ = false
 
--- a known format is shown without a system even where it is the implied one
+-- without a system a known format is shown even if it is the implied one, with these exceptions
 abbrev pub shows_implied_format : Values → Bool
 shows_implied_format t =
     not (architecture_implies_format t.architecture) && names_no_system t.operating_system && not (environment_implies_format t.environment) && not (same_format t.binary_format binary_format.Unknown)
 
--- the format is left out where it is the implied one, but for such triples
+-- the implied format is omitted, except in such triples
 unfoldable pub shows_binary_format : Values → Bool
 shows_binary_format t = not (same_format t.binary_format (implied t)) || shows_implied_format t
 
--- a part, where it is shown, and the parts behind it
+-- the parts with one more in front, if that is shown
 abbrev pub cons_if : Bool → List ℕ → List (List ℕ) → List (List ℕ)
 cons_if true part parts = part ∷ parts
 cons_if false part parts = parts
@@ -101,25 +102,25 @@ upstream_parts t =
     (cons_if (shows_environment t) (environment_name t.environment)
     (cons_if (shows_binary_format t) (binary_format_name t.binary_format) [])))
 
--- the rule on top: an unknown environment and an unknown format are both shown where another format is implied
+-- the rule on top: an unknown environment and an unknown format are both shown if another format is implied
 abbrev pub shows_unknowns : Values → Bool
 shows_unknowns t = is_unknown_environment t.environment && same_format t.binary_format binary_format.Unknown && not (same_format t.binary_format (implied t))
 
--- then the system is shown too, so that each of the three is read as itself
+-- the operating system is then shown too, so that each of the three parses as itself
 unfoldable pub parts_with_unknowns : Values → List (List ℕ)
 parts_with_unknowns t =
     architecture_name t.architecture ∷ cons_if (shows_vendor t) (vendor_name t.vendor)
     (operating_system_name t.operating_system ∷ environment_name t.environment ∷ binary_format_name t.binary_format ∷ [])
 
--- the names of the fields that a triple shows
+-- the names of the fields that are shown
 abbrev pub shown_parts : Values → List (List ℕ)
 shown_parts t = if shows_unknowns t then parts_with_unknowns t else upstream_parts t
 
--- the text that a triple prints: its special text, or else these names with single dashes between them
+-- the printed text of a triple: its special text, or else these names joined by dashes
 unfoldable pub text_of : Values → List ℕ
 text_of t = unwrap_or (special_text t) (join_with_byte 45 (shown_parts t))
 
--- the text that upstream prints
+-- the text that upstream prints for the triple
 unfoldable pub upstream_text_of : Values → List ℕ
 upstream_text_of t = unwrap_or (special_text t) (join_with_byte 45 (upstream_parts t))
 
@@ -130,6 +131,6 @@ pub record ShowsUnknowns (t : Values) : Type 0 where
   pub binary_format : t.binary_format ≡ binary_format.Unknown
   pub special : special_text t ≡ None
 
--- the texts of these triples, and of no others, aren't upstream's
+-- exactly the texts of these triples differ from upstream's
 abbrev pub OtherTextsThanUpstream : Type 0
 OtherTextsThanUpstream = (t : Values) → (text_of t ≢ upstream_text_of t) ↔ ShowsUnknowns t

@@ -1,5 +1,5 @@
--- What a code generator asks of a triple: byte order, pointer width, calling convention and data model. No vendor and no
--- binary format has a part in it.
+-- Queries for code generators: byte order, pointer width, calling convention and data model. They don't depend on
+-- vendor and binary format.
 use Rattle.std.specs.Prelude.{Bool, true, false, Option, Some, None, if◌then◌else◌}
 use Rattle.target_lexicon.specs.{Values.Architecture, Values.OperatingSystem, Values.Environment, Values.Values, declared.calling_convention.CallingConvention.CallingConvention}
 use Rattle.target_lexicon.specs.declared.data_model.CDataModel.{CDataModel}
@@ -22,7 +22,7 @@ abbrev pub darwin_convention : Architecture → Option CallingConvention
 darwin_convention (architecture.Aarch64 _) = Some AppleAarch64
 darwin_convention _ = Some SystemV
 
--- what runs WebAssembly has a convention on its 32-bit architecture alone
+-- systems that run WebAssembly have a convention only on its 32-bit architecture
 abbrev pub wasm_convention : Architecture → Option CallingConvention
 wasm_convention architecture.Wasm32 = Some WasmBasicCAbi
 wasm_convention _ = None

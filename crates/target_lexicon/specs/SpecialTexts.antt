@@ -21,7 +21,7 @@ esp_idf_text = codes "riscv32imc-esp-espidf"
 abbrev pub esp_idf : Values
 esp_idf = values (architecture.Riscv32 riscv32.Riscv32imc) (Known Espressif) operating_system.Espidf environment.Newlib binary_format.Elf
 
--- the values that a special text gives
+-- the triple of a special text
 unfoldable pub special_values : List ℕ → Option Values
 special_values text = value_of ((nintendo_3ds_text, nintendo_3ds) ∷ (esp_idf_text, esp_idf) ∷ []) text
 

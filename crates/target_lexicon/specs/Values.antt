@@ -1,4 +1,4 @@
--- The five values of a triple, of which all rules speak.
+-- The values of a triple's five fields, over which all rules are stated.
 use Rattle.std.specs.Prelude.{Bool, true, false}
 use Rattle.lexicon_fields.specs.{declared.known_vendor.KnownVendor.TheVariants.Unknown, declared.known_vendor.KnownVendor.TheVariants.Nintendo, declared.known_vendor.KnownVendor.TheVariants.Espressif, Vendor.vendor_value}
 pub use Rattle.lexicon_fields.specs.{declared.architecture.Architecture.Architecture, declared.operating_system.OperatingSystem.OperatingSystem}
@@ -12,7 +12,7 @@ pub use Rattle.lexicon_fields.specs.declared.environment.Environment.TheVariants
 pub use Rattle.lexicon_fields.specs.declared.binary_format.BinaryFormat.TheVariants as binary_format
 use Rattle.target_lexicon.specs.declared.triple.Triple.{Triple}
 
--- a value for each field, a custom vendor being its text
+-- a value for each field; that of a custom vendor is its text
 pub record Values : Type 0 where
   pub architecture : Architecture
   pub vendor : VendorValue
@@ -31,11 +31,11 @@ values_of t = values t.architecture (vendor_value t.vendor) t.operating_system t
 abbrev pub unknown_values : Values
 unknown_values = values architecture.Unknown (Known Unknown) operating_system.Unknown environment.Unknown binary_format.Unknown
 
--- the triple that stands for the machine, whatever the machine: 64-bit x86 with Linux and GNU's libraries
+-- the host, on every machine: 64-bit x86 with Linux and GNU's libraries
 abbrev pub host_values : Values
 host_values = values architecture.X86_64 (Known Unknown) operating_system.Linux environment.Gnu binary_format.Elf
 
--- tests of one field or two, of which rules are made
+-- tests of one or two fields
 abbrev pub is_unknown_vendor : VendorValue → Bool
 is_unknown_vendor (Known Unknown) = true
 is_unknown_vendor _ = false
@@ -66,7 +66,7 @@ same_format binary_format.Wasm binary_format.Wasm = true
 same_format binary_format.Xcoff binary_format.Xcoff = true
 same_format _ _ = false
 
--- the systems, each of its vendor, on which the environment `Newlib` goes without saying
+-- the vendors and systems that imply the environment `Newlib`
 abbrev pub implies_newlib : VendorValue → OperatingSystem → Bool
 implies_newlib (Known Nintendo) operating_system.Horizon = true
 implies_newlib (Known Espressif) operating_system.Espidf = true

@@ -1,4 +1,4 @@
-//! Where a text's first dash is, sixteen bytes in one step.
+//! The search for the first dash of a text, sixteen bytes a step.
 ghost use Rattle.std.specs.Prelude.{◌≡◌, ◌≤◌, ◌+◌, ◌==◌, length, take, drop, map};
 ghost use Rattle.std.specs.List.{position};
 ghost use Rattle.std.specs.Simd.Lanes.{mask_l};
@@ -6,7 +6,7 @@ ghost use Rattle.target_lexicon.specs.Private.{MarksDashes};
 
 use std::simd::prelude::*;
 
-/// Which of the sixteen bytes from `at` on are dashes, a bit for each, the first byte's the lowest.
+/// A bit for each of the sixteen bytes from `at` on, set for a dash. The lowest bit is that of the first byte.
 #[inline(always)]
 fn dashes_from(bytes: &[u8], at: usize) -> u64
     requires { at + 16 ≤ length bytes.now }
@@ -17,7 +17,7 @@ fn dashes_from(bytes: &[u8], at: usize) -> u64
         .to_bitmask()
 }
 
-/// Which of the last sixteen bytes of a text are dashes. Of a shorter text the bits of its bytes are the highest of sixteen.
+/// A bit for each of the last sixteen bytes of a text, set for a dash. The highest bit is that of the last byte.
 pub(crate) fn dashes_at_end(text: &str) -> u64
     ensures { MarksDashes result text.now }
 {
@@ -30,7 +30,7 @@ pub(crate) fn dashes_at_end(text: &str) -> u64
     dashes_from(&last, 0)
 }
 
-/// Where the first dash of a text is, the dashes of whose end are known.
+/// The index of the first dash of a text, given the bits of its last sixteen bytes.
 pub(crate) fn dash_in(text: &str, at_end: u64) -> Option<usize>
     requires { MarksDashes at_end text.now }
     ensures { result ≡ position (λ b. b == 45) text.now }

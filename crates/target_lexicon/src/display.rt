@@ -14,7 +14,7 @@ use lexicon_fields::{
 use std::alloc::{AllocError, Global};
 use std::fmt;
 
-/// Room for the text of most triples, which then takes one request for memory.
+/// A capacity that is enough for most triples, so that their text takes one allocation.
 const USUAL_LENGTH: usize = 40;
 
 impl fmt::Display for Triple {
@@ -38,7 +38,7 @@ impl fmt::Display for Triple {
     }
 }
 
-/// Writes a dash and the part, where it is shown.
+/// Writes a dash and the part, if it is shown.
 fn write_part<W: fmt::Write, D: fmt::Display>(
     f: &mut fmt::Formatter<W>,
     is_shown: bool,
@@ -56,7 +56,7 @@ fn write_part<W: fmt::Write, D: fmt::Display>(
 }
 
 impl Triple {
-    /// The printed text. The memory for it may be refused.
+    /// The printed text. `Err` if the allocation for it fails.
     pub fn to_text(&self, alloc: Global) -> Result<String, AllocError>
         ensures { IfOk result (λ text. string_bytes text ≡ text_of (values_of self.now)) }
     {
@@ -77,7 +77,7 @@ impl Triple {
         }
     }
 
-    /// Whether an unknown vendor goes without saying.
+    /// Whether an unknown vendor is omitted.
     fn omits_unknown_vendor(&self) -> bool
         ensures { result
             ≡ omits_unknown_vendor self.now.architecture self.now.operating_system
@@ -121,7 +121,7 @@ impl Triple {
         }
     }
 
-    /// Whether the environment `Newlib` goes without saying.
+    /// Whether the environment `Newlib` is omitted.
     pub(crate) fn implies_newlib(&self) -> bool
         ensures { result ≡ implies_newlib (vendor_value self.now.vendor) self.now.operating_system }
     {
@@ -140,7 +140,7 @@ impl Triple {
         self.binary_format != default_binary_format(self) || self.shows_implied_format()
     }
 
-    /// Whether the binary format is shown even where it is the implied one.
+    /// Whether the binary format is shown even if it is the implied one.
     fn shows_implied_format(&self) -> bool
         ensures { result ≡ shows_implied_format (values_of self.now) }
     {
@@ -156,7 +156,7 @@ impl Triple {
             && self.binary_format != BinaryFormat::Unknown
     }
 
-    /// Whether environment and format are both shown as unknown, and the operating system before them.
+    /// Whether environment and format are both shown as unknown, and the operating system with them.
     fn shows_unknowns(&self) -> bool
         ensures { result ≡ shows_unknowns (values_of self.now) }
     {
@@ -167,7 +167,7 @@ impl Triple {
     }
 }
 
-/// Whether a triple of this architecture leaves out an implied format even without a system.
+/// Whether a triple of this architecture omits an implied format even without a system.
 fn architecture_implies_format(architecture: Architecture) -> bool
     ensures { result ≡ architecture_implies_format architecture }
 {
@@ -177,7 +177,7 @@ fn architecture_implies_format(architecture: Architecture) -> bool
     )
 }
 
-/// Whether a triple of this architecture without a system names no vendor.
+/// Whether a triple of this architecture without a system omits an unknown vendor.
 fn is_bare_arm(architecture: ArmArchitecture) -> bool
     ensures { result ≡ is_bare_arm architecture }
 {

@@ -1,4 +1,4 @@
-//! What printing and reading again keep of a triple: the five families that don't come back, and the normal step.
+//! Round trips of a triple: the five families that don't come back, the normal step, and the canonical form.
 ghost use Rattle.std.specs.Prelude.{◌≡◌, ◌↔◌, ◌⊎◌, true, IsTrue};
 ghost use Rattle.lexicon_fields.specs.Laws.{HasVersionInRange};
 ghost use Rattle.lexicon_fields.specs.Vendor.{is_plain, vendor_value};
@@ -18,14 +18,15 @@ use lexicon_fields::{
 };
 
 impl Triple {
-    /// Whether the triple comes back: printed and read again, it is itself. No text is made, and no memory asked for.
+    /// Whether the triple comes back: printed and parsed again, it is itself. No text is made and nothing is allocated.
     ///
     /// A triple comes back unless it is in one of five families:
-    /// - The first three fields are those of `armv6k-nintendo-3ds` or `riscv32imc-esp-espidf`, and environment and format
-    ///   aren't `Newlib` and `Elf`.
-    /// - Vendor and system are those of one of these two, and the environment is `Newlib`, but the architecture is another.
+    /// - The first three fields are those of `armv6k-nintendo-3ds` or `riscv32imc-esp-espidf`, and environment and
+    ///   format aren't `Newlib` and `Elf`.
+    /// - Vendor and system are those of one of these two, and the environment is `Newlib`, but the architecture is
+    ///   another.
     /// - The text is `riscv32imc-esp-espidf`, but the vendor is the custom `esp`.
-    /// - On Clever with an unknown system, the environment is `None`, which reads as the system.
+    /// - On Clever with an unknown system, the environment is `None`, which parses as the system.
     /// - The vendor isn't plain.
     pub fn comes_back(&self) -> bool
         ensures { IsTrue result ↔ ComesBack (values_of self.now) }
@@ -35,10 +36,11 @@ impl Triple {
         self.is_in_no_family()
     }
 
-    /// The triple that this one's text reads as; the vendor must be plain, as that of every triple is that was read.
-    /// Nothing is copied, and no memory asked for.
+    /// The triple that this triple's printed text parses as. The vendor must be plain, as that of every parsed triple
+    /// is. Nothing is copied or allocated.
     ///
-    /// A triple that comes back stays as it is. Of the families of `comes_back`, the first of these cases holds:
+    /// A triple that comes back is unchanged. Otherwise the first of these cases that holds decides, by the families of
+    /// `comes_back`:
     /// - First: environment and format become `Newlib` and `Elf`.
     /// - Second: the environment becomes `Unknown`, and an `Unknown` format becomes `Elf`.
     /// - Third: the vendor becomes `Espressif`, environment and format become `Newlib` and `Elf`.
@@ -55,9 +57,9 @@ impl Triple {
         self.step()
     }
 
-    /// The triple that comes back after normal steps; one is enough. The vendor must be plain, as for `normal`.
-    /// Its text is its own among all such triples, so that it serves as a key. A triple that comes back stays as it is.
-    /// No memory is asked for.
+    /// The canonical form of the triple: the triple that comes back after normal steps, of which one is enough. The
+    /// vendor must be plain, as for `normal`. No other canonical triple has the same text, so the text serves as a
+    /// key. A triple that comes back is unchanged. Nothing is allocated.
     pub fn settle(self) -> Triple
         requires { is_plain (vendor_value self.vendor) ≡ true }
         ensures steps { values_of result ≡ settled_values (values_of self) }
@@ -116,7 +118,7 @@ impl Triple {
             )
     }
 
-    /// Whether `Newlib` isn't shown, and the text isn't special.
+    /// Whether the environment is a `Newlib` that isn't shown, and the text isn't special.
     pub(crate) fn hides_newlib(&self) -> bool
         ensures { result ≡ hides_newlib (values_of self.now) }
     {
@@ -125,7 +127,7 @@ impl Triple {
             && self.special_text().is_none()
     }
 
-    /// Whether the vendor is the custom `esp`, and the text the special one.
+    /// Whether the vendor is the custom `esp`, and the text is the special one.
     pub(crate) fn prints_the_esp_idf_text(&self) -> bool
         ensures { result ≡ prints_the_esp_idf_text (values_of self.now) }
     {
@@ -147,7 +149,7 @@ impl Triple {
         }
     }
 
-    /// Whether the environment `none` is shown alone, on Clever without a system.
+    /// Whether the environment `none` is shown without a system, on Clever.
     #[tactic(auto, unfolding(crate::specs::Printing::shows_operating_system))]
     pub(crate) fn shows_only_none(&self) -> bool
         ensures { result ≡ shows_only_none (values_of self.now) }
@@ -159,7 +161,7 @@ impl Triple {
     }
 }
 
-/// The format, or `Elf` for an unknown one.
+/// The format, with `Elf` for an unknown one.
 pub(crate) fn elf_if_unknown(binary_format: BinaryFormat) -> BinaryFormat
     ensures { result ≡ elf_if_unknown binary_format }
 {
@@ -169,7 +171,7 @@ pub(crate) fn elf_if_unknown(binary_format: BinaryFormat) -> BinaryFormat
     }
 }
 
-/// A version that a system holds is in range, by its types.
+/// The version of a system is in range, by its types.
 fn version_fits(operating_system: OperatingSystem)
     ensures { HasVersionInRange operating_system }
 {}

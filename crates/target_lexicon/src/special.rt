@@ -40,7 +40,7 @@ impl Triple {
         }
     }
 
-    /// The special text that the triple prints, whatever its environment and its format.
+    /// The special text that the triple prints, if any. Environment and format don't matter.
     #[tactic(auto, unfolding(crate::specs::SpecialTexts::special_text))]
     pub(crate) fn special_text(&self) -> Option<&'static str>
         ensures { option_map {U = List ℕ} (λ text. text.now) result

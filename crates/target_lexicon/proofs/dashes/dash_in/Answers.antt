@@ -1,4 +1,4 @@
--- The bits of each load, and then of the end, tell where the first dash is.
+-- The bits of each load, and then those of the end, show where the first dash is.
 use Rattle.std.proofs.Common.{◌∙◌, ℕ, List, ap, arith, subst, sym}
 use Rattle.std.specs.List.{position}
 use Rattle.target_lexicon.specs.Private.{MarksDashes}

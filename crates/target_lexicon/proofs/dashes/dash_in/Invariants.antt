@@ -1,4 +1,4 @@
--- No dash was found so far.
+-- No dash has been found so far.
 use Rattle.std.proofs.Common.{◌≡◌, ◌<◌, ◌≤◌, ◌-◌, ◌==◌, ℕ, false, get_or, length}
 use Rattle.target_lexicon.proofs.dashes.dash_in.Given as goal
 

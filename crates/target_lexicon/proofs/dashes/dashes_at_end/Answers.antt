@@ -1,4 +1,4 @@
--- The bits of one load, of the text or of a copy of it behind zeros, tell.
+-- The bits are those of one load, of the text or of a copy of it after zeros.
 use Rattle.std.proofs.Common.{arith, refl, subst, List, ℕ}
 use Rattle.target_lexicon.specs.Private.{MarksDashes}
 use Rattle.target_lexicon.proofs.DashBits.{marks_by_last, marks_by_padded}
