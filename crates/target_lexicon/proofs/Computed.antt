@@ -7,7 +7,7 @@ use Rattle.target_lexicon.specs.{Values.VendorValue, Values.Known, Values.Values
 use Rattle.target_lexicon.specs.Field.{Field, Architecture, Vendor, OperatingSystem, Environment, BinaryFormat, place, reads}
 use Rattle.target_lexicon.specs.Reading.{part_at, IsValueOf, HoldsParts, ReadsAs, IsRefusal, IsRefusedAs, IsRefused, expected_after, last_of}
 use Rattle.target_lexicon.specs.GreedyReading.{taken_part, take_part, finish, read_binary_format, read_environment, read_operating_system, read_vendor, read_after, read_parts, read_unless_special, reading}
-use Rattle.target_lexicon.proofs.{Cuts.parts_of-are, Cuts.parts_of-some, Greedy.Follows, Greedy.filled, Greedy.unread, Greedy.filled-placed, Greedy.after_architecture, Greedy.greedy-least, Refused.first-refused, Refused.left-refused, Unique.values_unique, Unique.refusal_unique, Unique.read_not_refused}
+use Rattle.target_lexicon.proofs.{Cuts.parts_of-are, Cuts.parts_of-some, Greedy.Follows, Greedy.filled, Greedy.unread, Greedy.filled-placed, Greedy.after_architecture, Greedy.greedy-least, Refused.refused_first, Refused.left-refused, Unique.values_unique, Unique.refusal_unique, Unique.read_not_refused}
 use Rattle.target_lexicon.specs.Values.operating_system
 use Rattle.target_lexicon.specs.Values.environment
 
@@ -109,7 +109,7 @@ module _ (text p : List ℕ) (ps : List (List ℕ)) (ordinary : special_values t
 
   by_architecture : (o : Option AnyArchitecture) → architecture_of p ≡ o → Holds text (read_after o p ps)
   unfolding reads
-  by_architecture None h = is_refused _ (first-refused p ps (ap is_some h))
+  by_architecture None h = is_refused _ (refused_first p ps (ap is_some h))
   by_architecture (Some a) h = by_given a (read_vendor a ps) h (ap is_some h) (vendor-gives a ps)
 
   pub parts-hold : Holds text (read_parts (p ∷ ps))

@@ -10,10 +10,11 @@ use Rattle.std.proofs.lemmas.Slice.{take-put_mid}
 use borrow.Rule.Slice.PartMut.{put_mid}
 use lib.Count.{count_trailing_zeros}
 use lib.Lanes.{chunk, top, zip2}
-use Rattle.target_lexicon.specs.Private.{MarksDashes}
+use Rattle.lexicon_fields.specs.Names.{dash}
+use Rattle.target_lexicon.specs.Private.{AreDashBits}
 
 abbrev pub is_dash : ℕ → Bool
-is_dash b = b == 45
+is_dash b = b == dash
 
 -- the bits of a load, as its sixteen bytes are compared
 pub bits_of-load : (bytes : List ℕ) (at : ℕ) → at + 16 ≤ length bytes
@@ -35,27 +36,27 @@ mask_l-drop (suc n) (m ∷ ms) =
     ∙ mask_l-drop n ms
 
 -- the bits of sixteen bytes that end like the text
-tells_by : (bytes text : List ℕ) (bits : ℕ) → bits ≡ mask_l (map is_dash bytes)
-    → ((k : ℕ) → k ≤ length text → length text ≤ k + 16 → drop (16 - (length text - k)) bytes ≡ drop k text) → MarksDashes bits text
-tells_by bytes text bits is same = record {
+dash_bits_by : (bytes text : List ℕ) (bits : ℕ) → bits ≡ mask_l (map is_dash bytes)
+    → ((k : ℕ) → k ≤ length text → length text ≤ k + 16 → drop (16 - (length text - k)) bytes ≡ drop k text) → AreDashBits bits text
+dash_bits_by bytes text bits is same = record {
   decides = λ k within few.
       let n = 16 - (length text - k) in
       ap (λ b. b / 2 ^ n) is ∙ mask_l-drop n (map is_dash bytes) ∙ ap mask_l (drop-map is_dash n bytes ∙ ap (map is_dash) (same k within few));
 }
 
-pub marks_by_last : (text : List ℕ) (bits : ℕ) → 16 ≤ length text → bits ≡ mask_l (map is_dash (take 16 (drop (length text - 16) text))) → MarksDashes bits text
-marks_by_last text bits long is =
+pub dash_bits_by_last : (text : List ℕ) (bits : ℕ) → 16 ≤ length text → bits ≡ mask_l (map is_dash (take 16 (drop (length text - 16) text))) → AreDashBits bits text
+dash_bits_by_last text bits long is =
     let last = drop (length text - 16) text in
-    tells_by last text bits (is ∙ ap (λ bytes. mask_l (map is_dash bytes)) (take_all 16 last (omega (arith, length-drop (length text - 16) text))))
+    dash_bits_by last text bits (is ∙ ap (λ bytes. mask_l (map is_dash bytes)) (take_all 16 last (omega (arith, length-drop (length text - 16) text))))
     (λ k within few. drop-drop (16 - (length text - k)) (length text - 16) text ∙ ap (λ i. drop i text) (omega (arith, within, few, long)))
 
 -- the same if the text is at the end of sixteen bytes, after zeros
-pub marks_by_padded : (zeros text : List ℕ) (k bits : ℕ) → length zeros ≡ 16 → length text ≤ 16
-    → bits ≡ mask_l (map is_dash (take 16 (put_mid (16 - length text) k zeros text))) → MarksDashes bits text
-marks_by_padded zeros text k bits long short is =
+pub dash_bits_by_padded : (zeros text : List ℕ) (k bits : ℕ) → length zeros ≡ 16 → length text ≤ 16
+    → bits ≡ mask_l (map is_dash (take 16 (put_mid (16 - length text) k zeros text))) → AreDashBits bits text
+dash_bits_by_padded zeros text k bits long short is =
     let prefix = take (16 - length text) zeros in
     let before : length prefix ≡ 16 - length text = length-take-le (16 - length text) zeros (omega (arith, long)) in
-    tells_by (prefix ++ text) text bits
+    dash_bits_by (prefix ++ text) text bits
     (is ∙ ap (λ bytes. mask_l (map is_dash bytes)) (take-put_mid (16 - length text) k zeros text 16 (omega (arith, short)) (omega (arith, long))))
     (λ i within few.
     ap (λ n. drop n (prefix ++ text)) (omega (arith, within, few, short, before))
@@ -63,8 +64,8 @@ marks_by_padded zeros text k bits long short is =
     ∙ ap (drop i) (drop_at prefix text (length prefix) refl))
 
 -- the text after a dash ends like the text
-pub marks_after : (bits : ℕ) (text rest : List ℕ) (i : ℕ) → i ≤ length text → MarksDashes bits text → rest ≡ drop i text → MarksDashes bits rest
-marks_after bits text rest i within dashes_known after = record {
+pub dash_bits_after : (bits : ℕ) (text rest : List ℕ) (i : ℕ) → i ≤ length text → AreDashBits bits text → rest ≡ drop i text → AreDashBits bits rest
+dash_bits_after bits text rest i within dashes_known after = record {
   decides = λ k below few.
       let long : length rest ≡ length text - i = ap length after ∙ length-drop i text in
       ap (λ n. bits / 2 ^ n) (omega (arith, long, within, below))
@@ -73,7 +74,7 @@ marks_after bits text rest i within dashes_known after = record {
 }
 
 -- the bits of the rest, which has at most sixteen bytes
-pub bits_of-rest : (bits : ℕ) (bytes : List ℕ) (at : ℕ) → MarksDashes bits bytes → at ≤ length bytes → length bytes - at ≤ 16
+pub bits_of-rest : (bits : ℕ) (bytes : List ℕ) (at : ℕ) → AreDashBits bits bytes → at ≤ length bytes → length bytes - at ≤ 16
     → bits / 2 ^ (16 - (length bytes - at)) ≡ mask_l (map is_dash (take (length bytes - at) (drop at bytes)))
 bits_of-rest bits bytes at dashes_known within few =
     dashes_known.decides at within (omega (arith, few))

@@ -2,8 +2,9 @@
 use Rattle.std.proofs.Common.{◌≡◌, ℕ, zero, suc, ◌+◌, ◌≤◌, List, [], ◌∷◌, length, codes, Bool, true, false, true≢false, not, ◌&&◌, ◌||◌, cond, Option, Some, None, Ok, ◌⊎◌, inl, inr, unwrap_or, refl, sym, ap, subst, arith}
 use Rattle.std.specs.List.{join_with_byte, slice_get}
 use Rattle.std.proofs.{lemmas.List.length-append, lemmas.List.Splits.join_with_byte-slice_split, lemmas.Option.MatchOption-at_some, lemmas.Bool.and_parts, lemmas.Bool.not-true, Math.Bool.and-false, Math.Bool.or-true}
+use Rattle.lexicon_fields.specs.Names.{dash}
 use Rattle.target_lexicon.specs.Values.{Architecture, OperatingSystem, Environment, BinaryFormat, VendorValue, Known, Values, values, is_unknown_vendor, is_clever_without_system, same_format}
-use Rattle.target_lexicon.specs.{Field.Field, ImpliedFormat.implied, ImpliedFormat.implied_format, Laws.ReadingIsComputed, Placement.parts_of, NormalStep.normal_step, NormalStep.elf_if_unknown}
+use Rattle.target_lexicon.specs.{Field.Field, ImpliedFormat.default_binary_format, ImpliedFormat.implied_format, Laws.ReadingIsComputed, Placement.parts_of, NormalStep.normal_step, NormalStep.elf_if_unknown}
 use Rattle.target_lexicon.specs.{FixedPoints.PrintedTextsGrowAtMost, FixedPoints.CanonicalTextsGrowAtMost, FixedPoints.RefusedPartsDoNotGrow}
 use Rattle.target_lexicon.specs.SpecialTexts.{special_text, special_values}
 use Rattle.target_lexicon.specs.Families.{IsNintendo3ds, IsEspIdf, HidesNewlib, PrintsTheEspIdfText, ShowsOnlyNone}
@@ -27,9 +28,9 @@ abbrev weight : List (List ℕ) → ℕ
 weight [] = 0
 weight (part ∷ parts) = suc (length part) + weight parts
 
-weight-joined : (part : List ℕ) (parts : List (List ℕ)) → weight (part ∷ parts) ≡ suc (length (join_with_byte 45 (part ∷ parts)))
+weight-joined : (part : List ℕ) (parts : List (List ℕ)) → weight (part ∷ parts) ≡ suc (length (join_with_byte dash (part ∷ parts)))
 weight-joined part [] = omega arith
-weight-joined part (next ∷ parts) = omega (arith, weight-joined next parts, length-append part (45 ∷ join_with_byte 45 (next ∷ parts)))
+weight-joined part (next ∷ parts) = omega (arith, weight-joined next parts, length-append part (dash ∷ join_with_byte dash (next ∷ parts)))
 
 weight-cons_if : (b : Bool) (part : List ℕ) (parts : List (List ℕ)) → weight (cons_if b part parts) ≤ suc (length part) + weight parts
 weight-cons_if true part parts = omega arith
@@ -48,7 +49,7 @@ weight-parts t false =
     let system = cons_if (shows_operating_system t) (operating_system_name t.operating_system) (after_system false t) in
     omega (arith, weight-cons_if (shows_vendor t) (vendor_name t.vendor) system, weight-cons_if (shows_operating_system t) (operating_system_name t.operating_system) (after_system false t))
 
-weight-shown : (t : Values) (b : Bool) → let parts = cond b (parts_with_unknowns t) (upstream_parts t) in weight parts ≡ suc (length (join_with_byte 45 parts))
+weight-shown : (t : Values) (b : Bool) → let parts = cond b (parts_with_unknowns t) (upstream_parts t) in weight parts ≡ suc (length (join_with_byte dash parts))
 unfolding parts_with_unknowns upstream_parts
 weight-shown t true = weight-joined _ _
 weight-shown t false = weight-joined _ _
@@ -92,7 +93,7 @@ shows_unknowns-implied _ = refl
 -- the format is shown with an unknown environment that is shown
 unknowns-shown : (t : Values) → shows_unknowns t ≡ true → shows_binary_format t ≡ true
 unfolding shows_binary_format
-unknowns-shown t shown = let other : same_format t.binary_format (implied t) ≡ false = not-true _ (and_parts _ _ shown).1 in rw other refl
+unknowns-shown t shown = let other : same_format t.binary_format (default_binary_format t) ≡ false = not-true _ (and_parts _ _ shown).1 in rw other refl
 
 -- a special text is short
 
@@ -160,7 +161,7 @@ module _ (formats : TextsAreNames binary_format_name binary_format_of) (environm
     abbrev GrowsAtMost : List ℕ → Values → Type 0
     GrowsAtMost text t = length (text_of t) ≤ length text + 22
 
-    by_architecture : (p : List ℕ) (ps : List (List ℕ)) (o : Option Architecture) (t : Values) → architecture_of p ≡ o → read_after o p ps ≡ Ok t → GrowsAtMost (join_with_byte 45 (p ∷ ps)) t
+    by_architecture : (p : List ℕ) (ps : List (List ℕ)) (o : Option Architecture) (t : Values) → architecture_of p ≡ o → read_after o p ps ≡ Ok t → GrowsAtMost (join_with_byte dash (p ∷ ps)) t
     unfolding text_of
     by_architecture p ps None t is read = absurd cc
     by_architecture p ps (Some a) t is read =
@@ -170,7 +171,7 @@ module _ (formats : TextsAreNames binary_format_name binary_format_of) (environm
         let f = format_taken a v.0 s.0 e.0 e.1 e.2 in
         let shown = values a v.0 s.0 e.0 f.0 in
         let end = finish-ok shown f.1 f.2 t read in
-        subst (GrowsAtMost (join_with_byte 45 (p ∷ ps))) end.1 (special-short a v.0 s.0 e.0 f.0 _ _ (omega arith) (omega (
+        subst (GrowsAtMost (join_with_byte dash (p ∷ ps))) end.1 (special-short a v.0 s.0 e.0 f.0 _ _ (omega arith) (omega (
           arith,
           architectures p a is,
           take_part-max_growth field.Vendor vendor_name vendor_of (Known Unknown) 0 field.Architecture ps (λ text x found. omega (arith, ap length (vendors text x found))) (omega arith) (omega arith),
@@ -181,13 +182,13 @@ module _ (formats : TextsAreNames binary_format_name binary_format_of) (environm
           weight-joined p ps,
         )))
 
-    by_parts : (parts : List (List ℕ)) (t : Values) → read_parts parts ≡ Ok t → GrowsAtMost (join_with_byte 45 parts) t
+    by_parts : (parts : List (List ℕ)) (t : Values) → read_parts parts ≡ Ok t → GrowsAtMost (join_with_byte dash parts) t
     by_parts [] t read = absurd cc
     by_parts (p ∷ ps) t read = by_architecture p ps (architecture_of p) t refl read
 
     by_special : (text : List ℕ) (o : Option Values) (t : Values) → special_values text ≡ o → read_unless_special o text ≡ Ok t → GrowsAtMost text t
     unfolding text_of special_text
-    by_special text None t is read = subst (λ (x : List ℕ). GrowsAtMost x t) (join_with_byte-slice_split 45 text) (by_parts (parts_of text) t read)
+    by_special text None t is read = subst (λ (x : List ℕ). GrowsAtMost x t) (join_with_byte-slice_split dash text) (by_parts (parts_of text) t read)
     by_special text (Some u) t is read =
         let short = MatchOption-at_some _ (λ x. length (text_of x) ≤ 21) u is (special-holds _ text (omega arith) (omega arith)) in
         let same : u ≡ t = cc in
@@ -219,7 +220,7 @@ by_weight : (u t : Values) → special_text u ≡ special_text t → weight (sho
 unfolding text_of
 by_weight u t special lighter = rw special (by_option (special_text t))
   where
-    by_option : (o : Option (List ℕ)) → length (unwrap_or o (join_with_byte 45 (shown_parts u))) ≤ length (unwrap_or o (join_with_byte 45 (shown_parts t)))
+    by_option : (o : Option (List ℕ)) → length (unwrap_or o (join_with_byte dash (shown_parts u))) ≤ length (unwrap_or o (join_with_byte dash (shown_parts t)))
     by_option (Some text) = omega arith
     by_option None = omega (arith, weight-shown u (shows_unknowns u), weight-shown t (shows_unknowns t))
 

@@ -2,6 +2,7 @@
 use Rattle.std.proofs.Common.{◌≡◌, ℕ, Bool, true, false, List, [], ◌∷◌, ◌++◌, codes, refl, sym, ap, append_assoc, Some, None, unwrap_or}
 use Rattle.std.specs.List.{join_with_byte}
 use Rattle.std.proofs.lemmas.List.{append-nil}
+use Rattle.lexicon_fields.specs.Names.{dash}
 use Rattle.lexicon_fields.specs.{Architecture.architecture_name, Vendor.vendor_name, OperatingSystem.operating_system_name, Environment.environment_name, BinaryFormat.binary_format_name}
 use Rattle.target_lexicon.specs.{Values.Values, Private.part_text, SpecialTexts.special_text}
 use Rattle.target_lexicon.specs.Printing.{shows_vendor, shows_operating_system, shows_environment, shows_binary_format, cons_if, upstream_parts, shows_unknowns, parts_with_unknowns, shown_parts, text_of}
@@ -10,19 +11,19 @@ use Rattle.target_lexicon.proofs.RoundTrips.{are_unknown}
 -- each part after a dash
 unfoldable pub dashed : List (List ℕ) → List ℕ
 dashed [] = []
-dashed (part ∷ parts) = 45 ∷ part ++ dashed parts
+dashed (part ∷ parts) = dash ∷ part ++ dashed parts
 
-pub dashed_joined : (part : List ℕ) (parts : List (List ℕ)) → part ++ dashed parts ≡ join_with_byte 45 (part ∷ parts)
+pub dashed_joined : (part : List ℕ) (parts : List (List ℕ)) → part ++ dashed parts ≡ join_with_byte dash (part ∷ parts)
 unfolding dashed
 dashed_joined part [] = append-nil part
-dashed_joined part (next ∷ parts) = ap (λ (s : List ℕ). part ++ (45 ∷ s)) (dashed_joined next parts)
+dashed_joined part (next ∷ parts) = ap (λ (s : List ℕ). part ++ (dash ∷ s)) (dashed_joined next parts)
 
 part_before : (b : Bool) (part : List ℕ) (parts : List (List ℕ)) → dashed (cons_if b part parts) ≡ part_text b part ++ dashed parts
 unfolding dashed
 part_before true part parts = refl
 part_before false part parts = refl
 
-five_parts : (a p q r s : List ℕ) (w x y z : Bool) → (((a ++ part_text w p) ++ part_text x q) ++ part_text y r) ++ part_text z s ≡ join_with_byte 45 (a ∷ cons_if w p (cons_if x q (cons_if y r (cons_if z s []))))
+five_parts : (a p q r s : List ℕ) (w x y z : Bool) → (((a ++ part_text w p) ++ part_text x q) ++ part_text y r) ++ part_text z s ≡ join_with_byte dash (a ∷ cons_if w p (cons_if x q (cons_if y r (cons_if z s []))))
 unfolding dashed
 five_parts a p q r s w x y z =
     rw (
@@ -34,7 +35,7 @@ five_parts a p q r s w x y z =
       append-nil (part_text z s),
     ) (simp append_assoc)
 
-four_parts : (a p q r s : List ℕ) (w : Bool) → ((a ++ part_text w p) ++ (45 ∷ q)) ++ (45 ∷ r ++ (45 ∷ s)) ≡ join_with_byte 45 (a ∷ cons_if w p (q ∷ r ∷ s ∷ []))
+four_parts : (a p q r s : List ℕ) (w : Bool) → ((a ++ part_text w p) ++ (dash ∷ q)) ++ (dash ∷ r ++ (dash ∷ s)) ≡ join_with_byte dash (a ∷ cons_if w p (q ∷ r ∷ s ∷ []))
 unfolding dashed
 four_parts a p q r s w = rw (← dashed_joined a (cons_if w p (q ∷ r ∷ s ∷ [])), part_before w p (q ∷ r ∷ s ∷ []), append-nil s) (simp append_assoc)
 
@@ -57,4 +58,4 @@ prints_unknowns t shown none =
 
 pub prints_special : (t : Values) (text : List ℕ) → Some text ≡ special_text t → text ≡ text_of t
 unfolding text_of
-prints_special t text special = ap (λ o. unwrap_or o (join_with_byte 45 (shown_parts t))) special
+prints_special t text special = ap (λ o. unwrap_or o (join_with_byte dash (shown_parts t))) special

@@ -30,7 +30,7 @@ narrow_width t narrow = rw narrow (by_test (is_ilp32 t.environment))
     by_test false = refl
 
 special-narrow : (t : Values) → PrintsAsSpecial t → architecture_width t.architecture ≡ Some U32
-special-narrow t special = elim special.fields [ inl device ↦ rw device.architecture refl | inr device ↦ rw device.architecture refl ]
+special-narrow t special = elim special.fields [ inl machine ↦ rw machine.architecture refl | inr machine ↦ rw machine.architecture refl ]
 
 newlib-width : (a : Architecture) (v w : VendorValue) (s : OperatingSystem) (f g : BinaryFormat)
     → pointer_width (values a v s environment.Unknown f) ≡ pointer_width (values a w s environment.Newlib g)

@@ -30,13 +30,13 @@ stop (f ∷ fs) (p ∷ ps) q rest e =
           }
       | inr skips ↦
           let s = stop fs (p ∷ ps) q rest (rw skips at e) in
-          by_front f fs p ps q rest s.prefix skips s.split s.taken s.same s.stuck
+          by_prefix f fs p ps q rest s.prefix skips s.split s.taken s.same s.stuck
     ]
   where
-    by_front : (f : Field) (fs : List Field) (p : List ℕ) (ps : List (List ℕ)) (q : List ℕ) (rest prefix : List (List ℕ)) → reads f p ≡ false
+    by_prefix : (f : Field) (fs : List Field) (p : List ℕ) (ps : List (List ℕ)) (q : List ℕ) (rest prefix : List (List ℕ)) → reads f p ≡ false
         → p ∷ ps ≡ prefix ++ (q ∷ rest) → unread fs prefix ≡ [] → filled fs prefix ≡ filled fs (p ∷ ps)
         → unread fs (prefix ++ (q ∷ [])) ≡ q ∷ [] → Stop (f ∷ fs) (p ∷ ps) q rest
-    by_front f fs p ps q rest [] skips split taken same stuck =
+    by_prefix f fs p ps q rest [] skips split taken same stuck =
         let also : reads f q ≡ false = cc in
         record {
           prefix = [];
@@ -45,7 +45,7 @@ stop (f ∷ fs) (p ∷ ps) q rest e =
           same = rw skips same;
           stuck = rw also stuck;
         }
-    by_front f fs p ps q rest (r ∷ prefix) skips split taken same stuck =
+    by_prefix f fs p ps q rest (r ∷ prefix) skips split taken same stuck =
         let also : reads f r ≡ false = cc in
         record {
           prefix = r ∷ prefix;
@@ -56,8 +56,8 @@ stop (f ∷ fs) (p ∷ ps) q rest e =
         }
 
 -- the first part is refused if it is not an architecture
-pub first-refused : (p : List ℕ) (ps : List (List ℕ)) → reads Architecture p ≡ false → IsRefusal (p ∷ ps) (refusal_with (Expects Architecture) p)
-first-refused p ps skips = record {
+pub refused_first : (p : List ℕ) (ps : List (List ℕ)) → reads Architecture p ≡ false → IsRefusal (p ∷ ps) (refusal_with (Expects Architecture) p)
+refused_first p ps skips = record {
   count = 0;
   refused = refl;
   unplaced = λ h. let found = greedy-finds p [] h in let takes = found.0 in cc;

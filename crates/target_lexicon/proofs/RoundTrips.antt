@@ -1,7 +1,7 @@
 -- The shown parts of a triple with a plain vendor parse as its normal step, if no special text is printed.
 use Rattle.std.proofs.Common.{◌≡◌, ◌∙◌, ℕ, Bool, true, false, not, ◌&&◌, ◌||◌, cond, List, [], ◌∷◌, None, Result, Ok, refl, sym, ap, ◌⊎◌, inl, inr}
 use Rattle.target_lexicon.specs.Values.{Architecture, Environment, OperatingSystem, BinaryFormat, VendorValue, Known, Values, values, implies_newlib, same_format}
-use Rattle.target_lexicon.specs.{Field.Field, ImpliedFormat.implied, ImpliedFormat.implied_format, Families.PrintsAsSpecial, Families.HidesNewlib, Refusal.Refusal, SpecialTexts.special_text}
+use Rattle.target_lexicon.specs.{Field.Field, ImpliedFormat.default_binary_format, ImpliedFormat.implied_format, Families.PrintsAsSpecial, Families.HidesNewlib, Refusal.Refusal, SpecialTexts.special_text}
 use Rattle.target_lexicon.specs.NormalStep.{normal_step, hides_newlib, prints_the_esp_idf_text, shows_only_none, elf_if_unknown}
 use Rattle.target_lexicon.specs.Printing.{shows_vendor, omits_unknown_vendor, shows_operating_system, shows_environment, names_no_system, shows_implied_format, shows_binary_format, shows_unknowns, upstream_parts, parts_with_unknowns, shown_parts, cons_if}
 use Rattle.target_lexicon.specs.GreedyReading.{read_parts, read_vendor, read_operating_system, read_environment}
@@ -34,9 +34,9 @@ shown_by true false f g h = sym (h refl)
 shown_by false too f g h = refl
 
 -- the format is parsed back, shown or implied
-shown_or_implied : (t : Values) → cond (shows_binary_format t) t.binary_format (implied t) ≡ t.binary_format
+shown_or_implied : (t : Values) → cond (shows_binary_format t) t.binary_format (default_binary_format t) ≡ t.binary_format
 unfolding shows_binary_format
-shown_or_implied t = shown_by (same_format t.binary_format (implied t)) _ t.binary_format (implied t) (same_format-is t.binary_format (implied t))
+shown_or_implied t = shown_by (same_format t.binary_format (default_binary_format t)) _ t.binary_format (default_binary_format t) (same_format-is t.binary_format (default_binary_format t))
 
 -- with a system an implied format isn't shown
 pub with_system : (t : Values) → names_no_system t.operating_system ≡ false → shows_implied_format t ≡ false
@@ -153,11 +153,11 @@ module _ (names : NamesAreRead) where
 
     tail-round : (last : Field) → prints_the_esp_idf_text (values a v s e f) ≡ false → shows_only_none (values a v s e f) ≡ false
         → ReadsAfter (values a v s e f) last (normal_step (values a v s e f))
-    tail-round last apart alone = step_cases (ReadsAfter (values a v s e f) last) (values a v s e f)
+    tail-round last apart only_none = step_cases (ReadsAfter (values a v s e f) last) (values a v s e f)
         (λ is. absurd (none-apart _ none is))
         (newlib-read (values a v s e f) last)
         (λ is. absurd (not_from_Decides _ (prints_the_esp_idf_text-decides (values a v s e f)) apart is))
-        (λ is. absurd (not_from_Decides _ (shows_only_none-decides (values a v s e f)) alone is))
+        (λ is. absurd (not_from_Decides _ (shows_only_none-decides (values a v s e f)) only_none is))
         (λ outside. outside-read last outside.newlib _ refl)
 
   -- architecture, vendor and system, parsed back
@@ -216,7 +216,7 @@ module _ (names : NamesAreRead) where
     unknowns-step (is_e, is_f) = step_cases (λ u. u ≡ values a v s e f) (values a v s e f)
         (λ is. absurd (none-apart _ none is)) (λ is. absurd (let newlib = is.0 in cc))
         (λ is. absurd (not_from_Decides _ (prints_the_esp_idf_text-decides (values a v s e f)) apart is))
-        (λ is. absurd (let alone = is.environment in cc)) (λ outside. refl)
+        (λ is. absurd (let only_none = is.environment in cc)) (λ outside. refl)
 
     unknowns-round : (e ≡ environment.Unknown) × (f ≡ binary_format.Unknown) → read_parts (parts_with_unknowns (values a v s e f)) ≡ Ok (normal_step (values a v s e f))
     unfolding parts_with_unknowns

@@ -2,6 +2,7 @@
 use Rattle.std.proofs.Common.{◌≡◌, ◌≢◌, ◌∙◌, ℕ, Bool, true, false, cond, is_none, true≢false, inl, inr, List, [], ◌∷◌, Option, Some, None, Ok, Err, codes, refl, sym, ap, subst}
 use Rattle.std.specs.{List.list_all, List.join_with_byte, Str.bytes_eq}
 use Rattle.std.proofs.lemmas.Slice.Eq.{bytes_eq-Decides}
+use Rattle.lexicon_fields.specs.Names.{dash}
 use Rattle.target_lexicon.specs.Values.{Architecture, OperatingSystem, Environment, BinaryFormat, VendorValue, Known, Custom, Values, values}
 use Rattle.target_lexicon.specs.{FixedPoints.RoundIsNormalStep, ImpliedFormat.implied_format, NormalStep.normal_step, NormalStep.prints_the_esp_idf_text, Placement.parts_of}
 use Rattle.target_lexicon.specs.Printing.{shows_vendor, shows_operating_system, shows_environment, shows_binary_format, shows_unknowns, upstream_parts, parts_with_unknowns, shown_parts, text_of, cons_if}
@@ -22,7 +23,7 @@ use Rattle.target_lexicon.specs.Field as field
 
 -- texts without dashes are the parts of the text that joins them
 
-parts_of-join : (p : List ℕ) (ps : List (List ℕ)) → is_dash_free p ≡ true → list_all is_dash_free ps ≡ true → parts_of (join_with_byte 45 (p ∷ ps)) ≡ p ∷ ps
+parts_of-join : (p : List ℕ) (ps : List (List ℕ)) → is_dash_free p ≡ true → list_all is_dash_free ps ≡ true → parts_of (join_with_byte dash (p ∷ ps)) ≡ p ∷ ps
 parts_of-join p ps free others = parts_of-joined p ps (rw (free, others) refl)
 
 cons_if-free : (b : Bool) (p : List ℕ) (ps : List (List ℕ)) → is_dash_free p ≡ true → list_all is_dash_free ps ≡ true → list_all is_dash_free (cons_if b p ps) ≡ true
@@ -79,7 +80,7 @@ module _ (names : NamesAreRead) (a : Architecture) (v : VendorValue) (s : Operat
       (λ is step. let of = ap (λ x. x.operating_system) step in cc)
       (λ outside. outside.esp) cc
 
-  joined-parts : (b : Bool) → let parts = cond b (parts_with_unknowns (values a v s e f)) (upstream_parts (values a v s e f)) in parts_of (join_with_byte 45 parts) ≡ parts
+  joined-parts : (b : Bool) → let parts = cond b (parts_with_unknowns (values a v s e f)) (upstream_parts (values a v s e f)) in parts_of (join_with_byte dash parts) ≡ parts
   unfolding upstream_parts parts_with_unknowns
   joined-parts true = parts_of-join (architecture_name a) _ (names.architecture.name_dash_free a tt)
       (cons_if-free (shows_vendor (values a v s e f)) _ _ (names.vendor.name_dash_free v plain)
@@ -94,7 +95,7 @@ module _ (names : NamesAreRead) (a : Architecture) (v : VendorValue) (s : Operat
   unfolding reading text_of special_values
   shown-round =
       let t = values a v s e f in
-      rw none (by_tests (join_with_byte 45 (shown_parts t)) (shown_parts t) (normal_step t) _ _ refl refl
+      rw none (by_tests (join_with_byte dash (shown_parts t)) (shown_parts t) (normal_step t) _ _ refl refl
       (joined-parts (shows_unknowns t)) (parts-round names a v s e f plain range none apart) parts-apart)
 
 round_by : NamesAreRead → (t : Values) (special : Option (List ℕ)) (b : Bool) → is_plain t.vendor ≡ true → HasVersionInRange t.operating_system → special_text t ≡ special

@@ -2,7 +2,7 @@
 use Rattle.std.proofs.Common.{◌≡◌, ℕ, ◌<◌, List, [], ◌∷◌, take, refl, sym, ◌∙◌, ap, subst, Option, Some, None, arith}
 use Rattle.std.specs.Prelude.{MatchOption, slice_get}
 use Rattle.lexicon_fields.specs.{Architecture.architecture_of, Vendor.vendor_of, OperatingSystem.operating_system_of, Environment.environment_of, BinaryFormat.binary_format_of}
-use Rattle.target_lexicon.specs.{Field.Field, ImpliedFormat.implied, Placement.ArePartsOf, Placement.parts_of, Placement.HasPlacement, SpecialTexts.special_values, Values.Values}
+use Rattle.target_lexicon.specs.{Field.Field, ImpliedFormat.default_binary_format, Placement.ArePartsOf, Placement.parts_of, Placement.HasPlacement, SpecialTexts.special_values, Values.Values}
 use Rattle.target_lexicon.specs.Refusal.{Expected, ExpectsNone, Refusal, refusal_with}
 use Rattle.target_lexicon.specs.Reading.{IsValueOf, HoldsParts, ReadsAsLeast, ReadsAs, IsRefusal, IsExpectedAfter, IsRefusedAs, IsRefused, expected_after, last_of}
 use Rattle.target_lexicon.proofs.{Greedy.placement_prefix, Greedy.least-unique, Cuts.parts-only, SameValues.same_values}
@@ -17,7 +17,7 @@ same_held parts fields t u h k =
     let v = same_value vendor_of _ _ _ t.vendor u.vendor refl h.vendor k.vendor in
     let s = same_value operating_system_of _ _ _ t.operating_system u.operating_system refl h.operating_system k.operating_system in
     let e = same_value environment_of _ _ _ t.environment u.environment refl h.environment k.environment in
-    let i : implied t ≡ implied u = cc in
+    let i : default_binary_format t ≡ default_binary_format u = cc in
     let f = same_value binary_format_of _ _ _ t.binary_format u.binary_format i h.binary_format k.binary_format in
     same_values t u a v s e f
 

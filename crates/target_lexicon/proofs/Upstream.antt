@@ -2,8 +2,9 @@
 use Rattle.std.proofs.Common.{◌≡◌, ◌≢◌, ℕ, Bool, true, false, List, [], ◌∷◌, Option, Some, None, codes, length, arith, refl, sym, ap, ◌∙◌}
 use Rattle.std.specs.List.{join_with_byte}
 use Rattle.std.proofs.{lemmas.List.append_cancel_left, lemmas.List.length-append, lemmas.Bool.and_parts, lemmas.Bool.not-true, lemmas.Bool.true≢false}
+use Rattle.lexicon_fields.specs.Names.{dash}
 use Rattle.target_lexicon.specs.Values.{Architecture, OperatingSystem, BinaryFormat, VendorValue, Values, values, same_format}
-use Rattle.target_lexicon.specs.{ImpliedFormat.implied, SpecialTexts.special_text}
+use Rattle.target_lexicon.specs.{ImpliedFormat.default_binary_format, SpecialTexts.special_text}
 use Rattle.target_lexicon.specs.Printing.{shows_vendor, shows_operating_system, shows_environment, shows_binary_format, shows_unknowns, cons_if, upstream_parts, parts_with_unknowns, text_of, upstream_text_of, ShowsUnknowns, OtherTextsThanUpstream}
 use Rattle.lexicon_fields.specs.{Architecture.architecture_name, Vendor.vendor_name, OperatingSystem.operating_system_name}
 use Rattle.target_lexicon.proofs.{Printed.dashed, Printed.dashed_joined, RoundTrips.are_unknown}
@@ -13,10 +14,10 @@ use Rattle.target_lexicon.specs.Values.binary_format
 -- the same part before two lists changes nothing
 same_parts : (b : Bool) (part : List ℕ) (ps qs : List (List ℕ)) → dashed (cons_if b part ps) ≡ dashed (cons_if b part qs) → dashed ps ≡ dashed qs
 unfolding dashed
-same_parts true part ps qs same = append_cancel_left (45 ∷ part) (dashed ps) (dashed qs) same
+same_parts true part ps qs same = append_cancel_left (dash ∷ part) (dashed ps) (dashed qs) same
 same_parts false part ps qs same = same
 
-same_first : (part : List ℕ) (ps qs : List (List ℕ)) → join_with_byte 45 (part ∷ ps) ≡ join_with_byte 45 (part ∷ qs) → dashed ps ≡ dashed qs
+same_first : (part : List ℕ) (ps qs : List (List ℕ)) → join_with_byte dash (part ∷ ps) ≡ join_with_byte dash (part ∷ qs) → dashed ps ≡ dashed qs
 same_first part ps qs same = append_cancel_left part (dashed ps) (dashed qs) (dashed_joined part ps ∙ same ∙ sym (dashed_joined part qs))
 
 abbrev unknown : List ℕ
@@ -25,13 +26,13 @@ unknown = codes "unknown"
 -- two more unknown parts, or one
 growth_tail : (b c : Bool) (system : List ℕ) → dashed (system ∷ unknown ∷ unknown ∷ []) ≢ dashed (cons_if b system (cons_if c unknown []))
 unfolding dashed
-growth_tail true true system same = let rest = append_cancel_left (45 ∷ system) (dashed (unknown ∷ unknown ∷ [])) (dashed (unknown ∷ [])) same in cc
-growth_tail true false system same = let rest = append_cancel_left (45 ∷ system) (dashed (unknown ∷ unknown ∷ [])) [] same in cc
+growth_tail true true system same = let rest = append_cancel_left (dash ∷ system) (dashed (unknown ∷ unknown ∷ [])) (dashed (unknown ∷ [])) same in cc
+growth_tail true false system same = let rest = append_cancel_left (dash ∷ system) (dashed (unknown ∷ unknown ∷ [])) [] same in cc
 growth_tail false true system same = absurd (omega (arith, ap length same, length-append system (dashed (unknown ∷ unknown ∷ []))))
 growth_tail false false system same = cc
 
 max_growth : (a : Architecture) (v : VendorValue) (s : OperatingSystem) → let t = values a v s environment.Unknown binary_format.Unknown in
-    join_with_byte 45 (parts_with_unknowns t) ≢ join_with_byte 45 (upstream_parts t)
+    join_with_byte dash (parts_with_unknowns t) ≢ join_with_byte dash (upstream_parts t)
 unfolding parts_with_unknowns upstream_parts shows_environment
 max_growth a v s same =
     let t = values a v s environment.Unknown binary_format.Unknown in
@@ -54,7 +55,7 @@ shows_unknowns_by t (Some text) b special shown other = absurd (other (rw specia
 shows_unknowns_by t None false special shown other = absurd (other (rw shown refl))
 shows_unknowns_by t None true special shown other =
     let are = are_unknown t.architecture t.vendor t.operating_system t.environment t.binary_format shown in
-    let differs : same_format t.binary_format (implied t) ≡ false = not-true _ (and_parts _ _ shown).1 in
+    let differs : same_format t.binary_format (default_binary_format t) ≡ false = not-true _ (and_parts _ _ shown).1 in
     record { environment = are.0; binary_format = are.1; implied = λ is. true≢false (rw (are.1, is) at differs); special = special }
 
 pub other_texts : OtherTextsThanUpstream

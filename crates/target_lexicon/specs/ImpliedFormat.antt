@@ -37,5 +37,5 @@ unfoldable pub implied_format : Architecture → OperatingSystem → Environment
 implied_format a s e = if is_like_darwin s then binary_format.Macho else other_format a s e
 
 -- the format that the other fields of a triple imply
-abbrev pub implied : Values → BinaryFormat
-implied t = implied_format t.architecture t.operating_system t.environment
+abbrev pub default_binary_format : Values → BinaryFormat
+default_binary_format t = implied_format t.architecture t.operating_system t.environment

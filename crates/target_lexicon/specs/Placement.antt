@@ -1,6 +1,7 @@
 -- The parts of a text between its dashes, and the assignment of parts to fields.
 use Rattle.std.specs.Prelude.{◌≡◌, ◌≢◌, ℕ, ◌==◌, List, [], ◌∷◌, true, ◌<◌, ◌≤◌}
 use Rattle.std.specs.List.{join_with_byte, list_all, slice_split}
+use Rattle.lexicon_fields.specs.Names.{dash}
 use Rattle.lexicon_fields.specs.Names.{is_dash_free}
 use Rattle.target_lexicon.specs.Field.{Field, place, reads}
 use Rattle.target_lexicon.specs.Field as field
@@ -9,11 +10,11 @@ use Rattle.target_lexicon.specs.Field as field
 pub record ArePartsOf (text : List ℕ) (parts : List (List ℕ)) : Type 0 where
   pub some : parts ≢ []
   pub dash_free : list_all is_dash_free parts ≡ true
-  pub joined : join_with_byte 45 parts ≡ text
+  pub joined : join_with_byte dash parts ≡ text
 
 -- the parts of a text, which is cut at each dash
 abbrev pub parts_of : List ℕ → List (List ℕ)
-parts_of text = slice_split (λ b. b == 45) text
+parts_of text = slice_split (λ b. b == dash) text
 
 -- the parts parse as these fields, in order, which strictly increase and all come after `last`
 abbrev pub IsPlacedAfter : Field → List (List ℕ) → List Field → Type 0

@@ -4,8 +4,9 @@
 -- normal step (`RoundIsNormalStep`).
 use Rattle.std.specs.Prelude.{◌≡◌, ◌≢◌, ◌↔◌, ℕ, Bool, true, false, not, ◌&&◌, ◌||◌, List, [], ◌∷◌, None, unwrap_or, if◌then◌else◌}
 use Rattle.std.specs.List.{join_with_byte}
+use Rattle.lexicon_fields.specs.Names.{dash}
 use Rattle.target_lexicon.specs.Values.{Architecture, OperatingSystem, Environment, Values, is_unknown_vendor, is_unknown_environment, is_newlib, is_clever_without_system, implies_newlib, same_format}
-use Rattle.target_lexicon.specs.{ImpliedFormat.implied, SpecialTexts.special_text}
+use Rattle.target_lexicon.specs.{ImpliedFormat.default_binary_format, SpecialTexts.special_text}
 use Rattle.lexicon_fields.specs.{declared.architecture.arm.ArmArchitecture.ArmArchitecture, Architecture.architecture_name, OperatingSystem.operating_system_name, Vendor.vendor_name, Environment.environment_name, BinaryFormat.binary_format_name}
 use Rattle.target_lexicon.specs.Values.architecture
 use Rattle.target_lexicon.specs.Values.arm
@@ -87,7 +88,7 @@ shows_implied_format t =
 
 -- the implied format is omitted, except in such triples
 unfoldable pub shows_binary_format : Values → Bool
-shows_binary_format t = not (same_format t.binary_format (implied t)) || shows_implied_format t
+shows_binary_format t = not (same_format t.binary_format (default_binary_format t)) || shows_implied_format t
 
 -- the parts with one more in front, if that is shown
 abbrev pub cons_if : Bool → List ℕ → List (List ℕ) → List (List ℕ)
@@ -104,7 +105,7 @@ upstream_parts t =
 
 -- the rule on top: an unknown environment and an unknown format are both shown if another format is implied
 abbrev pub shows_unknowns : Values → Bool
-shows_unknowns t = is_unknown_environment t.environment && same_format t.binary_format binary_format.Unknown && not (same_format t.binary_format (implied t))
+shows_unknowns t = is_unknown_environment t.environment && same_format t.binary_format binary_format.Unknown && not (same_format t.binary_format (default_binary_format t))
 
 -- the operating system is then shown too, so that each of the three parses as itself
 unfoldable pub parts_with_unknowns : Values → List (List ℕ)
@@ -118,15 +119,15 @@ shown_parts t = if shows_unknowns t then parts_with_unknowns t else upstream_par
 
 -- the printed text of a triple: its special text, or else these names joined by dashes
 unfoldable pub text_of : Values → List ℕ
-text_of t = unwrap_or (special_text t) (join_with_byte 45 (shown_parts t))
+text_of t = unwrap_or (special_text t) (join_with_byte dash (shown_parts t))
 
 -- the text that upstream prints for the triple
 unfoldable pub upstream_text_of : Values → List ℕ
-upstream_text_of t = unwrap_or (special_text t) (join_with_byte 45 (upstream_parts t))
+upstream_text_of t = unwrap_or (special_text t) (join_with_byte dash (upstream_parts t))
 
 -- environment and format are unknown, another format is implied, and no special text is printed
 pub record ShowsUnknowns (t : Values) : Type 0 where
-  pub implied : implied t ≢ binary_format.Unknown
+  pub implied : default_binary_format t ≢ binary_format.Unknown
   pub environment : t.environment ≡ environment.Unknown
   pub binary_format : t.binary_format ≡ binary_format.Unknown
   pub special : special_text t ≡ None

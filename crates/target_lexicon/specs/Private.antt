@@ -2,6 +2,7 @@
 use Rattle.std.specs.Prelude.{◌≡◌, ◌≤◌, ◌==◌, ◌+◌, ◌-◌, ◌/◌, ◌^◌, ℕ, ◌∷◌, List, [], length, drop, map, Bool, Option, Some, None, is_some, option_and_then, option_map, if◌then◌else◌}
 use Rattle.std.specs.Borrow.{Bor}
 use Rattle.std.specs.Simd.Lanes.{mask_l}
+use Rattle.lexicon_fields.specs.Names.{dash}
 use Rattle.lexicon_fields.specs.{declared.table.FixedRow.FixedRow, FixedRow.has_row, Architecture.architecture_of, Vendor.vendor_of, OperatingSystem.operating_system_of, Environment.environment_of}
 use Rattle.lexicon_fields.specs.BinaryFormat.{binary_format_of}
 use Rattle.target_lexicon.specs.{Values.Known, Placement.parts_of}
@@ -13,8 +14,8 @@ parts_after_dash (Some text) = parts_of text.now
 
 -- the bits are set for the dashes among a text's last sixteen bytes, or fewer; the highest of sixteen is that of the
 -- last byte
-pub record MarksDashes (bits : ℕ) (text : List ℕ) : Type 0 where
-  pub decides : (k : ℕ) → k ≤ length text → length text ≤ k + 16 → bits / 2 ^ (16 - (length text - k)) ≡ mask_l (map (λ b. b == 45) (drop k text))
+pub record AreDashBits (bits : ℕ) (text : List ℕ) : Type 0 where
+  pub decides : (k : ℕ) → k ≤ length text → length text ≤ k + 16 → bits / 2 ^ (16 - (length text - k)) ≡ mask_l (map (λ b. b == dash) (drop k text))
 
 -- what the look-up of a text shows: its value in each field; without a row, vendor and operating system remain open
 pub record IsLookedUp (text : List ℕ) (row : Option FixedRow) : Type 0 where
@@ -27,4 +28,4 @@ pub record IsLookedUp (text : List ℕ) (row : Option FixedRow) : Type 0 where
 
 -- a dash and the part, if it is shown
 abbrev pub part_text : Bool → List ℕ → List ℕ
-part_text is_shown part = if is_shown then 45 ∷ part else []
+part_text is_shown part = if is_shown then dash ∷ part else []

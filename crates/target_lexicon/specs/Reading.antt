@@ -1,7 +1,7 @@
 -- Parsing: the triple that a text reads as, and how a text is refused.
 use Rattle.std.specs.Prelude.{◌≡◌, ℕ, ◌<◌, suc, List, [], ◌∷◌, Option, Some, None, take, slice_get, if◌then◌else◌, ◌==◌, IfSome, MatchOption, ◌⊎◌}
 use Rattle.lexicon_fields.specs.{Architecture.architecture_of, Vendor.IsCustom, Vendor.vendor_of, OperatingSystem.operating_system_of, Environment.environment_of, BinaryFormat.binary_format_of}
-use Rattle.target_lexicon.specs.{declared.parse_error.ParseError.ParseError, Field.Field, Field.place, ImpliedFormat.implied, Placement.ArePartsOf, Placement.IsLeast, Placement.HasPlacement}
+use Rattle.target_lexicon.specs.{declared.parse_error.ParseError.ParseError, Field.Field, Field.place, ImpliedFormat.default_binary_format, Placement.ArePartsOf, Placement.IsLeast, Placement.HasPlacement}
 use Rattle.target_lexicon.specs.{Refusal.Expected, Refusal.Expects, Refusal.ExpectsNone, Refusal.Refusal, Refusal.refusal_of, SpecialTexts.special_values, Values.Values}
 use Rattle.target_lexicon.specs.Values.architecture
 use Rattle.target_lexicon.specs.Values.operating_system
@@ -27,7 +27,7 @@ pub record HoldsParts (parts : List (List ℕ)) (fields : List Field) (t : Value
   pub vendor : IsValueOf vendor_of (vendor.Known known_vendor.Unknown) (part_at field.Vendor parts fields) t.vendor
   pub operating_system : IsValueOf operating_system_of operating_system.Unknown (part_at field.OperatingSystem parts fields) t.operating_system
   pub environment : IsValueOf environment_of environment.Unknown (part_at field.Environment parts fields) t.environment
-  pub binary_format : IsValueOf binary_format_of (implied t) (part_at field.BinaryFormat parts fields) t.binary_format
+  pub binary_format : IsValueOf binary_format_of (default_binary_format t) (part_at field.BinaryFormat parts fields) t.binary_format
 
 -- the triple that the least placement of the parts gives
 abbrev pub ReadsAsLeast : List (List ℕ) → Values → Type 0

@@ -1,6 +1,6 @@
 //! The binary format that the other fields imply.
 ghost use Rattle.std.specs.Prelude.{◌≡◌};
-ghost use Rattle.target_lexicon.specs.ImpliedFormat.{implied, implied_format};
+ghost use Rattle.target_lexicon.specs.ImpliedFormat.{default_binary_format, implied_format};
 ghost use Rattle.target_lexicon.specs.Values.{values_of};
 
 use crate::triple::Triple;
@@ -9,7 +9,7 @@ use lexicon_fields::{Architecture, BinaryFormat, Environment, OperatingSystem};
 /// The binary format that the architecture, the operating system and the environment imply. The triple's own format
 /// doesn't matter.
 pub fn default_binary_format(triple: &Triple) -> BinaryFormat
-    ensures { result ≡ implied (values_of triple.now) }
+    ensures { result ≡ default_binary_format (values_of triple.now) }
 {
     implied_format(
         triple.architecture,
