@@ -1,6 +1,6 @@
 -- What C asks of a triple, as numbers, and the answers of yes or no.
 use Rattle.std.specs.Prelude.{◌≡◌, ◌↔◌, ℕ, Bool, true, List, Option, Some, None, IsTrue}
-use Rattle.target_lexicon.specs.{Laws.ComesBack, ImpliedFormat.implied, Queries.endianness, Queries.pointer_width, Queries.calling_convention, Queries.data_model, Reading.ReadsAs, Values.Values}
+use Rattle.target_lexicon.specs.{Laws.ComesBack, ImpliedFormat.default_binary_format, Queries.endianness, Queries.pointer_width, Queries.calling_convention, Queries.data_model, Reading.ReadsAs, Values.Values}
 use Rattle.target_lexicon.specs.{declared.calling_convention.CallingConvention.CallingConvention, declared.data_model.CDataModel.CDataModel}
 use Rattle.target_lexicon.specs.declared.calling_convention.CallingConvention.TheVariants.{SystemV, WasmBasicCAbi, WindowsFastcall, AppleAarch64}
 use Rattle.target_lexicon.specs.declared.data_model.CDataModel.TheVariants.{LP32, ILP32, LLP64, LP64, ILP64}
@@ -53,7 +53,7 @@ pub record AreFactsOf (facts : LexiconFacts) (t : Values) : Type 0 where
   pub convention : facts.calling_convention ≡ convention_number (calling_convention t)
   pub model : facts.data_model ≡ model_number (data_model t)
   pub format : facts.binary_format ≡ format_number t.binary_format
-  pub implied : facts.implied_format ≡ format_number (implied t)
+  pub implied : facts.implied_format ≡ format_number (default_binary_format t)
   pub version : AreVersionOf facts (version_held t.operating_system)
 
 -- the text reads as a triple with these facts

@@ -1,4 +1,4 @@
--- The function that reads field by field gives what a text reads as by placements, and how it is refused.
+-- The function that parses field by field gives the triple that a text reads as by placements, and how it is refused.
 use Rattle.std.proofs.Common.{◌≡◌, ℕ, ◌≤◌, List, [], ◌∷◌, true, false, nat_eq, refl, ◌∙◌, ap, subst, Option, Some, None, Result, Ok, Err, arith, inl, inr, ◌↔◌, ◌⊎◌}
 use Rattle.std.specs.Prelude.{MatchResult, is_some}
 use Rattle.lexicon_fields.specs.{declared.architecture.Architecture.Architecture as AnyArchitecture, declared.operating_system.OperatingSystem.OperatingSystem as AnySystem, Environment.environment_of}
@@ -7,7 +7,7 @@ use Rattle.target_lexicon.specs.{Values.VendorValue, Values.Known, Values.Values
 use Rattle.target_lexicon.specs.Field.{Field, Architecture, Vendor, OperatingSystem, Environment, BinaryFormat, place, reads}
 use Rattle.target_lexicon.specs.Reading.{part_at, IsValueOf, HoldsParts, ReadsAs, IsRefusal, IsRefusedAs, IsRefused, expected_after, last_of}
 use Rattle.target_lexicon.specs.GreedyReading.{taken_part, take_part, finish, read_binary_format, read_environment, read_operating_system, read_vendor, read_after, read_parts, read_unless_special, reading}
-use Rattle.target_lexicon.proofs.{Cuts.parts_of-are, Cuts.parts_of-some, Greedy.Follows, Greedy.filled, Greedy.unread, Greedy.filled-placed, Greedy.after_architecture, Greedy.greedy-least, Refused.first-refused, Refused.left-refused, Unique.values_unique, Unique.refusal_unique, Unique.read_not_refused}
+use Rattle.target_lexicon.proofs.{Cuts.parts_of-are, Cuts.parts_of-some, Greedy.Follows, Greedy.filled, Greedy.unread, Greedy.filled-placed, Greedy.after_architecture, Greedy.greedy-least, Refused.refused_first, Refused.left-refused, Unique.values_unique, Unique.refusal_unique, Unique.read_not_refused}
 use Rattle.target_lexicon.specs.Values.operating_system
 use Rattle.target_lexicon.specs.Values.environment
 
@@ -15,7 +15,8 @@ use Rattle.target_lexicon.specs.Values.environment
 abbrev Claim : Type 1
 Claim = List (List ℕ) → List Field → Values → Type 0
 
--- what reading these fields gives behind `last`: values of which this stands, where they take every part, or the refusal of the first part that they leave
+-- what reading these fields gives behind `last`: values of which this stands, where they take every part, or the
+-- refusal of the first part that they leave
 abbrev Gives : List Field → Field → List (List ℕ) → Claim → Result Values Refusal → Type 0
 Gives fs last ps P (Ok t) = (unread fs ps ≡ []) × P ps (filled fs ps) t
 Gives fs last ps P (Err x) = (q : List ℕ) × (rest : List (List ℕ)) × (unread fs ps ≡ q ∷ rest) × (x ≡ refusal_with (expected_after (last_of last (filled fs ps))) q)
@@ -108,7 +109,7 @@ module _ (text p : List ℕ) (ps : List (List ℕ)) (ordinary : special_values t
 
   by_architecture : (o : Option AnyArchitecture) → architecture_of p ≡ o → Holds text (read_after o p ps)
   unfolding reads
-  by_architecture None h = is_refused _ (first-refused p ps (ap is_some h))
+  by_architecture None h = is_refused _ (refused_first p ps (ap is_some h))
   by_architecture (Some a) h = by_given a (read_vendor a ps) h (ap is_some h) (vendor-gives a ps)
 
   pub parts-hold : Holds text (read_parts (p ∷ ps))
@@ -126,7 +127,7 @@ reading-holds : (text : List ℕ) → Holds text (reading text)
 unfolding reading
 reading-holds text = by_special text (special_values text) refl
 
--- a text has one outcome at most, so it has the one that the function gives
+-- a text has at most one outcome, so it has the one that the function gives
 computed : (text : List ℕ) (found : Result Values Refusal) → Holds text found
     → ((t : Values) → ReadsAs text t ↔ (found ≡ Ok t)) × ((x : Refusal) → IsRefusedAs text x ↔ (found ≡ Err x))
 computed text (Ok u) h = (
@@ -141,7 +142,7 @@ computed text (Err y) h = (
 pub reading_computed : ReadingIsComputed
 reading_computed text = let both = computed text (reading text) (reading-holds text) in record { read = both.0; refused = both.1 }
 
--- a text is read or refused
+-- a text reads or is refused
 outcome : (text : List ℕ) (found : Result Values Refusal) → Holds text found → ((t : Values) × ReadsAs text t) ⊎ IsRefused text
 outcome text (Ok t) h = inl (t, h)
 outcome text (Err x) h = inr (x, h)

@@ -1,16 +1,17 @@
--- The parts of a text are one list.
+-- A text has exactly one list of parts.
 use Rattle.std.proofs.Common.{◌≡◌, ◌≢◌, ℕ, List, [], ◌∷◌, ◌++◌, ◌+◌, ◌-◌, take, drop, get_or, Bool, true, false, nat_eq, Some, None, refl, sym, length, ◌<◌, ◌∙◌, ap, arith, ◌≤◌, inl, inr}
 use Rattle.std.specs.List.{list_all, list_any, join_with_byte, onto_first, slice_range, position, position_or_len}
 use Rattle.std.specs.Prelude.{◌==◌, ◌||◌, not}
 use Rattle.std.proofs.{lemmas.Bool.and_parts, lemmas.Bool.cases_Bool, lemmas.Bool.eqb-true, lemmas.Grind.common_steps, lemmas.List.Quantifiers.position-Some}
 use Rattle.std.proofs.lemmas.List.Sums.{fails_before_first, position_or_len_is}
 use Rattle.std.proofs.lemmas.List.Splits.{join_with_byte-slice_split, slice_split_first, slice_split_none}
+use Rattle.lexicon_fields.specs.Names.{dash}
 use Rattle.lexicon_fields.specs.Names.{is_dash_free}
 use Rattle.target_lexicon.specs.Placement.{ArePartsOf, parts_of}
 
--- the first byte of a text without dashes is none, and the others have none
-dash_free-parts : (b : ℕ) (bs : List ℕ) → is_dash_free (b ∷ bs) ≡ true → (nat_eq b 45 ≡ false) × (is_dash_free bs ≡ true)
-dash_free-parts b bs free = by_head (nat_eq b 45) (list_any (λ c. c == 45) bs) free
+-- the first byte of a text without dashes is no dash, and the rest has none
+dash_free-parts : (b : ℕ) (bs : List ℕ) → is_dash_free (b ∷ bs) ≡ true → (nat_eq b dash ≡ false) × (is_dash_free bs ≡ true)
+dash_free-parts b bs free = by_head (nat_eq b dash) (list_any (λ c. c == dash) bs) free
   where
     by_head : (dash rest : Bool) → not (dash || rest) ≡ true → (dash ≡ false) × (not rest ≡ true)
     by_head true rest free = absurd cc
@@ -20,24 +21,24 @@ parts_of-one : (bs : List ℕ) → is_dash_free bs ≡ true → parts_of bs ≡ 
 parts_of-one [] free = refl
 parts_of-one (b ∷ bs) free = let apart = dash_free-parts b bs free in rw (apart.0, parts_of-one bs apart.1) refl
 
-parts_of-more : (bs rest : List ℕ) → is_dash_free bs ≡ true → parts_of (bs ++ (45 ∷ rest)) ≡ bs ∷ parts_of rest
+parts_of-more : (bs rest : List ℕ) → is_dash_free bs ≡ true → parts_of (bs ++ (dash ∷ rest)) ≡ bs ∷ parts_of rest
 parts_of-more [] rest free = refl
 parts_of-more (b ∷ bs) rest free = let apart = dash_free-parts b bs free in rw (apart.0, parts_of-more bs rest apart.1) refl
 
-pub parts_of-joined : (p : List ℕ) (ps : List (List ℕ)) → list_all is_dash_free (p ∷ ps) ≡ true → parts_of (join_with_byte 45 (p ∷ ps)) ≡ p ∷ ps
+pub parts_of-joined : (p : List ℕ) (ps : List (List ℕ)) → list_all is_dash_free (p ∷ ps) ≡ true → parts_of (join_with_byte dash (p ∷ ps)) ≡ p ∷ ps
 parts_of-joined p [] free = parts_of-one p (and_parts _ _ free).0
 parts_of-joined p (q ∷ ps) free =
     let apart = and_parts _ _ free in
-    parts_of-more p (join_with_byte 45 (q ∷ ps)) apart.0 ∙ ap (λ k. p ∷ k) (parts_of-joined q ps apart.1)
+    parts_of-more p (join_with_byte dash (q ∷ ps)) apart.0 ∙ ap (λ k. p ∷ k) (parts_of-joined q ps apart.1)
 
-onto_first-free : (b : ℕ) (ps : List (List ℕ)) → nat_eq b 45 ≡ false → list_all is_dash_free ps ≡ true → list_all is_dash_free (onto_first b ps) ≡ true
+onto_first-free : (b : ℕ) (ps : List (List ℕ)) → nat_eq b dash ≡ false → list_all is_dash_free ps ≡ true → list_all is_dash_free (onto_first b ps) ≡ true
 onto_first-free b [] other free = rw other refl
 onto_first-free b (p ∷ ps) other free = rw other free
 
 parts_of-free : (bs : List ℕ) → list_all is_dash_free (parts_of bs) ≡ true
 parts_of-free [] = refl
 parts_of-free (b ∷ bs) =
-    elim (cases_Bool (nat_eq b 45)) [
+    elim (cases_Bool (nat_eq b dash)) [
       | inl dash ↦ rw dash (parts_of-free bs)
       | inr other ↦ rw other (onto_first-free b (parts_of bs) other (parts_of-free bs))
     ]
@@ -49,7 +50,7 @@ onto_first-some b (p ∷ ps) e = cc
 pub parts_of-some : (bs : List ℕ) → parts_of bs ≢ []
 parts_of-some [] e = cc
 parts_of-some (b ∷ bs) e =
-    elim (cases_Bool (nat_eq b 45)) [
+    elim (cases_Bool (nat_eq b dash)) [
       | inl dash ↦ let h = rw dash at e in cc
       | inr other ↦ onto_first-some b (parts_of bs) (rw other at e)
     ]
@@ -58,29 +59,29 @@ pub parts_of-are : (text : List ℕ) → ArePartsOf text (parts_of text)
 parts_of-are text = record {
   some = parts_of-some text;
   dash_free = parts_of-free text;
-  joined = join_with_byte-slice_split 45 text;
+  joined = join_with_byte-slice_split dash text;
 }
 
 pub parts-only : (text : List ℕ) (others : List (List ℕ)) → ArePartsOf text others → others ≡ parts_of text
 parts-only text [] are = absurd (are.some refl)
 parts-only text (p ∷ ps) are = sym (parts_of-joined p ps are.dash_free) ∙ ap parts_of are.joined
 
--- where a text is cut at its first dash
-module _ (text : List ℕ) (i : ℕ) (found : position (λ b. b == 45) text ≡ Some i) where
-  pub dash_at : (i < length text) × (get_or text i 0 ≡ 45)
-  dash_at = let at = position-Some (λ b. b == 45) text i 0 found in (at.0, eqb-true (get_or text i 0) 45 at.1)
+-- a text that is cut at its first dash
+module _ (text : List ℕ) (i : ℕ) (found : position (λ b. b == dash) text ≡ Some i) where
+  pub dash_at : (i < length text) × (get_or text i 0 ≡ dash)
+  dash_at = let at = position-Some (λ b. b == dash) text i 0 found in (at.0, eqb-true (get_or text i 0) dash at.1)
 
   pub cut-found : (part after : List ℕ) → part ≡ slice_range text 0 i → after ≡ drop (i + 1) text → parts_of text ≡ part ∷ parts_of after
   cut-found part after prefix back =
-      let at = position-Some (λ b. b == 45) text i 0 found in
-      let same : position_or_len (λ b. b == 45) text ≡ i = position_or_len_is (λ b. b == 45) text i 0 (omega (arith, at.0)) at.2 (λ _. at.1) in
+      let at = position-Some (λ b. b == dash) text i 0 found in
+      let same : position_or_len (λ b. b == dash) text ≡ i = position_or_len_is (λ b. b == dash) text i 0 (omega (arith, at.0)) at.2 (λ _. at.1) in
       let whole : i ≡ i - 0 = omega arith in
-      slice_split_first (λ b. b == 45) text 0 (omega (arith, same, at.0))
+      slice_split_first (λ b. b == dash) text 0 (omega (arith, same, at.0))
       ∙ ap (λ (n : ℕ). take n text ∷ parts_of (drop (n + 1) text)) same
       ∙ ap (λ (xs : List ℕ). xs ∷ parts_of (drop (i + 1) text)) (ap (λ (n : ℕ). take n text) whole ∙ sym prefix)
       ∙ ap (λ (xs : List ℕ). part ∷ parts_of xs) (sym back)
 
-pub cut-whole : (text : List ℕ) → position (λ b. b == 45) text ≡ None → parts_of text ≡ text ∷ []
+pub cut-whole : (text : List ℕ) → position (λ b. b == dash) text ≡ None → parts_of text ≡ text ∷ []
 cut-whole text none =
-    let past : length text ≤ position_or_len (λ b. b == 45) text = grind (arith, common_steps) in
-    slice_split_none (λ b. b == 45) text (λ k d h. fails_before_first (λ b. b == 45) text k d (omega (arith, past, h)))
+    let past : length text ≤ position_or_len (λ b. b == dash) text = grind (arith, common_steps) in
+    slice_split_none (λ b. b == dash) text (λ k d h. fails_before_first (λ b. b == dash) text k d (omega (arith, past, h)))

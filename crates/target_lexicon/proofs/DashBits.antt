@@ -1,4 +1,4 @@
--- Dashes by the bits of up to sixteen bytes.
+-- The dashes among up to sixteen bytes, as bits.
 use Rattle.std.proofs.Common.{◌≡◌, ◌∙◌, ap, sym, refl, ℕ, zero, suc, ◌+◌, ◌-◌, ◌*◌, ◌/◌, ◌%◌, ◌^◌, ◌<◌, ◌≤◌, ◌==◌, Bool, true, false, not, cond, eqb, List, [], ◌∷◌, ◌++◌, map, take, drop, get_or, replicate, length, Some, None, w8, arith, inl, inr}
 use Rattle.std.specs.{List.position, List.position_or_len, Simd.Lanes.mask_l}
 use Rattle.std.proofs.Math.Nat.{pow-zero, pow-suc, mul_comm, div-one, zero-div, div-div-eq-div-mul}
@@ -10,10 +10,11 @@ use Rattle.std.proofs.lemmas.Slice.{take-put_mid}
 use borrow.Rule.Slice.PartMut.{put_mid}
 use lib.Count.{count_trailing_zeros}
 use lib.Lanes.{chunk, top, zip2}
-use Rattle.target_lexicon.specs.Private.{MarksDashes}
+use Rattle.lexicon_fields.specs.Names.{dash}
+use Rattle.target_lexicon.specs.Private.{AreDashBits}
 
 abbrev pub is_dash : ℕ → Bool
-is_dash b = b == 45
+is_dash b = b == dash
 
 -- the bits of a load, as its sixteen bytes are compared
 pub bits_of-load : (bytes : List ℕ) (at : ℕ) → at + 16 ≤ length bytes
@@ -24,7 +25,7 @@ halved : (b : Bool) (n : ℕ) → (cond b 1 0 + 2 * n) / 2 ≡ n
 halved true n = omega arith
 halved false n = omega arith
 
--- a shift to the right forgets the first bits
+-- a shift to the right drops the first bits
 mask_l-drop : (n : ℕ) (ms : List Bool) → mask_l ms / 2 ^ n ≡ mask_l (drop n ms)
 mask_l-drop zero ms = ap (λ k. mask_l ms / k) (pow-zero 2) ∙ div-one (mask_l ms)
 mask_l-drop (suc n) [] = zero-div (2 ^ suc n)
@@ -34,37 +35,37 @@ mask_l-drop (suc n) (m ∷ ms) =
     ∙ ap (λ k. k / 2 ^ n) (halved m (mask_l ms))
     ∙ mask_l-drop n ms
 
--- the bits of sixteen bytes that end as the text does
-tells_by : (bytes text : List ℕ) (bits : ℕ) → bits ≡ mask_l (map is_dash bytes)
-    → ((k : ℕ) → k ≤ length text → length text ≤ k + 16 → drop (16 - (length text - k)) bytes ≡ drop k text) → MarksDashes bits text
-tells_by bytes text bits is same = record {
+-- the bits of sixteen bytes that end like the text
+dash_bits_by : (bytes text : List ℕ) (bits : ℕ) → bits ≡ mask_l (map is_dash bytes)
+    → ((k : ℕ) → k ≤ length text → length text ≤ k + 16 → drop (16 - (length text - k)) bytes ≡ drop k text) → AreDashBits bits text
+dash_bits_by bytes text bits is same = record {
   decides = λ k within few.
       let n = 16 - (length text - k) in
       ap (λ b. b / 2 ^ n) is ∙ mask_l-drop n (map is_dash bytes) ∙ ap mask_l (drop-map is_dash n bytes ∙ ap (map is_dash) (same k within few));
 }
 
-pub marks_by_last : (text : List ℕ) (bits : ℕ) → 16 ≤ length text → bits ≡ mask_l (map is_dash (take 16 (drop (length text - 16) text))) → MarksDashes bits text
-marks_by_last text bits long is =
+pub dash_bits_by_last : (text : List ℕ) (bits : ℕ) → 16 ≤ length text → bits ≡ mask_l (map is_dash (take 16 (drop (length text - 16) text))) → AreDashBits bits text
+dash_bits_by_last text bits long is =
     let last = drop (length text - 16) text in
-    tells_by last text bits (is ∙ ap (λ bytes. mask_l (map is_dash bytes)) (take_all 16 last (omega (arith, length-drop (length text - 16) text))))
+    dash_bits_by last text bits (is ∙ ap (λ bytes. mask_l (map is_dash bytes)) (take_all 16 last (omega (arith, length-drop (length text - 16) text))))
     (λ k within few. drop-drop (16 - (length text - k)) (length text - 16) text ∙ ap (λ i. drop i text) (omega (arith, within, few, long)))
 
--- the same where the text was written behind zeros, at the end of sixteen bytes
-pub marks_by_padded : (zeros text : List ℕ) (k bits : ℕ) → length zeros ≡ 16 → length text ≤ 16
-    → bits ≡ mask_l (map is_dash (take 16 (put_mid (16 - length text) k zeros text))) → MarksDashes bits text
-marks_by_padded zeros text k bits long short is =
+-- the same if the text is at the end of sixteen bytes, after zeros
+pub dash_bits_by_padded : (zeros text : List ℕ) (k bits : ℕ) → length zeros ≡ 16 → length text ≤ 16
+    → bits ≡ mask_l (map is_dash (take 16 (put_mid (16 - length text) k zeros text))) → AreDashBits bits text
+dash_bits_by_padded zeros text k bits long short is =
     let prefix = take (16 - length text) zeros in
     let before : length prefix ≡ 16 - length text = length-take-le (16 - length text) zeros (omega (arith, long)) in
-    tells_by (prefix ++ text) text bits
+    dash_bits_by (prefix ++ text) text bits
     (is ∙ ap (λ bytes. mask_l (map is_dash bytes)) (take-put_mid (16 - length text) k zeros text 16 (omega (arith, short)) (omega (arith, long))))
     (λ i within few.
     ap (λ n. drop n (prefix ++ text)) (omega (arith, within, few, short, before))
     ∙ sym (drop-drop i (length prefix) (prefix ++ text))
     ∙ ap (drop i) (drop_at prefix text (length prefix) refl))
 
--- what is behind a dash ends as the text does
-pub marks_after : (bits : ℕ) (text rest : List ℕ) (i : ℕ) → i ≤ length text → MarksDashes bits text → rest ≡ drop i text → MarksDashes bits rest
-marks_after bits text rest i within dashes_known after = record {
+-- the text after a dash ends like the text
+pub dash_bits_after : (bits : ℕ) (text rest : List ℕ) (i : ℕ) → i ≤ length text → AreDashBits bits text → rest ≡ drop i text → AreDashBits bits rest
+dash_bits_after bits text rest i within dashes_known after = record {
   decides = λ k below few.
       let long : length rest ≡ length text - i = ap length after ∙ length-drop i text in
       ap (λ n. bits / 2 ^ n) (omega (arith, long, within, below))
@@ -72,8 +73,8 @@ marks_after bits text rest i within dashes_known after = record {
       ∙ ap (λ xs. mask_l (map is_dash xs)) (sym (drop-drop k i text) ∙ ap (drop k) (sym after));
 }
 
--- the bits of what is left, of which there are sixteen bytes at most
-pub bits_of-rest : (bits : ℕ) (bytes : List ℕ) (at : ℕ) → MarksDashes bits bytes → at ≤ length bytes → length bytes - at ≤ 16
+-- the bits of the rest, which has at most sixteen bytes
+pub bits_of-rest : (bits : ℕ) (bytes : List ℕ) (at : ℕ) → AreDashBits bits bytes → at ≤ length bytes → length bytes - at ≤ 16
     → bits / 2 ^ (16 - (length bytes - at)) ≡ mask_l (map is_dash (take (length bytes - at) (drop at bytes)))
 bits_of-rest bits bytes at dashes_known within few =
     dashes_known.decides at within (omega (arith, few))
@@ -82,7 +83,7 @@ bits_of-rest bits bytes at dashes_known within few =
 position_some : (bytes : List ℕ) (i : ℕ) → position_or_len is_dash bytes ≡ i → i < length bytes → position is_dash bytes ≡ Some i
 position_some bytes i first below = grind (arith, common_steps)
 
--- where a bit is set, a byte is a dash
+-- if a bit is set, its byte is a dash
 some_bit : (xs : List ℕ) → 0 < mask_l (map is_dash xs) → position_or_len is_dash xs < length xs
 some_bit [] some = absurd (omega (arith, some))
 some_bit (x ∷ xs) some = by_head (is_dash x) (mask_l (map is_dash xs)) (position_or_len is_dash xs) (length xs) some (some_bit xs)
@@ -91,7 +92,7 @@ some_bit (x ∷ xs) some = by_head (is_dash x) (mask_l (map is_dash xs)) (positi
     by_head true n m l some f = omega arith
     by_head false n m l some f = omega (arith, f (omega (arith, some)))
 
--- of a text of which some bytes were seen to hold no dash: what the bits of the next ones tell
+-- a text whose first bytes have no dash: what the bits of the next bytes show
 module _ (bytes : List ℕ) (at n bits : ℕ) (room : at + n ≤ length bytes) (few : n ≤ 64) (none : (k : ℕ) → k < at → is_dash (get_or bytes k 0) ≡ false)
     (is : bits ≡ mask_l (map is_dash (take n (drop at bytes)))) where
   pub none_in_bits : bits ≡ 0 → (k : ℕ) → k < at + n → is_dash (get_or bytes k 0) ≡ false

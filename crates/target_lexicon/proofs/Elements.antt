@@ -1,4 +1,4 @@
--- The elements of a JSON array that were read so far.
+-- The elements of a JSON array that have been parsed so far.
 use Rattle.std.proofs.Common.{◌≡◌, ℕ, zero, suc, ◌+◌, ◌<◌, ◌≤◌, List, [], ◌∷◌, ◌++◌, Option, Some, MatchOption, All, length, get_or, take, map, add-one, arith, subst}
 use Rattle.std.proofs.lemmas.{List.map-append, List.Elements.All-append}
 use Rattle.serde_json.specs.{Data.Data, Data.Items, View.view, View.items_view, declared.value.Value.Value}
@@ -6,13 +6,13 @@ use Rattle.serde_json.proofs.Views.{get_item_within}
 use Rattle.target_lexicon.specs.{Json.JsonReadsAs, Json.ElementsReadAs, Json.ElementReads, Json.JsonFault, Json.IsJsonFault, Json.IsFirstFault, Values.Values, Values.values_of}
 use Rattle.target_lexicon.specs.declared.triple.Triple.{Triple}
 
--- what holds of the elements of an array holds of the value
+-- a fact about the elements of an array is one about the value
 pub at_array : (P : Items → Type 0) (elements : Option Items) (xs ys : List Value) → Some (items_view xs) ≡ elements → ys ≡ xs → P (items_view ys)
     → MatchOption elements ⊥ P
 at_array P elements xs ys found same holds =
     subst (λ (o : Option Items). MatchOption o ⊥ P) found (subst (λ (zs : List Value). P (items_view zs)) same holds)
 
--- one element more reads
+-- one more element parses
 read-more : (xs : List Value) (i : ℕ) (x : Value) (ts : List Values) (t : Values) → i < length xs
     → ElementsReadAs (items_view (take i xs)) ts → JsonReadsAs (view (get_or xs i x)) t → ElementsReadAs (items_view (take (suc i) xs)) (ts ++ t ∷ [])
 read-more [] i x ts t within read reads = absurd (omega arith)
@@ -27,7 +27,7 @@ elements_read-more xs i x old new t within is grown read reads =
     let here : JsonReadsAs (view (get_or xs i x)) (values_of t) = subst (λ (v : Value). JsonReadsAs (view v) (values_of t)) is reads in
     rw (add-one, grown, map-append) (read-more xs i x (map values_of old) (values_of t) within read here)
 
--- each element before reads
+-- each earlier element parses
 read-before : (xs : List Value) (i : ℕ) (ts : List Values) (k : ℕ) → k < i → i ≤ length xs → ElementsReadAs (items_view (take i xs)) ts
     → ElementReads (items_view xs) k
 read-before [] i ts k before within read = absurd (omega arith)
@@ -36,7 +36,7 @@ read-before (y ∷ ys) (suc i) [] k before within read = absurd read
 read-before (y ∷ ys) (suc i) (u ∷ us) zero before within read = (u, read.0)
 read-before (y ∷ ys) (suc i) (u ∷ us) (suc k) before within read = read-before ys i us k (omega arith) (omega arith) read.1
 
--- the element at i is the first that doesn't read
+-- the element at i is the first that doesn't parse
 pub elements_refused : (xs : List Value) (i : ℕ) (x : Value) (ts : List Values) (fault : JsonFault) → i < length xs → x ≡ get_or xs i x
     → ElementsReadAs (items_view (take i xs)) ts → IsJsonFault (view x) fault → IsFirstFault (items_view xs) i fault
 elements_refused xs i x ts fault within is read refused =
@@ -46,14 +46,14 @@ elements_refused xs i x ts fault within is read refused =
       before = λ k before. read-before xs i ts k before (omega arith) read;
     }
 
--- where some element reads behind those that were read, the first element reads
+-- if one more element parses, the first element parses
 pub elements_begun : (xs : List Value) (i : ℕ) (x : Value) (ts : List Values) (t : Values) → i < length xs → x ≡ get_or xs i x
     → ElementsReadAs (items_view (take i xs)) ts → JsonReadsAs (view x) t → ElementReads (items_view xs) 0
 elements_begun xs i x ts t within is read reads =
     let here : JsonReadsAs (view (get_or xs i x)) t = subst (λ (v : Value). JsonReadsAs (view v) t) is reads in
     read-before xs (suc i) (ts ++ t ∷ []) 0 (omega arith) (omega arith) (read-more xs i x ts t within read here)
 
--- what holds of each triple so far, and of one more, holds of each
+-- a fact about each triple so far, and about one more, is one about each
 all-one : (P : Triple → Type 0) (t : Triple) → P t → All P (t ∷ [])
 all-one P t here zero d within = here
 all-one P t here (suc k) d within = absurd (omega arith)

@@ -1,4 +1,4 @@
--- What variants without fields tell that are fed, and fields that are fed one behind another.
+-- Variants without fields feed a hasher injectively, and so do fields that are fed one after another.
 use Rattle.std.proofs.Common.{◌≡◌, ℕ, ◌≤◌, ◌++◌, [], ◌∷◌, ◌∙◌, sym, ap, append_assoc, length, arith}
 use Rattle.std.specs.Hash.{HashWrites, le_bytes, usize}
 use Rattle.lexicon_fields.specs.Laws.{HashInjectiveOn, HashInjective}
@@ -11,24 +11,24 @@ first_byte [] = 0
 first_byte ([] ∷ writes) = 0
 first_byte ((byte ∷ bytes) ∷ writes) = byte
 
-abbrev behind_first : HashWrites → HashWrites
-behind_first [] = []
-behind_first (write ∷ writes) = writes
+abbrev after_first : HashWrites → HashWrites
+after_first [] = []
+after_first (write ∷ writes) = writes
 
-bare_marked : (N : Record) → Bare N.parts → length (rowss N.parts) ≤ 256 → (x y : N.D) (a b : HashWrites)
+bare_distinguished : (N : Record) → Bare N.parts → length (rowss N.parts) ≤ 256 → (x y : N.D) (a b : HashWrites)
     → usize (tag_of (declared N) x) ++ a ≡ usize (tag_of (declared N) y) ++ b → (x ≡ y) × (a ≡ b)
 unfolding le_bytes
-bare_marked N bare few x y a b same =
+bare_distinguished N bare few x y a b same =
     let firsts = ap first_byte same in
     let below_x = tag_below (rowss N.parts) ((declared N).to x) in
     let below_y = tag_below (rowss N.parts) ((declared N).to y) in
-    (tag_one (declared N) bare x y (omega arith), ap behind_first same)
+    (tag_one (declared N) bare x y (omega arith), ap after_first same)
 
 -- variants without fields, at most 256 of them
 pub bare_feeds : (N : Record) → Bare N.parts → length (rowss N.parts) ≤ 256 → HashInjective (λ x. usize (tag_of (declared N) x))
 bare_feeds N bare few = record {
-  exactly = λ x y _ _. (λ same. (bare_marked N bare few x y [] [] (ap (λ fed. fed ++ []) same)).0, ap (λ z. usize (tag_of (declared N) z)));
-  with_more = λ x y a b _ _. bare_marked N bare few x y a b;
+  exactly = λ x y _ _. (λ same. (bare_distinguished N bare few x y [] [] (ap (λ fed. fed ++ []) same)).0, ap (λ z. usize (tag_of (declared N) z)));
+  with_more = λ x y a b _ _. bare_distinguished N bare few x y a b;
 }
 
 module _ {T V W X Y : Type 0} {IsFirst : V → Type 0} {IsSecond : X → Type 0} {first : V → W} {second : X → Y}
@@ -43,8 +43,8 @@ module _ {T V W X Y : Type 0} {IsFirst : V → Type 0} {IsSecond : X → Type 0}
   abbrev feed_both : T → HashWrites
   feed_both t = feed_first (p t) ++ feed_second (q t)
 
-  both_marked : (t u : T) (a b : HashWrites) → AreBoth t → AreBoth u → feed_both t ++ a ≡ feed_both u ++ b → (both t ≡ both u) × (a ≡ b)
-  both_marked t u a b ht hu same =
+  both_distinguished : (t u : T) (a b : HashWrites) → AreBoth t → AreBoth u → feed_both t ++ a ≡ feed_both u ++ b → (both t ≡ both u) × (a ≡ b)
+  both_distinguished t u a b ht hu same =
       let regrouped = sym (append_assoc (feed_first (p t)) (feed_second (q t)) a) ∙ same ∙ append_assoc (feed_first (p u)) (feed_second (q u)) b in
       let firsts = one.with_more (p t) (p u) (feed_second (q t) ++ a) (feed_second (q u) ++ b) ht.0 hu.0 regrouped in
       let seconds = other.with_more (q t) (q u) a b ht.1 hu.1 firsts.1 in
@@ -56,9 +56,9 @@ module _ {T V W X Y : Type 0} {IsFirst : V → Type 0} {IsSecond : X → Type 0}
       let seconds = (other.exactly (q t) (q u) ht.1 hu.1).1 (ap (λ w. w.1) same) in
       λ i. firsts i ++ seconds i
 
-  -- of a value two parts are fed, one behind the other
-  pub both_mark : HashInjectiveOn AreBoth both feed_both
-  both_mark = record {
-    exactly = λ t u ht hu. (λ same. (both_marked t u [] [] ht hu (ap (λ fed. fed ++ []) same)).0, both_fed t u ht hu);
-    with_more = both_marked;
+  -- two parts of a value are fed, one after the other
+  pub both_distinguish : HashInjectiveOn AreBoth both feed_both
+  both_distinguish = record {
+    exactly = λ t u ht hu. (λ same. (both_distinguished t u [] [] ht hu (ap (λ fed. fed ++ []) same)).0, both_fed t u ht hu);
+    with_more = both_distinguished;
   }

@@ -1,4 +1,4 @@
--- The step leaves a triple as it is exactly outside the families.
+-- The normal step leaves a triple unchanged exactly outside the families.
 use Rattle.std.proofs.Common.{◌≡◌, ◌⊎◌, inl, inr, ◌∙◌, Bool, true, false, refl, sym, ap, subst}
 use Rattle.std.specs.Bool.{Decides}
 use Rattle.std.proofs.lemmas.Bool.Decides.{Decides-not, Decides-and, Decides-like}
@@ -20,7 +20,7 @@ fixed-outside t = step_cases (λ u. u ≡ t → IsOutside t) t
     (λ is same. absurd (let of_t = is.environment in let of_step = ap (λ x. x.environment) same in cc))
     (λ outside _. outside)
 
--- some family holds, or the vendor is plain and the step changes nothing
+-- the triple is in a family, or the vendor is plain and the step changes nothing
 pub family_or_fixed : (t : Values) (b : Bool) → is_plain t.vendor ≡ b → IsInSomeFamily t ⊎ ((is_plain t.vendor ≡ true) × IsOutside t)
 family_or_fixed t false plain = inl (inr (inr (inr (inr plain))))
 family_or_fixed t true plain = step_cases (λ _. IsInSomeFamily t ⊎ ((is_plain t.vendor ≡ true) × IsOutside t)) t
@@ -34,7 +34,7 @@ not_both t plain outside (inr (inr (inl is))) = outside.esp is
 not_both t plain outside (inr (inr (inr (inl is)))) = outside.none is
 not_both t plain outside (inr (inr (inr (inr is)))) = let bad : true ≡ false = sym plain ∙ is in cc
 
--- what the tests of the families tell
+-- the tests decide the families
 no_family-decides : (t : Values) → Decides (is_in_no_family t) (IsOutside t × (is_plain t.vendor ≡ true))
 unfolding is_in_no_family
 no_family-decides t =

@@ -1,21 +1,21 @@
--- The placement that takes, field by field, each part at the first field that reads it.
+-- The greedy placement: each part is assigned to the first remaining field that it parses as.
 use Rattle.std.proofs.Common.{◌≡◌, ◌≢◌, ℕ, zero, suc, ◌+◌, ◌<◌, ◌≤◌, List, [], ◌∷◌, take, true, refl, subst, cond, arith, inl, inr}
 use Rattle.target_lexicon.specs.Field.{Field, Architecture, Vendor, OperatingSystem, Environment, BinaryFormat, place, reads}
 use Rattle.target_lexicon.specs.{Laws.HasOneLeast, Placement.IsPlacedAfter, Placement.IsPlacement, Placement.AreNotAfter, Placement.IsLeast, Placement.HasPlacement}
 use Rattle.std.proofs.lemmas.Bool.{cases_Bool}
 
--- the fields behind `last`, in their order
+-- the fields after `last`, in order
 abbrev pub Follows : Field → List Field → Type 0
 Follows l [] = place l ≡ 4
 Follows l (f ∷ fs) = (place f ≡ place l + 1) × Follows f fs
 
--- the fields that are filled, each by the first part left if that reads as it
+-- the fields that are filled, each by the first remaining part if that parses as it
 abbrev pub filled : List Field → List (List ℕ) → List Field
 filled fs [] = []
 filled [] (p ∷ ps) = []
 filled (f ∷ fs) (p ∷ ps) = cond (reads f p) (f ∷ filled fs ps) (filled fs (p ∷ ps))
 
--- the parts that are left then
+-- the parts that are left
 abbrev pub unread : List Field → List (List ℕ) → List (List ℕ)
 unread fs [] = []
 unread [] (p ∷ ps) = p ∷ ps
@@ -25,7 +25,7 @@ place_most : (f : Field) → place f ≤ 4
 place_most Architecture = omega arith
 place_most _ = omega arith
 
--- fields of one place are one field
+-- fields with one index are one field
 pub place-injective : (f g : Field) → place f ≡ place g → f ≡ g
 place-injective Architecture Architecture e = refl
 place-injective Vendor Vendor e = refl
@@ -34,7 +34,7 @@ place-injective Environment Environment e = refl
 place-injective BinaryFormat BinaryFormat e = refl
 place-injective f g e = cc
 
--- a field that is placed behind one, and isn't the next, is behind the next
+-- a field after another that isn't the next one is after the next one
 weaken : (l k : Field) (ps : List (List ℕ)) (gs : List Field) → place k ≤ place l → IsPlacedAfter l ps gs → IsPlacedAfter k ps gs
 weaken l k (p ∷ ps) (g ∷ gs) h w = (omega (arith, w.0), w.1, w.2)
 weaken l k _ _ h w = w
@@ -52,7 +52,7 @@ filled-placed l (f ∷ fs) (p ∷ ps) h e =
           rw skips (weaken f l (p ∷ ps) (filled fs (p ∷ ps)) (omega (arith, h.0)) (filled-placed f fs (p ∷ ps) h.1 rest))
     ]
 
--- a placement behind `last` is no better than the greedy one, which then takes every part
+-- a placement after `last` is no earlier than the greedy one, which then assigns every part
 pub filled-least : (l : Field) (fs : List Field) (ps : List (List ℕ)) (gs : List Field) → Follows l fs → IsPlacedAfter l ps gs
     → (unread fs ps ≡ []) × AreNotAfter (filled fs ps) gs
 filled-least l fs [] [] h w = (refl, tt)
@@ -70,7 +70,7 @@ filled-least l (f ∷ fs) (p ∷ ps) (g ∷ gs) h w =
     ]
 filled-least l fs _ _ h w = absurd w
 
--- two lists of fields, neither behind the other, are one
+-- two lists of fields, neither after the other, are the same
 pub AreNotAfter-antisymmetric : (fs gs : List Field) → AreNotAfter fs gs → AreNotAfter gs fs → fs ≡ gs
 AreNotAfter-antisymmetric [] [] a b = refl
 AreNotAfter-antisymmetric (f ∷ fs) (g ∷ gs) a b =
@@ -79,7 +79,7 @@ AreNotAfter-antisymmetric (f ∷ fs) (g ∷ gs) a b =
     cc
 AreNotAfter-antisymmetric _ _ a b = absurd a
 
--- the front of a placement
+-- a prefix of a placement
 placed-prefix : (n : ℕ) (l : Field) (ps : List (List ℕ)) (gs : List Field) → IsPlacedAfter l ps gs → IsPlacedAfter l (take n ps) (take n gs)
 placed-prefix zero l ps gs w = tt
 placed-prefix (suc n) l (p ∷ ps) (g ∷ gs) w = (w.0, w.1, placed-prefix n g ps gs w.2)
@@ -90,14 +90,14 @@ pub placement_prefix : (n : ℕ) (ps : List (List ℕ)) → HasPlacement ps → 
 placement_prefix n (p ∷ ps) (f ∷ fs, w) = (f ∷ take n fs, (w.0, w.1, placed-prefix n f ps fs w.2))
 placement_prefix n _ (_, w) = absurd w
 
--- the fields behind the architecture
+-- the fields after the architecture
 abbrev pub after_architecture : List Field
 after_architecture = Vendor ∷ OperatingSystem ∷ Environment ∷ BinaryFormat ∷ []
 
 in_order : Follows Architecture after_architecture
 in_order = (refl, (refl, (refl, (refl, refl))))
 
--- the greedy placement of parts that begin with an architecture, where no part is left
+-- the greedy placement of parts that begin with an architecture, if no part is left
 pub greedy-least : (p : List ℕ) (ps : List (List ℕ)) → reads Architecture p ≡ true → unread after_architecture ps ≡ []
     → IsLeast (p ∷ ps) (Architecture ∷ filled after_architecture ps)
 greedy-least p ps takes done = record {
@@ -122,7 +122,7 @@ greedy-finds p ps (g ∷ gs, w) =
 pub least-unique : (ps : List (List ℕ)) (fs gs : List Field) → IsLeast ps fs → IsLeast ps gs → fs ≡ gs
 least-unique ps fs gs a b = AreNotAfter-antisymmetric fs gs (a.least gs b.placed) (b.least fs a.placed)
 
--- where there is a placement there is one least
+-- if there is a placement, there is a least one
 pub placement_least : (ps : List (List ℕ)) → HasPlacement ps → HasOneLeast ps
 placement_least [] (fs, w) = absurd w
 placement_least (p ∷ ps) some =

@@ -1,10 +1,9 @@
--- What reading is: Cuts, DashBits, LookedUp, Vendors (a text's parts, and what each reads as); NamesAcross (a name of one field in a field
--- before it); Greedy, Refused, Unique, Computed (from reading as a function to the least placement); ReadValues (what holds of all
--- that is read).
--- What printing is: Printed, Writes, Lengths (how much longer than its text).
--- What comes back: Rounds, TextRounds (a text read again); StepCases, Fixed, Settled, SettlesAs (families and the step).
--- For callers: OnLiterals (what computes on a literal).
--- Queries and JSON: ModelsKnown, QueriesKept; Elements. SameValues: equality of triples. FeedsTogether: what fields feed a hasher.
+-- Parsing: Cuts, DashBits, LookedUp, Vendors (the parts of a text and their values); NamesAcross (the names of one
+-- field, parsed as an earlier field); Greedy, Refused, Unique, Computed (from parsing as a function to the least
+-- placement); ReadValues (facts about all parsed triples). Printing: Printed, Writes, Lengths (how much longer than
+-- the text). Round trips: RoundTrips, TextRoundTrips (a printed text parsed again); StepCases, Fixed, Settled,
+-- SettlesAs (families and the normal step). For callers: OnLiterals (what computes for a literal). Queries and JSON:
+-- ModelsKnown, QueriesKept; Elements. SameValues: equality of triples. FeedsTogether: what fields feed a hasher.
 pub mod Computed
 pub mod Cuts
 pub mod DashBits

@@ -1,4 +1,4 @@
--- What the row of a part tells.
+-- The value of a part by its row.
 use Rattle.std.proofs.Common.{◌≡◌, ◌∙◌, ℕ, List, ◌∷◌, true, false, Option, None, Result, Ok, Err, sym, ap}
 use Rattle.std.specs.Prelude.{is_some, OnErr}
 use Rattle.lexicon_fields.specs.{declared.table.FixedRow.FixedRow, declared.known_vendor.KnownVendor.TheVariants.Unknown, FixedRow.has_row, Vendor.IsCustom, Vendor.is_admitted, Vendor.vendor_of}

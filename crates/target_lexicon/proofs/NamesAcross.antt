@@ -1,4 +1,4 @@
--- What the names of one field read as in a field before it.
+-- The names of one field, parsed as an earlier field.
 use Rattle.std.proofs.Common.{◌≡◌, ℕ, List, true, false, Option, Some, None, refl}
 use Rattle.std.proofs.Math.Bool.{and-false}
 use Rattle.target_lexicon.specs.Values.{OperatingSystem, Environment, BinaryFormat, VendorValue, Known}
@@ -9,7 +9,7 @@ use Rattle.target_lexicon.specs.Values.operating_system
 use Rattle.target_lexicon.specs.Values.environment
 use Rattle.target_lexicon.specs.Values.binary_format
 
--- what the law of names says of the five fields
+-- the law of names for the five fields
 pub record NamesAreRead : Type 0 where
   pub architecture : NamesReadBack architecture_name architecture_of
   pub vendor : NamesOfReadBack (λ v. is_plain v ≡ true) vendor_name vendor_of
@@ -17,7 +17,7 @@ pub record NamesAreRead : Type 0 where
   pub environment : NamesReadBack environment_name environment_of
   pub binary_format : NamesReadBack binary_format_name binary_format_of
 
--- of the formats' names only `unknown` is an environment's, and a system's
+-- of the names of formats only `unknown` is that of an environment, and of a system
 abbrev pub format_as_environment : BinaryFormat → Option Environment
 format_as_environment binary_format.Unknown = Some environment.Unknown
 format_as_environment _ = None
@@ -36,7 +36,7 @@ unfolding operating_system_of fixed_operating_system_of
 operating_system_of-format binary_format.Unknown = refl
 operating_system_of-format _ = refl
 
--- of the environments' names only `unknown` and `none` are systems'
+-- of the names of environments only `unknown` and `none` are those of systems
 abbrev pub environment_as_system : Environment → Option OperatingSystem
 environment_as_system environment.Unknown = Some operating_system.Unknown
 environment_as_system environment.None = Some operating_system.None_
@@ -47,12 +47,12 @@ unfolding operating_system_of fixed_operating_system_of
 operating_system_of-environment environment.Unknown = refl
 operating_system_of-environment _ = refl
 
--- of the systems' names only `unknown` is a vendor's
+-- of the names of systems only `unknown` is that of a vendor
 abbrev pub system_as_vendor : OperatingSystem → Option VendorValue
 system_as_vendor operating_system.Unknown = Some (Known Unknown)
 system_as_vendor _ = None
 
--- what reads as a system is not admitted
+-- a text that parses as a system is not admitted
 not_admitted : (text : List ℕ) (s : OperatingSystem) → operating_system_of text ≡ Some s → is_admitted text ≡ false
 unfolding is_admitted
 not_admitted text s reads = rw (reads, and-false) refl

@@ -1,27 +1,29 @@
 -- The pieces that are written are the text of the triple.
-use Rattle.std.proofs.Common.{◌≡◌, ◌||◌, ℕ, Bool, true, false, List, [], ◌∷◌, ◌++◌, refl, ap, ◌∙◌, append_assoc, Option, Some, None, unwrap_or}
+use Rattle.std.proofs.Common.{◌≡◌, ℕ, Bool, true, false, List, [], ◌∷◌, ◌++◌, codes, refl, sym, ap, append_assoc, Some, None, unwrap_or}
 use Rattle.std.specs.List.{join_with_byte}
 use Rattle.std.proofs.lemmas.List.{append-nil}
+use Rattle.lexicon_fields.specs.Names.{dash}
 use Rattle.lexicon_fields.specs.{Architecture.architecture_name, Vendor.vendor_name, OperatingSystem.operating_system_name, Environment.environment_name, BinaryFormat.binary_format_name}
-use Rattle.target_lexicon.specs.{ImpliedFormat.implied, Values.Values, Private.part_text, SpecialTexts.special_text}
-use Rattle.target_lexicon.specs.Printing.{shows_vendor, shows_operating_system, shows_environment, shows_binary_format, shows_unknowns, cons_if, shown_parts, text_by, text_of}
+use Rattle.target_lexicon.specs.{Values.Values, Private.part_text, SpecialTexts.special_text}
+use Rattle.target_lexicon.specs.Printing.{shows_vendor, shows_operating_system, shows_environment, shows_binary_format, cons_if, upstream_parts, shows_unknowns, parts_with_unknowns, shown_parts, text_of}
+use Rattle.target_lexicon.proofs.RoundTrips.{are_unknown}
 
--- each part behind a dash
+-- each part after a dash
 unfoldable pub dashed : List (List ℕ) → List ℕ
 dashed [] = []
-dashed (part ∷ parts) = 45 ∷ part ++ dashed parts
+dashed (part ∷ parts) = dash ∷ part ++ dashed parts
 
-pub dashed_joined : (part : List ℕ) (parts : List (List ℕ)) → part ++ dashed parts ≡ join_with_byte 45 (part ∷ parts)
+pub dashed_joined : (part : List ℕ) (parts : List (List ℕ)) → part ++ dashed parts ≡ join_with_byte dash (part ∷ parts)
 unfolding dashed
 dashed_joined part [] = append-nil part
-dashed_joined part (next ∷ parts) = ap (λ (s : List ℕ). part ++ (45 ∷ s)) (dashed_joined next parts)
+dashed_joined part (next ∷ parts) = ap (λ (s : List ℕ). part ++ (dash ∷ s)) (dashed_joined next parts)
 
 part_before : (b : Bool) (part : List ℕ) (parts : List (List ℕ)) → dashed (cons_if b part parts) ≡ part_text b part ++ dashed parts
 unfolding dashed
 part_before true part parts = refl
 part_before false part parts = refl
 
-five_parts : (a p q r s : List ℕ) (w x y z : Bool) → (((a ++ part_text w p) ++ part_text x q) ++ part_text y r) ++ part_text z s ≡ join_with_byte 45 (a ∷ cons_if w p (cons_if x q (cons_if y r (cons_if z s []))))
+five_parts : (a p q r s : List ℕ) (w x y z : Bool) → (((a ++ part_text w p) ++ part_text x q) ++ part_text y r) ++ part_text z s ≡ join_with_byte dash (a ∷ cons_if w p (cons_if x q (cons_if y r (cons_if z s []))))
 unfolding dashed
 five_parts a p q r s w x y z =
     rw (
@@ -33,20 +35,27 @@ five_parts a p q r s w x y z =
       append-nil (part_text z s),
     ) (simp append_assoc)
 
-abbrev special : Values → Option (List ℕ)
-special t = special_text t.operating_system t.vendor t.architecture
+four_parts : (a p q r s : List ℕ) (w : Bool) → ((a ++ part_text w p) ++ (dash ∷ q)) ++ (dash ∷ r ++ (dash ∷ s)) ≡ join_with_byte dash (a ∷ cons_if w p (q ∷ r ∷ s ∷ []))
+unfolding dashed
+four_parts a p q r s w = rw (← dashed_joined a (cons_if w p (q ∷ r ∷ s ∷ [])), part_before w p (q ∷ r ∷ s ∷ []), append-nil s) (simp append_assoc)
 
--- where there is no special text: the names of the fields that are shown
-pub prints_parts : (t : Values) (both : Bool) → both ≡ shows_unknowns t.environment t.binary_format (implied t) → None ≡ special t
-    → (((architecture_name t.architecture ++ part_text (shows_vendor t.vendor t.operating_system t.environment t.architecture) (vendor_name t.vendor))
-    ++ part_text (both || shows_operating_system t.operating_system t.architecture) (operating_system_name t.operating_system))
-    ++ part_text (both || shows_environment t.environment t.operating_system t.vendor) (environment_name t.environment))
+-- without a special text: the names of the fields that upstream shows
+pub prints_parts : (t : Values) → false ≡ shows_unknowns t → None ≡ special_text t
+    → (((architecture_name t.architecture ++ part_text (shows_vendor t) (vendor_name t.vendor))
+    ++ part_text (shows_operating_system t) (operating_system_name t.operating_system))
+    ++ part_text (shows_environment t) (environment_name t.environment))
     ++ part_text (shows_binary_format t) (binary_format_name t.binary_format) ≡ text_of t
-unfolding text_of shown_parts
-prints_parts t both is none =
-    five_parts _ _ _ _ _ _ _ _ _
-    ∙ ap (λ special. unwrap_or special (join_with_byte 45 (shown_parts both t))) none ∙ ap (λ b. text_by b t) is
+unfolding text_of upstream_parts
+prints_parts t hidden none = rw (sym none, sym hidden) (five_parts _ _ _ _ _ _ _ _ _)
 
-pub prints_special : (t : Values) (text : List ℕ) → Some text ≡ special t → text ≡ text_of t
+-- or those with the unknown fields
+pub prints_unknowns : (t : Values) → true ≡ shows_unknowns t → None ≡ special_text t
+    → ((architecture_name t.architecture ++ part_text (shows_vendor t) (vendor_name t.vendor)) ++ part_text true (operating_system_name t.operating_system)) ++ codes "-unknown-unknown" ≡ text_of t
+unfolding text_of parts_with_unknowns
+prints_unknowns t shown none =
+    let are = are_unknown t.architecture t.vendor t.operating_system t.environment t.binary_format (sym shown) in
+    rw (sym none, sym shown, are.0, are.1) (four_parts _ _ (operating_system_name t.operating_system) (codes "unknown") (codes "unknown") _)
+
+pub prints_special : (t : Values) (text : List ℕ) → Some text ≡ special_text t → text ≡ text_of t
 unfolding text_of
-prints_special t text special = ap (λ o. unwrap_or o (join_with_byte 45 (shown_parts (shows_unknowns t.environment t.binary_format (implied t)) t))) special
+prints_special t text special = ap (λ o. unwrap_or o (join_with_byte dash (shown_parts t))) special

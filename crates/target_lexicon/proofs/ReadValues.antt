@@ -1,4 +1,4 @@
--- What holds of all values that are read: the vendor is plain, and the version in range.
+-- Facts about all parsed triples: the vendor is plain, and the version in range.
 use Rattle.std.proofs.Common.{refl, ◌≡◌, ℕ, List, Bool, true, false, cond, Option, Some, None, IfSome, MatchOption, sym, subst}
 use Rattle.std.specs.Str.{bytes_eq}
 use Rattle.target_lexicon.specs.{Values.OperatingSystem, Values.VendorValue, Values.Known, Values.Values, Field.Field, Laws.ReadVendorsArePlain, Placement.ArePartsOf}
@@ -8,7 +8,7 @@ use Rattle.lexicon_fields.specs.{Laws.HasVersionInRange, OperatingSystem.operati
 use Rattle.target_lexicon.proofs.Vendors.{vendor-plain}
 use Rattle.target_lexicon.specs.Values.operating_system
 
--- what holds of the two triples of special texts
+-- a fact about the two triples of special texts
 pub special-holds : (P : Values → Type 0) (text : List ℕ) → P nintendo_3ds → P esp_idf → IfSome (special_values text) P
 unfolding special_values
 special-holds P text nintendo esp = by_tests (bytes_eq text nintendo_3ds_text) (bytes_eq text esp_idf_text)
@@ -18,7 +18,7 @@ special-holds P text nintendo esp = by_tests (bytes_eq text nintendo_3ds_text) (
     by_tests false true = esp
     by_tests false false = tt
 
--- what holds of these, and of what parts give, holds of what is read
+-- a fact about these, and about all triples from parts, holds for all parsed triples
 read-holds : (P : Values → Type 0) → P nintendo_3ds → P esp_idf → ((parts : List (List ℕ)) (fields : List Field) (t : Values) → HoldsParts parts fields t → P t)
     → (text : List ℕ) (t : Values) → ReadsAs text t → P t
 read-holds P nintendo esp held text t reads = by_special (special_values text) (special-holds P text nintendo esp) reads
@@ -37,7 +37,7 @@ placed-plain (Some part) v is = vendor-plain part v is
 pub read_plain : ReadVendorsArePlain
 read_plain = read-holds (λ t. is_plain t.vendor ≡ true) refl refl (λ parts fields t holds. placed-plain _ t.vendor holds.vendor)
 
--- the version that the system holds is in range
+-- the version of the system is in range
 
 module _ (version-in_range : (text : List ℕ) (s : OperatingSystem) → operating_system_of text ≡ Some s → HasVersionInRange s) where
   placed-in_range : (part : Option (List ℕ)) (s : OperatingSystem) → IsValueOf operating_system_of operating_system.Unknown part s → HasVersionInRange s

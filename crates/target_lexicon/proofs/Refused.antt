@@ -1,4 +1,4 @@
--- What the greedy placement leaves is refused.
+-- The part that the greedy placement leaves is refused.
 use Rattle.std.proofs.Common.{◌≡◌, ℕ, suc, ◌≤◌, List, [], ◌∷◌, ◌++◌, length, take, true, false, refl, sym, ap, subst, Some, arith, inl, inr}
 use Rattle.std.proofs.{Math.Seq.take-append_seam, lemmas.List.take-append-le, lemmas.Bool.cases_Bool}
 use Rattle.std.specs.Prelude.{slice_get}
@@ -6,7 +6,7 @@ use Rattle.target_lexicon.specs.{Field.Field, Field.Architecture, Field.reads, P
 use Rattle.target_lexicon.specs.Refusal.{Expects, refusal_with}
 use Rattle.target_lexicon.proofs.Greedy.{filled, unread, after_architecture, greedy-least, greedy-finds, placement_prefix}
 
--- the parts that the fields take, and the part at which they stop
+-- the parts that fill fields, and the part at which they stop
 record Stop (fs : List Field) (ps : List (List ℕ)) (q : List ℕ) (rest : List (List ℕ)) : Type 0 where
   prefix : List (List ℕ)
   split : ps ≡ prefix ++ (q ∷ rest)
@@ -30,13 +30,13 @@ stop (f ∷ fs) (p ∷ ps) q rest e =
           }
       | inr skips ↦
           let s = stop fs (p ∷ ps) q rest (rw skips at e) in
-          by_front f fs p ps q rest s.prefix skips s.split s.taken s.same s.stuck
+          by_prefix f fs p ps q rest s.prefix skips s.split s.taken s.same s.stuck
     ]
   where
-    by_front : (f : Field) (fs : List Field) (p : List ℕ) (ps : List (List ℕ)) (q : List ℕ) (rest prefix : List (List ℕ)) → reads f p ≡ false
+    by_prefix : (f : Field) (fs : List Field) (p : List ℕ) (ps : List (List ℕ)) (q : List ℕ) (rest prefix : List (List ℕ)) → reads f p ≡ false
         → p ∷ ps ≡ prefix ++ (q ∷ rest) → unread fs prefix ≡ [] → filled fs prefix ≡ filled fs (p ∷ ps)
         → unread fs (prefix ++ (q ∷ [])) ≡ q ∷ [] → Stop (f ∷ fs) (p ∷ ps) q rest
-    by_front f fs p ps q rest [] skips split taken same stuck =
+    by_prefix f fs p ps q rest [] skips split taken same stuck =
         let also : reads f q ≡ false = cc in
         record {
           prefix = [];
@@ -45,7 +45,7 @@ stop (f ∷ fs) (p ∷ ps) q rest e =
           same = rw skips same;
           stuck = rw also stuck;
         }
-    by_front f fs p ps q rest (r ∷ prefix) skips split taken same stuck =
+    by_prefix f fs p ps q rest (r ∷ prefix) skips split taken same stuck =
         let also : reads f r ≡ false = cc in
         record {
           prefix = r ∷ prefix;
@@ -55,9 +55,9 @@ stop (f ∷ fs) (p ∷ ps) q rest e =
           stuck = rw also stuck;
         }
 
--- the first part is refused where it reads as no architecture
-pub first-refused : (p : List ℕ) (ps : List (List ℕ)) → reads Architecture p ≡ false → IsRefusal (p ∷ ps) (refusal_with (Expects Architecture) p)
-first-refused p ps skips = record {
+-- the first part is refused if it is not an architecture
+pub refused_first : (p : List ℕ) (ps : List (List ℕ)) → reads Architecture p ≡ false → IsRefusal (p ∷ ps) (refusal_with (Expects Architecture) p)
+refused_first p ps skips = record {
   count = 0;
   refused = refl;
   unplaced = λ h. let found = greedy-finds p [] h in let takes = found.0 in cc;
@@ -65,7 +65,7 @@ first-refused p ps skips = record {
   expected = refl;
 }
 
--- a part that the greedy placement leaves: the parts have no placement
+-- if the greedy placement leaves a part, the parts have no placement
 pub left-unplaced : (p : List ℕ) (ps : List (List ℕ)) (q : List ℕ) (rest : List (List ℕ)) → unread after_architecture ps ≡ q ∷ rest → HasPlacement (p ∷ ps) → ⊥
 left-unplaced p ps q rest left h = let found = greedy-finds p ps h in let done = found.1 in cc
 
@@ -77,7 +77,7 @@ take-past : (prefix : List (List ℕ)) (q : List ℕ) (rest : List (List ℕ)) �
 take-past [] q rest = refl
 take-past (r ∷ prefix) q rest = ap (λ k. r ∷ k) (take-past prefix q rest)
 
--- the part behind a front that the fields take whole, at which they stop, is refused
+-- the part after a prefix that fills fields, at which they stop, is refused
 refused-at : (p : List ℕ) (prefix : List (List ℕ)) (q : List ℕ) (rest : List (List ℕ)) → reads Architecture p ≡ true → unread after_architecture prefix ≡ []
     → unread after_architecture (prefix ++ (q ∷ [])) ≡ q ∷ []
     → IsRefusal (p ∷ (prefix ++ (q ∷ rest))) (refusal_with (expected_after (last_of Architecture (filled after_architecture prefix))) q)
@@ -96,7 +96,7 @@ refused-at p prefix q rest takes taken stuck =
     fewer : (k : ℕ) → k ≤ length prefix → HasPlacement (p ∷ take k prefix) → HasPlacement (p ∷ take k (prefix ++ (q ∷ rest)))
     fewer k h w = subst (λ xs. HasPlacement (p ∷ xs)) (sym (take-append-le k prefix (q ∷ rest) h)) w
 
--- and the first of them is refused
+-- the first part that is left is refused
 pub left-refused : (p : List ℕ) (ps : List (List ℕ)) (q : List ℕ) (rest : List (List ℕ)) → reads Architecture p ≡ true → unread after_architecture ps ≡ q ∷ rest
     → IsRefusal (p ∷ ps) (refusal_with (expected_after (last_of Architecture (filled after_architecture ps))) q)
 left-refused p ps q rest takes left =

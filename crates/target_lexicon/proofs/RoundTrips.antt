@@ -1,18 +1,16 @@
--- The shown parts of a triple with a plain vendor read as its normal step, where no special text is printed.
+-- The shown parts of a triple with a plain vendor parse as its normal step, if no special text is printed.
 use Rattle.std.proofs.Common.{◌≡◌, ◌∙◌, ℕ, Bool, true, false, not, ◌&&◌, ◌||◌, cond, List, [], ◌∷◌, None, Result, Ok, refl, sym, ap, ◌⊎◌, inl, inr}
-use Rattle.target_lexicon.specs.Values.{Architecture, Environment, OperatingSystem, BinaryFormat, VendorValue, Known, Values, values}
-use Rattle.target_lexicon.specs.{Field.Field, ImpliedFormat.implied, ImpliedFormat.implied_format, Families.PrintsAsSpecial, Families.HidesNewlib, Refusal.Refusal, SpecialTexts.special_text}
+use Rattle.target_lexicon.specs.Values.{Architecture, Environment, OperatingSystem, BinaryFormat, VendorValue, Known, Values, values, implies_newlib, same_format}
+use Rattle.target_lexicon.specs.{Field.Field, ImpliedFormat.default_binary_format, ImpliedFormat.implied_format, Families.PrintsAsSpecial, Families.HidesNewlib, Refusal.Refusal, SpecialTexts.special_text}
 use Rattle.target_lexicon.specs.NormalStep.{normal_step, hides_newlib, prints_the_esp_idf_text, shows_only_none, elf_if_unknown}
-use Rattle.target_lexicon.specs.Printing.{shows_vendor, omits_unknown_vendor, shows_operating_system, shows_environment, shows_binary_format, shows_unknowns, same_format, shown_parts, cons_if}
+use Rattle.target_lexicon.specs.Printing.{shows_vendor, omits_unknown_vendor, shows_operating_system, shows_environment, names_no_system, shows_implied_format, shows_binary_format, shows_unknowns, upstream_parts, parts_with_unknowns, shown_parts, cons_if}
 use Rattle.target_lexicon.specs.GreedyReading.{read_parts, read_vendor, read_operating_system, read_environment}
-use Rattle.lexicon_fields.specs.{declared.architecture.clever.CleverArchitecture.CleverArchitecture, Architecture.architecture_name, Laws.HasVersionInRange, Vendor.vendor_name, Vendor.is_plain, Environment.environment_name, BinaryFormat.binary_format_name}
+use Rattle.lexicon_fields.specs.{declared.architecture.clever.CleverArchitecture.CleverArchitecture, Architecture.architecture_name, Laws.HasVersionInRange, Vendor.vendor_name, Vendor.is_plain, OperatingSystem.operating_system_name, Environment.environment_name, BinaryFormat.binary_format_name}
 use Rattle.lexicon_fields.specs.declared.known_vendor.KnownVendor.TheVariants.{Unknown, Nintendo, Espressif}
-use Rattle.std.proofs.{lemmas.Bool.not-false, lemmas.Bool.or_parts, lemmas.Bool.false≢true, lemmas.Bool.true≢false, lemmas.Bool.Decides.not_from_Decides}
+use Rattle.std.proofs.{lemmas.Bool.not-false, lemmas.Bool.not-true, Math.Bool.and-false, lemmas.Bool.false≢true, lemmas.Bool.true≢false, lemmas.Bool.Decides.not_from_Decides}
 use Rattle.target_lexicon.proofs.NamesAcross.{NamesAreRead, environment_of-format, operating_system_of-format, operating_system_of-environment, vendor_of-operating_system, system_as_vendor}
 use Rattle.target_lexicon.proofs.StepCases.{step_cases, hides_newlib-decides, prints_the_esp_idf_text-decides, shows_only_none-decides}
 use Rattle.target_lexicon.specs.Values.architecture
-use Rattle.target_lexicon.specs.Values.arm
-use Rattle.target_lexicon.specs.Values.riscv32
 use Rattle.target_lexicon.specs.Values.operating_system
 use Rattle.target_lexicon.specs.Values.environment
 use Rattle.target_lexicon.specs.Values.binary_format
@@ -35,72 +33,83 @@ shown_by true true f g h = refl
 shown_by true false f g h = sym (h refl)
 shown_by false too f g h = refl
 
--- the format is read back, shown or implied
-shown_or_implied : (t : Values) → cond (shows_binary_format t) t.binary_format (implied t) ≡ t.binary_format
+-- the format is parsed back, shown or implied
+shown_or_implied : (t : Values) → cond (shows_binary_format t) t.binary_format (default_binary_format t) ≡ t.binary_format
 unfolding shows_binary_format
-shown_or_implied t = shown_by (same_format t.binary_format (implied t)) _ t.binary_format (implied t) (same_format-is t.binary_format (implied t))
+shown_or_implied t = shown_by (same_format t.binary_format (default_binary_format t)) _ t.binary_format (default_binary_format t) (same_format-is t.binary_format (default_binary_format t))
 
--- where no special text is printed
+-- with a system an implied format isn't shown
+pub with_system : (t : Values) → names_no_system t.operating_system ≡ false → shows_implied_format t ≡ false
+with_system t has = rw (has, and-false) refl
 
-none-apart : (t : Values) → special_text t.operating_system t.vendor t.architecture ≡ None → ¬ PrintsAsSpecial t
+-- the fields that are unknown if both are shown as unknown
+pub are_unknown : (a : Architecture) (v : VendorValue) (s : OperatingSystem) (e : Environment) (f : BinaryFormat) → shows_unknowns (values a v s e f) ≡ true
+    → (e ≡ environment.Unknown) × (f ≡ binary_format.Unknown)
+are_unknown a v s environment.Unknown binary_format.Unknown shown = (refl, refl)
+are_unknown a v s _ _ shown = absurd (false≢true shown)
+
+-- if no special text is printed
+
+none-apart : (t : Values) → special_text t ≡ None → ¬ PrintsAsSpecial t
 unfolding special_text
 none-apart t none is = elim is.fields [
-  | inl of ↦ let bad = rw (of.operating_system, of.vendor, of.architecture) at none in cc
-  | inr of ↦ let bad = rw (of.operating_system, of.vendor, of.architecture) at none in cc
+  | inl of ↦ let bad = rw (of.architecture, of.vendor, of.operating_system) at none in cc
+  | inr of ↦ let bad = rw (of.architecture, of.vendor, of.operating_system) at none in cc
 ]
 
 -- an environment that isn't shown is unknown, or a hidden `Newlib`
-not_shown : (e : Environment) (s : OperatingSystem) (v : VendorValue) (a : Architecture) → special_text s v a ≡ None → shows_environment e s v ≡ false
-    → (e ≡ environment.Unknown) ⊎ (hides_newlib e s v a ≡ true)
-unfolding special_text shows_environment
-not_shown environment.Unknown s v a none hidden = inl refl
-not_shown environment.Newlib operating_system.Horizon (Known Nintendo) (architecture.Arm arm.Armv6k) none hidden = absurd cc
-not_shown environment.Newlib operating_system.Horizon (Known Nintendo) _ none hidden = inr refl
-not_shown environment.Newlib operating_system.Espidf (Known Espressif) (architecture.Riscv32 riscv32.Riscv32imc) none hidden = absurd cc
-not_shown environment.Newlib operating_system.Espidf (Known Espressif) _ none hidden = inr refl
-not_shown _ _ _ a none hidden = absurd (true≢false hidden)
+not_shown : (a : Architecture) (v : VendorValue) (s : OperatingSystem) (e : Environment) (f : BinaryFormat) → special_text (values a v s e f) ≡ None → shows_environment (values a v s e f) ≡ false
+    → (e ≡ environment.Unknown) ⊎ (hides_newlib (values a v s e f) ≡ true)
+unfolding shows_environment
+not_shown a v s environment.Unknown f none hidden = inl refl
+not_shown a (Known Nintendo) operating_system.Horizon environment.Newlib f none hidden = inr (rw none refl)
+not_shown a (Known Espressif) operating_system.Espidf environment.Newlib f none hidden = inr (rw none refl)
+not_shown a _ _ environment.Newlib f none hidden = absurd (true≢false hidden)
+not_shown a v s _ f none hidden = absurd (true≢false (rw and-false at hidden))
 
--- the format that is read where the environment isn't shown
+-- the format that is parsed if the environment isn't shown
 
 shown_unless_elf : (f : BinaryFormat) → cond (known_format f && (not (same_format f binary_format.Elf) || false)) f binary_format.Elf ≡ elf_if_unknown f
 shown_unless_elf binary_format.Unknown = refl
 shown_unless_elf _ = refl
 
-shown_unless_unknown : (f i : BinaryFormat) (b : Bool) → shows_unknowns environment.Unknown f i ≡ false → cond b f i ≡ f → cond (known_format f && b) f i ≡ f
+shown_unless_unknown : (f i : BinaryFormat) (b : Bool) → (same_format f binary_format.Unknown && not (same_format f i)) ≡ false → cond b f i ≡ f → cond (known_format f && b) f i ≡ f
 shown_unless_unknown binary_format.Unknown binary_format.Unknown b hidden same = refl
 shown_unless_unknown binary_format.Unknown _ b hidden same = absurd cc
 shown_unless_unknown _ i b hidden same = same
 
--- vendor and system, where they aren't shown
+-- vendor and system that aren't shown
 
-hidden_vendor : (v : VendorValue) (s : OperatingSystem) (e : Environment) (a : Architecture) → shows_vendor v s e a ≡ false → (v ≡ Known Unknown) × (omits_unknown_vendor s e a ≡ true)
+hidden_vendor : (a : Architecture) (v : VendorValue) (s : OperatingSystem) (e : Environment) (f : BinaryFormat) → shows_vendor (values a v s e f) ≡ false
+    → (v ≡ Known Unknown) × (omits_unknown_vendor a s e ≡ true)
 unfolding shows_vendor
-hidden_vendor (Known Unknown) s environment.HermitKernel a h = absurd cc
-hidden_vendor (Known Unknown) s environment.LinuxKernel a h = absurd cc
-hidden_vendor (Known Unknown) s e a h = (refl, not-false (omits_unknown_vendor s e a) h)
-hidden_vendor _ s e a h = absurd (true≢false h)
+hidden_vendor a (Known Unknown) s environment.HermitKernel f h = absurd cc
+hidden_vendor a (Known Unknown) s environment.LinuxKernel f h = absurd cc
+hidden_vendor a (Known Unknown) s e f h = (refl, not-false (omits_unknown_vendor a s e) h)
+hidden_vendor a _ s e f h = absurd (true≢false h)
 
-no_vendor : (s : OperatingSystem) (e : Environment) (a : Architecture) → omits_unknown_vendor s e a ≡ true → system_as_vendor s ≡ None
-no_vendor operating_system.Unknown e a h = absurd (false≢true h)
-no_vendor _ e a h = refl
+no_vendor : (a : Architecture) (s : OperatingSystem) (e : Environment) → omits_unknown_vendor a s e ≡ true → system_as_vendor s ≡ None
+no_vendor a operating_system.Unknown e h = absurd (false≢true h)
+no_vendor a _ e h = refl
 
-hidden_system : (s : OperatingSystem) (a : Architecture) → shows_operating_system s a ≡ false → (s ≡ operating_system.Unknown) × ((c : CleverArchitecture) × (a ≡ architecture.Clever c))
+hidden_system : (a : Architecture) (v : VendorValue) (s : OperatingSystem) (e : Environment) (f : BinaryFormat) → shows_operating_system (values a v s e f) ≡ false
+    → (s ≡ operating_system.Unknown) × ((c : CleverArchitecture) × (a ≡ architecture.Clever c))
 unfolding shows_operating_system
-hidden_system operating_system.Unknown (architecture.Clever sub) h = (refl, (sub, refl))
-hidden_system _ _ h = absurd (true≢false h)
+hidden_system (architecture.Clever sub) v operating_system.Unknown e f h = (refl, (sub, refl))
+hidden_system _ v _ e f h = absurd (true≢false h)
 
--- where the system is shown
-shown_system : (e : Environment) (f i : BinaryFormat) (s : OperatingSystem) (a : Architecture) → (shows_unknowns e f i || shows_operating_system s a) ≡ true → shows_only_none e s a ≡ false
+-- if the system is shown
+shown_system : (t : Values) → shows_operating_system t ≡ true → shows_only_none t ≡ false
 unfolding shows_operating_system
-shown_system environment.None f i operating_system.Unknown (architecture.Clever sub) h = absurd cc
-shown_system environment.None f i _ _ h = refl
-shown_system _ f i s a h = refl
+shown_system t h = rw (not-true _ h) refl
 
-abbrev both_unknown : Values → Bool
-both_unknown t = shows_unknowns t.environment t.binary_format (implied t)
+-- an unknown system implies no environment
+pub without_system : (v : VendorValue) → implies_newlib v operating_system.Unknown ≡ false
+without_system (Known Nintendo) = refl
+without_system _ = refl
 
 module _ (names : NamesAreRead) where
-  -- the format, read back behind an environment that is shown or not
+  -- the format, parsed back after an environment that is shown or not
 
   shown-read : (a : Architecture) (v : VendorValue) (s : OperatingSystem) (e : Environment) (f : BinaryFormat) (b : Bool) (last : Field)
       → read_environment a v s last (environment_name e ∷ cons_if b (binary_format_name f) []) ≡ Ok (values a v s e (cond b f (implied_format a s e)))
@@ -114,47 +123,44 @@ module _ (names : NamesAreRead) where
   hidden-read a v s binary_format.Unknown true last = rw (environment_of-format binary_format.Unknown) refl
   hidden-read a v s f true last = rw (environment_of-format f, names.binary_format.reads_back f tt) refl
 
-  -- what is shown behind the system, read back
+  -- the parts that upstream shows after the system, parsed back
   abbrev ReadsAfter : Values → Field → Values → Type 0
   ReadsAfter t last u = read_environment t.architecture t.vendor t.operating_system last
-      (cons_if (both_unknown t || shows_environment t.environment t.operating_system t.vendor) (environment_name t.environment)
-      (cons_if (shows_binary_format t) (binary_format_name t.binary_format) [])) ≡ Ok u
+      (cons_if (shows_environment t) (environment_name t.environment) (cons_if (shows_binary_format t) (binary_format_name t.binary_format) [])) ≡ Ok u
 
   newlib-read : (t : Values) (last : Field) → HidesNewlib t
       → ReadsAfter t last (values t.architecture t.vendor t.operating_system environment.Unknown (elf_if_unknown t.binary_format))
   unfolding shows_environment shows_binary_format implied_format
-  newlib-read t last (newlib, inl on) = rw (newlib, on.0, on.1) (hidden-read t.architecture _ _ t.binary_format _ last
+  newlib-read t last (newlib, inl on) = rw (newlib, on.0, on.1, and-false) (hidden-read t.architecture _ _ t.binary_format _ last
       ∙ ap (λ f. Ok (values t.architecture (Known Nintendo) operating_system.Horizon environment.Unknown f)) (shown_unless_elf t.binary_format))
-  newlib-read t last (newlib, inr on) = rw (newlib, on.0, on.1) (hidden-read t.architecture _ _ t.binary_format _ last
+  newlib-read t last (newlib, inr on) = rw (newlib, on.0, on.1, and-false) (hidden-read t.architecture _ _ t.binary_format _ last
       ∙ ap (λ f. Ok (values t.architecture (Known Espressif) operating_system.Espidf environment.Unknown f)) (shown_unless_elf t.binary_format))
 
-  module _ (a : Architecture) (v : VendorValue) (s : OperatingSystem) (none : special_text s v a ≡ None) where
-    unknown-read : (e : Environment) (f : BinaryFormat) (last : Field) → e ≡ environment.Unknown → both_unknown (values a v s e f) ≡ false
+  module _ (a : Architecture) (v : VendorValue) (s : OperatingSystem) (e : Environment) (f : BinaryFormat) (none : special_text (values a v s e f) ≡ None)
+      (hidden : shows_unknowns (values a v s e f) ≡ false) where
+    unknown-read : (last : Field) → e ≡ environment.Unknown
         → read_environment a v s last (cons_if (shows_binary_format (values a v s e f)) (binary_format_name f) []) ≡ Ok (values a v s e f)
-    unknown-read e f last is hidden = rw is (hidden-read a v s f _ last
+    unknown-read last is = rw is (hidden-read a v s f _ last
         ∙ ap (λ x. Ok (values a v s environment.Unknown x)) (shown_unless_unknown f _ _ (rw is at hidden) (shown_or_implied (values a v s environment.Unknown f))))
 
-    outside-read : (e : Environment) (f : BinaryFormat) (last : Field) → ¬ HidesNewlib (values a v s e f) → (b : Bool)
-        → (both_unknown (values a v s e f) || shows_environment e s v) ≡ b
+    outside-read : (last : Field) → ¬ HidesNewlib (values a v s e f) → (b : Bool) → shows_environment (values a v s e f) ≡ b
         → read_environment a v s last (cons_if b (environment_name e) (cons_if (shows_binary_format (values a v s e f)) (binary_format_name f) [])) ≡ Ok (values a v s e f)
-    outside-read e f last outside true is = shown-read a v s e f _ last ∙ ap (λ x. Ok (values a v s e x)) (shown_or_implied (values a v s e f))
-    outside-read e f last outside false is =
-        let hidden = or_parts (both_unknown (values a v s e f)) (shows_environment e s v) is in
-        elim (not_shown e s v a none hidden.1) [
-          | inl unknown ↦ unknown-read e f last unknown hidden.0
-          | inr newlib ↦ absurd (outside ((hides_newlib-decides (values a v s e f)).0 newlib))
-        ]
+    outside-read last outside true is = shown-read a v s e f _ last ∙ ap (λ x. Ok (values a v s e x)) (shown_or_implied (values a v s e f))
+    outside-read last outside false is = elim (not_shown a v s e f none is) [
+      | inl unknown ↦ unknown-read last unknown
+      | inr newlib ↦ absurd (outside ((hides_newlib-decides (values a v s e f)).0 newlib))
+    ]
 
-    tail-round : (e : Environment) (f : BinaryFormat) (last : Field) → prints_the_esp_idf_text e f s a v ≡ false → shows_only_none e s a ≡ false
+    tail-round : (last : Field) → prints_the_esp_idf_text (values a v s e f) ≡ false → shows_only_none (values a v s e f) ≡ false
         → ReadsAfter (values a v s e f) last (normal_step (values a v s e f))
-    tail-round e f last apart alone = step_cases (ReadsAfter (values a v s e f) last) (values a v s e f)
+    tail-round last apart only_none = step_cases (ReadsAfter (values a v s e f) last) (values a v s e f)
         (λ is. absurd (none-apart _ none is))
         (newlib-read (values a v s e f) last)
         (λ is. absurd (not_from_Decides _ (prints_the_esp_idf_text-decides (values a v s e f)) apart is))
-        (λ is. absurd (not_from_Decides _ (shows_only_none-decides (values a v s e f)) alone is))
-        (λ outside. outside-read e f last outside.newlib _ refl)
+        (λ is. absurd (not_from_Decides _ (shows_only_none-decides (values a v s e f)) only_none is))
+        (λ outside. outside-read last outside.newlib _ refl)
 
-  -- architecture, vendor and system, read back
+  -- architecture, vendor and system, parsed back
 
   prefix : (a : Architecture) (v : VendorValue) (b : Bool) (rest : List (List ℕ)) (result : Result Values Refusal) → is_plain v ≡ true
       → (b ≡ false → (v ≡ Known Unknown) × (read_vendor a rest ≡ read_operating_system a (Known Unknown) field.Architecture rest))
@@ -163,48 +169,63 @@ module _ (names : NamesAreRead) where
   prefix a v true rest result plain hidden reads = rw (names.architecture.reads_back a tt, names.vendor.reads_back v plain) (reads field.Vendor)
   prefix a v false rest result plain hidden reads = rw (names.architecture.reads_back a tt) ((hidden refl).1 ∙ rw (sym (hidden refl).0) (reads field.Architecture))
 
-  plain-round : (a : Architecture) (v : VendorValue) (s : OperatingSystem) (e : Environment) (f : BinaryFormat) → is_plain v ≡ true → HasVersionInRange s → special_text s v a ≡ None
-      → prints_the_esp_idf_text e f s a v ≡ false → (both_unknown (values a v s e f) || shows_operating_system s a) ≡ true
-      → read_parts (shown_parts (both_unknown (values a v s e f)) (values a v s e f)) ≡ Ok (normal_step (values a v s e f))
-  unfolding shown_parts
-  plain-round a v s e f plain range none apart shown =
-      rw shown (prefix a v (shows_vendor v s e a) _ _ plain
-      (λ h. let is = hidden_vendor v s e a h in (is.0, rw (vendor_of-operating_system names s range ∙ no_vendor s e a is.1) refl))
-      (λ last. rw (names.operating_system.reads_back s range) (tail-round a v s none e f field.OperatingSystem apart (shown_system e f _ s a shown))))
+  -- if the system is shown, with these parts after it
+  after_system : (a : Architecture) (v : VendorValue) (s : OperatingSystem) (e : Environment) (f : BinaryFormat) (rest : List (List ℕ)) (result : Result Values Refusal) → is_plain v ≡ true → HasVersionInRange s
+      → read_environment a v s field.OperatingSystem rest ≡ result
+      → read_parts (architecture_name a ∷ cons_if (shows_vendor (values a v s e f)) (vendor_name v) (operating_system_name s ∷ rest)) ≡ result
+  after_system a v s e f rest result plain range reads = prefix a v (shows_vendor (values a v s e f)) _ _ plain
+      (λ h. let is = hidden_vendor a v s e f h in (is.0, rw (vendor_of-operating_system names s range ∙ no_vendor a s e is.1) refl))
+      (λ last. rw (names.operating_system.reads_back s range) reads)
 
-  -- where it isn't: Clever without a system
-  clever-read : (c : CleverArchitecture) (v : VendorValue) (e : Environment) (f : BinaryFormat) (last : Field) → both_unknown (values (architecture.Clever c) v operating_system.Unknown e f) ≡ false
-      → read_operating_system (architecture.Clever c) v last (cons_if (shows_environment e operating_system.Unknown v) (environment_name e)
+  -- if it isn't: Clever without a system
+  clever-read : (c : CleverArchitecture) (v : VendorValue) (e : Environment) (f : BinaryFormat) (last : Field) → shows_unknowns (values (architecture.Clever c) v operating_system.Unknown e f) ≡ false
+      → read_operating_system (architecture.Clever c) v last (cons_if (shows_environment (values (architecture.Clever c) v operating_system.Unknown e f)) (environment_name e)
       (cons_if (shows_binary_format (values (architecture.Clever c) v operating_system.Unknown e f)) (binary_format_name f) []))
       ≡ Ok (normal_step (values (architecture.Clever c) v operating_system.Unknown e f))
-  unfolding shows_environment shows_binary_format implied_format normal_step
+  unfolding shows_environment shows_binary_format implied_format normal_step special_text
   clever-read c v environment.Unknown binary_format.Unknown last hidden = absurd cc
-  clever-read c v environment.Unknown f last hidden = rw (operating_system_of-format f, environment_of-format f, names.binary_format.reads_back f tt) refl
-  clever-read c v environment.None binary_format.Unknown last hidden = rw (operating_system_of-environment environment.None, environment_of-format binary_format.Unknown) refl
-  clever-read c v environment.None f last hidden = rw (operating_system_of-environment environment.None, environment_of-format f, names.binary_format.reads_back f tt) refl
-  clever-read c v e f last hidden = rw (operating_system_of-environment e)
+  clever-read c v environment.Unknown f last hidden = rw (without_system v, operating_system_of-format f, environment_of-format f, names.binary_format.reads_back f tt) refl
+  clever-read c v environment.None binary_format.Unknown last hidden = rw (without_system v, operating_system_of-environment environment.None, environment_of-format binary_format.Unknown) refl
+  clever-read c v environment.None f last hidden = rw (without_system v, operating_system_of-environment environment.None, environment_of-format f, names.binary_format.reads_back f tt) refl
+  clever-read c v e f last hidden = rw (without_system v, operating_system_of-environment e)
       (shown-read (architecture.Clever c) v operating_system.Unknown e f (shows_binary_format (values (architecture.Clever c) v operating_system.Unknown e f)) last
       ∙ ap (λ x. Ok (values (architecture.Clever c) v operating_system.Unknown e x)) (shown_or_implied (values (architecture.Clever c) v operating_system.Unknown e f)))
 
-  clever-round : (c : CleverArchitecture) (v : VendorValue) (e : Environment) (f : BinaryFormat) → is_plain v ≡ true → both_unknown (values (architecture.Clever c) v operating_system.Unknown e f) ≡ false
-      → read_parts (shown_parts false (values (architecture.Clever c) v operating_system.Unknown e f)) ≡ Ok (normal_step (values (architecture.Clever c) v operating_system.Unknown e f))
-  unfolding shown_parts shows_operating_system
+  clever-round : (c : CleverArchitecture) (v : VendorValue) (e : Environment) (f : BinaryFormat) → is_plain v ≡ true → shows_unknowns (values (architecture.Clever c) v operating_system.Unknown e f) ≡ false
+      → read_parts (upstream_parts (values (architecture.Clever c) v operating_system.Unknown e f)) ≡ Ok (normal_step (values (architecture.Clever c) v operating_system.Unknown e f))
+  unfolding upstream_parts shows_operating_system
   clever-round c v e f plain hidden =
       prefix (architecture.Clever c) v _ _ _ plain
-      (λ h. absurd (let is = (hidden_vendor v operating_system.Unknown e (architecture.Clever c) h).1 in cc)) (λ last. clever-read c v e f last hidden)
+      (λ h. absurd (let is = (hidden_vendor (architecture.Clever c) v operating_system.Unknown e f h).1 in cc)) (λ last. clever-read c v e f last hidden)
 
   module _ (a : Architecture) (v : VendorValue) (s : OperatingSystem) (e : Environment) (f : BinaryFormat) (plain : is_plain v ≡ true) (range : HasVersionInRange s)
-      (none : special_text s v a ≡ None) (apart : prints_the_esp_idf_text e f s a v ≡ false) where
-    clever_by : (c : CleverArchitecture) → a ≡ architecture.Clever c → s ≡ operating_system.Unknown → both_unknown (values a v s e f) ≡ false
-        → read_parts (shown_parts (both_unknown (values a v s e f)) (values a v s e f)) ≡ Ok (normal_step (values a v s e f))
-    clever_by c is_a is_s hidden = rw (hidden, is_a, is_s) (clever-round c v e f plain (rw (is_a, is_s) at hidden))
+      (none : special_text (values a v s e f) ≡ None) (apart : prints_the_esp_idf_text (values a v s e f) ≡ false) where
+    clever_by : (c : CleverArchitecture) → a ≡ architecture.Clever c → s ≡ operating_system.Unknown → shows_unknowns (values a v s e f) ≡ false
+        → read_parts (upstream_parts (values a v s e f)) ≡ Ok (normal_step (values a v s e f))
+    clever_by c is_a is_s hidden = rw (is_a, is_s) (clever-round c v e f plain (rw (is_a, is_s) at hidden))
 
-    parts_by : (b : Bool) → (both_unknown (values a v s e f) || shows_operating_system s a) ≡ b → read_parts (shown_parts (both_unknown (values a v s e f)) (values a v s e f)) ≡ Ok (normal_step (values a v s e f))
-    parts_by true shown = plain-round a v s e f plain range none apart shown
-    parts_by false hidden =
-        let both_hidden = or_parts (both_unknown (values a v s e f)) (shows_operating_system s a) hidden in
-        let is = hidden_system s a both_hidden.1 in clever_by is.1.0 is.1.1 is.0 both_hidden.0
+    upstream-round : (b : Bool) → shows_operating_system (values a v s e f) ≡ b → shows_unknowns (values a v s e f) ≡ false
+        → read_parts (upstream_parts (values a v s e f)) ≡ Ok (normal_step (values a v s e f))
+    unfolding upstream_parts
+    upstream-round true shown hidden = rw shown (after_system a v s e f _ _ plain range
+        (tail-round a v s e f none hidden field.OperatingSystem apart (shown_system (values a v s e f) shown)))
+    upstream-round false none_shown hidden = let is = hidden_system a v s e f none_shown in clever_by is.1.0 is.1.1 is.0 hidden
 
-    -- where no special text is printed, the shown parts read as the step
-    pub parts-round : read_parts (shown_parts (both_unknown (values a v s e f)) (values a v s e f)) ≡ Ok (normal_step (values a v s e f))
-    parts-round = parts_by (both_unknown (values a v s e f) || shows_operating_system s a) refl
+    -- an unknown environment and an unknown format, both shown, change nothing
+    unknowns-step : (e ≡ environment.Unknown) × (f ≡ binary_format.Unknown) → normal_step (values a v s e f) ≡ values a v s e f
+    unknowns-step (is_e, is_f) = step_cases (λ u. u ≡ values a v s e f) (values a v s e f)
+        (λ is. absurd (none-apart _ none is)) (λ is. absurd (let newlib = is.0 in cc))
+        (λ is. absurd (not_from_Decides _ (prints_the_esp_idf_text-decides (values a v s e f)) apart is))
+        (λ is. absurd (let only_none = is.environment in cc)) (λ outside. refl)
+
+    unknowns-round : (e ≡ environment.Unknown) × (f ≡ binary_format.Unknown) → read_parts (parts_with_unknowns (values a v s e f)) ≡ Ok (normal_step (values a v s e f))
+    unfolding parts_with_unknowns
+    unknowns-round is = after_system a v s e f _ _ plain range (shown-read a v s e f true field.OperatingSystem ∙ ap Ok (sym (unknowns-step is)))
+
+    parts_by : (b : Bool) → shows_unknowns (values a v s e f) ≡ b → read_parts (cond b (parts_with_unknowns (values a v s e f)) (upstream_parts (values a v s e f))) ≡ Ok (normal_step (values a v s e f))
+    parts_by true shown = unknowns-round (are_unknown a v s e f shown)
+    parts_by false hidden = upstream-round _ refl hidden
+
+    -- if no special text is printed, the shown parts parse as the step
+    pub parts-round : read_parts (shown_parts (values a v s e f)) ≡ Ok (normal_step (values a v s e f))
+    parts-round = parts_by (shows_unknowns (values a v s e f)) refl

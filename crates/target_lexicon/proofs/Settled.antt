@@ -1,7 +1,7 @@
 -- A second step changes no triple.
 use Rattle.std.proofs.Common.{◌≡◌, ◌⊎◌, inl, inr, ℕ, List, true, refl, sym, ap, subst}
 use Rattle.target_lexicon.specs.{Values.Architecture, Values.BinaryFormat, Values.VendorValue, Values.Values, Values.values, Laws.ComesBack, NormalStep.normal_step, NormalStep.elf_if_unknown}
-use Rattle.target_lexicon.specs.{Families.IsNintendo3ds, Families.IsEspIdf, Families.HidesNewlib, Families.PrintsTheEspIdfText, Printing.text_of, Reading.ReadsAs, SpecialTexts.esp_idf}
+use Rattle.target_lexicon.specs.{Families.IsNintendo3ds, Families.IsEspIdf, Families.HidesNewlib, Families.PrintsTheEspIdfText, Printing.text_of, Reading.ReadsAs, SpecialTexts.special_text, SpecialTexts.esp_idf}
 use Rattle.target_lexicon.specs.FixedPoints.{IsPlainTriple, RoundIsNormalStep, settled_values, SecondStepChangesNone, SettledTextsAreKeys}
 use Rattle.lexicon_fields.specs.{Vendor.is_plain, Laws.HasVersionInRange}
 use Rattle.target_lexicon.proofs.{Fixed.outside-fixed, StepCases.step_cases, Unique.values_unique}
@@ -10,16 +10,16 @@ use Rattle.target_lexicon.specs.Values.environment
 use Rattle.target_lexicon.specs.Values.binary_format
 
 esp_idf-stays : normal_step esp_idf ≡ esp_idf
-unfolding normal_step
+unfolding normal_step special_text
 esp_idf-stays = refl
 
 special-stays : (t : Values) → IsNintendo3ds t ⊎ IsEspIdf t
     → normal_step (values t.architecture t.vendor t.operating_system environment.Newlib binary_format.Elf) ≡ values t.architecture t.vendor t.operating_system environment.Newlib binary_format.Elf
-unfolding normal_step
+unfolding normal_step special_text
 special-stays t (inl is) = rw (is.architecture, is.vendor, is.operating_system) refl
 special-stays t (inr is) = rw (is.architecture, is.vendor, is.operating_system) refl
 
--- with an unknown environment the special texts alone tell whether a triple stays
+-- with an unknown environment only the special texts decide whether a triple is unchanged
 unknown-stays : (t : Values) → t.environment ≡ environment.Unknown → ¬ (IsNintendo3ds t ⊎ IsEspIdf t) → ¬ PrintsTheEspIdfText t → normal_step t ≡ t
 unknown-stays t unknown special esp = outside-fixed t (record {
   special = λ is. special is.fields;
@@ -58,7 +58,7 @@ step-version t range = step_cases (λ u. HasVersionInRange u.operating_system) t
 pub step-plain : (t : Values) → IsPlainTriple t → IsPlainTriple (normal_step t)
 step-plain t plain = record { vendor = step-vendor_plain t plain.vendor; version = step-version t plain.version }
 
--- what is settled comes back, so that its text is its own
+-- a canonical form comes back, so no other one has its text
 
 module _ (round : RoundIsNormalStep) where
   pub settled_values-comes_back : (t : Values) → IsPlainTriple t → ComesBack (settled_values t)

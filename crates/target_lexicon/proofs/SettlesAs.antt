@@ -1,4 +1,4 @@
--- Triples settle as one where the step gives them the same fields.
+-- Triples have the same canonical form if the step gives them the same fields.
 use Rattle.std.proofs.Common.{◌≡◌, ◌∙◌, Bool, true, false, ◌&&◌, sym, ap}
 use mathlib.Core.Bool.{true≢false}
 use Rattle.std.specs.Bool.{Decides}
@@ -6,7 +6,7 @@ use Rattle.std.proofs.lemmas.Bool.Decides.{Decides-like, Decides-and, Decides-at
 use Rattle.target_lexicon.specs.{FixedPoints.settled_values, NormalStep.normal_step, Values.Values}
 use Rattle.target_lexicon.proofs.{SameValues.same_values, Settled.second_changes_none, StepCases.step-architecture}
 
--- both tests hold, of which the second is made where the first holds
+-- both tests hold, where the second is made only if the first holds
 
 pub and_then : {P Q : Type 0} (b x r : Bool) → b ≡ true → r ≡ x → Decides b P → Decides x Q → Decides r (P × Q)
 and_then b x r holds is first second = Decides-at r (b && x) (is ∙ sym (ap (λ y. y && x) holds)) (Decides-and b x first second)
@@ -15,12 +15,12 @@ pub and_else : {P Q : Type 0} (b r : Bool) → b ≡ false → r ≡ false → D
 and_else b r fails is first =
     (λ yes_r. absurd (true≢false (sym yes_r ∙ is)), λ both. absurd (true≢false (sym (first.1 both.0) ∙ fails)))
 
--- a test of two values is a test of what equals them
+-- a test of two values is a test of values equal to them
 pub alike : {A : Type 0} (r b : Bool) (v w x y : A) → r ≡ b → Decides b (v ≡ w) → v ≡ x → w ≡ y → Decides r (x ≡ y)
 alike r b v w x y is test first second =
     Decides-at r b is (Decides-like b (λ same. sym first ∙ same ∙ second) (λ same. first ∙ same ∙ sym second) test)
 
--- the five tests, each behind the one before it
+-- the five tests, one after the other
 abbrev pub AreSameFields : Values → Values → Type 0
 AreSameFields t u = ((((t.architecture ≡ u.architecture) × ((normal_step t).vendor ≡ (normal_step u).vendor))
     × ((normal_step t).operating_system ≡ (normal_step u).operating_system)) × ((normal_step t).environment ≡ (normal_step u).environment))

@@ -1,10 +1,12 @@
--- The tests by which the step is written tell the families; so what holds in the case of each family, and outside them, holds of the step.
-use Rattle.std.proofs.Common.{◌≡◌, ◌≢◌, inl, inr, true, not, codes, refl, ap}
+-- The tests in the normal step decide the families. So a fact that holds in the case of each family, and outside
+-- them, holds for the step.
+use Rattle.std.proofs.Common.{◌≡◌, ◌≢◌, inl, inr, true, not, ◌&&◌, codes, refl, ap}
 use Rattle.std.specs.Bool.{Decides}
 use Rattle.std.proofs.{lemmas.Slice.Eq.bytes_eq-Decides, lemmas.Bool.cond_both, lemmas.Bool.false≢true, lemmas.Bool.Decides.not_from_Decides}
-use Rattle.target_lexicon.specs.Values.{Architecture, OperatingSystem, Environment, BinaryFormat, VendorValue, Known, Custom, Values, values}
+use Rattle.target_lexicon.specs.Values.{Architecture, OperatingSystem, Environment, BinaryFormat, VendorValue, Known, Custom, Values, values, is_newlib, is_clever_without_system, same_format}
 use Rattle.target_lexicon.specs.Families.{PrintsAsSpecial, HidesNewlib, PrintsTheEspIdfText, ShowsOnlyNone}
-use Rattle.target_lexicon.specs.NormalStep.{are_newlib_elf, prints_as_special, hides_newlib, prints_the_esp_idf_text, shows_only_none, normal_step, elf_if_unknown}
+use Rattle.target_lexicon.specs.SpecialTexts.{special_text}
+use Rattle.target_lexicon.specs.NormalStep.{prints_as_special, hides_newlib, prints_the_esp_idf_text, shows_only_none, normal_step, elf_if_unknown}
 use Rattle.lexicon_fields.specs.{ArchitectureQueries.is_clever, declared.known_vendor.KnownVendor.TheVariants.Nintendo, declared.known_vendor.KnownVendor.TheVariants.Espressif}
 use Rattle.target_lexicon.specs.Values.architecture
 use Rattle.target_lexicon.specs.Values.arm
@@ -15,80 +17,87 @@ use Rattle.target_lexicon.specs.Values.binary_format
 
 -- a special text is printed
 
-not_newlib_elf : (e : Environment) (f : BinaryFormat) → ¬ ((e ≡ environment.Newlib) × (f ≡ binary_format.Elf)) → not (are_newlib_elf e f) ≡ true
+not_newlib_elf : (e : Environment) (f : BinaryFormat) → ¬ ((e ≡ environment.Newlib) × (f ≡ binary_format.Elf)) → not (is_newlib e && same_format f binary_format.Elf) ≡ true
 not_newlib_elf environment.Newlib binary_format.Elf others = absurd (others (refl, refl))
 not_newlib_elf _ _ others = refl
 
-special-fields : (s : OperatingSystem) (v : VendorValue) (a : Architecture) (e : Environment) (f : BinaryFormat) → prints_as_special s v a e f ≡ true → PrintsAsSpecial (values a v s e f)
-special-fields operating_system.Horizon (Known Nintendo) (architecture.Arm arm.Armv6k) e f h =
+special-fields : (a : Architecture) (v : VendorValue) (s : OperatingSystem) (e : Environment) (f : BinaryFormat) → prints_as_special (values a v s e f) ≡ true → PrintsAsSpecial (values a v s e f)
+unfolding special_text
+special-fields (architecture.Arm arm.Armv6k) (Known Nintendo) operating_system.Horizon e f h =
     record { fields = inl (record { architecture = refl; vendor = refl; operating_system = refl }); others = λ is. false≢true (rw (is.0, is.1) at h) }
-special-fields operating_system.Espidf (Known Espressif) (architecture.Riscv32 riscv32.Riscv32imc) e f h =
+special-fields (architecture.Riscv32 riscv32.Riscv32imc) (Known Espressif) operating_system.Espidf e f h =
     record { fields = inr (record { architecture = refl; vendor = refl; operating_system = refl }); others = λ is. false≢true (rw (is.0, is.1) at h) }
 special-fields _ _ _ e f h = absurd (false≢true h)
 
-pub prints_as_special-decides : (t : Values) → Decides (prints_as_special t.operating_system t.vendor t.architecture t.environment t.binary_format) (PrintsAsSpecial t)
+pub prints_as_special-decides : (t : Values) → Decides (prints_as_special t) (PrintsAsSpecial t)
+unfolding special_text
 prints_as_special-decides t = (
-  special-fields t.operating_system t.vendor t.architecture t.environment t.binary_format,
+  special-fields t.architecture t.vendor t.operating_system t.environment t.binary_format,
   λ is. elim is.fields [
-    | inl on ↦ rw (on.operating_system, on.vendor, on.architecture) (not_newlib_elf t.environment t.binary_format is.others)
-    | inr on ↦ rw (on.operating_system, on.vendor, on.architecture) (not_newlib_elf t.environment t.binary_format is.others)
+    | inl on ↦ rw (on.architecture, on.vendor, on.operating_system) (not_newlib_elf t.environment t.binary_format is.others)
+    | inr on ↦ rw (on.architecture, on.vendor, on.operating_system) (not_newlib_elf t.environment t.binary_format is.others)
   ],
 )
 
--- `Newlib` isn't shown
+-- a `Newlib` that isn't shown
 
-newlib-fields : (e : Environment) (s : OperatingSystem) (v : VendorValue) (a : Architecture) (f : BinaryFormat) → hides_newlib e s v a ≡ true → HidesNewlib (values a v s e f)
-newlib-fields environment.Newlib operating_system.Horizon (Known Nintendo) a f h = (refl, inl (refl, refl, λ is. false≢true (rw is at h)))
-newlib-fields environment.Newlib operating_system.Espidf (Known Espressif) a f h = (refl, inr (refl, refl, λ is. false≢true (rw is at h)))
-newlib-fields _ _ _ a f h = absurd (false≢true h)
+newlib-fields : (a : Architecture) (v : VendorValue) (s : OperatingSystem) (e : Environment) (f : BinaryFormat) → hides_newlib (values a v s e f) ≡ true → HidesNewlib (values a v s e f)
+unfolding special_text
+newlib-fields a (Known Nintendo) operating_system.Horizon environment.Newlib f h = (refl, inl (refl, refl, λ is. false≢true (rw is at h)))
+newlib-fields a (Known Espressif) operating_system.Espidf environment.Newlib f h = (refl, inr (refl, refl, λ is. false≢true (rw is at h)))
+newlib-fields a _ _ _ f h = absurd (false≢true h)
 
-on_horizon : (a : Architecture) → a ≢ architecture.Arm arm.Armv6k → hides_newlib environment.Newlib operating_system.Horizon (Known Nintendo) a ≡ true
-on_horizon (architecture.Arm arm.Armv6k) other = absurd (other refl)
-on_horizon _ other = refl
+on_horizon : (a : Architecture) (f : BinaryFormat) → a ≢ architecture.Arm arm.Armv6k → hides_newlib (values a (Known Nintendo) operating_system.Horizon environment.Newlib f) ≡ true
+unfolding special_text
+on_horizon (architecture.Arm arm.Armv6k) f other = absurd (other refl)
+on_horizon (architecture.Riscv32 riscv32.Riscv32imc) f other = refl
+on_horizon _ f other = refl
 
-on_espidf : (a : Architecture) → a ≢ architecture.Riscv32 riscv32.Riscv32imc → hides_newlib environment.Newlib operating_system.Espidf (Known Espressif) a ≡ true
-on_espidf (architecture.Riscv32 riscv32.Riscv32imc) other = absurd (other refl)
-on_espidf _ other = refl
+on_espidf : (a : Architecture) (f : BinaryFormat) → a ≢ architecture.Riscv32 riscv32.Riscv32imc → hides_newlib (values a (Known Espressif) operating_system.Espidf environment.Newlib f) ≡ true
+unfolding special_text
+on_espidf (architecture.Riscv32 riscv32.Riscv32imc) f other = absurd (other refl)
+on_espidf (architecture.Arm arm.Armv6k) f other = refl
+on_espidf _ f other = refl
 
-pub hides_newlib-decides : (t : Values) → Decides (hides_newlib t.environment t.operating_system t.vendor t.architecture) (HidesNewlib t)
+pub hides_newlib-decides : (t : Values) → Decides (hides_newlib t) (HidesNewlib t)
 hides_newlib-decides t = (
-  newlib-fields t.environment t.operating_system t.vendor t.architecture t.binary_format,
-  λ is. elim is.1 [ inl on ↦ rw (is.0, on.0, on.1) (on_horizon t.architecture on.2) | inr on ↦ rw (is.0, on.0, on.1) (on_espidf t.architecture on.2) ],
+  newlib-fields t.architecture t.vendor t.operating_system t.environment t.binary_format,
+  λ is. elim is.1 [
+    | inl on ↦ rw (is.0, on.0, on.1) (on_horizon t.architecture t.binary_format on.2)
+    | inr on ↦ rw (is.0, on.0, on.1) (on_espidf t.architecture t.binary_format on.2)
+  ],
 )
 
 -- the custom vendor `esp`
 
-esp_fields : (e : Environment) (f : BinaryFormat) (s : OperatingSystem) (a : Architecture) (v : VendorValue)
-    → prints_the_esp_idf_text e f s a v ≡ true → PrintsTheEspIdfText (values a v s e f)
-esp_fields environment.Unknown binary_format.Elf operating_system.Espidf (architecture.Riscv32 riscv32.Riscv32imc) (Custom text) h =
+esp_fields : (a : Architecture) (v : VendorValue) (s : OperatingSystem) (e : Environment) (f : BinaryFormat)
+    → prints_the_esp_idf_text (values a v s e f) ≡ true → PrintsTheEspIdfText (values a v s e f)
+esp_fields (architecture.Riscv32 riscv32.Riscv32imc) (Custom text) operating_system.Espidf environment.Unknown binary_format.Elf h =
     ap (λ x. values (architecture.Riscv32 riscv32.Riscv32imc) (Custom x) operating_system.Espidf environment.Unknown binary_format.Elf)
     ((bytes_eq-Decides text (codes "esp")).0 h)
 esp_fields _ _ _ _ _ h = absurd (false≢true h)
 
-pub prints_the_esp_idf_text-decides : (t : Values)
-    → Decides (prints_the_esp_idf_text t.environment t.binary_format t.operating_system t.architecture t.vendor) (PrintsTheEspIdfText t)
-prints_the_esp_idf_text-decides t = (
-  esp_fields t.environment t.binary_format t.operating_system t.architecture t.vendor,
-  λ is. ap (λ (u : Values). prints_the_esp_idf_text u.environment u.binary_format u.operating_system u.architecture u.vendor) is,
-)
+pub prints_the_esp_idf_text-decides : (t : Values) → Decides (prints_the_esp_idf_text t) (PrintsTheEspIdfText t)
+prints_the_esp_idf_text-decides t =
+    (esp_fields t.architecture t.vendor t.operating_system t.environment t.binary_format, ap prints_the_esp_idf_text)
 
--- `none` alone, on Clever
+-- `none` without a system, on Clever
 
-none-fields : (e : Environment) (s : OperatingSystem) (a : Architecture) (v : VendorValue) (f : BinaryFormat) → shows_only_none e s a ≡ true → ShowsOnlyNone (values a v s e f)
-none-fields environment.None operating_system.Unknown (architecture.Clever sub) v f h = record { architecture = refl; operating_system = refl; environment = refl }
-none-fields _ _ _ v f h = absurd (false≢true h)
+none-fields : (a : Architecture) (v : VendorValue) (s : OperatingSystem) (e : Environment) (f : BinaryFormat) → shows_only_none (values a v s e f) ≡ true → ShowsOnlyNone (values a v s e f)
+none-fields (architecture.Clever sub) v operating_system.Unknown environment.None f h = record { architecture = refl; operating_system = refl; environment = refl }
+none-fields _ v _ _ f h = absurd (false≢true h)
 
-on_clever : (a : Architecture) → is_clever a ≡ true → shows_only_none environment.None operating_system.Unknown a ≡ true
+on_clever : (a : Architecture) → is_clever a ≡ true → is_clever_without_system a operating_system.Unknown ≡ true
 on_clever (architecture.Clever sub) clever = refl
 on_clever _ clever = absurd (false≢true clever)
 
-pub shows_only_none-decides : (t : Values) → Decides (shows_only_none t.environment t.operating_system t.architecture) (ShowsOnlyNone t)
+pub shows_only_none-decides : (t : Values) → Decides (shows_only_none t) (ShowsOnlyNone t)
 shows_only_none-decides t = (
-  none-fields t.environment t.operating_system t.architecture t.vendor t.binary_format,
-  λ is. rw (is.environment, is.operating_system) (on_clever t.architecture is.architecture),
+  none-fields t.architecture t.vendor t.operating_system t.environment t.binary_format,
+  λ is. rw (is.operating_system, is.environment, on_clever t.architecture is.architecture) refl,
 )
 
--- none of the four families in which a plain vendor's triple changes
+-- in none of the four families in which a triple with a plain vendor changes
 pub record IsOutside (t : Values) : Type 0 where
   pub special : ¬ PrintsAsSpecial t
   pub newlib : ¬ HidesNewlib t

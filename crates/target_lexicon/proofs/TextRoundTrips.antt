@@ -1,10 +1,11 @@
--- The text of a triple with a plain vendor reads as its normal step.
-use Rattle.std.proofs.Common.{◌≡◌, ◌≢◌, ◌∙◌, ℕ, Bool, true, false, ◌||◌, cond, is_none, true≢false, inl, inr, List, [], ◌∷◌, Option, Some, None, Ok, Err, codes, refl, sym, ap, subst}
+-- The printed text of a triple with a plain vendor reads as its normal step.
+use Rattle.std.proofs.Common.{◌≡◌, ◌≢◌, ◌∙◌, ℕ, Bool, true, false, cond, is_none, true≢false, inl, inr, List, [], ◌∷◌, Option, Some, None, Ok, Err, codes, refl, sym, ap, subst}
 use Rattle.std.specs.{List.list_all, List.join_with_byte, Str.bytes_eq}
 use Rattle.std.proofs.lemmas.Slice.Eq.{bytes_eq-Decides}
+use Rattle.lexicon_fields.specs.Names.{dash}
 use Rattle.target_lexicon.specs.Values.{Architecture, OperatingSystem, Environment, BinaryFormat, VendorValue, Known, Custom, Values, values}
-use Rattle.target_lexicon.specs.{FixedPoints.RoundIsNormalStep, ImpliedFormat.implied, ImpliedFormat.implied_format, NormalStep.normal_step, NormalStep.prints_the_esp_idf_text, Placement.parts_of}
-use Rattle.target_lexicon.specs.Printing.{shows_vendor, shows_operating_system, shows_environment, shows_binary_format, shows_unknowns, shown_parts, text_of, cons_if}
+use Rattle.target_lexicon.specs.{FixedPoints.RoundIsNormalStep, ImpliedFormat.implied_format, NormalStep.normal_step, NormalStep.prints_the_esp_idf_text, Placement.parts_of}
+use Rattle.target_lexicon.specs.Printing.{shows_vendor, shows_operating_system, shows_environment, shows_binary_format, shows_unknowns, upstream_parts, parts_with_unknowns, shown_parts, text_of, cons_if}
 use Rattle.target_lexicon.specs.{Reading.ReadsAs, GreedyReading.read_parts, GreedyReading.read_unless_special, GreedyReading.reading, Refusal.Expects, Refusal.refusal_with}
 use Rattle.target_lexicon.specs.SpecialTexts.{special_text, special_values, nintendo_3ds, nintendo_3ds_text, esp_idf, esp_idf_text}
 use Rattle.lexicon_fields.specs.{Names.is_dash_free, Architecture.architecture_name, Architecture.architecture_of, Laws.HasVersionInRange, Environment.environment_name, Environment.environment_of}
@@ -20,9 +21,9 @@ use Rattle.target_lexicon.specs.Values.environment
 use Rattle.target_lexicon.specs.Values.binary_format
 use Rattle.target_lexicon.specs.Field as field
 
--- parts without dashes are the parts of the text that joins them
+-- texts without dashes are the parts of the text that joins them
 
-parts_of-join : (p : List ℕ) (ps : List (List ℕ)) → is_dash_free p ≡ true → list_all is_dash_free ps ≡ true → parts_of (join_with_byte 45 (p ∷ ps)) ≡ p ∷ ps
+parts_of-join : (p : List ℕ) (ps : List (List ℕ)) → is_dash_free p ≡ true → list_all is_dash_free ps ≡ true → parts_of (join_with_byte dash (p ∷ ps)) ≡ p ∷ ps
 parts_of-join p ps free others = parts_of-joined p ps (rw (free, others) refl)
 
 cons_if-free : (b : Bool) (p : List ℕ) (ps : List (List ℕ)) → is_dash_free p ≡ true → list_all is_dash_free ps ≡ true → list_all is_dash_free (cons_if b p ps) ≡ true
@@ -31,13 +32,13 @@ cons_if-free false p ps free others = others
 
 -- the special texts, and the triples that print them
 
-pub special-round : (s : OperatingSystem) (v : VendorValue) (a : Architecture) (e : Environment) (f : BinaryFormat) (text : List ℕ) → special_text s v a ≡ Some text
+pub special-round : (a : Architecture) (v : VendorValue) (s : OperatingSystem) (e : Environment) (f : BinaryFormat) (text : List ℕ) → special_text (values a v s e f) ≡ Some text
     → reading (text_of (values a v s e f)) ≡ Ok (normal_step (values a v s e f))
 unfolding special_text special_values normal_step reading text_of
-special-round operating_system.Horizon (Known Nintendo) (architecture.Arm arm.Armv6k) environment.Newlib binary_format.Elf text is = refl
-special-round operating_system.Horizon (Known Nintendo) (architecture.Arm arm.Armv6k) _ _ text is = refl
-special-round operating_system.Espidf (Known Espressif) (architecture.Riscv32 riscv32.Riscv32imc) environment.Newlib binary_format.Elf text is = refl
-special-round operating_system.Espidf (Known Espressif) (architecture.Riscv32 riscv32.Riscv32imc) _ _ text is = refl
+special-round (architecture.Arm arm.Armv6k) (Known Nintendo) operating_system.Horizon environment.Newlib binary_format.Elf text is = refl
+special-round (architecture.Arm arm.Armv6k) (Known Nintendo) operating_system.Horizon _ _ text is = refl
+special-round (architecture.Riscv32 riscv32.Riscv32imc) (Known Espressif) operating_system.Espidf environment.Newlib binary_format.Elf text is = refl
+special-round (architecture.Riscv32 riscv32.Riscv32imc) (Known Espressif) operating_system.Espidf _ _ text is = refl
 special-round _ _ _ e f text is = absurd (true≢false (ap is_none is))
 
 -- the triple that prints another's special text
@@ -46,10 +47,10 @@ abbrev custom_esp : Values
 custom_esp = values (architecture.Riscv32 riscv32.Riscv32imc) (Custom (codes "esp")) operating_system.Espidf environment.Unknown binary_format.Elf
 
 custom_esp-round : reading (text_of custom_esp) ≡ Ok (normal_step custom_esp)
-unfolding reading text_of special_text special_values shown_parts shows_vendor shows_operating_system shows_environment shows_binary_format implied_format normal_step
+unfolding reading text_of special_text special_values upstream_parts shows_vendor shows_operating_system shows_environment shows_binary_format implied_format normal_step
 custom_esp-round = refl
 
--- the special texts, read by their parts
+-- the special texts, parsed by their parts
 
 nintendo-parts : read_parts (parts_of nintendo_3ds_text) ≡ Err (refusal_with (Expects field.OperatingSystem) (codes "3ds"))
 unfolding architecture_of vendor_of known_vendor_of operating_system_of fixed_operating_system_of environment_of binary_format_of
@@ -59,7 +60,7 @@ esp_idf-parts : read_parts (parts_of esp_idf_text) ≡ Ok custom_esp
 unfolding architecture_of vendor_of known_vendor_of is_admitted operating_system_of fixed_operating_system_of environment_of binary_format_of implied_format
 esp_idf-parts = refl
 
--- a text that isn't special is read by its parts
+-- a text that isn't special is parsed by its parts
 by_tests : (text : List ℕ) (ps : List (List ℕ)) (t : Values) (x y : Bool) → bytes_eq text nintendo_3ds_text ≡ x → bytes_eq text esp_idf_text ≡ y → parts_of text ≡ ps
     → read_parts ps ≡ Ok t → ps ≢ parts_of esp_idf_text → read_unless_special (cond x (Some nintendo_3ds) (cond y (Some esp_idf) None)) text ≡ Ok t
 by_tests text ps t true y is_x is_y are reads apart =
@@ -67,12 +68,9 @@ by_tests text ps t true y is_x is_y are reads apart =
 by_tests text ps t false true is_x is_y are reads apart = absurd (apart (sym are ∙ ap parts_of ((bytes_eq-Decides text esp_idf_text).0 is_y)))
 by_tests text ps t false false is_x is_y are reads apart = ap read_parts are ∙ reads
 
-abbrev parts : Values → List (List ℕ)
-parts t = shown_parts (shows_unknowns t.environment t.binary_format (implied t)) t
-
 module _ (names : NamesAreRead) (a : Architecture) (v : VendorValue) (s : OperatingSystem) (e : Environment) (f : BinaryFormat) (plain : is_plain v ≡ true) (range : HasVersionInRange s)
-    (none : special_text s v a ≡ None) (apart : prints_the_esp_idf_text e f s a v ≡ false) where
-  parts-apart : parts (values a v s e f) ≢ parts_of esp_idf_text
+    (none : special_text (values a v s e f) ≡ None) (apart : prints_the_esp_idf_text (values a v s e f) ≡ false) where
+  parts-apart : shown_parts (values a v s e f) ≢ parts_of esp_idf_text
   parts-apart same =
       let reads : Ok (normal_step (values a v s e f)) ≡ Ok custom_esp = sym (parts-round names a v s e f plain range none apart) ∙ ap read_parts same ∙ esp_idf-parts in
       step_cases (λ u. u ≡ custom_esp → ⊥) (values a v s e f)
@@ -82,25 +80,31 @@ module _ (names : NamesAreRead) (a : Architecture) (v : VendorValue) (s : Operat
       (λ is step. let of = ap (λ x. x.operating_system) step in cc)
       (λ outside. outside.esp) cc
 
-  shown-round : reading (text_of (values a v s e f)) ≡ Ok (normal_step (values a v s e f))
-  unfolding reading text_of shown_parts special_values
-  shown-round =
-      let both = shows_unknowns e f (implied_format a s e) in
-      rw none (by_tests (join_with_byte 45 (parts (values a v s e f))) (parts (values a v s e f)) (normal_step (values a v s e f)) _ _ refl refl
-      (parts_of-join (architecture_name a) _ (names.architecture.name_dash_free a tt)
-      (cons_if-free (shows_vendor v s e a) _ _ (names.vendor.name_dash_free v plain)
-      (cons_if-free (both || shows_operating_system s a) (operating_system_name s) _ (names.operating_system.name_dash_free s range)
-      (cons_if-free (both || shows_environment e s v) (environment_name e) _ (names.environment.name_dash_free e tt)
-      (cons_if-free (shows_binary_format (values a v s e f)) (binary_format_name f) [] (names.binary_format.name_dash_free f tt) refl)))))
-      (parts-round names a v s e f plain range none apart) parts-apart)
+  joined-parts : (b : Bool) → let parts = cond b (parts_with_unknowns (values a v s e f)) (upstream_parts (values a v s e f)) in parts_of (join_with_byte dash parts) ≡ parts
+  unfolding upstream_parts parts_with_unknowns
+  joined-parts true = parts_of-join (architecture_name a) _ (names.architecture.name_dash_free a tt)
+      (cons_if-free (shows_vendor (values a v s e f)) _ _ (names.vendor.name_dash_free v plain)
+      (rw (names.operating_system.name_dash_free s range, names.environment.name_dash_free e tt, names.binary_format.name_dash_free f tt) refl))
+  joined-parts false = parts_of-join (architecture_name a) _ (names.architecture.name_dash_free a tt)
+      (cons_if-free (shows_vendor (values a v s e f)) _ _ (names.vendor.name_dash_free v plain)
+      (cons_if-free (shows_operating_system (values a v s e f)) (operating_system_name s) _ (names.operating_system.name_dash_free s range)
+      (cons_if-free (shows_environment (values a v s e f)) (environment_name e) _ (names.environment.name_dash_free e tt)
+      (cons_if-free (shows_binary_format (values a v s e f)) (binary_format_name f) [] (names.binary_format.name_dash_free f tt) refl))))
 
-round_by : NamesAreRead → (t : Values) (special : Option (List ℕ)) (b : Bool) → is_plain t.vendor ≡ true → HasVersionInRange t.operating_system → special_text t.operating_system t.vendor t.architecture ≡ special
-    → prints_the_esp_idf_text t.environment t.binary_format t.operating_system t.architecture t.vendor ≡ b → reading (text_of t) ≡ Ok (normal_step t)
-round_by names t (Some text) b plain range is is_b = special-round t.operating_system t.vendor t.architecture t.environment t.binary_format text is
+  shown-round : reading (text_of (values a v s e f)) ≡ Ok (normal_step (values a v s e f))
+  unfolding reading text_of special_values
+  shown-round =
+      let t = values a v s e f in
+      rw none (by_tests (join_with_byte dash (shown_parts t)) (shown_parts t) (normal_step t) _ _ refl refl
+      (joined-parts (shows_unknowns t)) (parts-round names a v s e f plain range none apart) parts-apart)
+
+round_by : NamesAreRead → (t : Values) (special : Option (List ℕ)) (b : Bool) → is_plain t.vendor ≡ true → HasVersionInRange t.operating_system → special_text t ≡ special
+    → prints_the_esp_idf_text t ≡ b → reading (text_of t) ≡ Ok (normal_step t)
+round_by names t (Some text) b plain range is is_b = special-round t.architecture t.vendor t.operating_system t.environment t.binary_format text is
 round_by names t None true plain range is is_b = rw ((prints_the_esp_idf_text-decides t).0 is_b) custom_esp-round
 round_by names t None false plain range is is_b = shown-round names t.architecture t.vendor t.operating_system t.environment t.binary_format plain range is is_b
 
--- a round of a plain triple is its step
+-- the round trip of a plain triple is its normal step
 pub round : NamesAreRead → RoundIsNormalStep
 round names t plain = ((reading_computed (text_of t)).read (normal_step t)).1 (round_by names t _ _ plain.vendor plain.version refl refl)
 

@@ -1,8 +1,8 @@
--- A text has one outcome at most.
+-- A text has at most one outcome.
 use Rattle.std.proofs.Common.{◌≡◌, ℕ, ◌<◌, List, [], ◌∷◌, take, refl, sym, ◌∙◌, ap, subst, Option, Some, None, arith}
 use Rattle.std.specs.Prelude.{MatchOption, slice_get}
 use Rattle.lexicon_fields.specs.{Architecture.architecture_of, Vendor.vendor_of, OperatingSystem.operating_system_of, Environment.environment_of, BinaryFormat.binary_format_of}
-use Rattle.target_lexicon.specs.{Field.Field, ImpliedFormat.implied, Placement.ArePartsOf, Placement.parts_of, Placement.HasPlacement, SpecialTexts.special_values, Values.Values}
+use Rattle.target_lexicon.specs.{Field.Field, ImpliedFormat.default_binary_format, Placement.ArePartsOf, Placement.parts_of, Placement.HasPlacement, SpecialTexts.special_values, Values.Values}
 use Rattle.target_lexicon.specs.Refusal.{Expected, ExpectsNone, Refusal, refusal_with}
 use Rattle.target_lexicon.specs.Reading.{IsValueOf, HoldsParts, ReadsAsLeast, ReadsAs, IsRefusal, IsExpectedAfter, IsRefusedAs, IsRefused, expected_after, last_of}
 use Rattle.target_lexicon.proofs.{Greedy.placement_prefix, Greedy.least-unique, Cuts.parts-only, SameValues.same_values}
@@ -17,7 +17,7 @@ same_held parts fields t u h k =
     let v = same_value vendor_of _ _ _ t.vendor u.vendor refl h.vendor k.vendor in
     let s = same_value operating_system_of _ _ _ t.operating_system u.operating_system refl h.operating_system k.operating_system in
     let e = same_value environment_of _ _ _ t.environment u.environment refl h.environment k.environment in
-    let i : implied t ≡ implied u = cc in
+    let i : default_binary_format t ≡ default_binary_format u = cc in
     let f = same_value binary_format_of _ _ _ t.binary_format u.binary_format i h.binary_format k.binary_format in
     same_values t u a v s e f
 
@@ -25,7 +25,7 @@ same_least : (parts : List (List ℕ)) (t u : Values) → ReadsAsLeast parts t �
 same_least parts t u (fs, least, holds) (gs, other, held) =
     same_held parts gs t u (subst (λ fields. HoldsParts parts fields t) (least-unique parts fs gs least other) holds) held
 
--- a text reads as one triple's values at most
+-- a text reads as at most one triple
 pub values_unique : (text : List ℕ) (t u : Values) → ReadsAs text t → ReadsAs text u → t ≡ u
 values_unique text t u h k = by_special (special_values text) h k
   where
@@ -35,7 +35,7 @@ values_unique text t u h k = by_special (special_values text) h k
     by_special None (ps, are, h) (qs, others, k) =
         same_least qs t u (subst (λ parts. ReadsAsLeast parts t) (parts-only text ps are ∙ sym (parts-only text qs others)) h) k
 
--- a refusal of the same parts stands at the same place
+-- refusals of the same parts are at the same part
 same_count : (parts : List (List ℕ)) (x y : Refusal) (a : IsRefusal parts x) (b : IsRefusal parts y) → a.count ≡ b.count
 same_count parts x y a b =
     let first : a.count < b.count → ⊥ = λ before. a.unplaced (b.placed a.count before) in
@@ -63,7 +63,7 @@ same_refusal parts x y a b =
 refusal_at : (text : List ℕ) (x : Refusal) → IsRefusedAs text x → IsRefusal (parts_of text) x
 refusal_at text x (ordinary, (parts, are, h)) = subst (λ parts. IsRefusal parts x) (parts-only text parts are) h
 
--- a text is refused in one way at most
+-- a text is refused in at most one way
 pub refusal_unique : (text : List ℕ) (x y : Refusal) → IsRefusedAs text x → IsRefusedAs text y → x ≡ y
 refusal_unique text x y h r = same_refusal (parts_of text) x y (refusal_at text x h) (refusal_at text y r)
 

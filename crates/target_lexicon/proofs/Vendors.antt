@@ -1,4 +1,4 @@
--- What reads as a vendor.
+-- The texts that parse as a vendor.
 use Rattle.std.proofs.Common.{◌≡◌, ◌⊎◌, inl, inr, ℕ, List, Bool, true, ◌&&◌, is_none, refl, sym, ◌∙◌, Option, Some, None}
 use Rattle.std.specs.{Prelude.option_map, Option.option_or}
 use Rattle.lexicon_fields.specs.{declared.known_vendor.KnownVendor.KnownVendor, declared.vendor.Vendor.Vendor}
@@ -6,7 +6,7 @@ use Rattle.lexicon_fields.specs.Vendor.{known_vendor_of, is_admitted, custom_of,
 use Rattle.target_lexicon.specs.Values.{VendorValue, Known, Custom}
 use Rattle.std.proofs.lemmas.Option.{cond_some}
 
--- what reads as a vendor: a known one, or the custom one of an admitted text
+-- a text parses as a known vendor, or as the custom one of an admitted text
 vendor-read : (text : List ℕ) (v : VendorValue) → vendor_of text ≡ Some v → ((known : KnownVendor) × (v ≡ Known known)) ⊎ ((is_admitted text ≡ true) × (v ≡ Custom text))
 unfolding vendor_of
 vendor-read text v h = by_known (known_vendor_of text) h
@@ -16,19 +16,19 @@ vendor-read text v h = by_known (known_vendor_of text) h
     by_known None h = let custom = cond_some (is_admitted text) (Custom text) v h in inr (custom.0, sym custom.1)
     by_known (Some known) h = inl (known, cc)
 
--- what reads as a vendor is plain
+-- a parsed vendor is plain
 pub vendor-plain : (text : List ℕ) (v : VendorValue) → vendor_of text ≡ Some v → is_plain v ≡ true
 vendor-plain text v h = elim (vendor-read text v h) [ inl is ↦ rw is.1 refl | inr is ↦ rw is.1 is.0 ]
 
--- a text that reads as a custom vendor is admitted
+-- a text that parses as a custom vendor is admitted
 custom-admitted : (text : List ℕ) (v : VendorValue) → vendor_of text ≡ Some v → IsCustom v → is_admitted text ≡ true
 custom-admitted text v h custom = elim (vendor-read text v h) [ inl is ↦ absurd (rw is.1 at custom) | inr is ↦ is.0 ]
 
--- a vendor that owns its text where that is admitted owns the text of a custom one
+-- a vendor that owns its text exactly if that is admitted owns the text of a custom vendor
 pub owns_custom_text : (text : List ℕ) (v : Vendor) → vendor_of text ≡ Some (vendor_value v) → owns_text v ≡ is_admitted text → OwnsCustomText v
 owns_custom_text text v reads owns custom = owns ∙ custom-admitted text (vendor_value v) reads custom
 
--- an admitted text is no known vendor's name, and so reads as the custom vendor of that text
+-- an admitted text is not the name of a known vendor, so it parses as the custom vendor of that text
 admitted-unknown : (text : List ℕ) → is_admitted text ≡ true → known_vendor_of text ≡ None
 unfolding is_admitted
 admitted-unknown text admitted = by_known (known_vendor_of text) _ _ _ _ _ admitted

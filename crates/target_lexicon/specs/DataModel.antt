@@ -5,18 +5,18 @@ use Rattle.target_lexicon.specs.declared.data_model.CDataModel.{CDataModel}
 use Rattle.target_lexicon.specs.declared.data_model.Size.TheVariants as size
 use Rattle.target_lexicon.specs.declared.data_model.CDataModel.TheVariants as model
 
--- how many bytes a size is
+-- the number of bytes of a size
 abbrev pub size_bytes : Size → ℕ
 size_bytes size.U8 = 1
 size_bytes size.U16 = 2
 size_bytes size.U32 = 4
 size_bytes size.U64 = 8
 
--- how many bits it is
+-- the number of bits of a size
 abbrev pub size_bits : Size → ℕ
 size_bits size = 8 * size_bytes size
 
--- a size for each type
+-- a size for each of C's types
 pub record Sizes : Type 0 where
   pub short : Size
   pub int : Size

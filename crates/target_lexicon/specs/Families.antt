@@ -1,4 +1,4 @@
--- The five families of triples that are another triple, or none, when they are printed and read again.
+-- The five families of triples that don't come back: printed and parsed again, they are another triple or none.
 use Rattle.std.specs.Prelude.{◌≡◌, ◌≢◌, ◌⊎◌, true, false, codes}
 use Rattle.lexicon_fields.specs.{ArchitectureQueries.is_clever, declared.known_vendor.KnownVendor.TheVariants.Nintendo, declared.known_vendor.KnownVendor.TheVariants.Espressif, Vendor.is_plain}
 use Rattle.target_lexicon.specs.Values.{Known, Custom, Values, values}
@@ -9,24 +9,24 @@ use Rattle.target_lexicon.specs.Values.operating_system
 use Rattle.target_lexicon.specs.Values.environment
 use Rattle.target_lexicon.specs.Values.binary_format
 
--- the fields by which a triple prints `armv6k-nintendo-3ds`
+-- the first three fields are those that print as `armv6k-nintendo-3ds`
 pub record IsNintendo3ds (t : Values) : Type 0 where
   pub architecture : t.architecture ≡ architecture.Arm arm.Armv6k
   pub vendor : t.vendor ≡ Known Nintendo
   pub operating_system : t.operating_system ≡ operating_system.Horizon
 
--- the fields by which a triple prints `riscv32imc-esp-espidf`
+-- the first three fields are those that print as `riscv32imc-esp-espidf`
 pub record IsEspIdf (t : Values) : Type 0 where
   pub architecture : t.architecture ≡ architecture.Riscv32 riscv32.Riscv32imc
   pub vendor : t.vendor ≡ Known Espressif
   pub operating_system : t.operating_system ≡ operating_system.Espidf
 
--- a special text is printed, which says nothing of the environment and the format, and they aren't `Newlib` and `Elf`
+-- a special text is printed, which doesn't show environment and format, and these aren't `Newlib` and `Elf`
 pub record PrintsAsSpecial (t : Values) : Type 0 where
   pub fields : IsNintendo3ds t ⊎ IsEspIdf t
   pub others : ¬ ((t.environment ≡ environment.Newlib) × (t.binary_format ≡ binary_format.Elf))
 
--- `Newlib` isn't shown, and the text isn't special
+-- the environment is a `Newlib` that isn't shown, and the text isn't special
 abbrev pub HidesNewlib : Values → Type 0
 HidesNewlib t = (t.environment ≡ environment.Newlib)
     × (((t.vendor ≡ Known Nintendo) × (t.operating_system ≡ operating_system.Horizon) × (t.architecture ≢ architecture.Arm arm.Armv6k))
@@ -37,13 +37,13 @@ abbrev pub PrintsTheEspIdfText : Values → Type 0
 PrintsTheEspIdfText t =
     t ≡ values (architecture.Riscv32 riscv32.Riscv32imc) (Custom (codes "esp")) operating_system.Espidf environment.Unknown binary_format.Elf
 
--- on Clever without a system the environment `none` is shown alone, and reads as the system
+-- on Clever without a system the environment `none` is shown, and parses as the system
 pub record ShowsOnlyNone (t : Values) : Type 0 where
   pub architecture : is_clever t.architecture ≡ true
   pub operating_system : t.operating_system ≡ operating_system.Unknown
   pub environment : t.environment ≡ environment.None
 
--- the triple is in one of the families, of which the last are those whose vendor no text reads as
+-- the triple is in one of the families; in the last one no text parses as the vendor
 abbrev pub IsInSomeFamily : Values → Type 0
 IsInSomeFamily t =
     PrintsAsSpecial t ⊎ (HidesNewlib t ⊎ (PrintsTheEspIdfText t ⊎ (ShowsOnlyNone t ⊎ (is_plain t.vendor ≡ false))))

@@ -10,7 +10,7 @@ pub data Field : Type 0 where
   Environment : Field
   BinaryFormat : Field
 
--- the place of a field in the order
+-- the index of a field in the order
 abbrev pub place : Field → ℕ
 place Architecture = 0
 place Vendor = 1
@@ -18,7 +18,7 @@ place OperatingSystem = 2
 place Environment = 3
 place BinaryFormat = 4
 
--- whether a text reads as a value of the field
+-- whether a text parses as a value of the field
 unfoldable pub reads : Field → List ℕ → Bool
 reads Architecture text = is_some (architecture_of text)
 reads Vendor text = is_some (vendor_of text)

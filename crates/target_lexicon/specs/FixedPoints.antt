@@ -1,36 +1,37 @@
--- Laws of rounds, in which a triple is printed and its text read again: which come back, what the others become, how long texts are.
+-- Laws of round trips, in which a triple is printed and its text parsed again: which triples come back, what the others
+-- become, and how long texts are.
 use Rattle.std.specs.Prelude.{ℕ, ◌+◌, ◌≤◌, List, length, ◌≡◌, ◌↔◌, ◌⊎◌, true}
 use Rattle.target_lexicon.specs.{Reading.IsRefusedAs, Reading.ReadsAs, Refusal.Refusal, Families.IsInSomeFamily, Laws.OneOutcomeEach, Laws.ComesBack, NormalStep.normal_step, Printing.text_of}
 use Rattle.target_lexicon.specs.{QueryLaws.QueriesKept, Values.Values}
 use Rattle.lexicon_fields.specs.{Laws.HasVersionInRange, Vendor.is_plain}
 
--- a triple with a plain vendor, whose version, if its system holds one, is in range, as it is by the types of the code
+-- a triple with a plain vendor, whose version, if its system has one, is in range, as the types of the code ensure
 pub record IsPlainTriple (t : Values) : Type 0 where
   pub vendor : is_plain t.vendor ≡ true
   pub version : HasVersionInRange t.operating_system
 
--- what a text reads as is such a triple
+-- every triple that a text reads as is such a triple
 abbrev pub ReadTriplesArePlain : Type 0
 ReadTriplesArePlain = (text : List ℕ) (t : Values) → ReadsAs text t → IsPlainTriple t
 
--- a round of every plain triple succeeds and is the normal step
+-- the round trip of every plain triple succeeds and is the normal step
 abbrev pub RoundIsNormalStep : Type 0
 RoundIsNormalStep = (t : Values) → IsPlainTriple t → ReadsAs (text_of t) (normal_step t)
 
--- a triple comes back exactly outside the families, and always one of the two holds
+-- a triple comes back exactly outside the families, and one of the two always holds
 pub record IsFixedExactlyOutside (t : Values) : Type 0 where
   pub exactly : ComesBack t ↔ ¬ IsInSomeFamily t
   pub either : ComesBack t ⊎ IsInSomeFamily t
 
--- so it is for every triple, whatever its vendor's text
+-- this holds for every triple, also if its vendor is not plain
 abbrev pub FixedExactlyOutsideFamilies : Type 0
 FixedExactlyOutsideFamilies = (t : Values) → HasVersionInRange t.operating_system → IsFixedExactlyOutside t
 
--- the normal step, taken twice
+-- the canonical form: the normal step, taken twice
 abbrev pub settled_values : Values → Values
 settled_values t = normal_step (normal_step t)
 
--- the printed text of the settled triple
+-- the canonical text: the printed text of the canonical form
 abbrev pub canonical_text : Values → List ℕ
 canonical_text t = text_of (settled_values t)
 
@@ -38,13 +39,14 @@ canonical_text t = text_of (settled_values t)
 abbrev pub SecondStepChangesNone : Type 0
 SecondStepChangesNone = (t : Values) → settled_values t ≡ normal_step t
 
--- a settled plain triple comes back, and no other such triple has its text
+-- the canonical form of a plain triple comes back, and no other canonical form has its text
 pub record SettledTextsAreKeys : Type 0 where
   pub comes_back : (t : Values) → IsPlainTriple t → ComesBack (settled_values t)
   pub own : (t u : Values) → IsPlainTriple t → IsPlainTriple u → canonical_text t ≡ canonical_text u → settled_values t ≡ settled_values u
 
--- the laws of rounds as one: every text is read or refused in one way, a triple comes back exactly outside the families, a round of a
--- plain triple succeeds and is the normal step, which keeps the four queries, no triple takes two steps, and settled texts are keys
+-- the laws of round trips as one: every text reads or is refused in exactly one way, a triple comes back exactly
+-- outside the families, the round trip of a plain triple succeeds and is the normal step, which keeps the four
+-- queries, a second step changes nothing, and canonical texts are keys
 pub record RoundTripsAreKnown : Type 0 where
   pub texts : OneOutcomeEach
   pub fixed : FixedExactlyOutsideFamilies
@@ -53,18 +55,19 @@ pub record RoundTripsAreKnown : Type 0 where
   pub steps : SecondStepChangesNone
   pub keys : SettledTextsAreKeys
 
--- so many bytes longer than a text is at most what is printed of it, as `aarch64-unknown-unknown-elf` than `arm64`
+-- the growth bound: a printed text is at most this much longer than a text that reads as its triple; it is reached by
+-- `arm64`, which prints as `aarch64-unknown-unknown-elf`
 abbrev pub max_growth : ℕ
 max_growth = 22
 
--- the text that a triple prints is that much longer at most than each text that reads as it
+-- the printed text of a triple is at most that much longer than each text that reads as it
 abbrev pub PrintedTextsGrowAtMost : Type 0
 PrintedTextsGrowAtMost = (text : List ℕ) (t : Values) → ReadsAs text t → length (text_of t) ≤ length text + max_growth
 
--- so is the text of the settled triple
+-- so is the canonical text
 abbrev pub CanonicalTextsGrowAtMost : Type 0
 CanonicalTextsGrowAtMost = (text : List ℕ) (t : Values) → ReadsAs text t → length (canonical_text t) ≤ length text + max_growth
 
--- a refused part is no longer than the text
+-- a refused part is not longer than the text
 abbrev pub RefusedPartsDoNotGrow : Type 0
 RefusedPartsDoNotGrow = (text : List ℕ) (refusal : Refusal) → IsRefusedAs text refusal → length refusal.part ≤ length text

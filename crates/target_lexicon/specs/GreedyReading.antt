@@ -1,5 +1,5 @@
--- Reading as a function, by which the least placement can be computed: one field after the other takes the first part that is
--- left, if that reads as it. And what a call that reads a text answers, by that function.
+-- Reading as a function, by which the least placement can be computed: one field after the other takes the first part
+-- that is left, if that reads as it. And what a call that reads a text answers, by that function.
 use Rattle.std.specs.Prelude.{◌≡◌, ℕ, List, [], ◌∷◌, Option, Some, None, Result, Ok, Err, IfOk, IfErr, IfSome}
 use Rattle.lexicon_fields.specs.{Vendor.IsCustom, Vendor.vendor_of, Architecture.architecture_of, declared.known_vendor.KnownVendor.TheVariants.Unknown, Environment.environment_of}
 use Rattle.lexicon_fields.specs.{OperatingSystem.operating_system_of, BinaryFormat.binary_format_of}
@@ -62,8 +62,8 @@ read_unless_special None text = read_parts (parts_of text)
 unfoldable pub reading : List ℕ → Result Values Refusal
 reading text = read_unless_special (special_values text) text
 
--- the triple or the refusal that was found; in its place want of memory, which names no refusal, but never of a triple with
--- a known vendor
+-- the triple or the refusal that was found; in its place want of memory, which names no refusal, but never of a
+-- triple with a known vendor
 abbrev pub IsAnswerOf : Result Values Refusal → Result Triple ParseError → Type 0
 IsAnswerOf (Ok t) (Ok triple) = values_of triple ≡ t
 IsAnswerOf (Ok t) (Err error) = (refusal_of error ≡ None) × IsCustom t.vendor

@@ -7,13 +7,13 @@ use Rattle.target_lexicon.specs.Values.operating_system
 use Rattle.target_lexicon.specs.Values.environment
 use Rattle.target_lexicon.specs.Values.binary_format
 
--- without a system only the embedded ABIs imply a format
+-- without an operating system only the embedded ABIs imply a format
 abbrev pub bare_format : Environment → BinaryFormat
 bare_format environment.Eabi = binary_format.Elf
 bare_format environment.Eabihf = binary_format.Elf
 bare_format _ = binary_format.Unknown
 
--- Wasm on the WebAssembly architectures, and Elf elsewhere; on an unknown architecture nothing is known
+-- Wasm on the WebAssembly architectures, unknown on an unknown architecture, and Elf on every other
 abbrev pub wasm_or_elf : Architecture → BinaryFormat
 wasm_or_elf architecture.Wasm32 = binary_format.Wasm
 wasm_or_elf architecture.Wasm64 = binary_format.Wasm
@@ -32,10 +32,10 @@ other_format a operating_system.Wasi e = wasm_or_elf a
 other_format a operating_system.Unknown e = wasm_or_elf a
 other_format a _ e = binary_format.Elf
 
--- the format that architecture, system and environment imply
+-- the format that architecture, operating system and environment imply
 unfoldable pub implied_format : Architecture → OperatingSystem → Environment → BinaryFormat
 implied_format a s e = if is_like_darwin s then binary_format.Macho else other_format a s e
 
 -- the format that the other fields of a triple imply
-abbrev pub implied : Values → BinaryFormat
-implied t = implied_format t.architecture t.operating_system t.environment
+abbrev pub default_binary_format : Values → BinaryFormat
+default_binary_format t = implied_format t.architecture t.operating_system t.environment

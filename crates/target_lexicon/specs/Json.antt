@@ -1,4 +1,4 @@
--- The JSON values of triples and of lists of triples, and what a JSON value reads as.
+-- The JSON values of triples and of lists of triples, and how a JSON value parses.
 use Rattle.std.specs.Prelude.{◌≡◌, ℕ, ◌<◌, List, [], ◌∷◌, ◌++◌, map, Option, None, MatchOption, codes, decimal}
 use Rattle.std.specs.Option.{option_map_or}
 use Rattle.serde_json.specs.Data.{Data, string, array, Items, no_items, item}
@@ -17,11 +17,11 @@ json_of t = string (text_of t)
 abbrev pub list_json_of : List Values → Data
 list_json_of ts = array (items_of (map json_of ts))
 
--- a string reads as its text does, and no other value reads
+-- a string parses as its text does, and no other value parses
 abbrev pub JsonReadsAs : Data → Values → Type 0
 JsonReadsAs value t = MatchOption (as_str value) ⊥ (λ text. ReadsAs text t)
 
--- what an error says of a value: that it is no text, or how its text is refused; want of memory names no refusal
+-- what an error says about a value: it is not a string, or its text is refused, or (without a refusal) memory ran out
 pub data JsonFault : Type 0 where
   NotText : JsonFault
   Parse : Option Refusal → JsonFault
@@ -30,32 +30,34 @@ abbrev pub json_fault_of : JsonError → JsonFault
 json_fault_of json_error.NotText = NotText
 json_fault_of (json_error.Parse error) = Parse (refusal_of error)
 
--- why a value doesn't read: it is no string, or its text is refused, or memory is wanted where its text may want it
+-- why a value doesn't parse: it is not a string, or its text is refused, or an allocation failed where its text may
+-- allocate
 abbrev pub IsJsonFault : Data → JsonFault → Type 0
 IsJsonFault value NotText = as_str value ≡ None
 IsJsonFault value (Parse refusal) = MatchOption (as_str value) ⊥ (λ text. MatchOption refusal (MayAllocate text) (IsRefusedAs text))
 
--- the elements read as these triples, one each, in order
+-- the elements parse as these triples, in order
 abbrev pub ElementsReadAs : Items → List Values → Type 0
 ElementsReadAs no_items [] = Unit {0}
 ElementsReadAs no_items (t ∷ ts) = ⊥
 ElementsReadAs (item value values) [] = ⊥
 ElementsReadAs (item value values) (t ∷ ts) = JsonReadsAs value t × ElementsReadAs values ts
 
--- an array reads as the list of its elements' triples, and no other value reads as a list
+-- an array parses as the list of its elements' triples, and no other value parses as a list
 abbrev pub ListReadsAs : Data → List Values → Type 0
 ListReadsAs value ts = MatchOption (as_array value) ⊥ (λ elements. ElementsReadAs elements ts)
 
--- the element at i, counted from 0, reads
+-- the element at i, counted from 0, parses
 abbrev pub ElementReads : Items → ℕ → Type 0
 ElementReads elements i = MatchOption (get_item i elements) ⊥ (λ value. (t : Values) × JsonReadsAs value t)
 
--- the element at i has this fault, and each one before it reads
+-- the element at i has this error, and each earlier one parses
 pub record IsFirstFault (elements : Items) (i : ℕ) (fault : JsonFault) : Type 0 where
   pub here : MatchOption (get_item i elements) ⊥ (λ value. IsJsonFault value fault)
   pub before : (k : ℕ) → k < i → ElementReads elements k
 
--- what an error says of a list: that it is none, or the first element that doesn't read, or that the list itself wants memory
+-- what an error says about a list: it is not a list, or the first element that doesn't parse, or an allocation for it
+-- failed
 pub data ListFault : Type 0 where
   NotList : ListFault
   Element : ℕ → JsonFault → ListFault
@@ -66,18 +68,18 @@ list_fault_of list_error.NotList = NotList
 list_fault_of (list_error.Element i error) = Element i (json_fault_of error)
 list_fault_of list_error.OutOfMemory = OutOfMemory
 
--- why a value doesn't read as a list; the list itself wants memory only behind an element that reads
+-- why a value doesn't parse as a list; the list itself is allocated only after an element that parses
 abbrev pub IsListFault : Data → ListFault → Type 0
 IsListFault value NotList = as_array value ≡ None
 IsListFault value (Element i fault) = MatchOption (as_array value) ⊥ (λ elements. IsFirstFault elements i fault)
 IsListFault value OutOfMemory = MatchOption (as_array value) ⊥ (λ elements. ElementReads elements 0)
 
--- the line that an error of a value prints
+-- the line of an error of a value
 abbrev pub json_fault_line : JsonFault → List ℕ
 json_fault_line NotText = codes "Not a text"
 json_fault_line (Parse refusal) = option_map_or refusal_line refusal (codes "Out of memory")
 
--- the line that an error of a list prints
+-- the line of an error of a list
 abbrev pub list_fault_line : ListFault → List ℕ
 list_fault_line NotList = codes "Not a list"
 list_fault_line (Element i fault) = codes "Element " ++ (decimal i ++ (codes ": " ++ json_fault_line fault))

@@ -1,4 +1,4 @@
--- Laws of reading and printing.
+-- Laws of parsing and printing.
 use Rattle.std.specs.Prelude.{◌≡◌, ◌↔◌, ℕ, List, true, Ok, Err, ◌⊎◌}
 use Rattle.lexicon_fields.specs.Vendor.{is_plain}
 use Rattle.target_lexicon.specs.{Field.Field, Placement.IsLeast, Printing.text_of, Reading.ReadsAs, Reading.IsRead, Reading.IsRefusedAs, Reading.IsRefused, GreedyReading.reading, Refusal.Refusal}
@@ -10,7 +10,7 @@ pub record HasOneLeast (parts : List (List ℕ)) : Type 0 where
   pub least : IsLeast parts fields
   pub only : (others : List Field) → IsLeast parts others → others ≡ fields
 
--- a text is read or refused, in one way, and not both
+-- a text reads or is refused, in exactly one way
 pub record HasOneOutcome (text : List ℕ) : Type 0 where
   pub some : IsRead text ⊎ IsRefused text
   pub values : (t u : Values) → ReadsAs text t → ReadsAs text u → t ≡ u
@@ -21,23 +21,23 @@ pub record HasOneOutcome (text : List ℕ) : Type 0 where
 abbrev pub OneOutcomeEach : Type 0
 OneOutcomeEach = (text : List ℕ) → HasOneOutcome text
 
--- the function `reading` gives what the text reads as, and how it is refused
+-- the function `reading` gives the triple that the text reads as, and how it is refused
 pub record IsComputed (text : List ℕ) : Type 0 where
   pub read : (t : Values) → ReadsAs text t ↔ (reading text ≡ Ok t)
   pub refused : (refusal : Refusal) → IsRefusedAs text refusal ↔ (reading text ≡ Err refusal)
 
--- so it does for every text
+-- this holds for every text
 abbrev pub ReadingIsComputed : Type 0
 ReadingIsComputed = (text : List ℕ) → IsComputed text
 
--- every text that is read has a plain vendor
+-- every triple that a text reads as has a plain vendor
 abbrev pub ReadVendorsArePlain : Type 0
 ReadVendorsArePlain = (text : List ℕ) (t : Values) → ReadsAs text t → is_plain t.vendor ≡ true
 
--- printed and read, the triple is itself
+-- the triple comes back: its printed text reads as the triple
 abbrev pub ComesBack : Values → Type 0
 ComesBack t = ReadsAs (text_of t) t
 
--- two triples that come back are equal exactly where their texts are
+-- two triples that come back are equal exactly if their texts are
 abbrev pub EqualTextsEqualTriples : Type 0
 EqualTextsEqualTriples = (t u : Values) → ComesBack t → ComesBack u → (t ≡ u) ↔ (text_of t ≡ text_of u)

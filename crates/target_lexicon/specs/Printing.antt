@@ -1,18 +1,20 @@
--- What a triple prints: the names of the fields that are shown, joined by dashes, or a special text.
-use Rattle.std.specs.Prelude.{◌≡◌, ◌≢◌, ◌↔◌, ℕ, Bool, true, false, not, ◌&&◌, ◌||◌, List, [], ◌∷◌, None, unwrap_or}
+-- The printed text of a triple: upstream's rules, and one rule on top of them, `shows_unknowns`. These definitions
+-- are held to their subject by a comparison with upstream (`checks/compare_upstream`), from which the texts differ
+-- only by that rule (`OtherTextsThanUpstream`), and by the round trip: a printed text reads as the triple or its
+-- normal step (`RoundIsNormalStep`).
+use Rattle.std.specs.Prelude.{◌≡◌, ◌≢◌, ◌↔◌, ℕ, Bool, true, false, not, ◌&&◌, ◌||◌, List, [], ◌∷◌, None, unwrap_or, if◌then◌else◌}
 use Rattle.std.specs.List.{join_with_byte}
-use Rattle.target_lexicon.specs.Values.{Architecture, OperatingSystem, Environment, BinaryFormat, VendorValue, Known, Values}
-use Rattle.target_lexicon.specs.{ImpliedFormat.implied, SpecialTexts.special_text}
-use Rattle.lexicon_fields.specs.{declared.architecture.arm.ArmArchitecture.ArmArchitecture, Architecture.architecture_name, OperatingSystem.operating_system_name, Vendor.vendor_name}
-use Rattle.lexicon_fields.specs.declared.known_vendor.KnownVendor.TheVariants.{Unknown, Nintendo, Espressif}
-use Rattle.lexicon_fields.specs.{Environment.environment_name, BinaryFormat.binary_format_name}
+use Rattle.lexicon_fields.specs.Names.{dash}
+use Rattle.target_lexicon.specs.Values.{Architecture, OperatingSystem, Environment, Values, is_unknown_vendor, is_unknown_environment, is_newlib, is_clever_without_system, implies_newlib, same_format}
+use Rattle.target_lexicon.specs.{ImpliedFormat.default_binary_format, SpecialTexts.special_text}
+use Rattle.lexicon_fields.specs.{declared.architecture.arm.ArmArchitecture.ArmArchitecture, Architecture.architecture_name, OperatingSystem.operating_system_name, Vendor.vendor_name, Environment.environment_name, BinaryFormat.binary_format_name}
 use Rattle.target_lexicon.specs.Values.architecture
 use Rattle.target_lexicon.specs.Values.arm
 use Rattle.target_lexicon.specs.Values.operating_system
 use Rattle.target_lexicon.specs.Values.environment
 use Rattle.target_lexicon.specs.Values.binary_format
 
--- the Arm architectures whose triples without a system name no vendor
+-- the Arm architectures whose triples without a system omit an unknown vendor
 abbrev pub is_bare_arm : ArmArchitecture → Bool
 is_bare_arm arm.Armv4t = true
 is_bare_arm arm.Armv5te = true
@@ -29,44 +31,43 @@ is_bare_arm arm.Thumbv8mBase = true
 is_bare_arm arm.Thumbv8mMain = true
 is_bare_arm _ = false
 
--- where an unknown vendor goes without saying: Android and kernels on Linux, WASI, machines without a system
-abbrev pub omits_unknown_vendor : OperatingSystem → Environment → Architecture → Bool
-omits_unknown_vendor operating_system.Linux environment.Android a = true
-omits_unknown_vendor operating_system.Linux environment.Androideabi a = true
-omits_unknown_vendor operating_system.Linux environment.Kernel a = true
-omits_unknown_vendor operating_system.Wasi e a = true
-omits_unknown_vendor operating_system.WasiP1 e a = true
-omits_unknown_vendor operating_system.WasiP2 e a = true
-omits_unknown_vendor operating_system.None_ e architecture.Msp430 = true
-omits_unknown_vendor operating_system.None_ e (architecture.Arm sub) = is_bare_arm sub
-omits_unknown_vendor _ e a = false
+-- where an unknown vendor is omitted: Android and kernels on Linux, WASI, some architectures without a system
+abbrev pub omits_unknown_vendor : Architecture → OperatingSystem → Environment → Bool
+omits_unknown_vendor a operating_system.Linux environment.Android = true
+omits_unknown_vendor a operating_system.Linux environment.Androideabi = true
+omits_unknown_vendor a operating_system.Linux environment.Kernel = true
+omits_unknown_vendor a operating_system.Wasi e = true
+omits_unknown_vendor a operating_system.WasiP1 e = true
+omits_unknown_vendor a operating_system.WasiP2 e = true
+omits_unknown_vendor architecture.Msp430 operating_system.None_ e = true
+omits_unknown_vendor (architecture.Arm sub) operating_system.None_ e = is_bare_arm sub
+omits_unknown_vendor a _ e = false
 
--- the vendor is left out where it is unknown and that goes without saying, but never beside a kernel of Hermit or Linux
-unfoldable pub shows_vendor : VendorValue → OperatingSystem → Environment → Architecture → Bool
-shows_vendor (Known Unknown) s environment.HermitKernel a = true
-shows_vendor (Known Unknown) s environment.LinuxKernel a = true
-shows_vendor (Known Unknown) s e a = not (omits_unknown_vendor s e a)
-shows_vendor _ s e a = true
+-- the kernels of Hermit and Linux
+abbrev pub is_kernel : Environment → Bool
+is_kernel environment.HermitKernel = true
+is_kernel environment.LinuxKernel = true
+is_kernel _ = false
 
--- the system is left out where it is unknown, on Clever
-unfoldable pub shows_operating_system : OperatingSystem → Architecture → Bool
-shows_operating_system operating_system.Unknown (architecture.Clever sub) = false
-shows_operating_system _ _ = true
+-- an unknown vendor is omitted in these cases, but never with such a kernel
+unfoldable pub shows_vendor : Values → Bool
+shows_vendor t = not (is_unknown_vendor t.vendor) || is_kernel t.environment || not (omits_unknown_vendor t.architecture t.operating_system t.environment)
 
--- the environment is left out where it is unknown, and where it is a `Newlib` that goes without saying
-unfoldable pub shows_environment : Environment → OperatingSystem → VendorValue → Bool
-shows_environment environment.Unknown s v = false
-shows_environment environment.Newlib operating_system.Horizon (Known Nintendo) = false
-shows_environment environment.Newlib operating_system.Espidf (Known Espressif) = false
-shows_environment _ _ _ = true
+-- an unknown system is omitted on Clever
+unfoldable pub shows_operating_system : Values → Bool
+shows_operating_system t = not (is_clever_without_system t.architecture t.operating_system)
 
--- the two systems that say that there is none, or none known
+-- an unknown environment is omitted, and so is a `Newlib` that vendor and system imply
+unfoldable pub shows_environment : Values → Bool
+shows_environment t = not (is_unknown_environment t.environment) && not (implies_newlib t.vendor t.operating_system && is_newlib t.environment)
+
+-- the two systems for no operating system and an unknown one
 abbrev pub names_no_system : OperatingSystem → Bool
 names_no_system operating_system.None_ = true
 names_no_system operating_system.Unknown = true
 names_no_system _ = false
 
--- the environments and the architectures whose triples leave out an implied format even without a system
+-- the environments and the architectures whose triples omit an implied format even without a system
 abbrev pub environment_implies_format : Environment → Bool
 environment_implies_format environment.Eabi = true
 environment_implies_format environment.Eabihf = true
@@ -80,65 +81,57 @@ architecture_implies_format architecture.Wasm32 = true
 architecture_implies_format architecture.Wasm64 = true
 architecture_implies_format _ = false
 
--- whether two formats are the same
-abbrev pub same_format : BinaryFormat → BinaryFormat → Bool
-same_format binary_format.Unknown binary_format.Unknown = true
-same_format binary_format.Elf binary_format.Elf = true
-same_format binary_format.Coff binary_format.Coff = true
-same_format binary_format.Macho binary_format.Macho = true
-same_format binary_format.Wasm binary_format.Wasm = true
-same_format binary_format.Xcoff binary_format.Xcoff = true
-same_format _ _ = false
+-- without a system a known format is shown even if it is the implied one, with these exceptions
+abbrev pub shows_implied_format : Values → Bool
+shows_implied_format t =
+    not (architecture_implies_format t.architecture) && names_no_system t.operating_system && not (environment_implies_format t.environment) && not (same_format t.binary_format binary_format.Unknown)
 
--- a known format is shown without a system even where it is the implied one
-abbrev pub shows_implied_format : BinaryFormat → OperatingSystem → Environment → Architecture → Bool
-shows_implied_format f s e a =
-    names_no_system s && not (same_format f binary_format.Unknown) && not (environment_implies_format e) && not (architecture_implies_format a)
-
--- the format is left out where it is the implied one, but for such triples
+-- the implied format is omitted, except in such triples
 unfoldable pub shows_binary_format : Values → Bool
-shows_binary_format t =
-    not (same_format t.binary_format (implied t)) || shows_implied_format t.binary_format t.operating_system t.environment t.architecture
+shows_binary_format t = not (same_format t.binary_format (default_binary_format t)) || shows_implied_format t
 
--- an unknown environment and an unknown format are both shown where another format is implied, which is the last column
-abbrev pub shows_unknowns : Environment → BinaryFormat → BinaryFormat → Bool
-shows_unknowns environment.Unknown binary_format.Unknown binary_format.Unknown = false
-shows_unknowns environment.Unknown binary_format.Unknown i = true
-shows_unknowns _ _ i = false
-
--- a part, where it is shown, and the parts behind it
+-- the parts with one more in front, if that is shown
 abbrev pub cons_if : Bool → List ℕ → List (List ℕ) → List (List ℕ)
 cons_if true part parts = part ∷ parts
 cons_if false part parts = parts
 
--- the names of the fields that are shown; the first column tells whether system and environment are shown whatever they are
-unfoldable pub shown_parts : Bool → Values → List (List ℕ)
-shown_parts both t =
-    architecture_name t.architecture
-    ∷ cons_if (shows_vendor t.vendor t.operating_system t.environment t.architecture) (vendor_name t.vendor)
-    (cons_if (both || shows_operating_system t.operating_system t.architecture) (operating_system_name t.operating_system)
-    (cons_if (both || shows_environment t.environment t.operating_system t.vendor) (environment_name t.environment)
+-- the names of the fields that upstream shows
+unfoldable pub upstream_parts : Values → List (List ℕ)
+upstream_parts t =
+    architecture_name t.architecture ∷ cons_if (shows_vendor t) (vendor_name t.vendor)
+    (cons_if (shows_operating_system t) (operating_system_name t.operating_system)
+    (cons_if (shows_environment t) (environment_name t.environment)
     (cons_if (shows_binary_format t) (binary_format_name t.binary_format) [])))
 
--- the special text of a triple, or else these names with single dashes between them
-abbrev pub text_by : Bool → Values → List ℕ
-text_by both t = unwrap_or (special_text t.operating_system t.vendor t.architecture) (join_with_byte 45 (shown_parts both t))
+-- the rule on top: an unknown environment and an unknown format are both shown if another format is implied
+abbrev pub shows_unknowns : Values → Bool
+shows_unknowns t = is_unknown_environment t.environment && same_format t.binary_format binary_format.Unknown && not (same_format t.binary_format (default_binary_format t))
 
--- the text that a triple prints
+-- the operating system is then shown too, so that each of the three parses as itself
+unfoldable pub parts_with_unknowns : Values → List (List ℕ)
+parts_with_unknowns t =
+    architecture_name t.architecture ∷ cons_if (shows_vendor t) (vendor_name t.vendor)
+    (operating_system_name t.operating_system ∷ environment_name t.environment ∷ binary_format_name t.binary_format ∷ [])
+
+-- the names of the fields that are shown
+abbrev pub shown_parts : Values → List (List ℕ)
+shown_parts t = if shows_unknowns t then parts_with_unknowns t else upstream_parts t
+
+-- the printed text of a triple: its special text, or else these names joined by dashes
 unfoldable pub text_of : Values → List ℕ
-text_of t = text_by (shows_unknowns t.environment t.binary_format (implied t)) t
+text_of t = unwrap_or (special_text t) (join_with_byte dash (shown_parts t))
 
--- the text that upstream prints, which shows neither for the sake of an unknown format
+-- the text that upstream prints for the triple
 unfoldable pub upstream_text_of : Values → List ℕ
-upstream_text_of t = text_by false t
+upstream_text_of t = unwrap_or (special_text t) (join_with_byte dash (upstream_parts t))
 
 -- environment and format are unknown, another format is implied, and no special text is printed
 pub record ShowsUnknowns (t : Values) : Type 0 where
-  pub implied : implied t ≢ binary_format.Unknown
+  pub implied : default_binary_format t ≢ binary_format.Unknown
   pub environment : t.environment ≡ environment.Unknown
   pub binary_format : t.binary_format ≡ binary_format.Unknown
-  pub special : special_text t.operating_system t.vendor t.architecture ≡ None
+  pub special : special_text t ≡ None
 
--- the texts of these triples, and of no others, aren't upstream's
+-- exactly the texts of these triples differ from upstream's
 abbrev pub OtherTextsThanUpstream : Type 0
 OtherTextsThanUpstream = (t : Values) → (text_of t ≢ upstream_text_of t) ↔ ShowsUnknowns t

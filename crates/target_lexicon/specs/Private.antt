@@ -1,21 +1,23 @@
--- Words of the contracts of private functions, which no public contract cites.
+-- Definitions for the contracts of private functions; no public contract cites them.
 use Rattle.std.specs.Prelude.{◌≡◌, ◌≤◌, ◌==◌, ◌+◌, ◌-◌, ◌/◌, ◌^◌, ℕ, ◌∷◌, List, [], length, drop, map, Bool, Option, Some, None, is_some, option_and_then, option_map, if◌then◌else◌}
 use Rattle.std.specs.Borrow.{Bor}
 use Rattle.std.specs.Simd.Lanes.{mask_l}
+use Rattle.lexicon_fields.specs.Names.{dash}
 use Rattle.lexicon_fields.specs.{declared.table.FixedRow.FixedRow, FixedRow.has_row, Architecture.architecture_of, Vendor.vendor_of, OperatingSystem.operating_system_of, Environment.environment_of}
 use Rattle.lexicon_fields.specs.BinaryFormat.{binary_format_of}
 use Rattle.target_lexicon.specs.{Values.Known, Placement.parts_of}
 
--- the parts behind a dash, if there is one
+-- the parts after a dash, if there is one
 abbrev pub parts_after_dash : Option (Bor (List ℕ)) → List (List ℕ)
 parts_after_dash None = []
 parts_after_dash (Some text) = parts_of text.now
 
--- the bits of a text's last sixteen bytes, or of fewer, tell which of them are dashes: the highest of sixteen is the last byte's
-pub record MarksDashes (bits : ℕ) (text : List ℕ) : Type 0 where
-  pub decides : (k : ℕ) → k ≤ length text → length text ≤ k + 16 → bits / 2 ^ (16 - (length text - k)) ≡ mask_l (map (λ b. b == 45) (drop k text))
+-- the bits are set for the dashes among a text's last sixteen bytes, or fewer; the highest of sixteen is that of the
+-- last byte
+pub record AreDashBits (bits : ℕ) (text : List ℕ) : Type 0 where
+  pub decides : (k : ℕ) → k ≤ length text → length text ≤ k + 16 → bits / 2 ^ (16 - (length text - k)) ≡ mask_l (map (λ b. b == dash) (drop k text))
 
--- what the row of a text, or that it has none, tells: what the text reads as in each field, but without a row not the vendor and the system
+-- what the look-up of a text shows: its value in each field; without a row, vendor and operating system remain open
 pub record IsLookedUp (text : List ℕ) (row : Option FixedRow) : Type 0 where
   pub known : is_some row ≡ has_row text
   pub architecture : option_and_then (λ (r : FixedRow). r.architecture) row ≡ architecture_of text
@@ -24,6 +26,6 @@ pub record IsLookedUp (text : List ℕ) (row : Option FixedRow) : Type 0 where
   pub environment : option_and_then (λ (r : FixedRow). r.environment) row ≡ environment_of text
   pub binary_format : option_and_then (λ (r : FixedRow). r.binary_format) row ≡ binary_format_of text
 
--- a dash and the part, where it is shown
+-- a dash and the part, if it is shown
 abbrev pub part_text : Bool → List ℕ → List ℕ
-part_text is_shown part = if is_shown then 45 ∷ part else []
+part_text is_shown part = if is_shown then dash ∷ part else []

@@ -1,7 +1,7 @@
--- What a text reads as, and how it is refused.
+-- Parsing: the triple that a text reads as, and how a text is refused.
 use Rattle.std.specs.Prelude.{◌≡◌, ℕ, ◌<◌, suc, List, [], ◌∷◌, Option, Some, None, take, slice_get, if◌then◌else◌, ◌==◌, IfSome, MatchOption, ◌⊎◌}
 use Rattle.lexicon_fields.specs.{Architecture.architecture_of, Vendor.IsCustom, Vendor.vendor_of, OperatingSystem.operating_system_of, Environment.environment_of, BinaryFormat.binary_format_of}
-use Rattle.target_lexicon.specs.{declared.parse_error.ParseError.ParseError, Field.Field, Field.place, ImpliedFormat.implied, Placement.ArePartsOf, Placement.IsLeast, Placement.HasPlacement}
+use Rattle.target_lexicon.specs.{declared.parse_error.ParseError.ParseError, Field.Field, Field.place, ImpliedFormat.default_binary_format, Placement.ArePartsOf, Placement.IsLeast, Placement.HasPlacement}
 use Rattle.target_lexicon.specs.{Refusal.Expected, Refusal.Expects, Refusal.ExpectsNone, Refusal.Refusal, Refusal.refusal_of, SpecialTexts.special_values, Values.Values}
 use Rattle.target_lexicon.specs.Values.architecture
 use Rattle.target_lexicon.specs.Values.operating_system
@@ -10,36 +10,35 @@ use Rattle.lexicon_fields.specs.declared.known_vendor.KnownVendor.TheVariants as
 use Rattle.lexicon_fields.specs.Vendor as vendor
 use Rattle.target_lexicon.specs.Field as field
 
--- the part that a placement gives to the field, if any
+-- the part that a placement assigns to the field, if any
 abbrev pub part_at : Field → List (List ℕ) → List Field → Option (List ℕ)
 part_at f [] gs = None
 part_at f (p ∷ ps) [] = None
 part_at f (p ∷ ps) (g ∷ gs) = if place g == place f then Some p else part_at f ps gs
 
--- the value that the part reads as; without a part, that of an unfilled field
+-- the value that the part parses as; without a part, the value of an unfilled field
 abbrev pub IsValueOf : {A : Type 0} → (List ℕ → Option A) → A → Option (List ℕ) → A → Type 0
 IsValueOf find unfilled None value = value ≡ unfilled
 IsValueOf find unfilled (Some part) value = find part ≡ Some value
 
--- each field holds what its part reads as; an unfilled one is `Unknown`, an unfilled format the implied one
+-- each field has the value of its part; an unfilled field is `Unknown`, an unfilled format is the implied one
 pub record HoldsParts (parts : List (List ℕ)) (fields : List Field) (t : Values) : Type 0 where
   pub architecture : IsValueOf architecture_of architecture.Unknown (part_at field.Architecture parts fields) t.architecture
   pub vendor : IsValueOf vendor_of (vendor.Known known_vendor.Unknown) (part_at field.Vendor parts fields) t.vendor
   pub operating_system : IsValueOf operating_system_of operating_system.Unknown (part_at field.OperatingSystem parts fields) t.operating_system
   pub environment : IsValueOf environment_of environment.Unknown (part_at field.Environment parts fields) t.environment
-  pub binary_format : IsValueOf binary_format_of (implied t) (part_at field.BinaryFormat parts fields) t.binary_format
+  pub binary_format : IsValueOf binary_format_of (default_binary_format t) (part_at field.BinaryFormat parts fields) t.binary_format
 
--- what the least placement of the parts gives
+-- the triple that the least placement of the parts gives
 abbrev pub ReadsAsLeast : List (List ℕ) → Values → Type 0
 ReadsAsLeast parts t = (fields : List Field) × IsLeast parts fields × HoldsParts parts fields t
 
--- what a text reads as: a special text as its values, any other by its parts
+-- the triple that a text reads as: a special text as its triple, every other text by its parts
 abbrev pub ReadsAs : List ℕ → Values → Type 0
 ReadsAs text t = MatchOption (special_values text)
     ((parts : List (List ℕ)) × ArePartsOf text parts × ReadsAsLeast parts t) (λ values. t ≡ values)
 
--- what a part lacks whose predecessors fill the fields up to this one: the next field, of which there is none behind the
--- binary format
+-- what is expected after this field is filled: the next field, and none after the binary format
 abbrev pub expected_after : Field → Expected
 expected_after field.Architecture = Expects field.Vendor
 expected_after field.Vendor = Expects field.OperatingSystem
@@ -47,48 +46,48 @@ expected_after field.OperatingSystem = Expects field.Environment
 expected_after field.Environment = Expects field.BinaryFormat
 expected_after field.BinaryFormat = ExpectsNone
 
--- the last of these fields
+-- the last of the fields
 abbrev pub last_of : Field → List Field → Field
 last_of f [] = f
 last_of f (g ∷ gs) = last_of g gs
 
--- what a part lacks behind these parts: the field behind the last that their least placement fills, and the architecture
--- where there are none
+-- what is expected after these parts: the field after the last one that their least placement fills, and after no parts
+-- the architecture
 abbrev pub IsExpectedAfter : List (List ℕ) → Expected → Type 0
 IsExpectedAfter [] expected = expected ≡ Expects field.Architecture
 IsExpectedAfter (p ∷ ps) expected =
     (first : Field) × ((others : List Field) × IsLeast (p ∷ ps) (first ∷ others) × (expected ≡ expected_after (last_of first others)))
 
--- the first part up to which no placement exists, and what it lacks
+-- the first part up to which the parts have no placement, and what was expected there
 pub record IsRefusal (parts : List (List ℕ)) (refusal : Refusal) : Type 0 where
-  -- how many parts are before it
+  -- the number of parts before it
   pub count : ℕ
   pub refused : slice_get parts count ≡ Some refusal.part
   pub unplaced : HasPlacement (take (suc count) parts) → ⊥
   pub placed : (k : ℕ) → k < count → HasPlacement (take (suc k) parts)
   pub expected : IsExpectedAfter (take count parts) refusal.expected
 
--- the text isn't special, and this part of it is refused
+-- the text isn't special, and this is the refusal of its parts
 abbrev pub IsRefusedAs : List ℕ → Refusal → Type 0
 IsRefusedAs text refusal =
     (special_values text ≡ None) × ((parts : List (List ℕ)) × ArePartsOf text parts × IsRefusal parts refusal)
 
--- the text reads as a triple
+-- the text reads as some triple
 abbrev pub IsRead : List ℕ → Type 0
 IsRead text = (t : Values) × ReadsAs text t
 
--- some part of the text is refused
+-- the text is refused in some way
 abbrev pub IsRefused : List ℕ → Type 0
 IsRefused text = (refusal : Refusal) × IsRefusedAs text refusal
 
--- the only texts that may want memory: those that are refused, or read with a custom vendor
+-- the only texts whose parsing may allocate: those that are refused, or read with a custom vendor
 abbrev pub MayAllocate : List ℕ → Type 0
 MayAllocate text = IsRefused text ⊎ ((t : Values) × ReadsAs text t × IsCustom t.vendor)
 
--- the error names the refusal of the text, or tells of memory where memory may be wanted
+-- the error is the refusal of the text, or out of memory if its parsing may allocate
 abbrev pub IsErrorOf : List ℕ → ParseError → Type 0
 IsErrorOf text error = MatchOption (refusal_of error) (MayAllocate text) (λ refusal. IsRefusedAs text refusal)
 
--- the error names the refusal of the text, or tells of memory, whatever the text: so of a call that asks for more than the reading does
+-- the error is the refusal of the text, or out of memory: the errors of a call that allocates more than parsing does
 abbrev pub IsRefusalOrMemory : List ℕ → ParseError → Type 0
 IsRefusalOrMemory text error = IfSome (refusal_of error) (λ refusal. IsRefusedAs text refusal)

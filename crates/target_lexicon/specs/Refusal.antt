@@ -1,25 +1,25 @@
--- How a text is refused, and what an error says of it.
+-- How a text is refused, and the error for it.
 use Rattle.std.specs.Prelude.{ℕ, List, ◌++◌, Option, Some, None, codes, string_bytes}
 use Rattle.std.specs.Option.{option_map_or}
 use Rattle.target_lexicon.specs.{declared.parse_error.ParseError.ParseError, Field.Field}
 use Rattle.target_lexicon.specs.declared.parse_error.ParseError.TheVariants as error
 use Rattle.target_lexicon.specs.Field as field
 
--- what a refused part lacks: a field that it would read as, or any field at all
+-- what was expected at a refused part: this field or a later one, or no field at all
 pub data Expected : Type 0 where
   Expects : Field → Expected
   ExpectsNone : Expected
 
--- the refused part, and what it lacks
+-- the refused part, and what was expected there
 pub record Refusal : Type 0 where
   pub expected : Expected
   pub part : List ℕ
 
--- a part of an error that lacks this
+-- the refusal of a part
 abbrev pub refusal_with : Expected → List ℕ → Refusal
 refusal_with expected part = record { expected = expected; part = part }
 
--- the refusal that an error names; want of memory names none
+-- the refusal of an error; out of memory is no refusal
 abbrev pub refusal_of : ParseError → Option Refusal
 refusal_of (error.UnrecognizedArchitecture part) = Some (refusal_with (Expects field.Architecture) (string_bytes part))
 refusal_of (error.UnrecognizedVendor part) = Some (refusal_with (Expects field.Vendor) (string_bytes part))
@@ -29,7 +29,7 @@ refusal_of (error.UnrecognizedBinaryFormat part) = Some (refusal_with (Expects f
 refusal_of (error.UnrecognizedField part) = Some (refusal_with ExpectsNone (string_bytes part))
 refusal_of error.OutOfMemory = None
 
--- what the line of a refusal says before the part
+-- the words of a refusal's line before the part
 abbrev pub expected_words : Expected → List ℕ
 expected_words (Expects field.Architecture) = codes "Unrecognized architecture: "
 expected_words (Expects field.Vendor) = codes "Unrecognized vendor: "
@@ -42,6 +42,6 @@ expected_words ExpectsNone = codes "Unrecognized field: "
 abbrev pub refusal_line : Refusal → List ℕ
 refusal_line refusal = expected_words refusal.expected ++ refusal.part
 
--- the line that an error prints
+-- the line of an error
 abbrev pub error_line : ParseError → List ℕ
 error_line error = option_map_or refusal_line (refusal_of error) (codes "Out of memory")

@@ -21,12 +21,15 @@ esp_idf_text = codes "riscv32imc-esp-espidf"
 abbrev pub esp_idf : Values
 esp_idf = values (architecture.Riscv32 riscv32.Riscv32imc) (Known Espressif) operating_system.Espidf environment.Newlib binary_format.Elf
 
--- the values that a special text gives
+-- the triple of a special text
 unfoldable pub special_values : List ℕ → Option Values
 special_values text = value_of ((nintendo_3ds_text, nintendo_3ds) ∷ (esp_idf_text, esp_idf) ∷ []) text
 
--- the special text that a triple prints, by three of its fields, whatever its environment and its format
-unfoldable pub special_text : OperatingSystem → VendorValue → Architecture → Option (List ℕ)
-special_text operating_system.Horizon (Known Nintendo) (architecture.Arm arm.Armv6k) = Some nintendo_3ds_text
-special_text operating_system.Espidf (Known Espressif) (architecture.Riscv32 riscv32.Riscv32imc) = Some esp_idf_text
-special_text _ _ _ = None
+-- the special text that a triple prints, by its first three fields
+unfoldable pub special_text : Values → Option (List ℕ)
+special_text t = by_fields t.architecture t.vendor t.operating_system
+  where
+    by_fields : Architecture → VendorValue → OperatingSystem → Option (List ℕ)
+    by_fields (architecture.Arm arm.Armv6k) (Known Nintendo) operating_system.Horizon = Some nintendo_3ds_text
+    by_fields (architecture.Riscv32 riscv32.Riscv32imc) (Known Espressif) operating_system.Espidf = Some esp_idf_text
+    by_fields _ _ _ = None

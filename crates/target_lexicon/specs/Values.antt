@@ -1,5 +1,6 @@
--- The five values of a triple, of which all rules speak.
-use Rattle.lexicon_fields.specs.{declared.known_vendor.KnownVendor.TheVariants.Unknown, Vendor.vendor_value}
+-- The values of a triple's five fields, over which all rules are stated.
+use Rattle.std.specs.Prelude.{Bool, true, false}
+use Rattle.lexicon_fields.specs.{declared.known_vendor.KnownVendor.TheVariants.Unknown, declared.known_vendor.KnownVendor.TheVariants.Nintendo, declared.known_vendor.KnownVendor.TheVariants.Espressif, Vendor.vendor_value}
 pub use Rattle.lexicon_fields.specs.{declared.architecture.Architecture.Architecture, declared.operating_system.OperatingSystem.OperatingSystem}
 pub use Rattle.lexicon_fields.specs.{declared.environment.Environment.Environment, declared.binary_format.BinaryFormat.BinaryFormat}
 pub use Rattle.lexicon_fields.specs.Vendor.{VendorValue, Known, Custom}
@@ -11,7 +12,7 @@ pub use Rattle.lexicon_fields.specs.declared.environment.Environment.TheVariants
 pub use Rattle.lexicon_fields.specs.declared.binary_format.BinaryFormat.TheVariants as binary_format
 use Rattle.target_lexicon.specs.declared.triple.Triple.{Triple}
 
--- a value for each field, a custom vendor being its text
+-- a value for each field; that of a custom vendor is its text
 pub record Values : Type 0 where
   pub architecture : Architecture
   pub vendor : VendorValue
@@ -30,6 +31,43 @@ values_of t = values t.architecture (vendor_value t.vendor) t.operating_system t
 abbrev pub unknown_values : Values
 unknown_values = values architecture.Unknown (Known Unknown) operating_system.Unknown environment.Unknown binary_format.Unknown
 
--- the triple that stands for the machine, whatever the machine: 64-bit x86 with Linux and GNU's libraries
+-- the host, on every machine: 64-bit x86 with Linux and GNU's libraries
 abbrev pub host_values : Values
 host_values = values architecture.X86_64 (Known Unknown) operating_system.Linux environment.Gnu binary_format.Elf
+
+-- tests of one or two fields
+abbrev pub is_unknown_vendor : VendorValue → Bool
+is_unknown_vendor (Known Unknown) = true
+is_unknown_vendor _ = false
+
+abbrev pub is_unknown_environment : Environment → Bool
+is_unknown_environment environment.Unknown = true
+is_unknown_environment _ = false
+
+abbrev pub is_newlib : Environment → Bool
+is_newlib environment.Newlib = true
+is_newlib _ = false
+
+abbrev pub is_environment_none : Environment → Bool
+is_environment_none environment.None = true
+is_environment_none _ = false
+
+abbrev pub is_clever_without_system : Architecture → OperatingSystem → Bool
+is_clever_without_system (architecture.Clever sub) operating_system.Unknown = true
+is_clever_without_system _ _ = false
+
+-- whether two formats are the same
+abbrev pub same_format : BinaryFormat → BinaryFormat → Bool
+same_format binary_format.Unknown binary_format.Unknown = true
+same_format binary_format.Elf binary_format.Elf = true
+same_format binary_format.Coff binary_format.Coff = true
+same_format binary_format.Macho binary_format.Macho = true
+same_format binary_format.Wasm binary_format.Wasm = true
+same_format binary_format.Xcoff binary_format.Xcoff = true
+same_format _ _ = false
+
+-- the vendors and systems that imply the environment `Newlib`
+abbrev pub implies_newlib : VendorValue → OperatingSystem → Bool
+implies_newlib (Known Nintendo) operating_system.Horizon = true
+implies_newlib (Known Espressif) operating_system.Espidf = true
+implies_newlib _ _ = false

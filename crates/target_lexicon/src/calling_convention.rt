@@ -1,16 +1,16 @@
 //! Calling conventions.
 
-/// How a call is made: which registers hold its arguments, which are kept over it, and so on.
+/// A calling convention: which registers have the arguments of a call, which ones a call preserves, and so on.
 #[derive(Clone, Copy, Debug, PartialEq, Eq, Hash)]
 pub enum CallingConvention {
-    /// "System V", on most systems like Unix. It differs from architecture to architecture; that of 32-bit x86 has
-    /// nothing in common with that of 64-bit x86.
+    /// "System V", on most systems like Unix. It differs by architecture: that of 32-bit x86 has nothing in common with
+    /// that of 64-bit x86.
     SystemV,
     /// The C ABI of WebAssembly:
     /// <https://github.com/WebAssembly/tool-conventions/blob/master/BasicCABI.md>
     WasmBasicCAbi,
-    /// "Windows Fastcall", on Windows. It too differs from architecture to architecture: on 32-bit x86 it is what
-    /// Windows calls "fastcall", on 64-bit x86 the Windows x64 calling convention.
+    /// "Windows Fastcall", on Windows. It differs by architecture too: on 32-bit x86 it is the convention that Windows
+    /// calls "fastcall", on 64-bit x86 the Windows x64 calling convention.
     WindowsFastcall,
     /// Apple's variant of the common convention of 64-bit Arm:
     /// <https://developer.apple.com/documentation/xcode/writing_arm64_code_for_apple_platforms>

@@ -1,25 +1,26 @@
-//! Where a text's first dash is, sixteen bytes in one step.
+//! The search for the first dash of a text, sixteen bytes a step.
 ghost use Rattle.std.specs.Prelude.{◌≡◌, ◌≤◌, ◌+◌, ◌==◌, length, take, drop, map};
 ghost use Rattle.std.specs.List.{position};
 ghost use Rattle.std.specs.Simd.Lanes.{mask_l};
-ghost use Rattle.target_lexicon.specs.Private.{MarksDashes};
+ghost use Rattle.lexicon_fields.specs.Names.{dash};
+ghost use Rattle.target_lexicon.specs.Private.{AreDashBits};
 
 use std::simd::prelude::*;
 
-/// Which of the sixteen bytes from `at` on are dashes, a bit for each, the first byte's the lowest.
+/// A bit for each of the sixteen bytes from `at` on, set for a dash. The lowest bit is that of the first byte.
 #[inline(always)]
 fn dashes_from(bytes: &[u8], at: usize) -> u64
     requires { at + 16 ≤ length bytes.now }
-    ensures { result ≡ mask_l (map (λ b. b == 45) (take 16 (drop at bytes.now))) }
+    ensures { result ≡ mask_l (map (λ b. b == dash) (take 16 (drop at bytes.now))) }
 {
     u8x16::from_slice(&bytes[at..])
         .simd_eq(u8x16::splat(b'-'))
         .to_bitmask()
 }
 
-/// Which of the last sixteen bytes of a text are dashes. Of a shorter text the bits of its bytes are the highest of sixteen.
+/// A bit for each of the last sixteen bytes of a text, set for a dash. The highest bit is that of the last byte.
 pub(crate) fn dashes_at_end(text: &str) -> u64
-    ensures { MarksDashes result text.now }
+    ensures { AreDashBits result text.now }
 {
     let bytes = text.as_bytes();
     if 16 <= bytes.len() {
@@ -30,10 +31,10 @@ pub(crate) fn dashes_at_end(text: &str) -> u64
     dashes_from(&last, 0)
 }
 
-/// Where the first dash of a text is, the dashes of whose end are known.
+/// The index of the first dash of a text, given the bits of its last sixteen bytes.
 pub(crate) fn dash_in(text: &str, at_end: u64) -> Option<usize>
-    requires { MarksDashes at_end text.now }
-    ensures { result ≡ position (λ b. b == 45) text.now }
+    requires { AreDashBits at_end text.now }
+    ensures { result ≡ position (λ b. b == dash) text.now }
 {
     let bytes = text.as_bytes();
     let mut at = 0;

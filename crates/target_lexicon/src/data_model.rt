@@ -1,4 +1,4 @@
-//! The data models of C, and the sizes of its types in each.
+//! The data models of C, and the sizes of its types.
 ghost use Rattle.std.specs.Prelude.{◌≡◌, ◌*◌};
 ghost use Rattle.target_lexicon.specs.DataModel.{size_bits, size_bytes, sizes_of};
 
@@ -12,7 +12,7 @@ pub enum Size {
 }
 
 impl Size {
-    /// How many bits the size is.
+    /// The number of bits.
     pub fn bits(self) -> u8
         ensures value { result ≡ size_bits self }
         ensures of_bytes { result ≡ 8 * size_bytes self }
@@ -25,7 +25,7 @@ impl Size {
         }
     }
 
-    /// How many bytes the size is; a byte has 8 bits.
+    /// The number of bytes, of 8 bits each.
     pub fn bytes(self) -> u8
         ensures value { result ≡ size_bytes self }
         ensures in_bits { 8 * result ≡ size_bits self }
@@ -39,18 +39,18 @@ impl Size {
     }
 }
 
-/// Which of C's types have which size: <https://en.cppreference.com/w/c/language/arithmetic_types>
+/// The sizes of C's types: <https://en.cppreference.com/w/c/language/arithmetic_types>
 #[derive(Clone, Copy, Debug, PartialEq, Eq, Hash)]
 pub enum CDataModel {
-    /// Most used on 16-bit Windows: `long` and pointers have 32 bits.
+    /// Mostly on 16-bit Windows: `long` and pointers have 32 bits.
     LP32,
-    /// Most used on 32-bit Windows and 32-bit Unix: `int`, `long` and pointers have 32 bits.
+    /// Mostly on 32-bit Windows and 32-bit Unix: `int`, `long` and pointers have 32 bits.
     ILP32,
-    /// Most used on 64-bit Windows: `long long` and pointers have 64 bits.
+    /// Mostly on 64-bit Windows: `long long` and pointers have 64 bits.
     LLP64,
-    /// Most used on 64-bit Unix: `long` and pointers have 64 bits.
+    /// Mostly on 64-bit Unix: `long` and pointers have 64 bits.
     LP64,
-    /// Rare, on the first 64-bit Unixes: `int`, `long` and pointers have 64 bits.
+    /// Rare, on early 64-bit Unix systems: `int`, `long` and pointers have 64 bits.
     ILP64,
 }
 
@@ -65,7 +65,7 @@ impl CDataModel {
         }
     }
 
-    /// The size of a C `short`, for which C asks at least 16 bits.
+    /// The size of a C `short`. C requires at least 16 bits.
     pub fn short_size(self) -> Size
         ensures { result ≡ (sizes_of self).short }
     {
@@ -78,7 +78,7 @@ impl CDataModel {
         }
     }
 
-    /// The size of a C `int`, for which C asks at least 16 bits.
+    /// The size of a C `int`. C requires at least 16 bits.
     pub fn int_size(self) -> Size
         ensures { result ≡ (sizes_of self).int }
     {
@@ -89,7 +89,7 @@ impl CDataModel {
         }
     }
 
-    /// The size of a C `long`, for which C asks at least 32 bits.
+    /// The size of a C `long`. C requires at least 32 bits.
     pub fn long_size(self) -> Size
         ensures { result ≡ (sizes_of self).long }
     {
@@ -99,7 +99,7 @@ impl CDataModel {
         }
     }
 
-    /// The size of a C `long long`, for which C asks at least 64 bits.
+    /// The size of a C `long long`. C requires at least 64 bits.
     pub fn long_long_size(self) -> Size
         ensures { result ≡ (sizes_of self).long_long }
     {

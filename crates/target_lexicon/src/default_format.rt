@@ -1,15 +1,15 @@
 //! The binary format that the other fields imply.
 ghost use Rattle.std.specs.Prelude.{◌≡◌};
-ghost use Rattle.target_lexicon.specs.ImpliedFormat.{implied, implied_format};
+ghost use Rattle.target_lexicon.specs.ImpliedFormat.{default_binary_format, implied_format};
 ghost use Rattle.target_lexicon.specs.Values.{values_of};
 
 use crate::triple::Triple;
 use lexicon_fields::{Architecture, BinaryFormat, Environment, OperatingSystem};
 
-/// The binary format that the architecture, the operating system and the environment imply,
-/// whatever the triple's own format.
+/// The binary format that the architecture, the operating system and the environment imply. The triple's own format
+/// doesn't matter.
 pub fn default_binary_format(triple: &Triple) -> BinaryFormat
-    ensures { result ≡ implied (values_of triple.now) }
+    ensures { result ≡ default_binary_format (values_of triple.now) }
 {
     implied_format(
         triple.architecture,
@@ -18,7 +18,7 @@ pub fn default_binary_format(triple: &Triple) -> BinaryFormat
     )
 }
 
-/// The binary format that these three fields imply.
+/// The binary format that three fields imply.
 #[tactic(auto, unfolding(crate::specs::ImpliedFormat::implied_format))]
 pub(crate) fn implied_format(
     architecture: Architecture,

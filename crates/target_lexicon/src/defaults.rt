@@ -6,7 +6,7 @@ ghost use Rattle.target_lexicon.specs.Values.{values_of};
 use crate::triple::Triple;
 use std::alloc::{AllocError, Global};
 
-/// A triple whose default is that of the host.
+/// A triple whose default is the host.
 #[derive(Debug, PartialEq, Eq, Hash, Drop)]
 pub struct DefaultToHost(pub Triple);
 
@@ -21,7 +21,7 @@ impl Default for DefaultToHost {
 }
 
 impl DefaultToHost {
-    /// A copy, whose vendor owns its text where this one's does. `Err` says that the memory for that text was refused.
+    /// A copy. Its vendor owns its text if this one's does. `Err` if the allocation for that text fails.
     pub fn clone(&self, alloc: Global) -> Result<Self, AllocError>
         ensures values { IfOk result (λ copy. values_of copy.0 ≡ values_of self.now.0) }
         ensures variant { IfOk result
@@ -47,7 +47,7 @@ impl Default for DefaultToUnknown {
 }
 
 impl DefaultToUnknown {
-    /// A copy, whose vendor owns its text where this one's does. `Err` says that the memory for that text was refused.
+    /// A copy. Its vendor owns its text if this one's does. `Err` if the allocation for that text fails.
     pub fn clone(&self, alloc: Global) -> Result<Self, AllocError>
         ensures values { IfOk result (λ copy. values_of copy.0 ≡ values_of self.now.0) }
         ensures variant { IfOk result

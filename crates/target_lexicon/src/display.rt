@@ -1,11 +1,10 @@
 //! The text of a triple.
-ghost use Rattle.std.specs.Prelude.{◌≡◌, ◌||◌, Some, IfOk, option_map, string_bytes};
+ghost use Rattle.std.specs.Prelude.{◌≡◌, Some, IfOk, option_map, string_bytes};
 ghost use Rattle.lexicon_fields.specs.Vendor.{vendor_value};
 ghost use Rattle.std.specs.Fmt.{DisplaysStyledOnOk, formatter_spec};
 ghost use Rattle.target_lexicon.specs.Printing.{text_of, is_bare_arm, omits_unknown_vendor, shows_vendor, shows_operating_system, shows_environment, shows_binary_format, shows_implied_format, shows_unknowns, architecture_implies_format};
-ghost use Rattle.target_lexicon.specs.ImpliedFormat.{implied};
 ghost use Rattle.target_lexicon.specs.Private.{part_text};
-ghost use Rattle.target_lexicon.specs.Values.{values_of};
+ghost use Rattle.target_lexicon.specs.Values.{values_of, implies_newlib};
 
 use crate::default_format::default_binary_format;
 use crate::triple::Triple;
@@ -15,7 +14,7 @@ use lexicon_fields::{
 use std::alloc::{AllocError, Global};
 use std::fmt;
 
-/// Room for the text of most triples, which then takes one request for memory.
+/// A capacity that is enough for most triples, so that their text takes one allocation.
 const USUAL_LENGTH: usize = 40;
 
 impl fmt::Display for Triple {
@@ -27,16 +26,19 @@ impl fmt::Display for Triple {
         if let Some(text) = self.special_text() {
             return f.write_str(text);
         }
-        let both = self.shows_unknowns();
         self.architecture.fmt(f)?;
         write_part(f, self.shows_vendor(), &self.vendor)?;
-        write_part(f, self.shows_operating_system(both), &self.operating_system)?;
-        write_part(f, self.shows_environment(both), &self.environment)?;
+        if self.shows_unknowns() {
+            write_part(f, true, &self.operating_system)?;
+            return f.write_str("-unknown-unknown");
+        }
+        write_part(f, self.shows_operating_system(), &self.operating_system)?;
+        write_part(f, self.shows_environment(), &self.environment)?;
         write_part(f, self.shows_binary_format(), &self.binary_format)
     }
 }
 
-/// Writes a dash and the part, where it is shown.
+/// Writes a dash and the part, if it is shown.
 fn write_part<W: fmt::Write, D: fmt::Display>(
     f: &mut fmt::Formatter<W>,
     is_shown: bool,
@@ -54,7 +56,7 @@ fn write_part<W: fmt::Write, D: fmt::Display>(
 }
 
 impl Triple {
-    /// The printed text. The memory for it may be refused.
+    /// The printed text. `Err` if the allocation for it fails.
     pub fn to_text(&self, alloc: Global) -> Result<String, AllocError>
         ensures { IfOk result (λ text. string_bytes text ≡ text_of (values_of self.now)) }
     {
@@ -66,9 +68,7 @@ impl Triple {
     /// Whether the vendor is shown.
     #[tactic(auto, unfolding(crate::specs::Printing::shows_vendor))]
     fn shows_vendor(&self) -> bool
-        ensures { result
-            ≡ shows_vendor (vendor_value self.now.vendor) self.now.operating_system
-            self.now.environment self.now.architecture }
+        ensures { result ≡ shows_vendor (values_of self.now) }
     {
         match (&self.vendor, self.environment) {
             (Vendor::Unknown, Environment::HermitKernel | Environment::LinuxKernel) => true,
@@ -77,11 +77,11 @@ impl Triple {
         }
     }
 
-    /// Whether an unknown vendor goes without saying.
+    /// Whether an unknown vendor is omitted.
     fn omits_unknown_vendor(&self) -> bool
         ensures { result
-            ≡ omits_unknown_vendor self.now.operating_system self.now.environment
-            self.now.architecture }
+            ≡ omits_unknown_vendor self.now.architecture self.now.operating_system
+            self.now.environment }
     {
         match self.operating_system {
             OperatingSystem::Linux => matches!(
@@ -98,43 +98,38 @@ impl Triple {
         }
     }
 
-    /// Whether environment and format are both shown as unknown.
-    fn shows_unknowns(&self) -> bool
-        ensures { result
-            ≡ shows_unknowns self.now.environment self.now.binary_format
-            (implied (values_of self.now)) }
-    {
-        matches!(
-            (self.environment, self.binary_format),
-            (Environment::Unknown, BinaryFormat::Unknown)
-        ) && default_binary_format(self) != BinaryFormat::Unknown
-    }
-
-    /// Whether the operating system is shown; always beside an environment and a format that are both shown as unknown.
+    /// Whether the operating system is shown.
     #[tactic(auto, unfolding(crate::specs::Printing::shows_operating_system))]
-    pub(crate) fn shows_operating_system(&self, both: bool) -> bool
-        ensures { result
-            ≡ (both || shows_operating_system self.now.operating_system self.now.architecture) }
+    pub(crate) fn shows_operating_system(&self) -> bool
+        ensures { result ≡ shows_operating_system (values_of self.now) }
     {
-        both || !matches!(
-            (self.operating_system, self.architecture),
-            (OperatingSystem::Unknown, Architecture::Clever(_))
+        !matches!(
+            (self.architecture, self.operating_system),
+            (Architecture::Clever(_), OperatingSystem::Unknown)
         )
     }
 
-    /// Whether the environment is shown; always where it and the format are both shown as unknown.
+    /// Whether the environment is shown.
     #[tactic(auto, unfolding(crate::specs::Printing::shows_environment))]
-    pub(crate) fn shows_environment(&self, both: bool) -> bool
-        ensures { result
-            ≡ (both || shows_environment self.now.environment self.now.operating_system
-            (vendor_value self.now.vendor)) }
+    fn shows_environment(&self) -> bool
+        ensures { result ≡ shows_environment (values_of self.now) }
     {
-        match (self.environment, self.operating_system, &self.vendor) {
-            (Environment::Unknown, _, _)
-            | (Environment::Newlib, OperatingSystem::Horizon, Vendor::Nintendo)
-            | (Environment::Newlib, OperatingSystem::Espidf, Vendor::Espressif) => both,
+        match self.environment {
+            Environment::Unknown => false,
+            Environment::Newlib => !self.implies_newlib(),
             _ => true,
         }
+    }
+
+    /// Whether the environment `Newlib` is omitted.
+    pub(crate) fn implies_newlib(&self) -> bool
+        ensures { result ≡ implies_newlib (vendor_value self.now.vendor) self.now.operating_system }
+    {
+        matches!(
+            (&self.vendor, self.operating_system),
+            (Vendor::Nintendo, OperatingSystem::Horizon)
+                | (Vendor::Espressif, OperatingSystem::Espidf)
+        )
     }
 
     /// Whether the binary format is shown.
@@ -145,25 +140,34 @@ impl Triple {
         self.binary_format != default_binary_format(self) || self.shows_implied_format()
     }
 
-    /// Whether the binary format is shown even where it is the implied one.
+    /// Whether the binary format is shown even if it is the implied one.
     fn shows_implied_format(&self) -> bool
-        ensures { result
-            ≡ shows_implied_format self.now.binary_format self.now.operating_system
-            self.now.environment self.now.architecture }
+        ensures { result ≡ shows_implied_format (values_of self.now) }
     {
-        matches!(
-            self.operating_system,
-            OperatingSystem::None_ | OperatingSystem::Unknown
-        ) && self.binary_format != BinaryFormat::Unknown
+        !architecture_implies_format(self.architecture)
+            && matches!(
+                self.operating_system,
+                OperatingSystem::None_ | OperatingSystem::Unknown
+            )
             && !matches!(
                 self.environment,
                 Environment::Eabi | Environment::Eabihf | Environment::Sgx
             )
-            && !architecture_implies_format(self.architecture)
+            && self.binary_format != BinaryFormat::Unknown
+    }
+
+    /// Whether environment and format are both shown as unknown, and the operating system with them.
+    fn shows_unknowns(&self) -> bool
+        ensures { result ≡ shows_unknowns (values_of self.now) }
+    {
+        matches!(
+            (self.environment, self.binary_format),
+            (Environment::Unknown, BinaryFormat::Unknown)
+        ) && self.binary_format != default_binary_format(self)
     }
 }
 
-/// Whether a triple of this architecture leaves out an implied format even without a system.
+/// Whether a triple of this architecture omits an implied format even without a system.
 fn architecture_implies_format(architecture: Architecture) -> bool
     ensures { result ≡ architecture_implies_format architecture }
 {
@@ -173,7 +177,7 @@ fn architecture_implies_format(architecture: Architecture) -> bool
     )
 }
 
-/// Whether a triple of this architecture without a system names no vendor.
+/// Whether a triple of this architecture without a system omits an unknown vendor.
 fn is_bare_arm(architecture: ArmArchitecture) -> bool
     ensures { result ≡ is_bare_arm architecture }
 {

@@ -1,4 +1,4 @@
-//! The triple that stands for the machine.
+//! The triple of the host.
 ghost use Rattle.std.specs.Prelude.{◌≡◌};
 ghost use Rattle.target_lexicon.specs.Values.{host_values, values_of};
 

@@ -12,19 +12,20 @@ use serde_json::Value;
 use std::alloc::{AllocError, Global};
 
 impl Triple {
-    /// The JSON string of the printed text. The memory for it may be refused.
+    /// The JSON string of the printed text. `Err` if the allocation for it fails.
     pub fn to_json(&self, alloc: Global) -> Result<Value, AllocError>
         ensures { IfOk result (λ value. view value ≡ json_of (values_of self.now)) }
     {
         Ok(Value::from(self.to_text(alloc)?))
     }
 
-    /// The triple that the text of a JSON string reads as, as [`Triple::from_str`] does, or why the value is refused.
+    /// The triple that the text of a JSON string parses as, by [`Triple::from_str`].
     ///
     /// # Errors
     ///
-    /// - [`JsonError::NotText`] where the value is no string.
-    /// - [`JsonError::Parse`] where the string's text is refused, or the memory for reading it was; no other value wants any.
+    /// - [`JsonError::NotText`] if the value is not a string.
+    /// - [`JsonError::Parse`] if the text of the string is refused, or an allocation for parsing it fails. Nothing is
+    ///   allocated for another value.
     pub fn from_json(alloc: Global, value: &Value) -> Result<Triple, JsonError>
         ensures ok { IfOk result (λ triple. JsonReadsAs (view value.now) (values_of triple)) }
         ensures owned { IfOk result (λ triple. OwnsCustomText triple.vendor) }
@@ -41,7 +42,7 @@ impl Triple {
     }
 }
 
-/// The JSON array of the triples' JSON strings, in order. The memory for it may be refused.
+/// The JSON array of the triples' JSON strings, in order. `Err` if an allocation for it fails.
 pub fn list_to_json(alloc: Global, triples: &[Triple]) -> Result<Value, AllocError>
     ensures { IfOk result (λ value. view value ≡ list_json_of (map values_of triples.now)) }
 {
@@ -52,14 +53,15 @@ pub fn list_to_json(alloc: Global, triples: &[Triple]) -> Result<Value, AllocErr
     Ok(Value::from(values))
 }
 
-/// The triples that the elements of a JSON array read as, in order, or why the value is refused.
+/// The triples that the elements of a JSON array parse as, in order.
 ///
 /// # Errors
 ///
-/// - [`ListError::NotList`] where the value is no array.
-/// - [`ListError::Element`] with the first element that [`Triple::from_json`] refuses, be it for memory, and its error.
-/// - [`ListError::OutOfMemory`] where the memory for the list itself was refused, which is asked for only behind an element that
-///   reads.
+/// - [`ListError::NotList`] if the value is not an array.
+/// - [`ListError::Element`] with the index and the error of the first element for which [`Triple::from_json`] has one,
+///   an allocation failure included.
+/// - [`ListError::OutOfMemory`] if an allocation for the list itself fails. The first one is made after an element that
+///   parses.
 pub fn list_from_json(alloc: Global, value: &Value) -> Result<Vec<Triple>, ListError>
     ensures ok { IfOk result
         (λ triples. ListReadsAs (view value.now) (map values_of triples.items)) }

@@ -1,15 +1,15 @@
-//! Why a JSON value is refused as a triple.
+//! Why a JSON value doesn't parse as a triple.
 ghost use Rattle.std.specs.Prelude.{Some};
 
 use crate::parse_error::ParseError;
 use std::fmt;
 
-/// What is wrong with a JSON value that reads as no triple.
+/// Why a JSON value doesn't parse as a triple.
 #[derive(Debug, PartialEq, Eq, Drop)]
 pub enum JsonError {
-    /// The value is no string.
+    /// The value is not a string.
     NotText,
-    /// The string's text is refused.
+    /// The text of the string is refused, or an allocation for parsing it failed.
     Parse(ParseError),
 }
 

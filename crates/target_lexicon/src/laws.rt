@@ -1,4 +1,4 @@
-//! Laws over the definitions alone: each function's contract is one, and it does nothing.
+//! Laws of the definitions. Each function's contract is a law; a call does nothing.
 ghost use Rattle.std.specs.Prelude.{◌≡◌, ◌≢◌, ◌↔◌, ℕ, suc, true, List, All, take, IsTrue};
 ghost use Rattle.target_lexicon.specs.GreedyReading.{AnswersAreComputed};
 ghost use Rattle.target_lexicon.specs.Laws.{ComesBack, HasOneLeast, OneOutcomeEach, ReadingIsComputed, ReadVendorsArePlain, EqualTextsEqualTriples};
@@ -29,7 +29,7 @@ use crate::triple::Triple;
 pub use lexicon_fields::laws::names_read_back;
 use std::hash::Hash;
 
-/// Parts that have a placement have exactly one least, and so has each front of them.
+/// Parts that have a placement have exactly one least placement, and so does each prefix of them.
 #[tactic(auto, using(crate::proofs::Greedy::placement_prefix, crate::proofs::Greedy::placement_least))]
 pub fn one_least_placement()
     ensures { (parts : List (List ℕ)) →
@@ -37,31 +37,32 @@ pub fn one_least_placement()
         HasOneLeast parts × ((n : ℕ) → HasOneLeast (take (suc n) parts)) }
 {}
 
-/// Every text is read or refused, in one way, and not both.
+/// Every text parses or is refused, in exactly one way.
 pub fn one_outcome_each()
     ensures { OneOutcomeEach }
 {}
 
-/// The function `reading` of the definitions gives what a text reads as, and how it is refused; so a caller's proof can
-/// compute what a text reads as.
+/// The function `reading` of the definitions gives the triple that a text parses as, or how it is refused. So a
+/// caller's proof can compute the result for a text.
 #[tactic(auto, using(crate::proofs::Computed::reading_computed))]
 pub fn reading_is_computed()
     ensures { ReadingIsComputed }
 {}
 
-/// What [`Triple::from_str`] answers is what the function `reading` gives; want of memory takes its place for a custom vendor
-/// or a refusal alone. So a caller's proof can compute the answer for a literal.
+/// The result of [`Triple::from_str`] is what the function `reading` gives, or out of memory, but only for a custom
+/// vendor or a refusal. So a caller's proof can compute the result for a literal.
 pub fn answers_are_computed()
     ensures { AnswersAreComputed }
 {}
 
-/// Every text that is read has a plain vendor.
+/// Every triple that a text parses as has a plain vendor.
 #[tactic(auto, using(crate::proofs::ReadValues::read_plain))]
 pub fn read_vendors_are_plain()
     ensures { ReadVendorsArePlain }
 {}
 
-/// What a text reads as has a plain vendor, and a version in range where its system holds one; so the laws of rounds speak of it.
+/// Every triple that a text parses as has a plain vendor, and a version in range if its system has one. So the laws of
+/// round trips apply to it.
 #[tactic(auto, using(crate::proofs::ReadValues::read_plain, crate::proofs::ReadValues::read_in_range))]
 pub fn read_triples_are_plain()
     ensures { ReadTriplesArePlain }
@@ -69,8 +70,8 @@ pub fn read_triples_are_plain()
     lexicon_fields::laws::read_versions_are_in_range();
 }
 
-/// The text that a triple prints is at most 22 bytes longer than each text that reads as it, and so is that of the settled triple.
-/// A refused part is no longer than the text.
+/// The printed text of a triple is at most 22 bytes longer than each text that parses as it, and so is the text of the
+/// canonical triple. A refused part is not longer than the text.
 #[tactic(auto, using(crate::proofs::Lengths::printed_max_growth, crate::proofs::Lengths::canonical_max_growth, crate::proofs::Lengths::refused_does_not_grow))]
 pub fn printed_texts_grow_at_most()
     ensures printed { PrintedTextsGrowAtMost }
@@ -81,12 +82,12 @@ pub fn printed_texts_grow_at_most()
     lexicon_fields::laws::names_grow_at_most();
 }
 
-/// Two triples that come back when they are printed and read are equal exactly where their texts are.
+/// Two triples that come back are equal exactly if their printed texts are.
 pub fn equal_texts_equal_triples()
     ensures { EqualTextsEqualTriples }
 {}
 
-/// Two triples are equal, as `==` tells, exactly where their five values are; a custom vendor is its text.
+/// Two triples are equal exactly if their five values are. The value of a custom vendor is its text.
 pub fn triples_are_equal_by_value()
     ensures { (x y : Triple) →
         IsTrue (⟦<Triple as PartialEq>⟧.eq x y) ↔ (values_of x ≡ values_of y) }
@@ -95,13 +96,13 @@ pub fn triples_are_equal_by_value()
     lexicon_fields::laws::vendors_are_equal_by_value();
 }
 
-/// Two errors are equal, as `==` tells, exactly where they name the same refusal, or both want of memory.
+/// Two errors are equal exactly if both are the same refusal, or both are `OutOfMemory`.
 pub fn errors_are_equal_by_value()
     ensures { (x y : ParseError) →
         IsTrue (⟦<ParseError as PartialEq>⟧.eq x y) ↔ (refusal_of x ≡ refusal_of y) }
 {}
 
-/// Where a triple has a data model, the model's pointers have as many bits as the triple's.
+/// If a triple has a data model, the pointers of the model have as many bits as those of the triple.
 #[tactic(auto, using(crate::proofs::ModelsKnown::model_pointers))]
 pub fn model_width()
     ensures { ModelWidth }
@@ -114,25 +115,25 @@ pub fn no_rare_model()
         (data_model t ≢ Some CDataModel.LP32) × (data_model t ≢ Some CDataModel.ILP64) }
 {}
 
-/// In each data model `short`, `int`, `long` and `long long` don't decrease.
+/// In each data model the sizes of `short`, `int`, `long` and `long long` don't decrease.
 pub fn integers_grow_in_each()
     ensures { (model : CDataModel) → IntegersGrow model }
 {}
 
-/// The normal step keeps the architecture of a triple, and what the four queries answer or refuse.
+/// The normal step keeps the architecture of a triple and the answers of the four queries.
 #[tactic(auto, using(crate::proofs::QueriesKept::kept))]
 pub fn queries_kept()
     ensures { QueriesKept }
 {}
 
-/// Sizes, data models and calling conventions are equal, as `==` tells, exactly where their variants are.
+/// Sizes, data models and calling conventions are equal exactly if their variants are.
 pub fn answers_are_equal_by_variant()
     ensures size { ComparesByValue ⟦<Size as PartialEq>⟧.eq }
     ensures data_model { ComparesByValue ⟦<CDataModel as PartialEq>⟧.eq }
     ensures calling_convention { ComparesByValue ⟦<CallingConvention as PartialEq>⟧.eq }
 {}
 
-/// Triples with a default are equal, as `==` tells, exactly where their five values are.
+/// Triples with a default are equal exactly if their five values are.
 pub fn defaults_are_equal_by_value()
     ensures host { (x y : DefaultToHost) →
         IsTrue (⟦<DefaultToHost as PartialEq>⟧.eq x y) ↔ (values_of x.0 ≡ values_of y.0) }
@@ -142,8 +143,8 @@ pub fn defaults_are_equal_by_value()
     triples_are_equal_by_value();
 }
 
-/// A triple that is printed and read again is itself exactly outside five families, whatever its vendor's text; and each
-/// triple comes back or is in a family.
+/// A triple comes back (it is printed and parsed again as itself) exactly if it is in none of five families, also if
+/// its vendor is not plain. Each triple comes back or is in a family.
 #[tactic(auto, using(crate::proofs::Fixed::fixed_exactly_outside))]
 pub fn fixed_exactly_outside_families()
     ensures { FixedExactlyOutsideFamilies }
@@ -151,7 +152,7 @@ pub fn fixed_exactly_outside_families()
     round_is_normal_step();
 }
 
-/// The text of each triple with a plain vendor is read, as the triple's normal step.
+/// The printed text of each triple with a plain vendor parses as the triple's normal step.
 #[tactic(auto, using(crate::proofs::TextRoundTrips::round))]
 pub fn round_is_normal_step()
     ensures { RoundIsNormalStep }
@@ -159,13 +160,14 @@ pub fn round_is_normal_step()
     names_read_back();
 }
 
-/// A second normal step changes no triple, so that one round settles. (By upstream's rules it changes one, hence the name.)
+/// A second normal step changes no triple, so one round trip gives the canonical form. (By upstream's rules it changes
+/// one, hence the name.)
 #[tactic(auto, using(crate::proofs::Settled::second_changes_none))]
 pub fn second_step_changes_one()
     ensures { SecondStepChangesNone }
 {}
 
-/// The settled triple of one with a plain vendor comes back, and no other such triple has its text.
+/// The canonical form of a triple with a plain vendor comes back, and no other canonical triple has its text.
 #[tactic(auto, using(crate::proofs::Settled::settled_are_keys))]
 pub fn settled_texts_are_keys()
     ensures { SettledTextsAreKeys }
@@ -173,9 +175,10 @@ pub fn settled_texts_are_keys()
     round_is_normal_step();
 }
 
-/// The headline, all of these laws in one: every text is read or refused, in one way. A triple that is printed and read
-/// again is itself exactly outside five families. From each triple with a plain vendor that succeeds, is the normal step,
-/// keeps the four queries, and is settled after one round; and what is settled has a text of its own.
+/// The headline, all of these laws in one: every text parses or is refused, in exactly one way. A triple comes back
+/// exactly if it is in none of five families. The round trip of each triple with a plain vendor succeeds, is the
+/// normal step, keeps the answers of the four queries, and gives the canonical form; and each canonical triple has a
+/// text of its own.
 pub fn round_trips_are_known()
     ensures { RoundTripsAreKnown }
 {
@@ -187,14 +190,14 @@ pub fn round_trips_are_known()
     settled_texts_are_keys();
 }
 
-/// The text of a triple is another than by upstream's rules exactly where environment and format are unknown, another format
+/// The printed text of a triple differs from upstream's exactly if environment and format are unknown, another format
 /// is implied, and no special text is printed.
 #[tactic(auto, using(crate::proofs::Upstream::other_texts))]
 pub fn other_texts_than_upstream()
     ensures { OtherTextsThanUpstream }
 {}
 
-/// A list of triples that come back when they are printed and read, written as JSON and read, is itself and no other.
+/// A list of triples that come back, written as JSON, parses as itself and as no other list.
 pub fn lists_read_back()
     ensures { (ts us : List Values) →
         All ComesBack ts →
@@ -203,20 +206,19 @@ pub fn lists_read_back()
     one_outcome_each();
 }
 
-/// Two errors of a JSON value are equal, as `==` tells, exactly where both say that it is no text, or the same of its text.
+/// Two errors of a JSON value are equal exactly if both say that it is not a string, or the same about its text.
 pub fn json_errors_are_equal_by_value()
     ensures { (x y : JsonError) →
         IsTrue (⟦<JsonError as PartialEq>⟧.eq x y) ↔ (json_fault_of x ≡ json_fault_of y) }
 {}
 
-/// Two errors of a JSON list are equal, as `==` tells, exactly where they are of one kind, and of the same element with the
-/// same fault.
+/// Two errors of a JSON list are equal exactly if they are of one kind, with the same element and the same error of it.
 pub fn list_errors_are_equal_by_value()
     ensures { (x y : ListError) →
         IsTrue (⟦<ListError as PartialEq>⟧.eq x y) ↔ (list_fault_of x ≡ list_fault_of y) }
 {}
 
-/// A copy of a size, a data model or a calling convention is that value, and copying needs no memory.
+/// A copy of a size, a data model or a calling convention is that value, and copying allocates nothing.
 pub fn copies_are_their_sources()
     ensures size { CopiesAreTheirSources ⟦<Size as Clone>⟧.is_clone
         ⟦<Size as Clone>⟧.is_infallible }
@@ -226,15 +228,15 @@ pub fn copies_are_their_sources()
         ⟦<CallingConvention as Clone>⟧.is_infallible }
 {}
 
-/// Sizes, data models and calling conventions feed a hasher the same exactly where their variants are the same.
+/// Sizes, data models and calling conventions feed a hasher the same exactly if their variants are the same.
 pub fn answers_feed_by_variant()
     ensures size { HashInjective ⟦<Size as Hash>⟧.hash_input }
     ensures data_model { HashInjective ⟦<CDataModel as Hash>⟧.hash_input }
     ensures calling_convention { HashInjective ⟦<CallingConvention as Hash>⟧.hash_input }
 {}
 
-/// Two triples, with a default or without, feed a hasher the same exactly where their five values are the same; versions are those
-/// whose numbers fit their fields. What is fed behind a triple is told apart from what it feeds.
+/// Two triples, with a default or without, feed a hasher the same exactly if their five values are the same, and what
+/// is fed after a triple can be distinguished from what it feeds. This is said of triples whose version is in range.
 pub fn triples_feed_by_value()
     ensures triple { HashInjectiveOn (λ t. HasVersionInRange t.operating_system) values_of
         ⟦<Triple as Hash>⟧.hash_input }

@@ -1,9 +1,10 @@
-//! Target triples: read, printed and asked.
+//! Target triples: parsing, printing, queries and canonical forms.
 //!
-//! The calls of [`Triple`] stand in a file for each thing that is done with one:
-//! `triple` (the type, `unknown`, `clone`), `host`, `read` (`from_str`), `display` (`Display`, `to_text`, and which fields are
-//! shown), `special` (the two special texts), `queries` (byte order, pointer width, calling convention, data model), `settle`
-//! (`comes_back`, `normal`, `settle`), `settles_as`, `json`. `part` looks up one part of a text, and `dashes` finds where it ends; `default_format` is the implied format.
+//! The calls of [`Triple`] are in files by topic: `triple` (the type, `unknown`, `clone`), `host`, `read`
+//! (`from_str`), `display` (`Display`, `to_text`, and which fields are shown), `special` (the two special texts),
+//! `queries` (byte order, pointer width, calling convention, data model), `settle` (`comes_back`, `normal`,
+//! `settle`), `settles_as`, `json`. `part` looks up a part of a text, `dashes` finds its end, `default_format` has
+//! the implied format.
 #![tactic(auto)]
 
 mod calling_convention;

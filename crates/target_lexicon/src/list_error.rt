@@ -1,4 +1,4 @@
-//! Why a JSON value is refused as a list of triples.
+//! Why a JSON value doesn't parse as a list of triples.
 ghost use Rattle.std.specs.Prelude.{◌++◌, Some, codes};
 ghost use Rattle.std.specs.Fmt.{WritesStyledOnOk, decimal};
 ghost use Rattle.target_lexicon.specs.Json.{json_fault_of, json_fault_line};
@@ -7,14 +7,15 @@ use crate::json_error::JsonError;
 use lexicon_fields::write_decimal;
 use std::fmt;
 
-/// What is wrong with a JSON value that reads as no list of triples.
+/// Why a JSON value doesn't parse as a list of triples.
 #[derive(Debug, PartialEq, Eq, Drop)]
 pub enum ListError {
-    /// The value is no array.
+    /// The value is not an array.
     NotList,
-    /// The first element that is refused, counted from 0, and why; the memory for it may be what was refused.
+    /// The index of the first element that doesn't parse, counted from 0, and why: it is refused, or an allocation
+    /// failed.
     Element(usize, JsonError),
-    /// The memory for the list itself was refused.
+    /// An allocation for the list itself failed.
     OutOfMemory,
 }
 
@@ -34,7 +35,7 @@ impl fmt::Display for ListError {
     }
 }
 
-/// Writes which element is refused, and why.
+/// Writes which element doesn't parse, and why.
 fn write_element<W: fmt::Write>(
     f: &mut fmt::Formatter<W>,
     i: usize,

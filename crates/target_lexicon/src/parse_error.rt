@@ -1,4 +1,4 @@
-//! Why a text is refused as a triple.
+//! Why a text doesn't parse as a triple.
 ghost use Rattle.std.specs.Prelude.{◌≡◌, ◌++◌, Some, None, IfOk, IsOk};
 ghost use Rattle.std.specs.Fmt.{WritesStyledOnOk};
 
@@ -6,29 +6,29 @@ use std::alloc::{AllocError, Global};
 use std::error::Error;
 use std::fmt;
 
-/// What is wrong with a text that reads as no triple: the first part that can't be placed, and the field that it lacks.
+/// Why a text doesn't parse as a triple: the first part that has no place, and the field that was expected there.
 #[derive(Debug, PartialEq, Eq, Drop)]
 pub enum ParseError {
-    /// The first part reads as no architecture.
+    /// The first part is not an architecture.
     UnrecognizedArchitecture(String),
-    /// Behind the architecture, the part reads as no later field.
+    /// After the architecture, the part is no vendor and no later field.
     UnrecognizedVendor(String),
-    /// Behind the vendor, the part reads as no later field.
+    /// After the vendor, the part is no operating system and no later field.
     UnrecognizedOperatingSystem(String),
-    /// Behind the operating system, the part reads as no later field.
+    /// After the operating system, the part is no environment and no later field.
     UnrecognizedEnvironment(String),
-    /// Behind the environment, the part reads as no binary format.
+    /// After the environment, the part is no binary format.
     UnrecognizedBinaryFormat(String),
-    /// A part behind the binary format.
+    /// A part follows the binary format.
     UnrecognizedField(String),
-    /// The memory for a custom vendor's text or for the refused part was refused.
+    /// The allocation for a custom vendor's text or for the refused part failed.
     OutOfMemory,
 }
 
 impl ParseError {
     ghost use Rattle.target_lexicon.specs.Refusal.{refusal_of};
 
-    /// A copy. `Err` says that the memory for the part was refused.
+    /// A copy. `Err` if the allocation for the part fails.
     pub fn clone(&self, alloc: Global) -> Result<Self, AllocError>
         ensures same { IfOk result (λ copy. refusal_of copy ≡ refusal_of self.now) }
         ensures succeeds { refusal_of self.now ≡ None → IsOk result }
@@ -67,7 +67,7 @@ impl From<AllocError> for ParseError {
     }
 }
 
-/// What is refused, and the part.
+/// Writes the kind of a refusal and the part.
 fn write_refusal<W: fmt::Write>(f: &mut fmt::Formatter<W>, what: &str, part: &str) -> fmt::Result
     ensures { WritesStyledOnOk W.write_str_gives f.old result (what.now ++ part.now) f.new }
 {

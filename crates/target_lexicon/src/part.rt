@@ -2,7 +2,7 @@
 ghost use Rattle.std.specs.Prelude.{◌≡◌, ◌∷◌};
 ghost use Rattle.std.specs.Option.{ForSome};
 ghost use Rattle.target_lexicon.specs.Placement.{parts_of};
-ghost use Rattle.target_lexicon.specs.Private.{IsLookedUp, MarksDashes, parts_after_dash};
+ghost use Rattle.target_lexicon.specs.Private.{IsLookedUp, AreDashBits, parts_after_dash};
 
 use crate::dashes::{dash_in, dashes_at_end};
 use lexicon_fields::{
@@ -19,7 +19,7 @@ pub(crate) struct Part<'a> {
     pub after: Option<&'a str>,
     dashes_at_end: u64,
     ghost looked_up: { IsLookedUp text.now row },
-    ghost dashes_known: { ForSome after (λ rest. MarksDashes dashes_at_end rest.now) },
+    ghost dashes_known: { ForSome after (λ rest. AreDashBits dashes_at_end rest.now) },
 }
 
 /// The row of a text in the table of names.
@@ -31,9 +31,9 @@ fn row_of(text: &str) -> Option<FixedRow>
 
 /// Cuts a text at its first dash, the dashes of whose end are known.
 fn cut(text: &str, at_end: u64) -> (&str, Option<&str>)
-    requires { MarksDashes at_end text.now }
+    requires { AreDashBits at_end text.now }
     ensures parts { parts_of text.now ≡ result.0.now ∷ parts_after_dash result.1 }
-    ensures dashes_known { ForSome result.1 (λ rest. MarksDashes at_end rest.now) }
+    ensures dashes_known { ForSome result.1 (λ rest. AreDashBits at_end rest.now) }
 {
     match dash_in(text, at_end) {
         Some(at) => (&text[..at], Some(&text[at + 1..])),
@@ -69,7 +69,7 @@ impl<'a> Part<'a> {
 
     /// The first part of a text, the dashes of whose end are known.
     fn first_of(text: &'a str, dashes_at_end: u64) -> Self
-        requires { MarksDashes dashes_at_end text.now }
+        requires { AreDashBits dashes_at_end text.now }
         ensures { parts_of text.entry.now ≡ result.text.now ∷ parts_after_dash result.after }
     {
         let (first, after) = cut(text, dashes_at_end);

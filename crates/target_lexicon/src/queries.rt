@@ -1,4 +1,4 @@
-//! What a code generator asks of a triple.
+//! Queries for code generators.
 ghost use Rattle.std.specs.Prelude.{◌≡◌, ◌↔◌, IsErr, false};
 ghost use Rattle.lexicon_fields.specs.Names.{MatchesLookup};
 ghost use Rattle.target_lexicon.specs.Queries.{endianness, pointer_width, calling_convention, data_model, is_ilp32, model_64, model_32};
@@ -10,7 +10,7 @@ use crate::triple::Triple;
 use lexicon_fields::{Architecture, Endianness, Environment, OperatingSystem, PointerWidth};
 
 impl Triple {
-    /// The byte order, which is the architecture's; the architecture `Unknown` is refused.
+    /// The byte order of the architecture. `Err` for the architecture `Unknown`.
     pub fn endianness(&self) -> Result<Endianness, ()>
         ensures answer { MatchesLookup (endianness (values_of self.now)) result }
         ensures refusal { IsErr result ↔ (self.now.architecture ≡ Architecture.Unknown) }
@@ -18,9 +18,9 @@ impl Triple {
         self.architecture.endianness()
     }
 
-    /// The width of a pointer, which is the architecture's; but in the environments `Gnux32` and `GnuIlp32` a pointer
-    /// has 32 bits, whatever the architecture. In every other environment the architecture `Unknown` is refused.
-    #[tactic(auto, unfolding(crate::specs::Queries::width_in))]
+    /// The width of a pointer: 32 bits in the environments `Gnux32` and `GnuIlp32`, in every other environment the
+    /// width of the architecture. `Err` for the architecture `Unknown` in these other environments.
+    #[tactic(auto, unfolding(crate::specs::Queries::pointer_width))]
     pub fn pointer_width(&self) -> Result<PointerWidth, ()>
         ensures answer { MatchesLookup (pointer_width (values_of self.now)) result }
         ensures refusal { IsErr result
@@ -33,9 +33,9 @@ impl Triple {
         }
     }
 
-    /// The calling convention, which follows from the operating system; on systems like Darwin and those that run
-    /// WebAssembly the architecture decides too. Where no convention is known, as on `WasiP1`, `WasiP2`, `Illumos` and
-    /// `Cygwin`, the triple is refused.
+    /// The calling convention. It depends on the operating system, and on systems like Darwin and those that run
+    /// WebAssembly also on the architecture. `Err` if no convention is known, for instance on `WasiP1`, `WasiP2`,
+    /// `Illumos` and `Cygwin`.
     #[tactic(auto, unfolding(crate::specs::Queries::convention_on))]
     pub fn default_calling_convention(&self) -> Result<CallingConvention, ()>
         ensures { MatchesLookup (calling_convention (values_of self.now)) result }
@@ -90,9 +90,9 @@ impl Triple {
         }
     }
 
-    /// The data model of C, which follows from the pointer width, the operating system, the calling convention and the
-    /// architecture. Where no model is known, as for pointers of 16 bits, the triple is refused.
-    #[tactic(auto, unfolding(crate::specs::Queries::model_of))]
+    /// The data model of C. It depends on the pointer width, the operating system, the calling convention and the
+    /// architecture. `Err` if no model is known, for instance for pointers of 16 bits.
+    #[tactic(auto, unfolding(crate::specs::Queries::data_model))]
     pub fn data_model(&self) -> Result<CDataModel, ()>
         ensures { MatchesLookup (data_model (values_of self.now)) result }
     {
@@ -103,11 +103,9 @@ impl Triple {
         }
     }
 
-    /// The data model of pointers of 64 bits.
+    /// The data model for pointers of 64 bits.
     fn data_model_64(&self) -> Result<CDataModel, ()>
-        ensures { MatchesLookup
-            (model_64 self.now.operating_system (calling_convention (values_of self.now))
-            self.now.architecture) result }
+        ensures { MatchesLookup (model_64 self.now.architecture self.now.operating_system) result }
     {
         match self.operating_system {
             OperatingSystem::Windows => Ok(CDataModel::LLP64),
@@ -123,11 +121,9 @@ impl Triple {
         }
     }
 
-    /// The data model of pointers of 32 bits.
+    /// The data model for pointers of 32 bits.
     fn data_model_32(&self) -> Result<CDataModel, ()>
-        ensures { MatchesLookup
-            (model_32 self.now.operating_system (calling_convention (values_of self.now))
-            self.now.architecture) result }
+        ensures { MatchesLookup (model_32 self.now.architecture self.now.operating_system) result }
     {
         match self.operating_system {
             OperatingSystem::Windows => Ok(CDataModel::ILP32),

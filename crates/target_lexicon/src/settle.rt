@@ -1,11 +1,11 @@
-//! What printing and reading again keep of a triple: the five families that don't come back, and the normal step.
+//! Round trips of a triple: the five families that don't come back, the normal step, and the canonical form.
 ghost use Rattle.std.specs.Prelude.{◌≡◌, ◌↔◌, ◌⊎◌, true, IsTrue};
 ghost use Rattle.lexicon_fields.specs.Laws.{HasVersionInRange};
 ghost use Rattle.lexicon_fields.specs.Vendor.{is_plain, vendor_value};
 ghost use Rattle.lexicon_fields.specs.declared.vendor.Vendor.TheVariants.{Espressif};
 ghost use Rattle.target_lexicon.specs.FixedPoints.{settled_values};
 ghost use Rattle.target_lexicon.specs.Laws.{ComesBack};
-ghost use Rattle.target_lexicon.specs.NormalStep.{normal_step, are_newlib_elf, prints_as_special, hides_newlib, prints_the_esp_idf_text, shows_only_none, elf_if_unknown, is_in_no_family};
+ghost use Rattle.target_lexicon.specs.NormalStep.{normal_step, prints_as_special, hides_newlib, prints_the_esp_idf_text, shows_only_none, elf_if_unknown, is_in_no_family};
 ghost use Rattle.target_lexicon.specs.Printing.{text_of};
 ghost use Rattle.target_lexicon.specs.Reading.{ReadsAs};
 ghost use Rattle.target_lexicon.specs.Values.{values_of};
@@ -18,14 +18,15 @@ use lexicon_fields::{
 };
 
 impl Triple {
-    /// Whether the triple comes back: printed and read again, it is itself. No text is made, and no memory asked for.
+    /// Whether the triple comes back: printed and parsed again, it is itself. No text is made and nothing is allocated.
     ///
     /// A triple comes back unless it is in one of five families:
-    /// - The first three fields are those of `armv6k-nintendo-3ds` or `riscv32imc-esp-espidf`, and environment and format
-    ///   aren't `Newlib` and `Elf`.
-    /// - Vendor and system are those of one of these two, and the environment is `Newlib`, but the architecture is another.
+    /// - The first three fields are those of `armv6k-nintendo-3ds` or `riscv32imc-esp-espidf`, and environment and
+    ///   format aren't `Newlib` and `Elf`.
+    /// - Vendor and system are those of one of these two, and the environment is `Newlib`, but the architecture is
+    ///   another.
     /// - The text is `riscv32imc-esp-espidf`, but the vendor is the custom `esp`.
-    /// - On Clever with an unknown system, the environment is `None`, which reads as the system.
+    /// - On Clever with an unknown system, the environment is `None`, which parses as the system.
     /// - The vendor isn't plain.
     pub fn comes_back(&self) -> bool
         ensures { IsTrue result ↔ ComesBack (values_of self.now) }
@@ -35,10 +36,11 @@ impl Triple {
         self.is_in_no_family()
     }
 
-    /// The triple that this one's text reads as; the vendor must be plain, as that of every triple is that was read.
-    /// Nothing is copied, and no memory asked for.
+    /// The triple that this triple's printed text parses as. The vendor must be plain, as that of every parsed triple
+    /// is. Nothing is copied or allocated.
     ///
-    /// A triple that comes back stays as it is. Of the families of `comes_back`, the first of these cases holds:
+    /// A triple that comes back is unchanged. Otherwise the first of these cases that holds decides, by the families of
+    /// `comes_back`:
     /// - First: environment and format become `Newlib` and `Elf`.
     /// - Second: the environment becomes `Unknown`, and an `Unknown` format becomes `Elf`.
     /// - Third: the vendor becomes `Espressif`, environment and format become `Newlib` and `Elf`.
@@ -55,9 +57,9 @@ impl Triple {
         self.step()
     }
 
-    /// The triple that comes back after normal steps; one is enough. The vendor must be plain, as for `normal`.
-    /// Its text is its own among all such triples, so that it serves as a key. A triple that comes back stays as it is.
-    /// No memory is asked for.
+    /// The canonical form of the triple: the triple that comes back after normal steps, of which one is enough. The
+    /// vendor must be plain, as for `normal`. No other canonical triple has the same text, so the text serves as a
+    /// key. A triple that comes back is unchanged. Nothing is allocated.
     pub fn settle(self) -> Triple
         requires { is_plain (vendor_value self.vendor) ≡ true }
         ensures steps { values_of result ≡ settled_values (values_of self) }
@@ -106,78 +108,60 @@ impl Triple {
     }
 
     /// Whether a special text is printed, and environment and format aren't `Newlib` and `Elf`.
-    #[tactic(auto, unfolding(crate::specs::SpecialTexts::special_text))]
     pub(crate) fn prints_as_special(&self) -> bool
-        ensures { result
-            ≡ prints_as_special self.now.operating_system (vendor_value self.now.vendor)
-            self.now.architecture self.now.environment self.now.binary_format }
+        ensures { result ≡ prints_as_special (values_of self.now) }
     {
-        self.special_text().is_some() && !are_newlib_elf(self.environment, self.binary_format)
+        self.special_text().is_some()
+            && !matches!(
+                (self.environment, self.binary_format),
+                (Environment::Newlib, BinaryFormat::Elf)
+            )
     }
 
-    /// Whether `Newlib` isn't shown, and the text isn't special.
-    #[tactic(auto, unfolding(crate::specs::SpecialTexts::special_text, crate::specs::Printing::shows_environment))]
+    /// Whether the environment is a `Newlib` that isn't shown, and the text isn't special.
     pub(crate) fn hides_newlib(&self) -> bool
-        ensures { result
-            ≡ hides_newlib self.now.environment self.now.operating_system
-            (vendor_value self.now.vendor) self.now.architecture }
+        ensures { result ≡ hides_newlib (values_of self.now) }
     {
-        match self.environment {
-            Environment::Newlib => {
-                self.special_text().is_none() && !self.shows_environment(false)
-            }
-            _ => false,
-        }
+        self.implies_newlib()
+            && matches!(self.environment, Environment::Newlib)
+            && self.special_text().is_none()
     }
 
-    /// Whether the vendor is the custom `esp`, and the text the special one.
+    /// Whether the vendor is the custom `esp`, and the text is the special one.
     pub(crate) fn prints_the_esp_idf_text(&self) -> bool
-        ensures { result
-            ≡ prints_the_esp_idf_text self.now.environment self.now.binary_format
-            self.now.operating_system self.now.architecture (vendor_value self.now.vendor) }
+        ensures { result ≡ prints_the_esp_idf_text (values_of self.now) }
     {
         match (
-            self.environment,
-            self.binary_format,
-            self.operating_system,
             self.architecture,
             &self.vendor,
+            self.operating_system,
+            self.environment,
+            self.binary_format,
         ) {
             (
-                Environment::Unknown,
-                BinaryFormat::Elf,
-                OperatingSystem::Espidf,
                 Architecture::Riscv32(Riscv32Architecture::Riscv32imc),
                 Vendor::Custom(custom),
+                OperatingSystem::Espidf,
+                Environment::Unknown,
+                BinaryFormat::Elf,
             ) => custom.as_str() == "esp",
             _ => false,
         }
     }
 
-    /// Whether the environment `none` is shown alone, on Clever without a system.
+    /// Whether the environment `none` is shown without a system, on Clever.
     #[tactic(auto, unfolding(crate::specs::Printing::shows_operating_system))]
     pub(crate) fn shows_only_none(&self) -> bool
-        ensures { result
-            ≡ shows_only_none self.now.environment self.now.operating_system self.now.architecture }
+        ensures { result ≡ shows_only_none (values_of self.now) }
     {
         match self.environment {
-            Environment::None => !self.shows_operating_system(false),
+            Environment::None => !self.shows_operating_system(),
             _ => false,
         }
     }
 }
 
-/// Whether environment and format are those with which a special text reads.
-fn are_newlib_elf(environment: Environment, binary_format: BinaryFormat) -> bool
-    ensures { result ≡ are_newlib_elf environment binary_format }
-{
-    matches!(
-        (environment, binary_format),
-        (Environment::Newlib, BinaryFormat::Elf)
-    )
-}
-
-/// The format, or `Elf` for an unknown one.
+/// The format, with `Elf` for an unknown one.
 pub(crate) fn elf_if_unknown(binary_format: BinaryFormat) -> BinaryFormat
     ensures { result ≡ elf_if_unknown binary_format }
 {
@@ -187,7 +171,7 @@ pub(crate) fn elf_if_unknown(binary_format: BinaryFormat) -> BinaryFormat
     }
 }
 
-/// A version that a system holds is in range, by its types.
+/// The version of a system is in range, by its types.
 fn version_fits(operating_system: OperatingSystem)
     ensures { HasVersionInRange operating_system }
 {}

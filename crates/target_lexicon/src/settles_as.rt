@@ -1,4 +1,4 @@
-//! Whether two triples settle as one, told behind references.
+//! Whether two borrowed triples have the same canonical form.
 ghost use Rattle.std.specs.Prelude.{◌≡◌, ◌↔◌, true, IsTrue};
 ghost use Rattle.lexicon_fields.specs.Vendor.{vendor_value};
 ghost use Rattle.lexicon_fields.specs.declared.vendor.Vendor.TheVariants.{Espressif};
@@ -11,8 +11,7 @@ use crate::triple::Triple;
 use lexicon_fields::{BinaryFormat, Environment, OperatingSystem, Vendor};
 
 impl Triple {
-    /// Whether the two settle as one: true exactly where their settled triples are equal. Nothing is moved or copied,
-    /// and no memory asked for.
+    /// Whether both triples have the same canonical form. Nothing is moved, copied or allocated.
     pub fn settles_as(&self, other: &Triple) -> bool
         ensures { IsTrue result
             ↔ (settled_values (values_of self.now) ≡ settled_values (values_of other.now)) }
@@ -30,7 +29,7 @@ impl Triple {
     }
 }
 
-/// The vendor of the settled triple: the triple's own, or `espressif`.
+/// The vendor of the canonical triple: the triple's own, or `espressif`.
 #[tactic(auto, unfolding(crate::specs::NormalStep::normal_step))]
 fn settled_vendor<'a>(triple: &'a Triple, espressif: &'a Vendor) -> &'a Vendor
     requires { espressif.now ≡ Espressif }
@@ -43,7 +42,7 @@ fn settled_vendor<'a>(triple: &'a Triple, espressif: &'a Vendor) -> &'a Vendor
     }
 }
 
-/// Operating system, environment and binary format of the settled triple.
+/// Operating system, environment and binary format of the canonical triple.
 #[tactic(auto, unfolding(crate::specs::NormalStep::normal_step))]
 fn settled_fields(triple: &Triple) -> (OperatingSystem, Environment, BinaryFormat)
     ensures system { result.0 ≡ (normal_step (values_of triple.now)).operating_system }

@@ -40,23 +40,22 @@ impl Triple {
         }
     }
 
-    /// The special text that the triple prints, whatever its environment and its format.
+    /// The special text that the triple prints, if any. Environment and format don't matter.
     #[tactic(auto, unfolding(crate::specs::SpecialTexts::special_text))]
     pub(crate) fn special_text(&self) -> Option<&'static str>
         ensures { option_map {U = List ℕ} (λ text. text.now) result
-            ≡ special_text self.now.operating_system (vendor_value self.now.vendor)
-            self.now.architecture }
+            ≡ special_text (values_of self.now) }
     {
-        match (self.operating_system, &self.vendor, self.architecture) {
+        match (self.architecture, &self.vendor, self.operating_system) {
             (
-                OperatingSystem::Horizon,
-                Vendor::Nintendo,
                 Architecture::Arm(ArmArchitecture::Armv6k),
+                Vendor::Nintendo,
+                OperatingSystem::Horizon,
             ) => Some(NINTENDO_3DS),
             (
-                OperatingSystem::Espidf,
-                Vendor::Espressif,
                 Architecture::Riscv32(Riscv32Architecture::Riscv32imc),
+                Vendor::Espressif,
+                OperatingSystem::Espidf,
             ) => Some(ESP_IDF),
             _ => None,
         }

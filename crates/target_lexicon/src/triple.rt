@@ -1,22 +1,22 @@
-//! The triple, a value for each of its fields.
+//! The type [`Triple`].
 ghost use Rattle.std.specs.Prelude.{◌≡◌, IfOk, IsOk, false};
 ghost use Rattle.lexicon_fields.specs.Vendor.{owns_text};
 
 use lexicon_fields::{Architecture, BinaryFormat, Environment, OperatingSystem, Vendor};
 use std::alloc::{AllocError, Global};
 
-/// A target as LLVM names it: five fields, of which a text such as `x86_64-unknown-linux-gnu` shows some.
+/// A target triple, such as `x86_64-unknown-linux-gnu`. It has five fields, of which its text shows some.
 #[derive(Debug, PartialEq, Eq, Hash, Drop)]
 pub struct Triple {
-    /// The instruction set, with its sub-architecture where it has some.
+    /// The instruction set, with its sub-architecture if it has one.
     pub architecture: Architecture,
-    /// Who makes the platform, or a name that stands for a variant of it.
+    /// The maker of the platform, or a name for a variant of it.
     pub vendor: Vendor,
-    /// The operating system, for which `None_` says that there is none.
+    /// The operating system. `None_` is a target without one.
     pub operating_system: OperatingSystem,
-    /// The ABI or C library on the system; `Unknown` on most systems that have just one.
+    /// The ABI or C library on the system. `Unknown` on most systems that have only one.
     pub environment: Environment,
-    /// The format of object files, which mostly follows from the other fields.
+    /// The format of object files. The other fields mostly determine it.
     pub binary_format: BinaryFormat,
 }
 
@@ -36,7 +36,7 @@ impl Triple {
         }
     }
 
-    /// A copy, whose vendor owns its text where this one's does. `Err` says that the memory for that text was refused.
+    /// A copy. Its vendor owns its text if this one's does. `Err` if the allocation for that text fails.
     pub fn clone(&self, alloc: Global) -> Result<Self, AllocError>
         ensures values { IfOk result (λ copy. values_of copy ≡ values_of self.now) }
         ensures variant { IfOk result (λ copy. owns_text copy.vendor ≡ owns_text self.now.vendor) }

@@ -1,4 +1,4 @@
--- The elements so far read as the triples so far.
+-- The elements so far parse as the triples so far.
 use Rattle.std.proofs.Common.{◌≡◌, true, map, take, All}
 use Rattle.serde_json.specs.View.{items_view}
 use Rattle.lexicon_fields.specs.Vendor.{OwnsCustomText, is_plain, vendor_value}

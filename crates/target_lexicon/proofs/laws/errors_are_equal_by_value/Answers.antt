@@ -23,4 +23,4 @@ returns c (error.UnrecognizedEnvironment p) (error.UnrecognizedEnvironment q) = 
 returns c (error.UnrecognizedBinaryFormat p) (error.UnrecognizedBinaryFormat q) = same_part (Expects field.BinaryFormat) (string_bytes p) (string_bytes q)
 returns c (error.UnrecognizedField p) (error.UnrecognizedField q) = same_part ExpectsNone (string_bytes p) (string_bytes q)
 returns c error.OutOfMemory error.OutOfMemory = (λ _. refl, λ _. refl)
-returns c _ _ = (λ same. absurd (false≢true same), λ same. absurd (let lacks = ap expected_of same in cc))
+returns c _ _ = (λ same. absurd (false≢true same), λ same. absurd (let same_field = ap expected_of same in cc))

@@ -1,15 +1,15 @@
 use Rattle.std.proofs.Common.{ap}
 use Rattle.target_lexicon.specs.{Values.Values, Values.values, declared.triple.Triple.Triple}
-use Rattle.target_lexicon.proofs.FeedsTogether.{both_mark}
+use Rattle.target_lexicon.proofs.FeedsTogether.{both_distinguish}
 use Rattle.target_lexicon.proofs.laws.triples_feed_by_value.Goals as goal
 
 pub returns-clause-triple : goal.returns-clause-triple
 returns-clause-triple c =
     let law = c.values_feed_by_variant_and_fields.ensures in
-    let ends = both_mark (λ (t : Triple). t.environment) (λ t. t.binary_format) law.environment law.binary_format in
-    let systems = both_mark (λ (t : Triple). t.operating_system) (λ t. t) law.operating_system ends in
-    let vendors = both_mark (λ (t : Triple). t.vendor) (λ t. t) law.vendor systems in
-    let five = both_mark (λ (t : Triple). t.architecture) (λ t. t) law.architecture vendors in
+    let ends = both_distinguish (λ (t : Triple). t.environment) (λ t. t.binary_format) law.environment law.binary_format in
+    let systems = both_distinguish (λ (t : Triple). t.operating_system) (λ t. t) law.operating_system ends in
+    let vendors = both_distinguish (λ (t : Triple). t.vendor) (λ t. t) law.vendor systems in
+    let five = both_distinguish (λ (t : Triple). t.architecture) (λ t. t) law.architecture vendors in
     record {
       exactly = λ x y hx hy.
           let dashes_known = five.exactly x y (tt, (tt, (hx, (tt, tt)))) (tt, (tt, (hy, (tt, tt)))) in (

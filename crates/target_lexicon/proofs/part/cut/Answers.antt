@@ -1,7 +1,8 @@
 use Rattle.std.proofs.Common.{◌∙◌, ◌+◌, ℕ, Bor, List, sym, subst, arith}
 use Rattle.std.proofs.{lemmas.Option.same_Some, lemmas.Str.IsCharBoundary-before_ascii, lemmas.Str.lead_after_ascii}
-use Rattle.target_lexicon.specs.Private.{MarksDashes}
-use Rattle.target_lexicon.proofs.{DashBits.marks_after, Cuts.dash_at, Cuts.cut-found, Cuts.cut-whole}
+use Rattle.lexicon_fields.specs.Names.{dash}
+use Rattle.target_lexicon.specs.Private.{AreDashBits}
+use Rattle.target_lexicon.proofs.{DashBits.dash_bits_after, Cuts.dash_at, Cuts.cut-found, Cuts.cut-whole}
 use Rattle.target_lexicon.proofs.part.cut.Goals as goal
 
 pub range-requires-clause-end_boundary : goal.range-requires-clause-end_boundary
@@ -22,8 +23,8 @@ returns-in-Some-clause-parts c =
 pub returns-in-Some-clause-dashes_known : goal.returns-in-Some-clause-dashes_known
 returns-in-Some-clause-dashes_known c =
     let dash = dash_at c.args.text.now c.in-Some.at (sym c.dash_in.ensures ∙ c.in-Some.is) in
-    let dashes_known = marks_after c.args.at_end c.args.text.now c.range_from.result.now (c.in-Some.at + 1) (omega (arith, dash.0)) c.requires c.range_from.ensures.value in
-    λ rest is. subst (λ (text : Bor (List ℕ)). MarksDashes c.args.at_end text.now) (same_Some _ _ is) dashes_known
+    let dashes_known = dash_bits_after c.args.at_end c.args.text.now c.range_from.result.now (c.in-Some.at + 1) (omega (arith, dash.0)) c.requires c.range_from.ensures.value in
+    λ rest is. subst (λ (text : Bor (List ℕ)). AreDashBits c.args.at_end text.now) (same_Some _ _ is) dashes_known
 
 pub returns-in-None-clause-parts : goal.returns-in-None-clause-parts
 returns-in-None-clause-parts c = cut-whole c.args.text.now (sym c.dash_in.ensures ∙ c.in-None.is)

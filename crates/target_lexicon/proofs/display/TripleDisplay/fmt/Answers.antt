@@ -1,7 +1,7 @@
 use Rattle.std.proofs.Common.{rules}
 use Rattle.std.proofs.Output.{has_written_styled_append, has_written_styled_of_eq}
 use Rattle.target_lexicon.specs.Values.{values_of}
-use Rattle.target_lexicon.proofs.{Writes.plain_from_styled, Printed.prints_parts, Printed.prints_special}
+use Rattle.target_lexicon.proofs.{Writes.plain_from_styled, Printed.prints_parts, Printed.prints_unknowns, Printed.prints_special}
 use Rattle.target_lexicon.proofs.display.TripleDisplay.fmt.Goals as goal
 
 pub returns-in-Some-clause-styled : goal.returns-in-Some-clause-styled
@@ -11,6 +11,19 @@ returns-in-Some-clause-styled g c = λ flush ok.
 pub returns-in-Some-clause-writes : goal.returns-in-Some-clause-writes
 returns-in-Some-clause-writes g c = plain_from_styled _ _ _ _ _ (returns-in-Some-clause-styled g c)
 
+pub returns-then-shows_unknowns-clause-styled : goal.returns-then-shows_unknowns-clause-styled
+returns-then-shows_unknowns-clause-styled g c = λ flush ok.
+    let architecture = c.fmt.ensures.styled flush (search rules) in
+    let vendor = c.write_part.ensures architecture.flush (search rules) in
+    let operating_system = c.write_part-then-shows_unknowns.ensures vendor.flush (search rules) in
+    let unknowns = c.write_str-then-shows_unknowns.ensures.styled operating_system.flush ok in
+    has_written_styled_of_eq _ _ _ _ _
+    (rw c.shows_vendor.ensures (prints_unknowns (values_of c.args.self.now) (search rules) c.in_default.ensures))
+    (has_written_styled_append _ _ _ _ _ _ (has_written_styled_append _ _ _ _ _ _ (has_written_styled_append _ _ _ _ _ _ architecture vendor) operating_system) unknowns)
+
+pub returns-then-shows_unknowns-clause-writes : goal.returns-then-shows_unknowns-clause-writes
+returns-then-shows_unknowns-clause-writes g c = plain_from_styled _ _ _ _ _ (returns-then-shows_unknowns-clause-styled g c)
+
 pub returns-clause-styled : goal.returns-clause-styled
 returns-clause-styled g c = λ flush ok.
     let architecture = c.fmt.ensures.styled flush (search rules) in
@@ -19,7 +32,7 @@ returns-clause-styled g c = λ flush ok.
     let environment = c.write_part-3.ensures operating_system.flush (search rules) in
     let binary_format = c.write_part-4.ensures environment.flush ok in
     has_written_styled_of_eq _ _ _ _ _
-    (rw (c.shows_vendor.ensures, c.shows_operating_system.ensures, c.shows_environment.ensures, c.shows_binary_format.ensures) (prints_parts (values_of c.args.self.now) _ c.shows_unknowns-both.ensures c.in_default.ensures))
+    (rw (c.shows_vendor.ensures, c.shows_operating_system.ensures, c.shows_environment.ensures, c.shows_binary_format.ensures) (prints_parts (values_of c.args.self.now) (search rules) c.in_default.ensures))
     (has_written_styled_append _ _ _ _ _ _ (has_written_styled_append _ _ _ _ _ _ (has_written_styled_append _ _ _ _ _ _ (has_written_styled_append _ _ _ _ _ _ architecture vendor) operating_system) environment) binary_format)
 
 pub returns-clause-writes : goal.returns-clause-writes

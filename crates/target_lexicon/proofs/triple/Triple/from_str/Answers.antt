@@ -5,7 +5,7 @@ use Rattle.target_lexicon.specs.{declared.parse_error.ParseError.ParseError, dec
 use Rattle.target_lexicon.proofs.{Computed.Holds, Computed.parts-hold, ReadValues.read_plain}
 use Rattle.target_lexicon.proofs.triple.Triple.from_str.Goals as goal
 
--- the answer that is computed tells what the text reads as, or its fault
+-- the computed result is the triple that the text reads as, or its error
 decides : (text : List ℕ) (found : Result Values Refusal) (result : Result Triple ParseError) → Holds text found → IsAnswerOf found result
     → IfOk result (λ triple. ReadsAs text (values_of triple)) × IfErr result (λ error. IsErrorOf text error)
 decides text (Ok t) (Ok triple) h same = (rw same h, tt)
