@@ -98,19 +98,14 @@ fn is_passed_on(alloc: Global, piece: &[u8]) -> bool {
             }
 }
 
-#[test]
-fn an_empty_piece_is_passed_on(rt: HostRuntime) {
-    assert!(rt; is_passed_on(rt.alloc(), b""));
-}
-
 /// A prime number of bytes, of which neighbours differ.
 const LETTERS: &str = "abcdefghijklmnopqrstuvwxyzABCDEFGHIJKLMNOPQRSTUVWXYZ.";
 
-/// Lengths around those of usual buffers.
-const LENGTHS: [usize; 4] = [53, 4097, 65537, 300_000];
+/// No bytes, and lengths around those of usual buffers.
+const LENGTHS: [usize; 5] = [0, 53, 4097, 65537, 300_000];
 
 #[test]
-fn a_long_piece_is_passed_on_whole(rt: HostRuntime) -> Result<(), AllocError> {
+fn a_piece_of_any_length_is_passed_on_whole(rt: HostRuntime) -> Result<(), AllocError> {
     let letters = LETTERS.repeat(rt.alloc(), 6000)?;
     for length in LENGTHS {
         match letters.as_bytes().get(..length) {
@@ -121,11 +116,13 @@ fn a_long_piece_is_passed_on_whole(rt: HostRuntime) -> Result<(), AllocError> {
     Ok(())
 }
 
-/// Whether a read gives the reader all of this room.
+/// Whether a read is one read of the reader, which has all of this room and gives one byte.
 fn is_whole_room(room: &mut [u8]) -> bool {
     let length = room.len();
-    let mut reader = Counted::new(FaultyReader::sound(b"a"));
-    reader.read(room).is_ok() && reader.into_inner().room == length
+    let mut reader = Counted::new(FaultyReader::sound(b"ab"));
+    let count = reader.read(room).unwrap_or(usize::MAX);
+    let reader = reader.into_inner();
+    count == length.min(1) && reader.reads == 1 && reader.room == length
 }
 
 #[test]
