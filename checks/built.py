@@ -7,21 +7,27 @@ ROOT = os.path.dirname(os.path.dirname(os.path.realpath(__file__)))
 
 
 def newest_source():
-    found = 0
-    for at, folders, files in os.walk(f"{ROOT}/crates"):
+    """The time of the last change of a source."""
+    newest = 0
+    for folder, folders, files in os.walk(f"{ROOT}/crates"):
         folders[:] = [it for it in folders if it != "out"]
-        found = max([found, *(os.path.getmtime(f"{at}/{it}") for it in files if it.endswith((".rt", ".antt")))])
-    return found
+        sources = [it for it in files if it.endswith((".rt", ".antt"))]
+        newest = max([newest, *(os.path.getmtime(f"{folder}/{it}") for it in sources)])
+    return newest
 
 
 def program(check, crate, status=1):
-    """The path of a crate's program, which is built where it is missing or older than a source. Where that fails, the check ends."""
-    made = f"{ROOT}/crates/{crate}/out/{crate}"
-    if not os.path.exists(made) or os.path.getmtime(made) < newest_source():
+    """The path of a crate's program, which is built if it is missing or older than a source.
+
+    If the build fails, the check ends with the status.
+    """
+    path = f"{ROOT}/crates/{crate}/out/{crate}"
+    if not os.path.exists(path) or os.path.getmtime(path) < newest_source():
         print(f"{check}: building {crate}", flush=True)
-        ran = subprocess.run(["rt", "run"], cwd=f"{ROOT}/crates/{crate}", stdin=subprocess.DEVNULL, stdout=subprocess.DEVNULL)
-        if ran.returncode or not os.path.exists(made):
-            print(f"{check}: crates/{crate} is not built")
+        folder = f"{ROOT}/crates/{crate}"
+        ran = subprocess.run(["rt", "run"], cwd=folder, stdin=subprocess.DEVNULL, stdout=subprocess.DEVNULL)
+        if ran.returncode or not os.path.exists(path):
+            print(f"{check}: building crates/{crate} failed")
             sys.exit(status)
-        os.utime(made)
-    return made
+        os.utime(path)
+    return path

@@ -1,6 +1,6 @@
-/* Memory that refuses, to be preloaded. The request numbered REFUSE_FIRST is refused, and with REFUSE_REST=1 each later one too; the
-   requests are those for memory to begin with and for more of it. At the end their number goes to standard error, and the size of the
-   one that was refused first, or 0. */
+/* An allocator that fails, for LD_PRELOAD. It numbers the calls for memory and for more memory from 1. The call with the number
+   FAIL_AT fails, and with FAIL_LATER=1 each later call fails too. At the end it writes two numbers to standard error: how many
+   calls there were, and the size that the call FAIL_AT asked for, or 0 if there was no such call. */
 #include <errno.h>
 #include <stddef.h>
 #include <stdio.h>
@@ -11,8 +11,8 @@ extern void *__libc_calloc(size_t, size_t);
 extern void *__libc_realloc(void *, size_t);
 extern void *__libc_memalign(size_t, size_t);
 
-static unsigned long requests, first, refused_size;
-static int rest;
+static unsigned long allocations, fail_at, failed_size;
+static int fail_later;
 
 static unsigned long number(const char *name) {
     const char *text = getenv(name);
@@ -20,37 +20,37 @@ static unsigned long number(const char *name) {
 }
 
 __attribute__((constructor)) static void begin(void) {
-    first = number("REFUSE_FIRST");
-    rest = number("REFUSE_REST") == 1;
-    requests = 0;
-    refused_size = 0;
+    fail_at = number("FAIL_AT");
+    fail_later = number("FAIL_LATER") == 1;
+    allocations = 0;
+    failed_size = 0;
 }
 
-__attribute__((destructor)) static void end(void) { dprintf(2, "%lu %lu\n", requests, refused_size); }
+__attribute__((destructor)) static void end(void) { dprintf(2, "%lu %lu\n", allocations, failed_size); }
 
-static int is_refused(size_t size) {
-    requests++;
-    if (requests == first) {
-        refused_size = size;
+static int fails(size_t size) {
+    allocations++;
+    if (allocations == fail_at) {
+        failed_size = size;
     }
-    return first && (requests == first || (rest && requests > first));
+    return fail_at && (allocations == fail_at || (fail_later && allocations > fail_at));
 }
 
-static void *none(void) {
+static void *failure(void) {
     errno = ENOMEM;
     return NULL;
 }
 
-void *malloc(size_t size) { return is_refused(size) ? none() : __libc_malloc(size); }
-void *calloc(size_t count, size_t size) { return is_refused(count * size) ? none() : __libc_calloc(count, size); }
-void *realloc(void *old, size_t size) { return is_refused(size) ? none() : __libc_realloc(old, size); }
-void *memalign(size_t unit, size_t size) { return is_refused(size) ? none() : __libc_memalign(unit, size); }
-void *aligned_alloc(size_t unit, size_t size) { return memalign(unit, size); }
+void *malloc(size_t size) { return fails(size) ? failure() : __libc_malloc(size); }
+void *calloc(size_t count, size_t size) { return fails(count * size) ? failure() : __libc_calloc(count, size); }
+void *realloc(void *old, size_t size) { return fails(size) ? failure() : __libc_realloc(old, size); }
+void *memalign(size_t alignment, size_t size) { return fails(size) ? failure() : __libc_memalign(alignment, size); }
+void *aligned_alloc(size_t alignment, size_t size) { return memalign(alignment, size); }
 
-int posix_memalign(void **made, size_t unit, size_t size) {
-    void *block = memalign(unit, size);
+int posix_memalign(void **result, size_t alignment, size_t size) {
+    void *block = memalign(alignment, size);
     if (block) {
-        *made = block;
+        *result = block;
     }
     return block ? 0 : ENOMEM;
 }

@@ -1,4 +1,5 @@
-// What LLVM says of the triple on each line: byte order, pointer width and object format; `-` where it knows no architecture.
+// Writes what LLVM says of the triple on each line: byte order, pointer width and object format. If LLVM doesn't know the
+// architecture, it writes `-` for the first two.
 #if __has_include("llvm/TargetParser/Triple.h")
 #include "llvm/TargetParser/Triple.h"
 #else

@@ -1,4 +1,4 @@
-"""The lines and JSON lists that `compare_upstream` gives to both programs, made from a seed."""
+"""Makes the lines and the JSON lists that `compare_upstream` gives to both programs, from a seed."""
 import itertools
 import json
 import random
@@ -6,25 +6,30 @@ import string
 
 VENDOR_CHARACTERS = string.ascii_lowercase + string.digits + "_."
 
-# Limits of a version's parts (255 and 65535), digits in other spellings, and no numbers.
-VERSION_PARTS = """0 1 2 9 10 13 99 100 199 200 249 250 254 255 256 260 299 300 999 1000 6553 9999 10000 59999 65534 65535 65536 65540
-    65599 65600 66000 70000 99999 100000 4294967296 18446744073709551616 00 007 000255 0000256 00065535 +0 +7 +255 +65535 + ++1
-    a 1a a1 0x1 1e1 1_0 \u0663 \uff11""".split() + ["", " 1", "1 "]
+# Parts of a version: numbers at and around the limits 255 and 65535, other spellings of digits, and texts that are no
+# numbers.
+VERSION_PARTS = """0 1 2 9 10 13 99 100 199 200 249 250 254 255 256 260 299 300 999 1000 6553 9999 10000 59999 65534
+    65535 65536 65540 65599 65600 66000 70000 99999 100000 4294967296 18446744073709551616 00 007 000255 0000256
+    00065535 +0 +7 +255 +65535 + ++1 a 1a a1 0x1 1e1 1_0 \u0663 \uff11""".split() + ["", " 1", "1 "]
 
-ODD = ["", "-", "--", "\r", "\t", "\0", "\x0b", "\x1b[0m", "\x7f", " ", "\xa0", ".", "_", "+", "\\", '"', "\u00e9", "e\u0301", "\u0131",
-       "\u017f", "\u4e2d\u6587", "\u0438", "\u200b", "\u2010", "\u2028", "\ufeff", "\uff41", "\U0001f600", "x" * 300, "-" * 40, "3ds"]
+UNUSUAL_TEXTS = ["", "-", "--", "\r", "\t", "\0", "\x0b", "\x1b[0m", "\x7f", " ", "\xa0", ".", "_", "+", "\\", '"', "\u00e9",
+                 "e\u0301", "\u0131", "\u017f", "\u4e2d\u6587", "\u0438", "\u200b", "\u2010", "\u2028", "\ufeff",
+                 "\uff41", "\U0001f600", "x" * 300, "-" * 40, "3ds"]
 
-# Heads of the texts that don't come back, and of those near them; ANY is an architecture, ONE a vendor.
-FAMILIES = ["armv6k-nintendo-horizon", "armv6k-nintendo-3ds", "ANY-nintendo-horizon", "riscv32imc-espressif-espidf", "riscv32imc-esp-espidf",
-            "riscv32imc-esp", "ANY-esp-espidf", "ANY-espressif-espidf", "clever-ONE-unknown", "clever1.0-ONE", "clever-ONE-none",
-            "ANY-ONE-unknown", "ANY-unknown-unknown", "ANY-ONE-none", "wasm32-wasi", "ANY-ONE-wasip1", "ANY-linux", "unknown-ONE"]
+# Beginnings of texts of triples that don't come back, and of similar texts. ANY is an architecture, and ONE a vendor.
+FAMILIES = ["armv6k-nintendo-horizon", "armv6k-nintendo-3ds", "ANY-nintendo-horizon", "riscv32imc-espressif-espidf",
+            "riscv32imc-esp-espidf", "riscv32imc-esp", "ANY-esp-espidf", "ANY-espressif-espidf", "clever-ONE-unknown",
+            "clever1.0-ONE", "clever-ONE-none", "ANY-ONE-unknown", "ANY-unknown-unknown", "ANY-ONE-none",
+            "wasm32-wasi", "ANY-ONE-wasip1", "ANY-linux", "unknown-ONE"]
 
-ELEMENTS = ["7", "-0", "1.5e308", "1E400", "-1e999", "9" * 400, "null", "true", "{}", "[]", '{"a":["b",1]}', '"\\ud83d"', '"\\ude00\\ud83d"',
-            '"\\ud83d\\ude00"', '{"\\udc00":1}', '"x86_64\\u002dlinux"', '"\\n"', '"\\u0000"', '"\\x"', "01", "+1", ".5", "1.", "NaN", "'a'", ""]
+# Elements of JSON lists, and texts that are no JSON.
+ELEMENTS = ["7", "-0", "1.5e308", "1E400", "-1e999", "9" * 400, "null", "true", "{}", "[]", '{"a":["b",1]}',
+            '"\\ud83d"', '"\\ude00\\ud83d"', '"\\ud83d\\ude00"', '{"\\udc00":1}', '"x86_64\\u002dlinux"', '"\\n"',
+            '"\\u0000"', '"\\x"', "01", "+1", ".5", "1.", "NaN", "'a'", ""]
 
 
-def damaged(rng, text):
-    """The text with one thing changed."""
+def changed_text(rng, text):
+    """The text with one change: of a character, or of a part."""
     at = rng.randrange(len(text) + 1)
     parts = text.split("-")
     which = rng.randrange(len(parts))
@@ -40,28 +45,32 @@ def damaged(rng, text):
     if choice == 4:
         return text[:at] + text[at:at + 1].swapcase() + text[at + 1:]
     if choice == 5:
-        return text[:at] + rng.choice(ODD) + text[at:]
+        return text[:at] + rng.choice(UNUSUAL_TEXTS) + text[at:]
     return "-".join(parts[:which] + (parts[which:which + 1] * 2 if choice == 6 else []) + parts[which + 1:])
 
 
 def vendors(rng, names, n):
-    """The known vendors, and n texts that are custom vendors or nearly so."""
-    made = [rng.choice(string.ascii_lowercase) + "".join(rng.choices(VENDOR_CHARACTERS, k=rng.randrange(9))) for _ in range(n // 2)]
-    near = [damaged(rng, rng.choice(names.each)) for _ in range(n // 4)]
-    return names.vendors * (1 + n // len(names.vendors)) + made + near + [damaged(rng, it) for it in made[:n // 4]]
+    """The known vendors, and n texts that are custom vendors or similar to one."""
+    custom = [rng.choice(string.ascii_lowercase) + "".join(rng.choices(VENDOR_CHARACTERS, k=rng.randrange(9))) for _ in range(n // 2)]
+    similar = [changed_text(rng, rng.choice(names.each)) for _ in range(n // 4)]
+    changed = [changed_text(rng, it) for it in custom[:n // 4]]
+    return names.vendors * (1 + n // len(names.vendors)) + custom + similar + changed
 
 
-def of_table(rng, names, n):
-    """Every architecture with every system and every environment, each with some vendor and format."""
+def table_lines(rng, names, n):
+    """Every architecture with every system and every environment, each with a random vendor and format.
+
+    If there are more than n of them, it is a sample.
+    """
     rows = list(itertools.product(names.architectures, names.systems, names.environments))
     rows = rows if n >= len(rows) else rng.sample(rows, n)
-    some = rng.choices(["unknown"] * 10 + names.vendors + ["acme"], k=len(rows))
+    row_vendors = rng.choices(["unknown"] * 10 + names.vendors + ["acme"], k=len(rows))
     formats = rng.choices([""] * 6 + ["-" + it for it in names.formats], k=len(rows))
-    return [f"{a}-{v}-{s}-{e}{f}" for (a, s, e), v, f in zip(rows, some, formats)]
+    return [f"{a}-{v}-{s}-{e}{f}" for (a, s, e), v, f in zip(rows, row_vendors, formats)]
 
 
 def good(rng, names, n):
-    """The fields in their order, some left out."""
+    """Fields in their order, with some left out."""
     columns = [names.architectures, ["", "unknown"] * 200 + vendors(rng, names, 1000), ["", "unknown"] + names.systems,
                [""] * 20 + names.environments, [""] * 6 + names.formats]
     return ["-".join(filter(None, parts)) for parts in zip(*(rng.choices(it, k=n) for it in columns))]
@@ -76,89 +85,101 @@ def in_any_order(rng, names, n):
 
 
 def near_known(rng, names, n):
-    """Known triples with one or two things changed."""
-    once = [damaged(rng, it) for it in rng.choices(names.known, k=n)]
-    return [damaged(rng, it) if rng.random() < 0.3 else it for it in once]
+    """Known triples with one or two changes."""
+    once = [changed_text(rng, it) for it in rng.choices(names.known, k=n)]
+    return [changed_text(rng, it) if rng.random() < 0.3 else it for it in once]
 
 
 def versions(rng, names, n):
     """Systems with versions, at and around each limit."""
-    pieces = ["23"] * 20 + VERSION_PARTS
+    version_parts = ["23"] * 20 + VERSION_PARTS
     sizes = rng.choices([0, 1, 1, 1, 2, 2, 2, 3, 3, 3, 3, 4], k=n)
     heads = rng.choices(["aarch64-apple-", "x86_64-", "arm64-unknown-", "x86_64-linux-"], [6, 2, 2, 1], k=n)
     systems = rng.choices(names.versioned * 4 + names.systems, k=n)
     tails = rng.choices(["", "-sim", "-macho", "-macabi-elf", "-x"], [8, 1, 1, 1, 1], k=n)
-    return [head + system + ".".join(rng.choices(pieces, k=size)) + tail for head, system, size, tail in zip(heads, systems, sizes, tails)]
+    return [head + system + ".".join(rng.choices(version_parts, k=size)) + tail
+            for head, system, size, tail in zip(heads, systems, sizes, tails)]
 
 
 def hostile(rng, names, n):
-    """Odd characters, many dashes, long parts."""
-    parts = ODD * 3 + names.each
+    """Unusual characters, many dashes, long parts."""
+    parts = UNUSUAL_TEXTS * 3 + names.each
     sizes = rng.choices([0, 1, 2, 3, 4, 5, 8, 30], [1, 8, 8, 8, 8, 8, 4, 1], k=n)
-    joints = rng.choices(["-", "", "--"], [8, 3, 1], k=n)
-    return [joint.join(rng.choices(parts, k=size)) for joint, size in zip(joints, sizes)]
+    separators = rng.choices(["-", "", "--"], [8, 3, 1], k=n)
+    return [separator.join(rng.choices(parts, k=size)) for separator, size in zip(separators, sizes)]
 
 
 def families(rng, names, n):
-    """Texts of triples that don't come back, and of those near them."""
-    pool = [a.replace("ANY", any_one).replace("ONE", one) for a in FAMILIES
-            for any_one, one in zip(rng.sample(names.architectures, 60), rng.choices(names.vendors + ["unknown"] * 9 + ["esp", "acme"], k=60))]
-    environments = rng.choices(["", "-unknown", "-unknown", "-newlib", "-none"] * 12 + ["-" + it for it in names.environments], k=n)
+    """Texts of triples that don't come back, and similar texts."""
+    vendor_choices = names.vendors + ["unknown"] * 9 + ["esp", "acme"]
+    heads = [family.replace("ANY", architecture).replace("ONE", vendor) for family in FAMILIES
+             for architecture, vendor in zip(rng.sample(names.architectures, 60), rng.choices(vendor_choices, k=60))]
+    environment_choices = ["", "-unknown", "-unknown", "-newlib", "-none"] * 12 + ["-" + it for it in names.environments]
+    environments = rng.choices(environment_choices, k=n)
     formats = rng.choices([""] * 4 + ["-unknown"] * 8 + ["-" + it for it in names.formats], k=n)
-    return [head + e + f for head, e, f in zip(rng.choices(pool, k=n), environments, formats)]
+    return [head + e + f for head, e, f in zip(rng.choices(heads, k=n), environments, formats)]
 
 
 def repeats(rng, lines, n):
-    """Earlier lines again, some spelled otherwise."""
-    spell = [str, str, lambda it: it.replace("aarch64-", "arm64-"), lambda it: it.replace("-unknown-", "-", 1), lambda it: it + "-elf",
-             lambda it: it + "-unknown", lambda it: it[:-8] if it.endswith("-unknown") else it, lambda it: it + ".0"]
+    """Earlier lines again, some in another spelling."""
+    spellings = [str, str, lambda it: it.replace("aarch64-", "arm64-"), lambda it: it.replace("-unknown-", "-", 1),
+                 lambda it: it + "-elf", lambda it: it + "-unknown",
+                 lambda it: it[:-8] if it.endswith("-unknown") else it, lambda it: it + ".0"]
     few = rng.choices(lines, k=max(1, n // 3))
-    return [way(line) for way, line in zip(rng.choices(spell, k=n), rng.choices(few, k=n))]
+    return [spelling(line) for spelling, line in zip(rng.choices(spellings, k=n), rng.choices(few, k=n))]
 
 
+# The share of each kind. A kind's name is part of its seed, so another name gives other lines.
 KINDS = {good: 25, in_any_order: 18, near_known: 15, versions: 8, hostile: 6, families: 15}
 
 
 def lines(names, n, seed):
-    """The n lines of a seed: what is known as it stands, the table, some of each kind, and repeats; none holds a line feed."""
-    made = [*names.known, *names.each, *names.foreign][:n]
-    made += of_table(random.Random(f"table {seed}"), names, min(n // 5, n - len(made)))
-    left = (n - len(made)) * 9 // 10
+    """The n lines of a seed: the known triples and all names, the table, lines of each kind, and repeats.
+
+    No line has a line feed.
+    """
+    found = [*names.known, *names.each, *names.foreign][:n]
+    found += table_lines(random.Random(f"table {seed}"), names, min(n // 5, n - len(found)))
+    left = (n - len(found)) * 9 // 10
     for kind, share in KINDS.items():
-        made += kind(random.Random(f"{kind.__name__} {seed}"), names, left * share // sum(KINDS.values()))
+        found += kind(random.Random(f"{kind.__name__} {seed}"), names, left * share // sum(KINDS.values()))
     rng = random.Random(f"repeats {seed}")
-    made += repeats(rng, made or [""], n - len(made))
-    rng.shuffle(made)
-    return made
+    found += repeats(rng, found or [""], n - len(found))
+    rng.shuffle(found)
+    return found
 
 
-def escaped(rng, text):
-    """The text as JSON, at times with characters as escapes."""
+def json_string(rng, text):
+    """The text as a JSON string, in some cases with escapes."""
     if rng.random() < 0.7:
         return json.dumps(text, ensure_ascii=rng.random() < 0.5)
-    return '"' + "".join(f"\\u{ord(it):04x}" if ord(it) < 0x10000 and rng.random() < 0.3 else json.dumps(it)[1:-1] for it in text) + '"'
+    characters = (f"\\u{ord(it):04x}" if ord(it) < 0x10000 and rng.random() < 0.3 else json.dumps(it)[1:-1] for it in text)
+    return '"' + "".join(characters) + '"'
 
 
-def json_text(rng, any_lines, reading):
-    """One JSON text, or nearly: most are lists of texts, some with another element, nested deeply, cut or damaged."""
-    elements = [escaped(rng, it) for it in rng.choices(reading, k=rng.randrange(7))]
+def json_text(rng, any_lines, good_lines):
+    """A text that is JSON, or similar to it.
+
+    Most are lists of texts. Some have another element or deeply nested lists, are cut, or have a change.
+    """
+    elements = [json_string(rng, it) for it in rng.choices(good_lines, k=rng.randrange(7))]
     at, choice = rng.randrange(len(elements) + 1), rng.random()
     if choice < 0.2:
-        elements.insert(at, escaped(rng, rng.choice(any_lines)))
+        elements.insert(at, json_string(rng, rng.choice(any_lines)))
     elif choice < 0.5:
         elements.insert(at, rng.choice(ELEMENTS))
     elif choice < 0.6:
         depth = rng.choice([5, 100, 125, 126, 127, 128, 129, 200])
-        front = rng.choice(["[", '{"a":'])
-        elements.insert(at, front * depth + "1" + {"[": "]", "{": "}"}[front[0]] * depth)
+        opening = rng.choice(["[", '{"a":'])
+        elements.insert(at, opening * depth + "1" + {"[": "]", "{": "}"}[opening[0]] * depth)
     text = "[" + rng.choice([",", ", ", " ,\n\t"]).join(elements) + "]"
     if choice > 0.9:
-        text = rng.choice([text[:rng.randrange(len(text))], damaged(rng, text), text + text, "\ufeff" + text, " \r\n" + text + "\n", "",
-                           '{"a":' + text + "}", *elements, *ELEMENTS])
+        text = rng.choice([text[:rng.randrange(len(text))], changed_text(rng, text), text + text, "\ufeff" + text,
+                           " \r\n" + text + "\n", "", '{"a":' + text + "}", *elements, *ELEMENTS])
     given = text.encode()
     return given + b"\xff" if choice > 0.998 else given
 
 
-def json_texts(any_lines, reading, n, seed):
+def json_texts(any_lines, good_lines, n, seed):
     rng = random.Random(f"json {seed}")
-    return [json_text(rng, any_lines, reading) for _ in range(n)]
+    return [json_text(rng, any_lines, good_lines) for _ in range(n)]

@@ -1,27 +1,28 @@
-//! Upstream's crate behind the modes of the program `triples`; `checks/compare_upstream` builds and runs it.
+//! The line modes of the program `triples`, by upstream's crate. `checks/compare_upstream` builds and runs this driver.
 //!
 //! usage: upstream MODE [own]
 //!
-//! With `own`, triples print by upstream's rules alone. Without, an unknown environment and an unknown format are both shown
-//! where another format is implied. Besides the program's line modes: `hex` is `print` with texts and answers in hexadecimal,
-//! and `fields` tells for each line the fields that read it, by their first letters, or `-`.
+//! With `own`, triples print by upstream's rules only. Without it, an unknown environment and an unknown format are both
+//! shown if another format is implied. There are two more modes: `hex` is `print` with texts and answers in hexadecimal;
+//! `fields` writes for each line the first letters of the fields that can parse it, or `-`.
 use std::collections::HashSet;
 use std::io::{self, Read, Write};
 use target_lexicon::{Architecture, BinaryFormat, Environment, OperatingSystem, Triple, Vendor};
 
 fn print(triple: &Triple, own: bool) -> String {
     let text = triple.to_string();
-    let are_unknown = triple.environment == Environment::Unknown && triple.binary_format == BinaryFormat::Unknown;
-    // (a special text has no unknown part at its end)
-    let is_other = are_unknown && triple.implied_format() != BinaryFormat::Unknown && text.ends_with("-unknown");
-    if own || !is_other {
+    let both_unknown = triple.environment == Environment::Unknown && triple.binary_format == BinaryFormat::Unknown;
+    // A special text doesn't end with an unknown part.
+    let shows_both = both_unknown && triple.implied_format() != BinaryFormat::Unknown && text.ends_with("-unknown");
+    if own || !shows_both {
         return text;
     }
-    let is_system_left_out = triple.architecture.is_clever() && triple.operating_system == OperatingSystem::Unknown;
-    text + if is_system_left_out { "-unknown-unknown" } else { "-unknown" }
+    let omits_system = triple.architecture.is_clever() && triple.operating_system == OperatingSystem::Unknown;
+    text + if omits_system { "-unknown-unknown" } else { "-unknown" }
 }
 
-/// The triple that is left once printing and reading change nothing; none where a printed text doesn't read, or that never ends.
+/// Prints and parses the triple until that changes nothing, and returns it. Returns none if a printed text is refused, or
+/// if ten round trips aren't enough.
 fn settled(mut triple: Triple, own: bool) -> Option<Triple> {
     for _ in 0..10 {
         let next = print(&triple, own).parse().ok()?;
@@ -33,30 +34,30 @@ fn settled(mut triple: Triple, own: bool) -> Option<Triple> {
     None
 }
 
-fn word<T: std::fmt::Debug>(answer: Result<T, ()>) -> String {
+fn debug_word<T: std::fmt::Debug>(answer: Result<T, ()>) -> String {
     answer.map_or("-".to_string(), |it| format!("{it:?}"))
 }
 
 fn show(triple: &Triple, own: bool) -> String {
-    let order = word(triple.endianness()).to_lowercase();
-    let width = word(triple.pointer_width().map(|it| it.bits()));
-    let convention = word(triple.default_calling_convention());
-    format!("{} {order} {width} {convention} {}", print(triple, own), word(triple.data_model()))
+    let order = debug_word(triple.endianness()).to_lowercase();
+    let width = debug_word(triple.pointer_width().map(|it| it.bits()));
+    let convention = debug_word(triple.default_calling_convention());
+    format!("{} {order} {width} {convention} {}", print(triple, own), debug_word(triple.data_model()))
 }
 
 fn fields(text: &str) -> String {
-    let reads = [
+    let parses = [
         ('a', text.parse::<Architecture>().is_ok()),
         ('v', matches!(text.parse::<Vendor>(), Ok(it) if !matches!(it, Vendor::Custom(_)))),
         ('o', text.parse::<OperatingSystem>().is_ok()),
         ('e', text.parse::<Environment>().is_ok()),
         ('b', text.parse::<BinaryFormat>().is_ok()),
     ];
-    let letters: String = reads.iter().filter(|it| it.1).map(|it| it.0).collect();
+    let letters: String = parses.iter().filter(|it| it.1).map(|it| it.0).collect();
     if letters.is_empty() { "-".to_string() } else { letters }
 }
 
-fn of_hex(digits: &str) -> String {
+fn from_hex(digits: &str) -> String {
     let pairs = (0..digits.len()).step_by(2);
     let bytes = pairs.map(|at| u8::from_str_radix(&digits[at..at + 2], 16).expect("hexadecimal digits"));
     String::from_utf8(bytes.collect()).expect("UTF-8")
@@ -75,7 +76,7 @@ fn main() -> io::Result<()> {
     let mut seen = HashSet::new();
     let lines = (!input.is_empty()).then(|| input.strip_suffix('\n').unwrap_or(&input).split('\n'));
     for line in lines.into_iter().flatten() {
-        let text = if mode == "hex" { of_hex(line) } else { line.to_string() };
+        let text = if mode == "hex" { from_hex(line) } else { line.to_string() };
         let answer = match (mode, text.parse::<Triple>()) {
             ("fields", _) => fields(line),
             ("hex", Ok(triple)) => to_hex(&print(&triple, own)),

@@ -5,23 +5,24 @@ use serde_json::Value;
 use std::alloc::Global;
 use target_lexicon::{Triple, list_from_json, list_to_json};
 
-pub(crate) fn tell_values(rt: &impl Print, alloc: Global, list: &Value, values: &[Value]) {
-    for value in values {
-        tell_value(rt, alloc, value);
+/// Reports the parsing of each element, and then of the list that has these elements.
+pub(crate) fn report_parsed_list(rt: &impl Print, alloc: Global, list: &Value, elements: &[Value]) {
+    for element in elements {
+        report_parsed_element(rt, alloc, element);
     }
     report(rt, "list_from_json", list, &list_from_json(alloc, list));
 }
 
-fn tell_value(rt: &impl Print, alloc: Global, value: &Value) {
+fn report_parsed_element(rt: &impl Print, alloc: Global, element: &Value) {
     report(
         rt,
         "Triple::from_json",
-        value,
-        &Triple::from_json(alloc, value),
+        element,
+        &Triple::from_json(alloc, element),
     );
 }
 
-pub(crate) fn tell_triples(rt: &impl Print, alloc: Global, triples: &Vec<Triple>) {
-    let written = list_to_json(alloc, triples.as_slice());
-    report(rt, "list_to_json", triples, &written);
+pub(crate) fn report_printed_list(rt: &impl Print, alloc: Global, triples: &Vec<Triple>) {
+    let printed = list_to_json(alloc, triples.as_slice());
+    report(rt, "list_to_json", triples, &printed);
 }

@@ -1,8 +1,8 @@
-//! The line of a call.
+//! The line that reports a call.
 
 use std::fmt::Debug;
 
-/// Writes a call, what it was lent, as that is behind the call, and what it answered. A line that can't be written is lacking.
-pub(crate) fn report<L: Debug, A: Debug>(rt: &impl Print, call: &str, lent: &L, answer: &A) {
-    let _ = println!(rt; "{call} of {lent:?}: {answer:?}");
+/// Writes a call, its argument as it is after the call, and its result. A line that can't be written is left out.
+pub(crate) fn report<A: Debug, R: Debug>(rt: &impl Print, call: &str, argument: &A, returned: &R) {
+    let _ = println!(rt; "{call} of {argument:?}: {returned:?}");
 }

@@ -1,10 +1,10 @@
-//! The calls that read a text.
+//! The calls that parse a text.
 
 use crate::report::report;
 use std::alloc::Global;
 use target_lexicon::{Triple, Vendor};
 
-/// With a custom vendor, refused, and such as are read without memory.
+/// A text with a custom vendor, refused texts, and texts that are parsed without an allocation.
 const TRIPLES: &str = "x86_64-customvendor-linux\n\
     foo\n\
     x86_64-customvendor-linux-foo-bar\n\
@@ -13,14 +13,14 @@ const TRIPLES: &str = "x86_64-customvendor-linux\n\
     armv6k-nintendo-3ds\n\
     riscv32imc-esp-espidf";
 
-pub(crate) fn tell_readings(rt: &impl Print, alloc: Global) {
+pub(crate) fn report_parsing(rt: &impl Print, alloc: Global) {
     for text in TRIPLES.lines() {
-        tell_read_triple(rt, alloc, text);
+        report_parsed_triple(rt, alloc, text);
     }
-    tell_read_vendor(rt, alloc, "customvendor");
+    report_parsed_vendor(rt, alloc, "customvendor");
 }
 
-pub(crate) fn tell_read_triple(rt: &impl Print, alloc: Global, text: &str) {
+pub(crate) fn report_parsed_triple(rt: &impl Print, alloc: Global, text: &str) {
     report(
         rt,
         "Triple::from_str",
@@ -29,7 +29,7 @@ pub(crate) fn tell_read_triple(rt: &impl Print, alloc: Global, text: &str) {
     );
 }
 
-pub(crate) fn tell_read_vendor(rt: &impl Print, alloc: Global, text: &str) {
+pub(crate) fn report_parsed_vendor(rt: &impl Print, alloc: Global, text: &str) {
     report(
         rt,
         "Vendor::from_str",
