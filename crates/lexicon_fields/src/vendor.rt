@@ -43,13 +43,13 @@ impl CustomVendor {
         ensures succeeds { is_owned self.now ≡ false → IsOk result }
     {
         match self {
-            CustomVendor::Owned(text) => CustomVendor::owned(alloc, text.as_str()),
+            CustomVendor::Owned(text) => CustomVendor::owned_copy(alloc, text.as_str()),
             CustomVendor::Static(text) => Ok(CustomVendor::Static(text)),
         }
     }
 
     /// A custom vendor that owns a copy of the text.
-    fn owned(alloc: Global, text: &str) -> Result<Self, AllocError>
+    fn owned_copy(alloc: Global, text: &str) -> Result<Self, AllocError>
         ensures text { IfOk result (λ custom. custom_text custom ≡ text.now) }
         ensures owned { IfOk result (λ custom. is_owned custom ≡ true) }
     {
@@ -148,7 +148,7 @@ impl Vendor {
         if OperatingSystem::parse_darwin_like(s).is_some() {
             return Err(VendorError::Unrecognized);
         }
-        match CustomVendor::owned(alloc, s) {
+        match CustomVendor::owned_copy(alloc, s) {
             Ok(custom) => Ok(Vendor::Custom(custom)),
             Err(_) => Err(VendorError::OutOfMemory),
         }

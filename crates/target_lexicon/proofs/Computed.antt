@@ -11,21 +11,21 @@ use Rattle.target_lexicon.proofs.{Cuts.parts_of-are, Cuts.parts_of-some, Greedy.
 use Rattle.target_lexicon.specs.Values.operating_system
 use Rattle.target_lexicon.specs.Values.environment
 
--- what stands of the values, where these parts stand for these fields
+-- what holds for the values, where these parts are of these fields
 abbrev Claim : Type 1
 Claim = List (List ℕ) → List Field → Values → Type 0
 
--- what reading these fields gives behind `last`: values of which this stands, where they take every part, or the
--- refusal of the first part that they leave
+-- what reading these fields after `last` gives: values for which the claim holds, where they take every part; or
+-- the refusal of the first part that they leave
 abbrev Gives : List Field → Field → List (List ℕ) → Claim → Result Values Refusal → Type 0
 Gives fs last ps P (Ok t) = (unread fs ps ≡ []) × P ps (filled fs ps) t
 Gives fs last ps P (Err x) = (q : List ℕ) × (rest : List (List ℕ)) × (unread fs ps ≡ q ∷ rest) × (x ≡ refusal_with (expected_after (last_of last (filled fs ps))) q)
 
--- the field has the value of its part, of which the rest stands
+-- the field has the value of its part, for which the rest holds
 abbrev HasValue : {A : Type 0} → Field → (List ℕ → Option A) → A → (A → Claim) → Claim
 HasValue {A} f find d P ps gs t = (x : A) × IsValueOf find d (part_at f ps gs) x × P x ps gs t
 
--- a field has no part in a placement behind it
+-- a field has no part in a placement after it
 part_at-after : (f l : Field) (ps : List (List ℕ)) (gs : List Field) → place f ≤ place l → IsPlacedAfter l ps gs → part_at f ps gs ≡ None
 part_at-after f l [] gs h w = refl
 part_at-after f l (p ∷ ps) [] h w = refl
@@ -34,7 +34,7 @@ part_at-after f l (p ∷ ps) (g ∷ gs) h w =
     let before : place f ≤ place g = omega (arith, h, w.0) in
     rw other (part_at-after f g ps gs before w.2)
 
--- the step of a field, where `read` reads the fields behind it
+-- the step of a field, where `read` reads the fields after it
 module _ {A : Type 0} (f : Field) (find : List ℕ → Option A) (is_read : (p : List ℕ) → reads f p ≡ is_some (find p)) (fs : List Field) (in_order : Follows f fs) (d : A)
     (P : A → Claim) (others : (x : A) (p : List ℕ) (ps : List (List ℕ)) (gs : List Field) (t : Values) → P x ps gs t → P x (p ∷ ps) (f ∷ gs) t)
     (read : A → Field → List (List ℕ) → Result Values Refusal) (gives : (x : A) (last : Field) (ps : List (List ℕ)) → Gives fs last ps (P x) (read x last ps)) where
@@ -62,7 +62,7 @@ module _ {A : Type 0} (f : Field) (find : List ℕ → Option A) (is_read : (p :
           let skips : reads f p ≡ false = is_read p ∙ ap is_some is in
           leaves last (p ∷ ps) _ (rw skips refl) (rw skips refl) (gives d last (p ∷ ps))
 
--- the values of the fields behind the architecture, from the last field backwards
+-- the values of the fields after the architecture, from the last field backwards
 abbrev HasFormat : AnyArchitecture → VendorValue → AnySystem → AnyEnvironment → Claim
 HasFormat a v s e = HasValue BinaryFormat binary_format_of (implied_format a s e) (λ f ps gs t. t ≡ values a v s e f)
 
@@ -91,7 +91,7 @@ vendor-gives a =
     step BinaryFormat binary_format_of (λ p. refl) [] refl _ (λ f ps gs t. t ≡ values a v s e f)
     (λ x p ps gs t h. h) (λ f. finish (values a v s e f)) (λ f. finish-gives (values a v s e f))))) Architecture
 
--- what stands of a text: the function gives what it reads as, or how it is refused
+-- what holds for a text: the function gives what it reads as, or how it is refused
 abbrev pub Holds : List ℕ → Result Values Refusal → Type 0
 Holds text found = MatchResult found (λ t. ReadsAs text t) (λ refusal. IsRefusedAs text refusal)
 

@@ -9,7 +9,7 @@ use Rattle.target_lexicon.proofs.Vendors.{admitted-reads}
 pub without_row : (text : List ℕ) (row : Option FixedRow) → IsLookedUp text row → row ≡ None → has_row text ≡ false
 without_row text row looked is = sym looked.known ∙ ap is_some is
 
--- memory is wanted for an admitted part, which reads as a custom vendor
+-- only an admitted part may allocate: it reads as a custom vendor
 pub may_allocate : {T E : Type 0} (r : Result T E) (last : Field) (parts : List (List ℕ)) (p : List ℕ) (ps : List (List ℕ)) → parts ≡ p ∷ ps → is_admitted p ≡ true
     → OnErr r (IsCustom (take_part Vendor vendor_of (Known Unknown) last parts).0)
 may_allocate (Ok _) last parts p ps are admitted = tt

@@ -44,7 +44,7 @@ abbrev pub read_vendor : Architecture → List (List ℕ) → Result Values Refu
 read_vendor a parts =
     let v = take_part field.Vendor vendor_of (Known Unknown) field.Architecture parts in read_operating_system a v.0 v.1 v.2
 
--- the parts behind an architecture, and the refusal of a part that is none
+-- the parts after an architecture, and the refusal of a part that is none
 abbrev pub read_after : Option Architecture → List ℕ → List (List ℕ) → Result Values Refusal
 read_after (Some a) p ps = read_vendor a ps
 read_after None p ps = Err (refusal_with (Expects field.Architecture) p)
@@ -62,7 +62,7 @@ read_unless_special None text = read_parts (parts_of text)
 unfoldable pub reading : List ℕ → Result Values Refusal
 reading text = read_unless_special (special_values text) text
 
--- the triple or the refusal that was found; in its place want of memory, which names no refusal, but never of a
+-- the triple or the refusal that was found; or `OutOfMemory` instead, which names no refusal, but never of a
 -- triple with a known vendor
 abbrev pub IsAnswerOf : Result Values Refusal → Result Triple ParseError → Type 0
 IsAnswerOf (Ok t) (Ok triple) = values_of triple ≡ t
@@ -70,7 +70,7 @@ IsAnswerOf (Ok t) (Err error) = (refusal_of error ≡ None) × IsCustom t.vendor
 IsAnswerOf (Err refusal) (Ok triple) = ⊥
 IsAnswerOf (Err refusal) (Err error) = IfSome (refusal_of error) (λ other. other ≡ refusal)
 
--- a result that tells what the text reads as, or its fault, is the answer that `reading` gives
+-- a result that is what the text reads as, or its error, is the answer that `reading` gives
 abbrev pub AnswersAreComputed : Type 0
 AnswersAreComputed = (text : List ℕ) (result : Result Triple ParseError)
     → IfOk result (λ triple. ReadsAs text (values_of triple)) → IfErr result (λ error. IsErrorOf text error) → IsAnswerOf (reading text) result

@@ -11,7 +11,7 @@ use lexicon_fields::{
 };
 use std::alloc::{AllocError, Global};
 
-/// A part of a text, its row in the table of names, what is behind its dash, and the dashes of the text's end.
+/// A part of a text, its row in the table of names, what follows its dash, and the dashes of the text's end.
 #[derive(Clone, Copy)]
 pub(crate) struct Part<'a> {
     pub text: &'a str,
@@ -57,7 +57,7 @@ impl<'a> Part<'a> {
         Part::first_of(text, dashes_at_end(text))
     }
 
-    /// The part behind the dash.
+    /// The part after the dash.
     pub(crate) fn next(&self) -> Option<Self>
         ensures { parts_left result ≡ parts_after_dash self.now.after }
     {
@@ -88,7 +88,7 @@ impl<'a> Part<'a> {
         self.row?.architecture
     }
 
-    /// A part that has no row may be a custom vendor. `Err` says that the memory for its text was refused.
+    /// A part that has no row may be a custom vendor. `Err` says that allocating its text failed.
     pub(crate) fn vendor(&self, alloc: Global) -> Result<Option<Vendor>, AllocError>
         ensures ok { IfOk result
             (λ vendor. option_map vendor_value vendor ≡ vendor_of self.now.text.now) }

@@ -76,8 +76,8 @@ struct PartCursor<'a> {
 }
 
 impl<'a> PartCursor<'a> {
-    /// Takes the first part for the vendor, if it reads as one. `Err` says that the memory for a custom
-    /// vendor was refused.
+    /// Takes the first part for the vendor, if it reads as one. `Err` says that allocating a
+    /// custom vendor failed.
     fn take_vendor(&mut self, alloc: Global) -> Result<Option<Vendor>, AllocError>
         ensures ok { IfOk result
             (λ vendor.
@@ -87,7 +87,8 @@ impl<'a> PartCursor<'a> {
         ensures owned { IfOk result (λ vendor. IfSome vendor OwnsCustomText) }
         ensures memory { OnErr result
             (IsCustom
-            (take_part field.Vendor vendor_of (Known Unknown) (field_of self.old.last) (parts_left self.old.parts)).0) }
+            (take_part field.Vendor vendor_of (Known Unknown) (field_of self.old.last)
+            (parts_left self.old.parts)).0) }
     {
         let Some(part) = self.parts else {
             return Ok(None);
@@ -115,7 +116,7 @@ impl<'a> PartCursor<'a> {
     }
 }
 
-/// The refusal of the part that is left behind this field.
+/// The refusal of the part that is left after this field.
 fn refusal(part: String, last: Field) -> ParseError
     ensures { refusal_of result
         ≡ Some (refusal_with (expected_after (field_of last)) (string_bytes part)) }
@@ -134,13 +135,13 @@ impl Triple {
     ///
     /// The texts `armv6k-nintendo-3ds` and `riscv32imc-esp-espidf` have a triple of their own. Any other
     /// text is cut at its dashes. The first part is the architecture. Each other part is taken by the
-    /// first field that it reads as, of those behind the last one taken: vendor, operating system,
+    /// first field that it reads as, of those after the last one taken: vendor, operating system,
     /// environment, binary format. A field without a part is `Unknown`, and a missing binary format is
     /// the one that the other fields imply.
     ///
-    /// The first part that no field takes is refused, as the architecture or as the field behind the
-    /// last one taken; behind the binary format, as `UnrecognizedField`. `OutOfMemory` says that the
-    /// memory for a custom vendor or for the refused part was refused; nothing else wants any.
+    /// The first part that no field takes is rejected, as the architecture or as the field after the
+    /// last one taken; after the binary format it is an `UnrecognizedField`. `OutOfMemory` says that
+    /// allocating a custom vendor or the rejected part failed; nothing else is allocated.
     pub fn from_str(alloc: Global, text: &str) -> Result<Triple, ParseError>
         ensures ok { IfOk result (λ triple. ReadsAs text.now (values_of triple)) }
         ensures owned { IfOk result (λ triple. OwnsCustomText triple.vendor) }

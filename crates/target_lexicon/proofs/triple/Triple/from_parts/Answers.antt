@@ -5,7 +5,7 @@ use Rattle.target_lexicon.specs.{Values.Known, Values.Values, GreedyReading.IsAn
 use Rattle.target_lexicon.specs.declared.parse_error.ParseError.TheVariants as error
 use Rattle.target_lexicon.proofs.triple.Triple.from_parts.Goals as goal
 
--- want of memory answers for a triple with a custom vendor, and for a refusal
+-- `OutOfMemory` is an answer for a triple with a custom vendor
 memory_answers : (t : Values) (last : Field) (parts : List (List ℕ)) (r : Result Triple ParseError) → IsErrAnd r (λ e. e ≡ error.OutOfMemory) → IsCustom t.vendor
     → IsAnswerOf (finish t last parts) r
 memory_answers t last parts (Ok triple) is custom = absurd is
