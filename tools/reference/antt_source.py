@@ -9,7 +9,7 @@ BLOCK = re.compile(rf"(?P<marks>{MARKS})(?P<kind>data|record) (?P<name>{NAME})")
 SIGNATURE = re.compile(rf"(?P<marks>{MARKS})(?P<name>{NAME})(?: \{{[^}}:]*\}})? :(?:\s|$)")
 USE = re.compile(r"(?P<marks>pub )?use (?P<path>[^\s{]+?)(?:\.\{(?P<names>.*)\})?(?: as (?P<alias>\S+))?$", re.DOTALL)
 MODULE = re.compile(r"(?:pub )?mod (?P<name>\S+)$")
-MEMBER = re.compile(rf"  (?:pub )?(?P<name>{NAME}) :(?:\s|$)")
+MEMBER = re.compile(rf"  (?:pub )?(?P<names>{NAME}(?: {NAME})*) :(?:\s|$)")
 OTHER = ("infix", "ruleset ", "pub ruleset ")
 
 
@@ -153,8 +153,9 @@ def block_members(lines, number):
         match = MEMBER.match(line)
         if line.strip().startswith("--"):
             comment.append(line)
-        elif match and match["name"] not in ("constructor", "where"):
-            members.append(Member(match["name"], comment_text(comment), line.strip(), number + offset))
+        elif match:
+            for name in match["names"].split():
+                members.append(Member(name, comment_text(comment), line.strip(), number + offset))
             comment = []
         else:
             comment = []
