@@ -211,6 +211,31 @@ class Kit:
         above = [line for line in lines[:first] if not line.strip().startswith("#[")]
         return [""] * (first - len(above)) + above + lines[first:]
 
+    def field(self, name, words):
+        """A field that one of these words declares, or a record beside it."""
+        pattern = re.compile(rf"\s+(?:pub )?(?:ghost )?{re.escape(name)} ?:")
+        for word in words:
+            if any(pattern.match(line) for line in word.text.split("\n")):
+                return self.new_word(name, "field", f"{word.home}.{word.name}", word.text, word.comment, word.source)
+        for home in dict.fromkeys(tuple(word.home.split(".")) for word in words):
+            file = self.module_file(home)
+            found = file and self.block_member(self.text(file).split("\n"), name)
+            if found:
+                return self.word_in(home, name)
+        return None
+
+    def field_of_type(self, name, types):
+        """A field that a Rattle type of the kit has, of one of these names; one that only contracts see comes first."""
+        if self.folder is None:
+            return self.bare_word(("field", name)) if types else None
+        for type_name in types:
+            found = self.rust_item("std", rf"pub struct {type_name}\b", "")
+            line = found and re.search(rf"^\s+pub ghost {re.escape(name)}:.*$", found[0], re.MULTILINE)
+            if line:
+                text = found[0].split("\n")[0] + "\n" + line.group()
+                return self.new_word(name, "field", f"std.{type_name}", text, "", found[2])
+        return None
+
     def trait_member(self, trait, member):
         """A ghost member of one of the kit's traits of this name."""
         if self.folder is None:

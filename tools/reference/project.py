@@ -6,7 +6,7 @@ from dataclasses import dataclass, field
 from antt_source import read_antt
 from lexing import rust_tokens
 from rattle_source import read_rattle
-from words import Module, Problems, Word, notation_words
+from words import WORDS_PAGE, Module, Problems, Word, notation_words
 
 
 @dataclass
@@ -82,6 +82,7 @@ class Project:
         self.words = []
         self.members = {}
         self.methods = {}
+        self.shared_fields = {}
         self.notation = notation_words()
         self.crates = {}
         for name, uses in self.listed_crates():
@@ -112,6 +113,13 @@ class Project:
         owner.members[name] = word
         self.members.setdefault(name, []).append(word)
         return self.add(word)
+
+    def several(self, name, words):
+        """The entry of a name that is a field of several types, where the source does not say of which."""
+        word = Word(name, "field", "several types", WORDS_PAGE, f"field {name}".replace(" ", "-"))
+        word.comment = "A field of " + ", ".join(sorted(f"{other.owner.name}" for other in words))
+        word.members = {f"{other.home}": other for other in words}
+        return self.shared_fields.setdefault(name, word)
 
     # Rattle sources
 

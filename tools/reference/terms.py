@@ -147,13 +147,13 @@ def explicit_types(signature):
     term = Term(signature)
     types = []
     start = depth = 0
-    for index in range(len(term) + 1):
+    for index in range(len(term)):
         text = term.text_at(index)
-        depth += (text in OPENING) - (text in OPENING.values() and text != "")
-        if depth == 0 and text in ("→", ""):
+        depth += (text in OPENING) - (text in OPENING.values())
+        if depth == 0 and text == "→":
             types += argument_types(term, start, index)
             start = index + 1
-    return types[:-1]
+    return types
 
 
 def argument_types(term, start, end):

@@ -105,6 +105,7 @@ NOTATION = {
 }
 REFERENCES = ("now", "old", "new", "entry", "exit")
 GLOSSARY_PAGE = "glossary.html"
+WORDS_PAGE = "words.html"
 
 
 def notation_words():

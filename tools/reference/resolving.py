@@ -1,0 +1,265 @@
+"""Finds what each word of a term means, and cuts the term into pieces that a page can show with links."""
+
+from dataclasses import dataclass
+
+from fields import FieldFinder
+from lexing import Token, line_number, rust_tokens
+from scopes import ContractScope, plain, result_type
+from terms import OPENING, SYMBOLS, Binder, Term
+from words import REFERENCES, Module, Variable, Word
+
+KEYWORDS = ("pub", "abbrev", "unfoldable", "pattern", "data", "record", "where", "axiom", "unfolding", ":", "=")
+PATTERN_KINDS = ("constructor", "variant", "word of Rattle")
+
+
+@dataclass
+class Piece:
+    """A stretch of source: its text, the word that it means, and how it is shown."""
+
+    text: str
+    word: object = None
+    style: str = ""
+
+
+class Resolver:
+    """Resolves the terms of one definition, or of one item's contract."""
+
+    def __init__(self, project, scope, text, place, context):
+        self.project = project
+        self.scope = scope
+        self.text = text
+        self.place = place
+        self.context = context
+        self.fields = FieldFinder(project, scope)
+        self.record_fields = {}
+        self.made = []
+        self.trait = ""
+        self.is_rehearsal = False
+
+    @property
+    def cited(self):
+        return self.fields.cited
+
+    def report(self, token, name):
+        if not self.is_rehearsal:
+            line = line_number(self.text, token.start)
+            self.project.problems.add(self.place(line), f"`{name}` in {self.context} is defined nowhere")
+
+    def cite(self, word):
+        if isinstance(word, Word):
+            self.fields.cite(word)
+        return word
+
+    def pieces(self, term):
+        self.term = term
+        self.fields.type_texts += [binder.variable.type for binder in term.binders if binder.variable.type]
+        pieces = []
+        index = 0
+        for token in term.all_tokens:
+            if token.kind in ("space", "comment"):
+                pieces.append(Piece(token.text, None, "comment" if token.kind == "comment" else ""))
+            else:
+                pieces += self.token_pieces(token, index)
+                index += 1
+        return pieces
+
+    def token_pieces(self, token, index):
+        if token.kind == "rust":
+            return self.implementation_pieces(token)
+        if token.kind == "path":
+            return self.path_pieces(token, index)
+        return [Piece(token.text, None, token.kind if token.kind in ("string", "number") else "")]
+
+    def implementation_pieces(self, token):
+        """The pieces of `⟦<T as Trait>⟧`."""
+        pieces = []
+        for inner in rust_tokens(token.text):
+            word = None
+            if inner.kind == "name" and inner.text != "as" and isinstance(self.scope, ContractScope):
+                is_trait = any(piece.text == "as" for piece in pieces)
+                word = self.scope.trait_word(inner.text) if is_trait else self.scope.rust_word(inner.text)
+                if word is None:
+                    self.report(token, inner.text)
+                self.trait = inner.text
+            pieces.append(Piece(inner.text, self.cite(word)))
+        return pieces
+
+    def path_pieces(self, token, index):
+        names = token.text.split(".")
+        if names[0] == "":
+            return self.after_expression(token, names[1:], index)
+        head = names[0]
+        if token.text in SYMBOLS or head in KEYWORDS and self.is_keyword(token, index):
+            return [Piece(token.text, self.notation(head), "keyword" if head in KEYWORDS else "")]
+        if self.term.is_named_argument(index):
+            return [Piece(token.text, None, "variable")]
+        if self.term.is_field_of_record(index):
+            return [Piece(token.text, self.cite(self.field(token, self.made, head)))]
+        variable = self.term.variable(plain(head), index) or self.scope.variable(plain(head))
+        if variable is not None:
+            return self.variable_pieces(token, variable, names)
+        return self.word_pieces(token, names)
+
+    def is_keyword(self, token, index):
+        return token.text != "record" or self.term.text_at(index + 1) != "{" and self.term.text_at(index + 2) != "{"
+
+    def notation(self, name):
+        return self.project.notation.get(name)
+
+    def after_expression(self, token, names, index):
+        """The pieces of `.name` after a bracket or an implementation."""
+        previous = self.term.tokens[index - 1] if index else Token("", "", 0)
+        if previous.kind == "rust":
+            word = self.scope.trait_member(self.trait, names[0])
+            if word is None:
+                self.report(token, f"{self.trait}.{names[0]}")
+            return [Piece("."), Piece(names[0], self.cite(word))]
+        return self.field_pieces(token, self.owners_of_call(index), names)
+
+    def owners_of_call(self, index):
+        """The records or types that the call in the brackets before this token gives, by its first name."""
+        for opening in range(index - 1, -1, -1):
+            if self.term.text_at(opening) == "(" and self.term.closing(opening) == index - 1:
+                word = self.scope.lookup(self.term.text_at(opening + 1))
+                return self.fields.owners_of_result(word) if isinstance(word, Word) else []
+        return []
+
+    def variable_pieces(self, token, variable, names):
+        head = Piece(names[0], self.notation(names[0]), "variable")
+        if isinstance(self.scope, ContractScope) and names[0] in self.scope.bounds and names[1:]:
+            word = self.scope.trait_member(self.scope.bounds[names[0]], names[1])
+            if word is None:
+                self.report(token, ".".join(names[:2]))
+            return [head, Piece("."), Piece(names[1], self.cite(word))]
+        return [head] + self.field_pieces(token, self.scope.owners(variable.type), names[1:])
+
+    def word_pieces(self, token, names):
+        """The pieces of a path whose first name is no variable."""
+        head = plain(names[0])
+        found = self.scope.lookup(head) or self.notation(head)
+        if head in self.record_fields and not (names[1:] and self.scope.member_of(found, plain(names[1]))):
+            found = self.record_fields[head]
+        if found is None:
+            self.report(token, token.text)
+            return [Piece(token.text, None, "unresolved")]
+        count = 1
+        while count < len(names):
+            inner = self.scope.member_of(found, plain(names[count]))
+            if inner is None:
+                break
+            found, count = inner, count + 1
+        shown = ".".join(names[:count])
+        if isinstance(found, Module):
+            self.report(token, token.text)
+            return [Piece(token.text, None, "unresolved")]
+        return [Piece(shown, self.cite(found))] + self.field_pieces(token, [], names[count:])
+
+    def field_pieces(self, token, owners, names):
+        pieces = []
+        for name in names:
+            pieces.append(Piece("."))
+            if name in REFERENCES and not any(name in owner.members for owner in owners):
+                pieces.append(Piece(name, self.project.notation[f".{name}"], "reference"))
+                continue
+            word = self.field(token, owners, name)
+            pieces.append(Piece(name, self.cite(word)))
+            owners = self.fields.owners_of_field(word) if word is not None else []
+        return pieces
+
+    def field(self, token, owners, name):
+        word = self.fields.find(owners, name)
+        if word is None:
+            self.report(token, f".{name}")
+        return word
+
+
+class DefinitionResolver(Resolver):
+    """Resolves a definition with its signature and its clauses."""
+
+    def all_pieces(self, declaration, types):
+        self.is_rehearsal = True
+        self.run(declaration, types)
+        self.is_rehearsal, self.fields.by_name = False, 0
+        return self.run(declaration, types)
+
+    def run(self, declaration, types):
+        if declaration.kind != "definition":
+            return self.block_pieces(declaration)
+        self.made = self.scope.owners(result_type(declaration))
+        pieces = []
+        for is_first, start, end in parts_of(declaration.lines):
+            text = "\n".join(declaration.lines[start:end])
+            pieces += [Piece("\n")] if pieces else []
+            self.text = "\n" * (declaration.line - 1 + start) + text
+            offset = len(self.text) - len(text)
+            term = Term(self.text, offset)
+            if not is_first:
+                self.bind_patterns(term, types)
+            pieces += self.pieces(term)
+        return pieces
+
+    def block_pieces(self, declaration):
+        self.text = "\n" * (declaration.line - 1) + declaration.text
+        term = Term(self.text, declaration.line - 1)
+        self.record_fields = declaration.word.members if declaration.kind == "record" else {}
+        return self.pieces(term)
+
+    def bind_patterns(self, term, types):
+        """On the left of a clause a name that is no constructor binds a variable; the arguments have the signature's types."""
+        depth = argument = 0
+        for index in range(len(term)):
+            text = term.text_at(index)
+            if text == "=" and depth == 0:
+                break
+            if index and depth == 0 and text != "{":
+                argument += text not in ("}", ")")
+            depth += (text in OPENING) - (text in OPENING.values())
+            if index and term.tokens[index].kind == "path" and text not in SYMBOLS and not self.is_constructor(text):
+                is_whole = depth == 0 and argument <= len(types)
+                variable = Variable(plain(text), types[argument - 1] if is_whole else "")
+                term.binders.append(Binder(variable, 0, len(term)))
+
+    def is_constructor(self, text):
+        head, *rest = text.split(".")
+        found = self.scope.lookup(head)
+        for name in rest:
+            found = found and self.scope.member_of(found, name)
+        return isinstance(found, Word) and found.kind in PATTERN_KINDS
+
+
+def parts_of(lines):
+    """A definition cut into its signature and its clauses: whether a part is the first, and the lines from which to which it goes."""
+    starts = [i for i, line in enumerate(lines) if line and line[0] not in " }" and not line.startswith("--")] + [len(lines)]
+    return [(i == 0, start, starts[i + 1]) for i, start in enumerate(starts[:-1])]
+
+
+class ItemResolver(Resolver):
+    """Resolves an item of a Rattle source: types by its signature, and each clause of its contract."""
+
+    def all_pieces(self, item):
+        self.is_rehearsal = True
+        self.run(item)
+        self.is_rehearsal, self.fields.by_name = False, 0
+        return self.run(item)
+
+    def run(self, item):
+        if isinstance(self.scope, ContractScope) and self.scope.subject:
+            self.fields.see(self.scope.rust_word(self.scope.subject))
+        self.fields.type_texts += list(self.scope.variables.values())
+        pieces = []
+        position = item.start
+        for clause in item.clauses:
+            pieces += self.rust_pieces(position, clause.start)
+            pieces += self.pieces(Term(self.text, clause.start, clause.end))
+            position = clause.end
+        return pieces + self.rust_pieces(position, item.end)
+
+    def rust_pieces(self, start, end):
+        pieces = []
+        for token in rust_tokens(self.text, start, end):
+            word = None
+            if token.kind == "name":
+                word = self.scope.rust_word(self.scope.subject if token.text == "Self" else token.text)
+                self.fields.see(word)
+            pieces.append(Piece(token.text, word, token.kind if token.kind in ("comment", "string", "number") else ""))
+        return pieces
