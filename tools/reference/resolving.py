@@ -1,5 +1,6 @@
 """Finds what each word of a term means, and cuts the term into pieces that a page can show with links."""
 
+import re
 from dataclasses import dataclass
 
 from fields import FieldFinder
@@ -137,8 +138,9 @@ class Resolver:
         """The pieces of a path whose first name is no variable."""
         head = plain(names[0])
         found = self.scope.lookup(head) or self.notation(head)
-        if head in self.record_fields and not (names[1:] and self.scope.member_of(found, plain(names[1]))):
-            found = self.record_fields[head]
+        field = self.record_fields.get(head)
+        if field and self.is_declared_above(field, token) and not (names[1:] and self.scope.member_of(found, plain(names[1]))):
+            found = field
         if found is None:
             self.report(token, token.text)
             return [Piece(token.text, None, "unresolved")]
@@ -153,6 +155,14 @@ class Resolver:
             self.report(token, token.text)
             return [Piece(token.text, None, "unresolved")]
         return [Piece(shown, self.cite(found))] + self.field_pieces(token, [], names[count:])
+
+    def is_declared_above(self, field, token):
+        """Whether a field of the record that is being declared can be named here: behind its declaration, or as what is declared."""
+        before = self.text[: token.start].rsplit("\n", 1)[-1].strip()
+        if before in ("", "pub") and re.match(r"\S+ :", self.text[token.start :]):
+            return True
+        next_member = re.compile(r"\n  (?:pub )?\S+ :").search(self.text, self.text.find(f" {field.name} :"))
+        return next_member is not None and next_member.start() < token.start
 
     def field_pieces(self, token, owners, names):
         pieces = []

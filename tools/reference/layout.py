@@ -1,0 +1,128 @@
+"""The frame of a page, links to words, and source as HTML."""
+
+from html import escape
+
+STYLE_PAGE = "style.css"
+
+
+def display_name(word):
+    """How a page names a word: a method behind its type, everything else by its own name."""
+    if word.kind in ("function", "law", "ghost member") and word.origin is not None:
+        type_name = word.home.split(".")[-1]
+        if type_name[:1].isupper() and "." in word.anchor:
+            return f"{type_name}::{word.name}"
+    if word.owner is not None:
+        return f"{word.owner.name}.{word.name}"
+    return word.name
+
+
+def word_link(word, text=None, page=""):
+    """A link to a word; its title is the word's comment."""
+    shown = escape(text if text is not None else display_name(word))
+    address = word.address.removeprefix(page) if page and word.page == page else word.address
+    return f'<a href="{escape(address)}" title="{escape(word.title)}">{shown}</a>'
+
+
+def word_list(words, page=""):
+    """Links to words, joined by commas."""
+    return ", ".join(f"<code>{word_link(word, None, page)}</code>" for word in words)
+
+
+def counted(number, noun, plural=None):
+    return f"{number:,} {noun if number == 1 else plural or noun + 's'}"
+
+
+class Frame:
+    """What all pages share: the menu, and the frame round the content."""
+
+    def __init__(self, title, menu):
+        self.title = title
+        self.menu = menu
+
+    def navigation(self, page):
+        groups = []
+        for heading, entries in self.menu:
+            links = "".join(f"<li>{self.menu_link(name, address, page)}</li>" for name, address in entries)
+            groups.append(f"<p>{escape(heading)}</p><ul>{links}</ul>" if heading else f"<ul>{links}</ul>")
+        return "".join(groups)
+
+    @staticmethod
+    def menu_link(name, address, page):
+        current = ' aria-current="page"' if address == page else ""
+        return f'<a href="{escape(address)}"{current}>{escape(name)}</a>'
+
+    def page(self, address, title, content, contents=()):
+        """A whole page; `contents` are its headings, as pairs of an anchor and a text."""
+        entries = "".join(f'<li><a href="#{escape(anchor)}">{escape(text)}</a></li>' for anchor, text in contents)
+        local = f'<nav class="contents" aria-label="On this page"><details open><summary>On this page</summary><ul>{entries}</ul></details></nav>'
+        return f"""<!DOCTYPE html>
+<html lang="en">
+<head>
+<meta charset="utf-8">
+<meta name="viewport" content="width=device-width, initial-scale=1">
+<meta name="color-scheme" content="light dark">
+<title>{escape(title)} · {escape(self.title)}</title>
+<link rel="stylesheet" href="{STYLE_PAGE}">
+</head>
+<body>
+<a class="skip" href="#content">Skip to the content</a>
+<header><p class="site"><a href="index.html">{escape(self.title)}</a></p>
+<nav class="menu" aria-label="Pages"><details><summary>All pages</summary>{self.navigation(address)}</details></nav></header>
+<div class="columns{'' if entries else ' single'}">
+{local if entries else ''}
+<main id="content">
+<h1>{escape(title)}</h1>
+{content}
+</main>
+</div>
+</body>
+</html>
+"""
+
+
+def margin_of(text):
+    """How far the lines under the first are indented at the least, where the first begins behind that margin."""
+    lines = [line for line in text.split("\n")[1:] if line.strip()]
+    return min((len(line) - len(line.lstrip()) for line in lines), default=0)
+
+
+def piece_html(piece, text, page):
+    if not text.strip():
+        return escape(text)
+    if piece.word is not None:
+        address = piece.word.address
+        address = address.removeprefix(page) if piece.word.page == page else address
+        style = f' class="{piece.style}"' if piece.style else ""
+        return f'<a{style} href="{escape(address)}" title="{escape(piece.word.title)}">{escape(text)}</a>'
+    return f'<span class="{piece.style}">{escape(text)}</span>' if piece.style else escape(text)
+
+
+def code_block(pieces, page, margin=0, anchors=None):
+    """Source as HTML, a line each, which wraps behind its own indentation; `anchors` are the anchors of lines by their names."""
+    lines = [[]]
+    for piece in pieces:
+        for count, text in enumerate(piece.text.split("\n")):
+            if count:
+                lines.append([])
+            if text:
+                lines[-1].append((piece, text))
+    html = []
+    for number, line in enumerate(lines):
+        plain = "".join(text for _, text in line)
+        cut = min(margin, len(plain) - len(plain.lstrip())) if number else 0
+        indent = len(plain) - len(plain.lstrip()) - cut
+        anchor = line_anchor(plain, anchors or {})
+        inner = "".join(piece_html(piece, text[cut:] if i == 0 else text, page) for i, (piece, text) in enumerate(line))
+        html.append(f'<span class="line"{anchor} style="--indent: {indent + 4}ch">{inner or " "}</span>')
+    return '<pre class="code"><code>' + "\n".join(html) + "</code></pre>"
+
+
+def line_anchor(plain, anchors):
+    """The anchor of a line that declares a constructor, a field or a variant."""
+    words = plain.replace("(", " ").replace(",", " ").replace("{", " ").split()
+    words = [word.rstrip(":") for word in words if word not in ("pub", "ghost")]
+    for name, anchor in list(anchors.items()):
+        if words[:1] == [name]:
+            del anchors[name]
+            return f' id="{escape(anchor)}"'
+    return ""
