@@ -1,6 +1,7 @@
 """The frame of a page, links to words, and source as HTML."""
 
 from html import escape
+from urllib.parse import quote
 
 STYLE_PAGE = "style.css"
 
@@ -39,22 +40,13 @@ class Frame:
         self.title = title
         self.menu = menu
 
-    def navigation(self, page):
-        groups = []
-        for heading, entries in self.menu:
-            links = "".join(f"<li>{self.menu_link(name, address, page)}</li>" for name, address in entries)
-            groups.append(f"<p>{escape(heading)}</p><ul>{links}</ul>" if heading else f"<ul>{links}</ul>")
-        return "".join(groups)
-
-    @staticmethod
-    def menu_link(name, address, page):
+    def menu_link(self, name, address, page):
         current = ' aria-current="page"' if address == page else ""
-        return f'<a href="{escape(address)}"{current}>{escape(name)}</a>'
+        return f'<li><a href="{escape(address)}"{current}>{escape(name)}</a></li>'
 
     def page(self, address, title, content, contents=()):
         """A whole page; `contents` are its headings, as pairs of an anchor and a text."""
-        entries = "".join(f'<li><a href="#{escape(anchor)}">{escape(text)}</a></li>' for anchor, text in contents)
-        local = f'<nav class="contents" aria-label="On this page"><details open><summary>On this page</summary><ul>{entries}</ul></details></nav>'
+        menu = "".join(self.menu_link(name, target, address) for name, target in self.menu)
         return f"""<!DOCTYPE html>
 <html lang="en">
 <head>
@@ -66,11 +58,11 @@ class Frame:
 </head>
 <body>
 <a class="skip" href="#content">Skip to the content</a>
-<header><p class="site"><a href="index.html">{escape(self.title)}</a></p>
-<nav class="menu" aria-label="Pages"><details><summary>All pages</summary>{self.navigation(address)}</details></nav></header>
-<div class="columns{'' if entries else ' single'}">
-{local if entries else ''}
-<main id="content">
+<header>
+<nav aria-label="Pages"><ul class="menu">{menu}</ul></nav>
+</header>
+<div class="columns">
+{contents_navigation(contents)}<main id="content">
 <h1>{escape(title)}</h1>
 {content}
 </main>
@@ -80,10 +72,14 @@ class Frame:
 """
 
 
-def margin_of(text):
-    """How far the lines under the first are indented at the least, where the first begins behind that margin."""
-    lines = [line for line in text.split("\n")[1:] if line.strip()]
-    return min((len(line) - len(line.lstrip()) for line in lines), default=0)
+def contents_navigation(contents):
+    """The list of a page's headings: beside the content where there is room, and else folded above it."""
+    if not contents:
+        return ""
+    entries = "".join(f'<li><a href="#{quote(anchor)}">{escape(text)}</a></li>' for anchor, text in contents)
+    return f"""<nav class="contents wide" aria-label="On this page"><p>On this page</p><ul>{entries}</ul></nav>
+<nav class="contents narrow" aria-label="On this page"><details><summary>On this page</summary><ul>{entries}</ul></details></nav>
+"""
 
 
 def piece_html(piece, text, page):

@@ -9,7 +9,7 @@ LIST_ITEM = re.compile(r"(?P<indent>\s*)(?P<mark>[-*]|\d+\.) (?P<text>.*)")
 TABLE_RULE = re.compile(r"\s*\|?[\s:|-]+\|[\s:|-]*$")
 INLINE = re.compile(
     r"(?P<code>`[^`]+`)"
-    r"|(?P<link>\[(?P<text>(?:`[^`]*`|[^\]])*)\]\((?P<target>[^)\s]+)\))"
+    r"|(?P<link>\[(?P<text>(?:`[^`]*`|[^\]`])*)\]\((?P<target>[^)\s]+)\))"
     r"|(?P<item>\[`(?P<path>[^`]+)`\])"
     r"|(?P<bold>\*\*(?P<strong>.+?)\*\*)"
     r"|(?P<italic>(?<![\w*])\*(?P<emphasis>[^*\s][^*]*)\*)"
@@ -24,10 +24,11 @@ def slug(text):
 class Markdown:
     """Renders Markdown; `code` renders a code span, and `link` gives the address of a link's target or of an item's path."""
 
-    def __init__(self, code=None, link=None, first_heading=2):
+    def __init__(self, code=None, link=None, first_heading=2, has_anchors=True):
         self.code = code or (lambda text: f"<code>{escape(text)}</code>")
         self.link = link or (lambda target: target)
         self.first_heading = first_heading
+        self.has_anchors = has_anchors
 
     def inline(self, text):
         parts = []
@@ -77,7 +78,8 @@ class Markdown:
 
     def heading(self, match):
         level = min(6, len(match["marks"]) + self.first_heading - 1)
-        return f'<h{level} id="{slug(match["text"])}">{self.inline(match["text"])}</h{level}>'
+        anchor = f' id="{slug(match["text"])}"' if self.has_anchors else ""
+        return f"<h{level}{anchor}>{self.inline(match['text'])}</h{level}>"
 
     def fence(self, lines, position, html):
         end = position + 1
