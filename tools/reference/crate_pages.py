@@ -47,7 +47,8 @@ class CratePage:
         return f'<a href="{known.page}">{escape(name)}</a>' if known else f"{escape(name)} (the kit's)"
 
     def module(self, source):
-        parts = [self.item(source, item) for item in source.file.items]
+        passed_on = [item for item in source.file.items if item.kind == "use" and item.is_public]
+        parts = [self.passed_on(source, passed_on)] + [self.item(source, item) for item in source.file.items]
         parts = [part for part in parts if part]
         is_root = not source.modules
         if not parts:
@@ -61,7 +62,7 @@ class CratePage:
 
     def item(self, source, item):
         if item.kind == "use":
-            return self.passed_on(source, item) if item.is_public else ""
+            return ""
         if item.kind == "impl":
             return self.implementation(source, item)
         if item.kind == "mod":
@@ -74,13 +75,14 @@ class CratePage:
             pieces = short(self.site.references.entries[item.word].pieces)
         return self.section(source, item, pieces, 3)
 
-    def passed_on(self, source, item):
-        """A `pub use`, in which each name is a link to what it passes on."""
+    def passed_on(self, source, items):
+        """The `pub use` lines, in which each name is a link to what it passes on."""
         pieces = []
-        for part in re.split(r"(\w+)", source.file.text[item.start : item.end]):
+        text = "\n".join(source.file.text[item.start : item.end] for item in items)
+        for part in re.split(r"(\w+)", text):
             word = self.site.project.find_rust(source, (part,)) if part.isidentifier() else None
             pieces.append(Piece(part, word if word and self.site.is_on_a_page(word) and word.kind != "module" else None))
-        return code_block(pieces, self.page)
+        return code_block(pieces, self.page) if items else ""
 
     def section(self, source, item, pieces, level, anchors=None):
         word = item.word

@@ -11,12 +11,13 @@ from words import GLOSSARY_PAGE, WORDS_PAGE, Word
 
 TABLE = '<div class="scroll" tabindex="0"><table>'
 TABLE_END = "</table></div>"
+COLUMNS = {"#": "number", "~": "aside", "@": "name"}
 
 
 def table(heads, rows):
-    """A table of cells that are HTML; a head that begins with `#` is that of a column of numbers."""
-    styles = [' class="number"' if head.startswith("#") else ' class="aside"' if head.startswith("~") else "" for head in heads]
-    head = "".join(f'<th scope="col"{style}>{text.lstrip("#~")}</th>' for style, text in zip(styles, heads))
+    """A table of cells that are HTML; the sign that a head begins with says what its column holds."""
+    styles = [next((f' class="{style}"' for sign, style in COLUMNS.items() if head.startswith(sign)), "") for head in heads]
+    head = "".join(f'<th scope="col"{style}>{text.lstrip("#~@")}</th>' for style, text in zip(styles, heads))
     body = "".join("<tr>" + "".join(f"<td{style}>{cell}</td>" for style, cell in zip(styles, row)) + "</tr>\n" for row in rows)
     return f"{TABLE}<thead><tr>{head}</tr></thead>\n<tbody>{body}</tbody>{TABLE_END}"
 
@@ -48,11 +49,12 @@ class StartPage:
         clauses = sum(row[3] for row in self.summary)
         rows = [self.summary_row(*row) for row in self.summary]
         rows.append(["<strong>All</strong>", "", f"{clauses:,}", "", f"{self.total:,}"])
-        heads = ["Part", "#Contracts", "#Lines of contracts", "#New definitions and types", "#Lines of these"]
+        heads = ["Crate", "#Contracts", "#Their lines", "#Definitions", "#Their lines"]
         kit = [word for word in self.known if word.page == GLOSSARY_PAGE]
         return f"""<p>The proofs show that the code keeps its contracts. Whether the contracts say what they should, only a reader can tell. This
 page lists what such a reader has to read: the contracts, and each definition that their words lead to, behind those that it uses itself.
-A line counts where it is neither empty nor a comment. A type of the code counts as a definition.</p>
+A line counts where it is neither empty nor a comment. A type of the code counts as a
+definition, and each definition in the first part that leads to it.</p>
 <h2 id="sum">How much it is</h2>
 {table(heads, rows)}
 <p>Besides, these contracts and definitions use <a href="{GLOSSARY_PAGE}">{counted(len(kit), "word")} of Rattle's own library</a>.
@@ -62,7 +64,7 @@ what was tried besides the proofs.</p>
 
     def summary_row(self, name, title, contracts, lines, definitions, total):
         anchor = f"crate-{name}" if name else title
-        text = f"Crate {escape(name)}" if name else "The headline"
+        text = escape(name) if name else "The headline"
         return [f'<a href="#{escape(anchor)}">{text}</a>', f"{contracts:,}", f"{lines:,}", f"{definitions:,}", f"{total:,}"]
 
     def headline(self, law):
@@ -71,9 +73,12 @@ what was tried besides the proofs.</p>
         rows, definitions, lines = self.reading([law])
         anchor = f"law-{law.name}"
         self.summary.append(("", anchor, 1, self.contract_lines(law), definitions, lines))
+        statement = "".join(code_block(self.references.entries[word].pieces, "index.html") for word in entry.cited if is_definition(word))
         return f"""<h2 id="{escape(anchor)}">The headline: <code>{word_link(law)}</code></h2>
 {doc}
 {code_block(entry.pieces, "index.html")}
+{statement}
+<p>Its words lead to these, each behind those that it uses itself:</p>
 {self.reading_table(rows)}"""
 
     def contract_lines(self, word):
@@ -110,7 +115,7 @@ what was tried besides the proofs.</p>
         return rows, len(rows), lines
 
     def reading_table(self, rows):
-        return table(["#No.", "Word", "What it says", "~Where", "#Lines", "#Sum"], rows)
+        return table(["#No.", "@Word", "What it says", "~Where", "#Lines", "#Sum"], rows)
 
 
 def clause_lines(text):
@@ -128,7 +133,7 @@ def write_crates(site):
         tests = sum(1 for test in site.trials.tests if test.crate == crate.name)
         name = f'<a href="{crate.page}">{escape(crate.name)}</a>'
         rows.append([name, inline(first), f"{len(contracts) - len(laws)}", f"{len(laws)}", f"{tests}"])
-    heads = ["Crate", "What it is", "#Contracts", "#Laws", "#Tests"]
+    heads = ["@Crate", "What it is", "#Contracts", "#Laws", "#Tests"]
     text = "<p>A page for each crate has every public item with its comment, signature and contract, as the sources have them.</p>"
     site.add("crates.html", "Crates", text + table(heads, rows))
 

@@ -109,8 +109,8 @@ def code_block(pieces, page, margin=0, anchors=None):
         indent = len(plain) - len(plain.lstrip()) - cut
         anchor = line_anchor(plain, anchors or {})
         inner = "".join(piece_html(piece, text[cut:] if i == 0 else text, page) for i, (piece, text) in enumerate(line))
-        html.append(f'<span class="line"{anchor} style="--indent: {indent + 4}ch">{inner or " "}</span>')
-    return '<pre class="code"><code>' + "\n".join(html) + "</code></pre>"
+        html.append(f'<span class="line"{anchor} style="--indent: {indent + 4}ch">{inner}\n</span>')
+    return '<pre class="code"><code>' + "".join(html) + "</code></pre>"
 
 
 def line_anchor(plain, anchors):

@@ -9,6 +9,7 @@ LIST_ITEM = re.compile(r"(?P<indent>\s*)(?P<mark>[-*]|\d+\.) (?P<text>.*)")
 TABLE_RULE = re.compile(r"\s*\|?[\s:|-]+\|[\s:|-]*$")
 INLINE = re.compile(
     r"(?P<code>`[^`]+`)"
+    r"|<(?P<url>https?://[^>\s]+)>"
     r"|(?P<link>\[(?P<text>(?:`[^`]*`|[^\]`])*)\]\((?P<target>[^)\s]+)\))"
     r"|(?P<item>\[`(?P<path>[^`]+)`\])"
     r"|(?P<bold>\*\*(?P<strong>.+?)\*\*)"
@@ -42,6 +43,8 @@ class Markdown:
     def span(self, match):
         if match["code"]:
             return self.code(match["code"][1:-1])
+        if match["url"]:
+            return f'<a class="url" href="{escape(match["url"])}">{escape(match["url"])}</a>'
         if match["bold"]:
             return f"<strong>{self.inline(match['strong'])}</strong>"
         if match["italic"]:

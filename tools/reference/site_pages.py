@@ -98,7 +98,8 @@ class Site:
         return f'<a href="{definitions_page(crate.name, module)}">{escape(module)}</a>'
 
     def home_link(self, word):
-        return f'<a href="{word.page}">{escape(word.home)}</a>'
+        crate, _, module = escape(word.home).partition(".")
+        return f'<a href="{word.page}">{crate}: {module.replace(".", ".<wbr>")}</a>'
 
     def mutation_link(self, mutation):
         return f'<a href="trials.html#{escape("mutation-" + mutation.anchor)}">{escape(mutation.name)}</a>'
