@@ -17,6 +17,7 @@ class FieldFinder:
         self.cited = {}
         self.seen = []
         self.type_texts = []
+        self.implementers = []
         self.by_name = 0
 
     def see(self, owner):
@@ -50,7 +51,7 @@ class FieldFinder:
         if name.isdigit():
             return self.project.notation[".0"]
         candidates = [word for word in self.project.members.get(name, ()) if word.kind == "field"]
-        for near in (self.named_types, self.results_of_cited, lambda: self.seen, self.next_to_seen):
+        for near in (self.named_types, self.implementers_and_parts, self.results_of_cited, lambda: self.seen, self.next_to_seen):
             found = [word for word in candidates if word.owner in near()]
             if len(found) == 1:
                 return found[0]
@@ -69,6 +70,10 @@ class FieldFinder:
     def wrapped(self, text):
         """The types inside an `Option`, a `List` or a `Result`."""
         return self.scope.owners(text) if re.match(r"\W*(Option|List|Result)\b", text) else []
+
+    def implementers_and_parts(self):
+        """The types whose implementations the term names, and the types of their fields."""
+        return self.implementers + [owner for word in self.implementers for part in word.members.values() for owner in self.owners_of_field(part)]
 
     def results_of_cited(self):
         return [owner for word in self.cited for owner in self.owners_of_result(word)]

@@ -49,7 +49,7 @@ class StartPage:
         clauses = sum(row[3] for row in self.summary)
         rows = [self.summary_row(*row) for row in self.summary]
         rows.append(["<strong>All</strong>", "", f"{clauses:,}", "", f"{self.total:,}"])
-        heads = ["Crate", "#Contracts", "#Their lines", "#Definitions", "#Their lines"]
+        heads = ["@Crate", "#Contracts", "#Their lines", "#Definitions", "#Their lines"]
         kit = [word for word in self.known if word.page == GLOSSARY_PAGE]
         return f"""<p>The proofs show that the code keeps its contracts. Whether the contracts say what they should, only a reader can tell. This
 page lists what such a reader has to read: the contracts, and each definition that their words lead to, behind those that it uses itself.

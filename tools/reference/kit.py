@@ -5,7 +5,7 @@ import re
 from functools import lru_cache
 
 from antt_source import MARKS, NAME, import_names
-from words import GLOSSARY_PAGE, Module, Word
+from words import GLOSSARY_PAGE, PRIMITIVES, Module, Word
 
 PASSED_ON = re.compile(r"^(?:unfoldable )?(pub use [^\n]*)$", re.MULTILINE)
 MEMBER_OF_BLOCK = re.compile(rf"\s+(?:pub )?(?P<names>{NAME}(?: {NAME})*) :\s")
@@ -137,7 +137,7 @@ class Kit:
         return self.words.setdefault(("word", anchor), word)
 
     def bare_word(self, path):
-        return self.new_word(path[-1], "word of Rattle", ".".join(path[:-1]))
+        return self.new_word(path[-1], "word of Rattle", ".".join(path[:-1]), "", PRIMITIVES.get(path[-1], ""))
 
     def word_in(self, home, name):
         """The word that a module declares under this name, or passes on."""

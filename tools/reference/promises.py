@@ -18,7 +18,7 @@ class PromisesPage(Markdown):
     """Writes the page of promises."""
 
     def __init__(self, site, path):
-        super().__init__(self.code_span, self.address)
+        super().__init__(self.code_span, self.address, 1)
         self.site = site
         self.path = path
         self.crate = None

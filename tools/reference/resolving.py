@@ -81,6 +81,8 @@ class Resolver:
                 word = self.scope.trait_word(inner.text) if is_trait else self.scope.rust_word(inner.text)
                 if word is None:
                     self.report(token, inner.text)
+                elif not is_trait and word.members:
+                    self.fields.implementers.append(word)
                 self.trait = inner.text
             pieces.append(Piece(inner.text, self.cite(word)))
         return pieces
@@ -132,7 +134,13 @@ class Resolver:
             if word is None:
                 self.report(token, ".".join(names[:2]))
             return [head, Piece("."), Piece(names[1], self.cite(word))]
-        return [head] + self.field_pieces(token, self.scope.owners(variable.type), names[1:])
+        owners = self.scope.owners(variable.type or self.type_beside(variable))
+        return [head] + self.field_pieces(token, owners, names[1:])
+
+    def type_beside(self, variable):
+        """The type of the argument before a `λ`, of which the `λ`'s variable is mostly a part."""
+        beside = self.term.variable(variable.beside, 0) or self.scope.variable(variable.beside) if variable.beside else None
+        return beside.type if beside else ""
 
     def word_pieces(self, token, names):
         """The pieces of a path whose first name is no variable."""

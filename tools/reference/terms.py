@@ -68,8 +68,15 @@ class Term:
     def type_text(self, first, last):
         return " ".join(token.text for token in self.tokens[first:last])
 
-    def add(self, name, type_text, first, last):
-        self.binders.append(Binder(Variable(name, type_text), first, last))
+    def add(self, name, type_text, first, last, beside=""):
+        self.binders.append(Binder(Variable(name, type_text, beside), first, last))
+
+    def argument_before(self, index):
+        """The name right before the bracket that opens before this token, which other functions in brackets may part from it."""
+        opening = index - 1
+        while self.text_at(opening) == "(" and self.text_at(opening - 1) == ")":
+            opening = next(i for i in range(opening - 1, -1, -1) if self.text_at(i) == "(" and self.closing(i) == opening - 1)
+        return self.text_at(opening - 1) if self.text_at(opening) == "(" else ""
 
     def bind_lambda(self, index):
         """`λ x (y : A) _. body`: the body ends with the group around it."""
@@ -82,7 +89,7 @@ class Term:
                     self.add_names(position + 1, close, end)
                 position = close
             elif self.tokens[position].kind == "path":
-                self.add(self.text_at(position), "", position, end)
+                self.add(self.text_at(position), "", position, end, self.argument_before(index))
             position += 1
 
     def add_names(self, first, last, end):

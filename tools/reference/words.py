@@ -49,10 +49,12 @@ class Word:
 
 @dataclass(frozen=True)
 class Variable:
-    """A name that a clause or a definition binds, with the text of its type where that is written."""
+    """A name that a clause or a definition binds, with the text of its type where that is written; of a `λ` that is an argument,
+    also the argument before it, as `r` in `IfOk r (λ x. ..)`."""
 
     name: str
     type: str = ""
+    beside: str = ""
 
 
 @dataclass
@@ -102,6 +104,22 @@ NOTATION = {
     "ensures": "A promise about each call that meets the conditions; the body is proved to keep it.",
     "ghost": "Text that only contracts and proofs see.",
     "⟦ ⟧": "`⟦<T as Trait>⟧` is T's implementation of Trait, whose ghost members follow behind a dot.",
+}
+PRIMITIVES = {
+    "ℕ": "The natural numbers.",
+    "zero": "The number 0.",
+    "suc": "`suc n` is n + 1.",
+    "pred": "`pred n` is n - 1, and 0 of 0.",
+    "◌+◌": "The sum.",
+    "◌-◌": "The difference, and 0 where the second number is the greater.",
+    "◌*◌": "The product.",
+    "◌/◌": "The quotient, rounded down.",
+    "◌%◌": "The rest of a division.",
+    "◌^◌": "The power.",
+    "◌<◌": "The first number is less than the second.",
+    "◌≤◌": "The first number is at most the second.",
+    "min": "The lesser number.",
+    "max": "The greater number.",
 }
 REFERENCES = ("now", "old", "new", "entry", "exit")
 GLOSSARY_PAGE = "glossary.html"
