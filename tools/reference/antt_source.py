@@ -15,7 +15,7 @@ OTHER = ("infix", "ruleset ", "pub ruleset ")
 
 @dataclass
 class Member:
-    """A constructor of a `data`, or a field of a `record`."""
+    """A constructor of a `data`, a field of a `record`, or a definition under a `where`."""
 
     name: str
     comment: str
@@ -34,6 +34,7 @@ class Declaration:
     lines: list
     is_public: bool = True
     members: list = field(default_factory=list)
+    locals: list = field(default_factory=list)
 
     @property
     def text(self):
@@ -162,9 +163,28 @@ def block_members(lines, number):
     return members
 
 
+def local_definitions(declaration):
+    """The definitions under each `where` of a definition's clauses."""
+    found = []
+    margin = None
+    for offset, line in enumerate(declaration.lines):
+        if line.rstrip().endswith(" where") or line.strip() == "where":
+            margin = len(line) - len(line.lstrip())
+        elif margin is not None and line.strip() and len(line) - len(line.lstrip()) > margin:
+            match = SIGNATURE.match(line.strip())
+            if match:
+                found.append(Member(match["name"], "", line.strip(), declaration.line + offset))
+        else:
+            margin = None
+    return found
+
+
 def read_antt(path):
     """Reads a file of definitions."""
     reader = Reader(path)
     for number, lines in statements(path.read_text(encoding="utf-8")):
         reader.take(number, lines)
+    for declaration in reader.file.declarations:
+        if declaration.kind == "definition":
+            declaration.locals = local_definitions(declaration)
     return reader.file

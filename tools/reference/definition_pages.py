@@ -31,7 +31,7 @@ class DefinitionPage:
     def definition(self, declaration):
         word = declaration.word
         pieces = self.site.references.entries[word].pieces
-        members = {name: member.anchor for name, member in word.members.items()}
+        members = {name: member.anchor for name, member in (word.members | declaration.local_words).items()}
         return f"""<section class="item" id="{escape(word.anchor)}">
 <h2><span class="kind">{declaration.kind}</span> <code>{escape(word.name)}</code></h2>
 {comment_html(self.scope, word.comment, self.page)}
@@ -96,7 +96,7 @@ def write_list(site):
             continue
         contents.append((f"crate-{crate.name}", crate.name))
         parts.append(f'<h2 id="crate-{escape(crate.name)}">{escape(crate.name)}</h2>')
-        parts.append('<div class="scroll" tabindex="0"><table><thead><tr><th scope="col">Module</th><th scope="col">What it says</th>')
+        parts.append('<div class="scroll" tabindex="0" role="region" aria-label="Table"><table><thead><tr><th scope="col">Module</th><th scope="col">What it says</th>')
         parts.append('<th scope="col" class="number">Definitions</th><th scope="col" class="number">Lines</th></tr></thead><tbody>')
         parts += [module_row(site, crate, module) for module in modules]
         parts.append("</tbody></table></div>")

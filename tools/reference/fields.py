@@ -28,14 +28,23 @@ class FieldFinder:
         self.cited[word] = True
         self.see(word if word.members else word.owner)
 
-    def owners_of_field(self, word):
-        """The records or types that the type of a field names."""
+    def type_of_field(self, word):
+        """The scope in which a field's type is to be read, and its text."""
         home = word.owner.file if word.owner else None
         if home is None:
-            return []
+            return self.scope, ""
         if word.owner.kind == "record":
-            return DefinitionScope(self.project, home).owners(word.text.partition(" : ")[2])
-        return ContractScope.of_source(self.project, home).owners(word.text)
+            return DefinitionScope(self.project, home), word.text.partition(" : ")[2]
+        return ContractScope.of_source(self.project, home), word.text
+
+    def owners_of_field(self, word):
+        """The records or types that the type of a field names."""
+        scope, text = self.type_of_field(word)
+        return scope.owners(text)
+
+    def exact_owner_of_field(self, word):
+        scope, text = self.type_of_field(word)
+        return scope.exact_owner(text)
 
     def owners_of_result(self, word):
         """The records or types that the result of a definition names."""
@@ -43,13 +52,16 @@ class FieldFinder:
             return DefinitionScope(self.project, word.file).owners(result_type(word.origin))
         return []
 
-    def find(self, owners, name):
-        """The word of a field: of an owner that is known, or of the one type around that has it; None if none has."""
-        for owner in owners:
+    def find(self, owners, name, exact=None):
+        """The word of a field: of the owner that is known exactly, or of one that the type names, or of the one type around that has
+        it; None if none has."""
+        for owner in [exact] if exact else owners:
             if name in owner.members:
                 return owner.members[name]
         if name.isdigit():
             return self.project.notation[".0"]
+        if exact:
+            return None
         candidates = [word for word in self.project.members.get(name, ()) if word.kind == "field"]
         for near in (self.named_types, self.implementers_and_parts, self.results_of_cited, lambda: self.seen, self.next_to_seen):
             found = [word for word in candidates if word.owner in near()]

@@ -9,7 +9,7 @@ from references import is_definition
 from resolving import Piece
 from words import GLOSSARY_PAGE, WORDS_PAGE, Word
 
-TABLE = '<div class="scroll" tabindex="0"><table>'
+TABLE = '<div class="scroll" tabindex="0" role="region" aria-label="Table"><table>'
 TABLE_END = "</table></div>"
 COLUMNS = {"#": "number", "~": "aside", "@": "name"}
 

@@ -89,7 +89,7 @@ class Markdown:
         while end < len(lines) and not FENCE.match(lines[end]):
             end += 1
         text = "\n".join(lines[position + 1 : end])
-        html.append(f'<pre class="sample" tabindex="0"><code>{escape(text)}</code></pre>')
+        html.append(f'<pre class="sample" tabindex="0" role="region" aria-label="Sample"><code>{escape(text)}</code></pre>')
         return end + 1
 
     def paragraph(self, lines, position, html):
@@ -133,7 +133,7 @@ class Markdown:
             position += 1
         head = "".join(f'<th scope="col">{self.inline(cell)}</th>' for cell in rows[0])
         body = "".join("<tr>" + self.table_row(row) + "</tr>\n" for row in rows[2:])
-        html.append(f'<div class="scroll" tabindex="0"><table><thead><tr>{head}</tr></thead>\n<tbody>{body}</tbody></table></div>')
+        html.append(f'<div class="scroll" tabindex="0" role="region" aria-label="Table"><table><thead><tr>{head}</tr></thead>\n<tbody>{body}</tbody></table></div>')
         return position
 
     def table_row(self, row):

@@ -114,6 +114,12 @@ class Project:
         self.members.setdefault(name, []).append(word)
         return self.add(word)
 
+    def add_local(self, owner, local):
+        """The word of a definition under the `where` of another."""
+        word = Word(local.name, "local definition", f"{owner.home}.{owner.name}", owner.page, f"{owner.anchor}.{local.name}")
+        word.text, word.source, word.crate, word.owner, word.origin = local.text, owner.source, owner.crate, owner, local
+        return self.add(word)
+
     def several(self, name, words):
         """The entry of a name that is a field of several types, where the source does not say of which."""
         word = Word(name, "field", "several types", WORDS_PAGE, f"field {name}".replace(" ", "-"))
@@ -233,6 +239,7 @@ class Project:
             kind = "constructor" if declaration.kind == "data" else "field"
             for member in declaration.members:
                 self.add_member(word, member.name, kind, member.comment, member.text, self.place(file.path, member.line))
+            declaration.local_words = {local.name: self.add_local(word, local) for local in declaration.locals}
 
     # Looking up paths
 

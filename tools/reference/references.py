@@ -2,8 +2,9 @@
 
 from dataclasses import dataclass, field
 
-from resolving import DefinitionResolver, ItemResolver
-from scopes import ContractScope, DefinitionScope, signature_types
+from definitions import DefinitionResolver
+from resolving import ItemResolver
+from scopes import ContractScope, DefinitionScope
 from words import GLOSSARY_PAGE
 
 SHOWN_KINDS = ("fn", "struct", "enum", "const", "static", "type", "ghost", "trait")
@@ -57,7 +58,7 @@ class References:
         for declaration in file.declarations:
             place = lambda line: self.project.place(file.path, line)
             resolver = DefinitionResolver(self.project, scope, "", place, f"`{declaration.name}`")
-            self.add(declaration.word, resolver.all_pieces(declaration, signature_types(declaration)), 0)
+            self.add(declaration.word, resolver.all_pieces(declaration), 0)
             self.by_name += resolver.fields.by_name
 
     def resolve_items(self, source, items, outer):

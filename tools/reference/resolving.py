@@ -5,12 +5,11 @@ from dataclasses import dataclass
 
 from fields import FieldFinder
 from lexing import Token, line_number, rust_tokens
-from scopes import ContractScope, plain, result_type
-from terms import OPENING, SYMBOLS, Binder, Term
-from words import REFERENCES, Module, Variable, Word
+from scopes import ContractScope, plain
+from terms import SYMBOLS, Term
+from words import REFERENCES, Module, Word
 
 KEYWORDS = ("pub", "abbrev", "unfoldable", "pattern", "data", "record", "where", "axiom", "unfolding", ":", "=")
-PATTERN_KINDS = ("constructor", "variant", "word of Rattle")
 
 
 @dataclass
@@ -33,6 +32,7 @@ class Resolver:
         self.context = context
         self.fields = FieldFinder(project, scope)
         self.record_fields = {}
+        self.local_words = {}
         self.made = []
         self.trait = ""
         self.is_rehearsal = False
@@ -135,7 +135,7 @@ class Resolver:
                 self.report(token, ".".join(names[:2]))
             return [head, Piece("."), Piece(names[1], self.cite(word))]
         owners = self.scope.owners(variable.type or self.type_beside(variable))
-        return [head] + self.field_pieces(token, owners, names[1:])
+        return [head] + self.field_pieces(token, owners, names[1:], self.scope.exact_owner(variable.type))
 
     def type_beside(self, variable):
         """The type of the argument before a `λ`, of which the `λ`'s variable is mostly a part."""
@@ -145,7 +145,7 @@ class Resolver:
     def word_pieces(self, token, names):
         """The pieces of a path whose first name is no variable."""
         head = plain(names[0])
-        found = self.scope.lookup(head) or self.notation(head)
+        found = self.local_words.get(head) or self.scope.lookup(head) or self.notation(head)
         field = self.record_fields.get(head)
         if field and self.is_declared_above(field, token) and not (names[1:] and self.scope.member_of(found, plain(names[1]))):
             found = field
@@ -172,83 +172,25 @@ class Resolver:
         next_member = re.compile(r"\n  (?:pub )?\S+ :").search(self.text, self.text.find(f" {field.name} :"))
         return next_member is not None and next_member.start() < token.start
 
-    def field_pieces(self, token, owners, names):
+    def field_pieces(self, token, owners, names, exact=None):
+        """The pieces of the fields behind a value, whose type names these owners, or is exactly this one."""
         pieces = []
         for name in names:
             pieces.append(Piece("."))
             if name in REFERENCES and not any(name in owner.members for owner in owners):
                 pieces.append(Piece(name, self.project.notation[f".{name}"], "reference"))
                 continue
-            word = self.field(token, owners, name)
+            word = self.field(token, owners, name, exact)
             pieces.append(Piece(name, self.cite(word)))
             owners = self.fields.owners_of_field(word) if word is not None else []
+            exact = self.fields.exact_owner_of_field(word) if word is not None else None
         return pieces
 
-    def field(self, token, owners, name):
-        word = self.fields.find(owners, name)
+    def field(self, token, owners, name, exact=None):
+        word = self.fields.find(owners, name, exact)
         if word is None:
             self.report(token, f".{name}")
         return word
-
-
-class DefinitionResolver(Resolver):
-    """Resolves a definition with its signature and its clauses."""
-
-    def all_pieces(self, declaration, types):
-        self.is_rehearsal = True
-        self.run(declaration, types)
-        self.is_rehearsal, self.fields.by_name = False, 0
-        return self.run(declaration, types)
-
-    def run(self, declaration, types):
-        if declaration.kind != "definition":
-            return self.block_pieces(declaration)
-        self.made = self.scope.owners(result_type(declaration))
-        pieces = []
-        for is_first, start, end in parts_of(declaration.lines):
-            text = "\n".join(declaration.lines[start:end])
-            pieces += [Piece("\n")] if pieces else []
-            self.text = "\n" * (declaration.line - 1 + start) + text
-            offset = len(self.text) - len(text)
-            term = Term(self.text, offset)
-            if not is_first:
-                self.bind_patterns(term, types)
-            pieces += self.pieces(term)
-        return pieces
-
-    def block_pieces(self, declaration):
-        self.text = "\n" * (declaration.line - 1) + declaration.text
-        term = Term(self.text, declaration.line - 1)
-        self.record_fields = declaration.word.members if declaration.kind == "record" else {}
-        return self.pieces(term)
-
-    def bind_patterns(self, term, types):
-        """On the left of a clause a name that is no constructor binds a variable; the arguments have the signature's types."""
-        depth = argument = 0
-        for index in range(len(term)):
-            text = term.text_at(index)
-            if text == "=" and depth == 0:
-                break
-            if index and depth == 0 and text != "{":
-                argument += text not in ("}", ")")
-            depth += (text in OPENING) - (text in OPENING.values())
-            if index and term.tokens[index].kind == "path" and text not in SYMBOLS and not self.is_constructor(text):
-                is_whole = depth == 0 and argument <= len(types)
-                variable = Variable(plain(text), types[argument - 1] if is_whole else "")
-                term.binders.append(Binder(variable, 0, len(term)))
-
-    def is_constructor(self, text):
-        head, *rest = text.split(".")
-        found = self.scope.lookup(head)
-        for name in rest:
-            found = found and self.scope.member_of(found, name)
-        return isinstance(found, Word) and found.kind in PATTERN_KINDS
-
-
-def parts_of(lines):
-    """A definition cut into its signature and its clauses: whether a part is the first, and the lines from which to which it goes."""
-    starts = [i for i, line in enumerate(lines) if line and line[0] not in " }" and not line.startswith("--")] + [len(lines)]
-    return [(i == 0, start, starts[i + 1]) for i, start in enumerate(starts[:-1])]
 
 
 class ItemResolver(Resolver):

@@ -62,6 +62,15 @@ class Scope:
                 found.append(word)
         return found
 
+    def exact_owner(self, type_text):
+        """The record or type that values of this type are, if it is one that has fields; else None."""
+        text = re.sub(r"^(?:\s|&|'\w+|mut\b)*", "", type_text)
+        head = re.match(r"[^\s(){},;&<>]+", text)
+        if head is None or "→" in text or "×" in text:
+            return None
+        owners = self.owners(head.group())
+        return owners[0] if owners and owners[0].kind in ("record", "struct") else None
+
 
 class DefinitionScope(Scope):
     """The names of a file of definitions."""
