@@ -96,7 +96,7 @@ class CratePage:
 <h{level}><span class="kind">{kind}</span> <code>{escape(display_name(word))}</code></h{level}>
 {note}{doc_html(self.site, source, item, self.page)}
 {code_block(attributes + pieces, self.page, margin, members)}
-<p class="source">{escape(word.source)}{self.site.trials_html(word)}</p>
+<p class="source">{escape(word.source)}</p>{self.site.trials_html(word)}
 </section>"""
 
     def implementation(self, source, item):
@@ -123,7 +123,7 @@ class CratePage:
         """An `impl` of a trait: its ghost members, and the methods that have a contract of their own."""
         owner = re.match(r"\w+", item.subject)
         word = owner and self.site.project.find_rust(source, (owner.group(),))
-        if word is None or not word.is_public:
+        if word is None or not self.site.is_public_implementation(item.word):
             return ""
         entries = self.site.references.entries
         pieces = [Piece(" ".join(source.file.text[item.start : item.end].split()) + " {")]
@@ -137,7 +137,7 @@ class CratePage:
 <h3>{self.linked_header(source, item)}</h3>
 {doc_html(self.site, source, item, self.page)}
 {code_block(pieces, self.page)}
-<p class="source">{escape(item.word.source)}{self.site.trials_html(*(inner.word for inner in item.items))}</p>
+<p class="source">{escape(item.word.source)}</p>{self.site.trials_html(*(inner.word for inner in item.items))}
 </section>"""
 
 

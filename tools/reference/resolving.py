@@ -9,6 +9,7 @@ from scopes import ContractScope, plain
 from terms import SYMBOLS, Term
 from words import REFERENCES, Module, Word
 
+CLAUSE_WORDS = ("requires", "ensures", "ghost")
 KEYWORDS = ("pub", "abbrev", "unfoldable", "pattern", "data", "record", "where", "axiom", "unfolding", ":", "=")
 
 
@@ -206,6 +207,7 @@ class ItemResolver(Resolver):
         if isinstance(self.scope, ContractScope) and self.scope.subject:
             self.fields.see(self.scope.rust_word(self.scope.subject))
         self.fields.type_texts += list(self.scope.variables.values())
+        self.item = item
         pieces = []
         position = item.start
         for clause in item.clauses:
@@ -217,9 +219,20 @@ class ItemResolver(Resolver):
     def rust_pieces(self, start, end):
         pieces = []
         for token in rust_tokens(self.text, start, end):
-            word = None
-            if token.kind == "name":
-                word = self.scope.rust_word(self.scope.subject if token.text == "Self" else token.text)
-                self.fields.see(word)
-            pieces.append(Piece(token.text, word, token.kind if token.kind in ("comment", "string", "number") else ""))
+            word = self.rust_word(token) if token.kind == "name" else None
+            style = token.kind if token.kind in ("comment", "string", "number") else ""
+            pieces.append(Piece(token.text, word, "keyword" if token.text in CLAUSE_WORDS and word else style))
         return pieces
+
+    def rust_word(self, token):
+        """The word of a name outside the clauses: a type, a constant, what begins a clause, or the ghost member that is given here."""
+        if token.text in CLAUSE_WORDS:
+            return self.notation(token.text)
+        if self.item.kind == "ghost" and token.text == self.item.name and self.scope.outer and self.scope.outer[0].trait:
+            word = self.scope.trait_member(self.scope.outer[0].trait.split("::")[-1].partition("<")[0], token.text)
+            if word is None:
+                self.report(token, token.text)
+            return word
+        word = self.scope.rust_word(self.scope.subject if token.text == "Self" else token.text)
+        self.fields.see(word)
+        return word

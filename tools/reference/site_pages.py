@@ -76,10 +76,12 @@ class Site:
         return owner.kind != "module" and (owner.is_public or owner in self.private)
 
     def is_public_implementation(self, word):
-        """Whether an implementation, or a member of one, is that of a public type."""
-        parts = word.home.split(".")[1:] if word.kind == "ghost member" else [*word.home.split(".")[1:], word.name]
-        type_word = self.project.find_rust(word.file, (parts[-2],)) if len(parts) > 1 else None
-        return type_word is not None and type_word.is_public
+        """Whether an implementation, or a member of one, is that of a public trait for a public type."""
+        parts = word.home.split(".")[1:] + ([word.name] if word.kind == "impl" else [])
+        if len(parts) < 2:
+            return False
+        type_word, trait_word = (self.project.find_rust(word.file, (name,)) for name in parts[-2:])
+        return type_word is not None and type_word.is_public and (trait_word is None or trait_word.is_public)
 
     def kit_words(self):
         words = {word for entry in self.references.entries.values() for word in entry.cited}
@@ -105,7 +107,7 @@ class Site:
         return f'<a href="trials.html#{escape("mutation-" + mutation.anchor)}">{escape(mutation.name)}</a>'
 
     def trials_html(self, *words):
-        """The tests that call an item, and the mutations of it, behind the place of its source."""
+        """The tests that call an item, and the mutations of it."""
         tests = self.trials.tests_of_calls(words)
         mutations = self.trials.mutations_of_words(words)
         parts = []
@@ -115,7 +117,7 @@ class Site:
         if tests:
             links = ", ".join(f'<a href="trials.html#test-{escape(test.anchor)}">{escape(test.name)}</a>' for test in tests)
             parts.append(f"<details><summary>{counted(len(tests), 'test')}</summary>{links}</details>")
-        return "</p><p class=\"source\">" + " ".join(parts) if parts else ""
+        return f'<div class="source">{"".join(parts)}</div>' if parts else ""
 
     # Making and writing
 
