@@ -123,7 +123,7 @@ class CratePage:
         """An `impl` of a trait: its ghost members, and the methods that have a contract of their own."""
         owner = re.match(r"\w+", item.subject)
         word = owner and self.site.project.find_rust(source, (owner.group(),))
-        if word is None or not self.site.is_public_implementation(item.word):
+        if word is None or not item.word.is_public:
             return ""
         entries = self.site.references.entries
         pieces = [Piece(" ".join(source.file.text[item.start : item.end].split()) + " {")]

@@ -3,7 +3,7 @@
 from html import escape
 
 from comments import comment_html
-from layout import code_block, counted, word_list
+from layout import code_block, counted, table, word_list
 from references import is_definition, owner_of
 from scopes import DefinitionScope
 from words import GLOSSARY_PAGE
@@ -88,7 +88,10 @@ class DefinitionPage:
 
 def write_list(site):
     """The page that lists all modules of definitions, in the order of the crates."""
-    parts = ["<p>The contracts are written in the words of these modules. Each definition has its comment, what it uses, and what cites it.</p>"]
+    parts = [
+        """<p>The contracts are written in the words of these modules. Each definition has its comment, what it uses, and what cites
+it.</p>"""
+    ]
     contents = []
     for crate in site.project.crates.values():
         modules = [module for module in crate.definitions if module != "Lib"]
@@ -96,10 +99,8 @@ def write_list(site):
             continue
         contents.append((f"crate-{crate.name}", crate.name))
         parts.append(f'<h2 id="crate-{escape(crate.name)}">{escape(crate.name)}</h2>')
-        parts.append('<div class="scroll" tabindex="0" role="region" aria-label="Table"><table><thead><tr><th scope="col">Module</th><th scope="col">What it says</th>')
-        parts.append('<th scope="col" class="number">Definitions</th><th scope="col" class="number">Lines</th></tr></thead><tbody>')
-        parts += [module_row(site, crate, module) for module in modules]
-        parts.append("</tbody></table></div>")
+        rows = [module_row(site, crate, module) for module in modules]
+        parts.append(table(["Module", "What it says", "#Definitions", "#Lines"], rows))
     site.add("definitions.html", "Definitions", "\n".join(parts), contents)
 
 
@@ -107,7 +108,4 @@ def module_row(site, crate, module):
     file = crate.definitions[module]
     lines = sum(site.references.lines(declaration.word) for declaration in file.declarations)
     comment = comment_html(DefinitionScope(site.project, file), file.comment, "definitions.html")
-    return (
-        f'<tr><th scope="row">{site.module_link(crate, module)}</th><td>{comment}</td>'
-        f'<td class="number">{len(file.declarations)}</td><td class="number">{lines:,}</td></tr>'
-    )
+    return [site.module_link(crate, module), comment, f"{len(file.declarations)}", f"{lines:,}"]

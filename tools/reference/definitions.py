@@ -30,7 +30,7 @@ def begins_where(line):
 
 
 def parts_of(declaration):
-    """A definition cut into its signature and its clauses, and what stands under a `where` likewise."""
+    """A definition cut into its signature and its clauses, and what is under a `where` likewise."""
     lines = declaration.lines
     types = signature_types(declaration)
     parts = [Part(0, 1, types, False, False)]

@@ -1,4 +1,4 @@
-"""Finds the field that a name behind a dot means, as far as the text shows the type of what stands before the dot."""
+"""Finds the field that a name after a dot means, as far as the text shows the type of what precedes the dot."""
 
 import re
 
@@ -85,7 +85,8 @@ class FieldFinder:
 
     def implementers_and_parts(self):
         """The types whose implementations the term names, and the types of their fields."""
-        return self.implementers + [owner for word in self.implementers for part in word.members.values() for owner in self.owners_of_field(part)]
+        parts = [part for word in self.implementers for part in word.members.values()]
+        return self.implementers + [owner for part in parts for owner in self.owners_of_field(part)]
 
     def results_of_cited(self):
         return [owner for word in self.cited for owner in self.owners_of_result(word)]

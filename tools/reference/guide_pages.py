@@ -3,24 +3,11 @@
 from html import escape
 
 from comments import doc_html
-from layout import code_block, counted, display_name, word_link, word_list
+from layout import code_block, counted, display_name, table, word_link, word_list
 from markdown import Markdown
 from references import is_definition
 from resolving import Piece
-from words import GLOSSARY_PAGE, WORDS_PAGE, Word
-
-TABLE = '<div class="scroll" tabindex="0" role="region" aria-label="Table"><table>'
-TABLE_END = "</table></div>"
-COLUMNS = {"#": "number", "~": "aside", "@": "name"}
-
-
-def table(heads, rows):
-    """A table of cells that are HTML; the sign that a head begins with says what its column holds."""
-    styles = [next((f' class="{style}"' for sign, style in COLUMNS.items() if head.startswith(sign)), "") for head in heads]
-    head = "".join(f'<th scope="col"{style}>{text.lstrip("#~@")}</th>' for style, text in zip(styles, heads))
-    body = "".join("<tr>" + "".join(f"<td{style}>{cell}</td>" for style, cell in zip(styles, row)) + "</tr>\n" for row in rows)
-    return f"{TABLE}<thead><tr>{head}</tr></thead>\n<tbody>{body}</tbody>{TABLE_END}"
-
+from words import GLOSSARY_PAGE, WORDS_PAGE
 
 def inline(text):
     """A sentence of a comment; a link in it to an item is shown as its name."""
@@ -36,8 +23,10 @@ class StartPage:
         self.known = []
         self.total = 0
         self.summary = []
+        self.headlines = []
 
     def write(self, headlines):
+        self.headlines = headlines
         parts = [self.headline(law) for law in headlines]
         parts += [self.crate(crate) for crate in self.site.project.crates.values()]
         contents = [("sum", "How much it is")]
@@ -51,10 +40,10 @@ class StartPage:
         rows.append(["<strong>All</strong>", "", f"{clauses:,}", "", f"{self.total:,}"])
         heads = ["@Crate", "#Contracts", "#Their lines", "#Definitions", "#Their lines"]
         kit = [word for word in self.known if word.page == GLOSSARY_PAGE]
-        return f"""<p>The proofs show that the code keeps its contracts. Whether the contracts say what they should, only a reader can tell. This
-page lists what such a reader has to read: the contracts, and each definition that their words lead to, behind those that it uses itself.
-A line counts where it is neither empty nor a comment. A type of the code counts as a
-definition, and each definition in the first part that leads to it.</p>
+        return f"""<p>The proofs show that the code keeps its contracts. Whether the contracts say what they should, only a reader can
+judge. This page lists what such a reader has to read: the contracts, and each definition that their words lead to, after those that
+it uses itself. Lines are counted without empty lines and comments. A type of the code counts as a definition. Each definition is
+listed once, in the first part that leads to it.</p>
 <h2 id="sum">How much it is</h2>
 {table(heads, rows)}
 <p>Besides, these contracts and definitions use <a href="{GLOSSARY_PAGE}">{counted(len(kit), "word")} of Rattle's own library</a>.
@@ -78,7 +67,7 @@ what was tried besides the proofs.</p>
 {doc}
 {code_block(entry.pieces, "index.html")}
 {statement}
-<p>Its words lead to these, each behind those that it uses itself:</p>
+<p>Its words lead to these, each after those that it uses itself:</p>
 {self.reading_table(rows)}"""
 
     def contract_lines(self, word):
@@ -86,14 +75,14 @@ what was tried besides the proofs.</p>
         return sum(clause_lines(word.file.file.text[clause.start : clause.end]) for clause in word.origin.clauses)
 
     def crate(self, crate):
-        contracts = self.references.public_contracts(crate)
+        contracts = [word for word in self.references.public_contracts(crate) if word not in self.headlines]
         if not contracts:
             return ""
         rows, definitions, lines = self.reading(contracts)
         clauses = sum(self.contract_lines(word) for word in contracts)
         self.summary.append((crate.name, crate.name, len(contracts), clauses, definitions, lines))
         head = f'<h2 id="crate-{escape(crate.name)}">Crate <a href="{crate.page}">{escape(crate.name)}</a></h2>'
-        contract_count = counted(len(contracts), "public item has a contract", "public items have contracts")
+        contract_count = counted(len(contracts), "more public item has a contract", "more public items have contracts")
         text = f"<p>{contract_count}, with {counted(clauses, 'line')} of clauses. "
         more = "Their words are among those above.</p>" if not rows else "Their words, besides those above:</p>"
         return head + text + more + (self.reading_table(rows) if rows else "")
@@ -158,7 +147,8 @@ def write_words(site):
         rows.append(word_row(site, name, entries[name]))
     parts += close_letter(rows, current)
     count = sum(len(words) for words in entries.values())
-    text = f"<p>{counted(count, 'word')} under {counted(len(entries), 'name')}: of the definitions, of the public items, and of Rattle's library.</p>"
+    found = f"{counted(count, 'word')} under {counted(len(entries), 'name')}"
+    text = f"<p>{found}: of the definitions, of the public items, and of Rattle's library.</p>"
     site.add(WORDS_PAGE, "All words", text + "\n".join(parts), contents)
     return count
 
@@ -192,7 +182,8 @@ def write_glossary(site):
     contents = [("notation", "Notation")] + [(f"home-{home}".replace(" ", "-"), home) for home in homes]
     source = "as the kit has them" if site.project.kit.folder else "by name; the kit was not there to show them"
     parts = [
-        f"<p>Words that the repository does not define itself: the notation of the language, and {counted(len(words), 'word')} of Rattle's library, {source}.</p>",
+        f"""<p>Words that the repository does not define itself: the notation of the language, and {counted(len(words), "word")} of
+Rattle's library, {source}.</p>""",
         f'<h2 id="notation">Notation</h2>{table(["Sign or word", "What it means"], rows)}',
     ]
     for home in homes:
@@ -206,15 +197,17 @@ def kit_entry(word):
     text = code_block([Piece(word.text)], GLOSSARY_PAGE) if word.text else ""
     comment = Markdown(None, None, 5, False).block(word.comment)
     source = f'<p class="source">{escape(word.source)}</p>' if word.source else ""
-    return f'<section class="item" id="{escape(word.anchor)}"><h3><span class="kind">{escape(word.kind)}</span> <code>{escape(word.name)}</code></h3>{comment}{text}{source}</section>'
+    return f"""<section class="item" id="{escape(word.anchor)}">
+<h3><span class="kind">{escape(word.kind)}</span> <code>{escape(word.name)}</code></h3>
+{comment}{text}{source}</section>"""
 
 
 def write_trials(site):
     """The tests and the mutations, with the calls that each names."""
     tests = [test_entry(site, test) for test in site.trials.tests]
     mutations = [mutation_entry(site, mutation) for mutation in site.trials.mutations]
-    text = f"""<p>What was tried besides the proofs. A test runs calls and compares what they give. A mutation changes the code or a definition in one
-place, and the proof must reject it: else the contract would say too little.</p>
+    text = f"""<p>What was tried besides the proofs. A test runs calls and compares what they give. A mutation changes the code or a
+definition, and the proof must reject it: else the contract would say too little.</p>
 <h2 id="mutations">{counted(len(mutations), "mutation")}</h2>
 {"".join(mutations)}
 <h2 id="tests">{counted(len(tests), "test")}</h2>
@@ -234,16 +227,18 @@ def test_entry(site, test):
 """
 
 
+def change_entry(change):
+    old, new = escape(change.old.strip()), escape(change.new.strip())
+    return f"<dt>{escape(change.file)}</dt><dd><del><code>{old}</code></del><br><ins><code>{new}</code></ins></dd>"
+
+
 def mutation_entry(site, mutation):
     words = word_list([word for word in mutation.words if site.is_on_a_page(word)])
     private = ", ".join(f"<code>{escape(word.name)}</code>" for word in mutation.words if not site.is_on_a_page(word))
     changed = "; ".join(filter(None, (words, private and f"private {private}")))
-    rows = "".join(
-        f"<dt>{escape(change.file)}</dt><dd><del><code>{escape(change.old.strip())}</code></del><br><ins><code>{escape(change.new.strip())}</code></ins></dd>"
-        for change in mutation.changes
-    )
-    cited = [word for word in dict.fromkeys(c for w in mutation.words if w in site.references.entries for c in site.references.entries[w].cited)]
-    cited = [word for word in cited if isinstance(word, Word) and is_definition(word)]
+    rows = "".join(map(change_entry, mutation.changes))
+    entries = [site.references.entries[word] for word in mutation.words if word in site.references.entries]
+    cited = [word for word in dict.fromkeys(cited for entry in entries for cited in entry.cited) if is_definition(word)]
     definitions = f"<p>The contract cites {word_list(cited)}.</p>" if cited else ""
     return f"""<section class="item" id="{escape(f'mutation-{mutation.anchor}')}"><h3><code>{escape(mutation.name)}</code></h3>
 <p>Crate {escape(mutation.crate)}, in {changed}.</p>

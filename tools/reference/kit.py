@@ -1,4 +1,4 @@
-"""Looks up the words of Rattle's own library in the kit's folder, or by name alone where there is none."""
+"""Looks up the words of Rattle's own library in the kit's folder, or only by name where there is none."""
 
 import json
 import re

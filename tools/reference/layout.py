@@ -7,7 +7,7 @@ STYLE_PAGE = "style.css"
 
 
 def display_name(word):
-    """How a page names a word: a method behind its type, everything else by its own name."""
+    """How a page names a word: a method with its type, everything else by its own name."""
     if word.kind in ("function", "law", "ghost member") and word.origin is not None:
         type_name = word.home.split(".")[-1]
         if type_name[:1].isupper() and "." in word.anchor:
@@ -27,6 +27,19 @@ def word_link(word, text=None, page=""):
 def word_list(words, page=""):
     """Links to words, joined by commas."""
     return ", ".join(f"<code>{word_link(word, None, page)}</code>" for word in words)
+
+
+COLUMNS = {"#": "number", "~": "aside", "@": "name"}
+
+
+def table(heads, rows):
+    """A table of cells that are HTML, in a box in which it scrolls; the sign that a head begins with says what its column holds."""
+    styles = [next((f' class="{style}"' for sign, style in COLUMNS.items() if head.startswith(sign)), "") for head in heads]
+    head = "".join(f'<th scope="col"{style}>{text.lstrip("#~@")}</th>' for style, text in zip(styles, heads))
+    body = "".join("<tr>" + "".join(f"<td{style}>{cell}</td>" for style, cell in zip(styles, row)) + "</tr>\n" for row in rows)
+    return f"""<div class="scroll" tabindex="0" role="region" aria-label="Table">
+<table><thead><tr>{head}</tr></thead>
+<tbody>{body}</tbody></table></div>"""
 
 
 def counted(number, noun, plural=None):
@@ -94,7 +107,7 @@ def piece_html(piece, text, page):
 
 
 def code_block(pieces, page, margin=0, anchors=None):
-    """Source as HTML, a line each, which wraps behind its own indentation; `anchors` are the anchors of lines by their names."""
+    """Source as HTML, a line each, which wraps to its own indentation; `anchors` are the anchors of lines by their names."""
     lines = [[]]
     for piece in pieces:
         for count, text in enumerate(piece.text.split("\n")):

@@ -3,6 +3,8 @@
 import re
 from html import escape
 
+from layout import table
+
 FENCE = re.compile(r"\s*```(?P<language>\w*)")
 HEADING = re.compile(r"(?P<marks>#{1,6}) (?P<text>.*)")
 LIST_ITEM = re.compile(r"(?P<indent>\s*)(?P<mark>[-*]|\d+\.) (?P<text>.*)")
@@ -131,17 +133,15 @@ class Markdown:
         while position < len(lines) and lines[position].lstrip().startswith("|"):
             rows.append(cells(lines[position]))
             position += 1
-        head = "".join(f'<th scope="col">{self.inline(cell)}</th>' for cell in rows[0])
-        body = "".join("<tr>" + self.table_row(row) + "</tr>\n" for row in rows[2:])
-        html.append(f'<div class="scroll" tabindex="0" role="region" aria-label="Table"><table><thead><tr>{head}</tr></thead>\n<tbody>{body}</tbody></table></div>')
+        html.append(table([self.inline(cell) for cell in rows[0]], [self.table_row(row) for row in rows[2:]]))
         return position
 
     def table_row(self, row):
-        return "".join(f"<td>{self.inline(cell)}</td>" for cell in row)
+        return [self.inline(cell) for cell in row]
 
 
 def cells(line):
-    """The cells of a table's row; a bar behind a backslash, or in code, is no border."""
+    """The cells of a table's row; a bar after a backslash, or in code, is no border."""
     text = line.strip().strip("|")
     parts = re.split(r"(?<!\\)\|(?=(?:[^`]*`[^`]*`)*[^`]*$)", text)
     return [part.strip().replace("\\|", "|") for part in parts]

@@ -108,8 +108,8 @@ class Project:
         return word
 
     def add_member(self, owner, name, kind, comment, text, source):
-        word = Word(name, kind, f"{owner.home}.{owner.name}", owner.page, f"{owner.anchor}.{name}", comment, text, source, owner.crate, owner)
-        word.is_public = owner.is_public
+        word = Word(name, kind, f"{owner.home}.{owner.name}", owner.page, f"{owner.anchor}.{name}", comment, text, source)
+        word.crate, word.owner, word.is_public = owner.crate, owner, owner.is_public
         owner.members[name] = word
         self.members.setdefault(name, []).append(word)
         return self.add(word)
@@ -198,19 +198,35 @@ class Project:
         home = ".".join((source.crate.name, *names[:-1]))
         place = self.place(source.file.path, item.line)
         word = Word(names[-1], kind, home, source.crate.page, anchor, item.doc, "", place, source.crate.name, None, item, source)
-        word.is_public = item.is_public or item.kind in ("impl", "ghost")
+        word.is_public = item.is_public
         source.crate.rust[names if names not in source.crate.rust else (*names, anchor)] = word
         item.word = word
         return self.add(word)
 
     def join_methods(self, crate):
-        """Notes the methods of each type, which may lie in other modules than the type."""
+        """Notes the methods of each type, which may lie in other modules than the type, and which implementations are public."""
         for source in crate.sources:
             for item in source.file.items:
                 subject = re.match(r"[\w:]+", item.subject)
                 owner = subject and self.find_rust(source, subject.group().split("::"))
                 for inner in item.items if owner else ():
                     self.methods.setdefault((owner, inner.name), inner.word)
+                if item.kind == "trait":
+                    self.publish(item.items, item.is_public)
+                elif item.trait:
+                    item.word.is_public = self.is_public_implementation(source, item, owner)
+                    self.publish(item.items, item.word.is_public)
+
+    def is_public_implementation(self, source, item, owner):
+        """Whether a public trait is implemented for a public type; a trait that the repository does not declare is public."""
+        trait = self.find_rust(source, re.match(r"[\w:]+", item.trait).group().split("::"))
+        return bool(owner and owner.is_public and (trait is None or trait.is_public))
+
+    @staticmethod
+    def publish(items, is_public):
+        """Makes the members with a contract of a trait or an implementation as public as that is."""
+        for inner in items:
+            inner.word.is_public = is_public and bool(inner.clauses)
 
     # Definitions
 

@@ -72,9 +72,9 @@ class PromisesPage(Markdown):
         cells = []
         for number, cell in enumerate(row):
             self.is_carrier = number == len(row) - 1 and number > 0
-            cells.append(f"<td>{self.inline(cell)}</td>")
+            cells.append(self.inline(cell))
         self.is_carrier = False
-        return "".join(cells)
+        return cells
 
     def code_span(self, text):
         plain = escape(text)

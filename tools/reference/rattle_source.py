@@ -180,7 +180,7 @@ def header_end(text, position):
 
 
 def body_end(text, position):
-    """The place behind the body or semicolon that begins here."""
+    """The place after the body or semicolon that begins here."""
     return position + 1 if text[position] == ";" else closing_bracket(text, position) + 1
 
 
@@ -204,7 +204,7 @@ def read_function(file, item, position):
 
 
 def angle_end(text, position):
-    """The place behind the angle bracket that closes the one here."""
+    """The place after the angle bracket that closes the one here."""
     depth = 0
     for token in rust_tokens(text, position):
         depth += (token.text == "<") - (token.text == ">")

@@ -103,7 +103,7 @@ class References:
     # What a reader has to read
 
     def reading(self, words, known=()):
-        """The declarations that these words reach, each behind those that it cites itself."""
+        """The declarations that these words reach, each after those that it cites itself."""
         order = []
         visited = set(known)
 

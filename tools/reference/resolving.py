@@ -166,7 +166,7 @@ class Resolver:
         return [Piece(shown, self.cite(found))] + self.field_pieces(token, [], names[count:])
 
     def is_declared_above(self, field, token):
-        """Whether a field of the record that is being declared can be named here: behind its declaration, or as what is declared."""
+        """Whether a field of the record that is being declared can be named here: after its declaration, or as what is declared."""
         before = self.text[: token.start].rsplit("\n", 1)[-1].strip()
         if before in ("", "pub") and re.match(r"\S+ :", self.text[token.start :]):
             return True
@@ -174,7 +174,7 @@ class Resolver:
         return next_member is not None and next_member.start() < token.start
 
     def field_pieces(self, token, owners, names, exact=None):
-        """The pieces of the fields behind a value, whose type names these owners, or is exactly this one."""
+        """The pieces of the fields after a value, whose type names these owners, or is exactly this one."""
         pieces = []
         for name in names:
             pieces.append(Piece("."))

@@ -43,7 +43,7 @@ class Scope:
         return None
 
     def member_of(self, found, name):
-        """What a name means behind a dot after a word or module that is no value."""
+        """What a name means after the dot of a word or module that is no value."""
         if isinstance(found, Module):
             return self.project.find(found.path + (name,))
         if isinstance(found, Word):

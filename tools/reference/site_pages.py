@@ -71,17 +71,7 @@ class Site:
         owner = owner_of(word)
         if getattr(owner.file, "is_test", False):
             return False
-        if owner.kind in ("impl", "ghost member"):
-            return self.is_public_implementation(owner)
         return owner.kind != "module" and (owner.is_public or owner in self.private)
-
-    def is_public_implementation(self, word):
-        """Whether an implementation, or a member of one, is that of a public trait for a public type."""
-        parts = word.home.split(".")[1:] + ([word.name] if word.kind == "impl" else [])
-        if len(parts) < 2:
-            return False
-        type_word, trait_word = (self.project.find_rust(word.file, (name,)) for name in parts[-2:])
-        return type_word is not None and type_word.is_public and (trait_word is None or trait_word.is_public)
 
     def kit_words(self):
         words = {word for entry in self.references.entries.values() for word in entry.cited}
@@ -166,7 +156,7 @@ class Site:
             found = re.findall(r'\bid="([^"]*)"', html)
             anchors[address] = set(map(unescape, found))
             for twice in sorted({anchor for anchor in found if found.count(anchor) > 1}) if len(set(found)) < len(found) else ():
-                self.project.problems.add(address, f"the anchor `{unescape(twice)}` stands there twice")
+                self.project.problems.add(address, f"the anchor `{unescape(twice)}` is there twice")
         for address, html in self.pages.items():
             for target in sorted(set(map(unescape, re.findall(r'href="([^"]*)"', html)))):
                 if not self.leads_somewhere(address, target, anchors):

@@ -166,7 +166,7 @@ class Trials:
         place = self.project.place(edit, change.line)
         text = path.read_text(encoding="utf-8") if path.is_file() else ""
         if text.count(change.old) != 1:
-            self.project.problems.add(place, f"`{change.old.strip()}` does not stand in {change.file} once")
+            self.project.problems.add(place, f"`{change.old.strip()}` is not in {change.file} exactly once")
             return []
         word = self.word_at(crate, path, text, text.index(change.old))
         if word is None:

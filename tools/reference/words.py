@@ -65,7 +65,7 @@ class Module:
 
 
 class Problems:
-    """What could not be resolved, each with the place where it stands."""
+    """What could not be resolved, each with its place."""
 
     def __init__(self):
         self.lines = []
@@ -103,7 +103,7 @@ NOTATION = {
     "requires": "A condition that every caller proves.",
     "ensures": "A promise about each call that meets the conditions; the body is proved to keep it.",
     "ghost": "Text that only contracts and proofs see.",
-    "⟦ ⟧": "`⟦<T as Trait>⟧` is T's implementation of Trait, whose ghost members follow behind a dot.",
+    "⟦ ⟧": "`⟦<T as Trait>⟧` is T's implementation of Trait, whose ghost members follow a dot.",
 }
 PRIMITIVES = {
     "ℕ": "The natural numbers.",
