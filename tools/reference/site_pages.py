@@ -127,6 +127,9 @@ class Site:
         guide_pages.StartPage(self).write(headlines)
         self.counts["words of Rattle"] = guide_pages.write_glossary(self)
         self.counts["words"] = guide_pages.write_words(self)
+        crates = [self.pages[crate.page] for crate in self.project.crates.values()]
+        self.counts["items"] = sum(html.count('<section class="item"') for html in crates)
+        self.counts["definitions"] = sum(is_definition(word) for word in self.project.words)
         self.check_definitions()
         self.check_links()
 
