@@ -1,6 +1,5 @@
 use Rattle.std.proofs.Common.{◌∙◌, ◌+◌, ℕ, Bor, List, sym, subst, arith}
 use Rattle.std.proofs.{lemmas.Option.same_Some, lemmas.Str.IsCharBoundary-before_ascii, lemmas.Str.lead_after_ascii}
-use Rattle.lexicon_fields.specs.Names.{dash}
 use Rattle.target_lexicon.specs.Private.{AreDashBits}
 use Rattle.target_lexicon.proofs.{DashBits.dash_bits_after, Cuts.dash_at, Cuts.cut-found, Cuts.cut-whole}
 use Rattle.target_lexicon.proofs.part.cut.Goals as goal
