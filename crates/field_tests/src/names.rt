@@ -1,7 +1,6 @@
 //! The names of all values without a version, and the queries of architectures, as a Rust program printed them that
 //! asks target-lexicon 0.13.5 for each of its values.
 
-use crate::rows::{Question, check_rows, order_word, prints, shows, width_word, writes};
 use lexicon_fields::{
     Aarch64Architecture, Architecture, ArmArchitecture, BinaryFormat, CleverArchitecture,
     Environment, Mips32Architecture, Mips64Architecture, OperatingSystem, PointerWidth,
@@ -13,6 +12,7 @@ use std::fmt::{Debug, Display};
 use std::marker::PhantomData;
 use std::process::Abort;
 use std::str::FromStr;
+use test_support::{Question, check_rows, order_word, prints, shows, width_word, writes};
 
 /// The name, and after `=` the value, its byte order and pointer width, and whether it is Thumb or Clever.
 const ARCHITECTURES: &str = "\

@@ -1,10 +1,10 @@
 //! Operating systems: versions, parsed and printed.
 
-use crate::rows::{Question, check_rows, lengthened_rows, prints};
 use lexicon_fields::{DeploymentTarget, OperatingSystem};
 use std::alloc::Global;
 use std::borrow::CowStr;
 use std::process::Abort;
+use test_support::{Question, check_rows, lengthened_rows, prints};
 
 /// A text, and after `=` the name of the system that it parses as, or nothing if it is refused, as upstream answers.
 const VERSIONS: &str = "\

@@ -3,7 +3,6 @@
 ghost use Rattle.std.specs.Prelude.{◌<◌};
 ghost use Rattle.lexicon_fields.specs.FixedRow.{row_count};
 
-use crate::rows::{Question, check_words};
 use lexicon_fields::{
     Aarch64Architecture, Architecture, BinaryFormat, CleverArchitecture, Environment, FixedRow,
     KnownVendor, OperatingSystem, ROW_COUNT, Steps, fixed_row, row_order,
@@ -11,6 +10,7 @@ use lexicon_fields::{
 use std::alloc::Global;
 use std::cmp::Ordering;
 use std::process::Abort;
+use test_support::{Question, check_words};
 
 // The fixed names of each field, in the order of target-lexicon 0.13.5's declarations. The alias `arm64` follows
 // those of the architectures.

@@ -1,9 +1,9 @@
 //! Vendors: known, custom and none.
 
-use crate::rows::{Question, check_rows, feed_alike, prints, shows};
 use lexicon_fields::{CustomVendor, Vendor, VendorError};
 use std::alloc::Global;
 use std::process::Abort;
+use test_support::{Question, check_rows, feed_alike, prints, shows};
 
 /// The name of each known vendor, and after `=` the vendor; and texts that parse as custom vendors.
 const READ: &str = "\

@@ -2,11 +2,11 @@
 
 use crate::fixtures::{OfTriple, OfValue, QuestionOf, is_found};
 use crate::reading::{has_values, is_answer, is_host};
-use field_tests::{Question, check_rows, prints, writes};
 use serde_json::Value;
 use std::alloc::{AllocError, Global};
 use std::process::Abort;
 use target_lexicon::{BinaryFormat, ParseError, Triple};
+use test_support::{Question, check_rows, prints, writes};
 use uses::{
     CacheKey, Linker, MatrixError, TargetFileError, c_layout, host_by_text, link_plan, llvm_target,
     refused_text, release_matrix, triple_by_macro, wasi_text,

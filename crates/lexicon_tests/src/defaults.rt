@@ -1,10 +1,10 @@
 //! The two wrappers with a default.
 
 use crate::fixtures::{QuestionOf, check_line, with_vendor};
-use field_tests::{feed_alike, shows};
 use std::alloc::{AllocError, Global};
 use std::process::Abort;
 use target_lexicon::{DefaultToHost, DefaultToUnknown, Triple};
+use test_support::{feed_alike, shows};
 
 #[test]
 fn defaults_are_the_host_and_the_unknown_triple(rt: HostRuntime) {

@@ -1,12 +1,12 @@
 //! What the tests have in common: questions about triples and JSON values, and how triples are built.
 
-use field_tests::{Question, prints};
 use serde_json::Value;
 use std::alloc::Global;
 use std::fmt::Display;
 use std::marker::PhantomData;
 use std::process::Abort;
 use target_lexicon::{CDataModel, CallingConvention, CustomVendor, ParseError, Triple, Vendor};
+use test_support::{Question, prints};
 
 /// A question about a value that a row gives as a text.
 pub(crate) trait QuestionOf<T> {

@@ -3,8 +3,8 @@
 use crate::fixtures::OfTriple;
 use crate::printing::Prints;
 use crate::reading::IsRefused;
-use field_tests::{check_rows, lengthened_rows};
 use std::process::Abort;
+use test_support::{check_rows, lengthened_rows};
 
 /// A text, and after `=` the line that says why it is refused.
 const REFUSED: &str = "\

@@ -2,11 +2,11 @@
 
 use crate::fixtures::{OfValue, QuestionOf, check_line};
 use crate::reading::is_answer;
-use field_tests::{check_rows, prints, shows};
 use serde_json::Value;
 use std::alloc::{AllocError, Global};
 use std::process::Abort;
 use target_lexicon::{JsonError, ListError, ParseError, Triple, list_from_json, list_to_json};
+use test_support::{check_rows, prints, shows};
 
 /// The value is written as this text.
 fn is_written(value: Result<Value, AllocError>, want: &str) -> bool {

@@ -2,10 +2,10 @@
 //! and comes back.
 
 use crate::fixtures::{OfTriple, QuestionOf};
-use field_tests::{check_words, prints};
 use std::alloc::Global;
 use std::process::Abort;
 use target_lexicon::{Architecture, Triple};
+use test_support::{check_words, prints};
 
 pub(crate) const KNOWN_TRIPLES: &str = "\
 aarch64-apple-darwin aarch64-apple-ios aarch64-apple-ios-macabi aarch64-apple-ios-sim

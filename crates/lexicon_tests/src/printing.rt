@@ -2,10 +2,10 @@
 
 use crate::fixtures::{OfTriple, QuestionOf, is_printed, with_vendor};
 use crate::reading::is_answer;
-use field_tests::{check_rows, writes};
 use std::alloc::Global;
 use std::process::Abort;
 use target_lexicon::{Triple, default_binary_format};
+use test_support::{check_rows, writes};
 
 /// The triple prints this.
 pub(crate) struct Prints;

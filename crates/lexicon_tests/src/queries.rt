@@ -1,10 +1,10 @@
 //! The queries of triples and data models.
 
 use crate::fixtures::{OfTriple, QuestionOf, convention_word, model_word};
-use field_tests::{check_rows, order_word, width_word, writes};
 use std::alloc::Global;
 use std::process::Abort;
 use target_lexicon::{Architecture, CDataModel, OperatingSystem, Size, Triple};
+use test_support::{check_rows, order_word, width_word, writes};
 
 /// A text, and after `=` the byte order, pointer width, calling convention and data model of its triple; `-` for no
 /// answer.

@@ -1,11 +1,11 @@
 //! Texts that parse as a triple, and texts that are refused.
 
 use crate::fixtures::{OfTriple, QuestionOf, is_read};
-use field_tests::{Question, check_rows, lengthened_rows, prints, reports_each_failure, writes};
 use std::alloc::Global;
 use std::fmt::Display;
 use std::process::Abort;
 use target_lexicon::{JsonError, ListError, ParseError, Triple, triple};
+use test_support::{Question, check_rows, lengthened_rows, prints, reports_each_failure, writes};
 
 /// The five values of the triple are these, each in the form of `{:?}`.
 pub(crate) fn has_values(triple: &Triple, want: &str) -> bool {

@@ -1,10 +1,10 @@
 //! Round trips: the printed text of a triple, parsed again; its normal step; and its canonical triple.
 
 use crate::fixtures::{is_printed, is_read, with_vendor};
-use field_tests::{Question, check_rows, shows};
 use std::alloc::Global;
 use std::process::Abort;
 use target_lexicon::Triple;
+use test_support::{Question, check_rows, shows};
 
 /// A text, and after `=` the printed text of its triple, and that of the triple's normal step, if it differs or is
 /// given to show that it doesn't.

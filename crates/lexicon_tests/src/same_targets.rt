@@ -1,8 +1,8 @@
 //! Texts that name one target, and texts that don't.
 
-use field_tests::{Question, check_rows};
 use std::alloc::Global;
 use target_lexicon::Triple;
+use test_support::{Question, check_rows};
 use uses::{canonical_text, names_target, share_key};
 
 /// Two spellings of each target: aliases, a custom vendor, and each family that doesn't come back.
