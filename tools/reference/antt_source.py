@@ -3,11 +3,11 @@
 import re
 from dataclasses import dataclass, field
 
-MARKS = r"(?:(?:pattern|unfoldable|abbrev|pub|axiom) )*"
+MODIFIERS = r"(?:(?:pattern|unfoldable|abbrev|pub|axiom) )*"
 NAME = r'[^\s(){}.;,@"]+'
-BLOCK = re.compile(rf"(?P<marks>{MARKS})(?P<kind>data|record) (?P<name>{NAME})")
-SIGNATURE = re.compile(rf"(?P<marks>{MARKS})(?P<name>{NAME})(?: \{{[^}}:]*\}})? :(?:\s|$)")
-USE = re.compile(r"(?P<marks>pub )?use (?P<path>[^\s{]+?)(?:\.\{(?P<names>.*)\})?(?: as (?P<alias>\S+))?$", re.DOTALL)
+BLOCK = re.compile(rf"(?P<modifiers>{MODIFIERS})(?P<kind>data|record) (?P<name>{NAME})")
+SIGNATURE = re.compile(rf"(?P<modifiers>{MODIFIERS})(?P<name>{NAME})(?: \{{[^}}:]*\}})? :(?:\s|$)")
+USE = re.compile(r"(?P<modifiers>pub )?use (?P<path>[^\s{]+?)(?:\.\{(?P<names>.*)\})?(?: as (?P<alias>\S+))?$", re.DOTALL)
 MODULE = re.compile(r"(?:pub )?mod (?P<name>\S+)$")
 MEMBER = re.compile(rf"  (?:pub )?(?P<names>{NAME}(?: {NAME})*) :(?:\s|$)")
 OTHER = ("infix", "ruleset ", "pub ruleset ")
@@ -78,7 +78,8 @@ def import_names(text, is_public, line):
 
 
 def statements(text):
-    """The file cut at each line that begins at its margin: pairs of a line's number and its lines, with those indented under it."""
+    """The file cut at each line that begins at its margin: pairs of a line's number and its lines, with those indented
+    under it."""
     found = []
     for number, line in enumerate(text.split("\n"), 1):
         if not line.strip():
@@ -134,7 +135,7 @@ class Reader:
         kind = match["kind"] if match else "definition"
         match = match or SIGNATURE.match(lines[0])
         if match:
-            is_public = "pub" in match["marks"].split()
+            is_public = "pub" in match["modifiers"].split()
             declaration = Declaration(kind, match["name"], comment_text(self.comment), number, lines, is_public)
             declaration.members = block_members(lines, number) if kind != "definition" else []
             self.file.declarations.append(declaration)

@@ -1,4 +1,4 @@
-"""The page of a crate: every public item with its comment, signature and contract, laid out as the sources have them."""
+"""The page of a crate: every public item with its comment, signature and contract, laid out as in the sources."""
 
 import re
 from html import escape

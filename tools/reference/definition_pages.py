@@ -89,8 +89,8 @@ class DefinitionPage:
 def write_list(site):
     """The page that lists all modules of definitions, in the order of the crates."""
     parts = [
-        """<p>The contracts are written in the words of these modules. Each definition has its comment, what it uses, and what cites
-it.</p>"""
+        """<p>The contracts are written in the words of these modules. Each definition has its comment, what it uses,
+and what cites it.</p>"""
     ]
     contents = []
     for crate in site.project.crates.values():

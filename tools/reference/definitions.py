@@ -12,7 +12,8 @@ PATTERN_KINDS = ("constructor", "variant", "word of Rattle")
 
 @dataclass
 class Part:
-    """Some lines of a definition: a signature, or a clause, with the types of the arguments that its patterns take apart."""
+    """Some lines of a definition: a signature, or a clause, with the types of the arguments that its patterns take
+    apart."""
 
     start: int
     end: int
@@ -87,7 +88,8 @@ class DefinitionResolver(Resolver):
         return self.pieces(term)
 
     def bind_patterns(self, term, types):
-        """On the left of a clause a name that is no constructor binds a variable; the arguments have the signature's types."""
+        """On the left of a clause a name that is no constructor binds a variable; the arguments have the signature's
+        types."""
         depth = argument = 0
         bound = []
         for index in range(len(term)):

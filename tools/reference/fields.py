@@ -53,8 +53,8 @@ class FieldFinder:
         return []
 
     def find(self, owners, name, exact=None):
-        """The word of a field: of the owner that is known exactly, or of one that the type names, or of the one type around that has
-        it; None if none has."""
+        """The word of a field: of the owner that is known exactly, or of one that the type names, or of the one type
+        around that has it; None if none has."""
         for owner in [exact] if exact else owners:
             if name in owner.members:
                 return owner.members[name]
@@ -76,7 +76,7 @@ class FieldFinder:
         return candidates[0] if candidates else self.kit_field(name)
 
     def named_types(self):
-        """The types that the types of the term's variables name inside, as `T` in `Option T`."""
+        """The types that the types of the term's variables name inside, such as `T` in `Option T`."""
         return [owner for text in self.type_texts for owner in self.scope.owners(text)[1:] + self.wrapped(text)]
 
     def wrapped(self, text):

@@ -1,4 +1,5 @@
-"""The pages that lead through the reference: the start page, the crates, all words, the words of Rattle, the tests and mutations."""
+"""The pages that lead through the reference: the start page, the crates, all words, the words of Rattle, the tests and
+mutations."""
 
 from html import escape
 
@@ -41,14 +42,15 @@ class StartPage:
         heads = ["@Crate", "#Contracts", "#Their lines", "#Definitions", "#Their lines"]
         kit = [word for word in self.known if word.page == GLOSSARY_PAGE]
         return f"""<p>The proofs show that the code keeps its contracts. Whether the contracts say what they should, only a reader can
-judge. This page lists what such a reader has to read: the contracts, and each definition that their words lead to, after those that
-it uses itself. Lines are counted without empty lines and comments. A type of the code counts as a definition. Each definition is
-listed once, in the first part that leads to it.</p>
+judge. This page lists what such a reader has to read: the contracts, and each definition that their words lead to,
+after those that it uses itself. Lines are counted without empty lines and comments. A type of the code counts as a
+definition. Each definition is listed once, in the first part that leads to it.</p>
 <h2 id="sum">How much it is</h2>
 {table(heads, rows)}
-<p>Besides, these contracts and definitions use <a href="{GLOSSARY_PAGE}">{counted(len(kit), "word")} of Rattle's own library</a>.
-<a href="promises.html">The promises</a> say in plain words what the contracts say; <a href="trials.html">the tests and mutations</a> show
-what was tried besides the proofs.</p>
+<p>Besides, these contracts and definitions use
+<a href="{GLOSSARY_PAGE}">{counted(len(kit), "word")} of Rattle's own library</a>.
+<a href="promises.html">The promises</a> say in plain words what the contracts say;
+<a href="trials.html">the tests and mutations</a> show what was tried besides the proofs.</p>
 """
 
     def summary_row(self, name, title, contracts, lines, definitions, total):

@@ -4,7 +4,7 @@ import json
 import re
 from functools import lru_cache
 
-from antt_source import MARKS, NAME, import_names
+from antt_source import MODIFIERS, NAME, import_names
 from words import GLOSSARY_PAGE, PRIMITIVES, Module, Word
 
 PASSED_ON = re.compile(r"^(?:unfoldable )?(pub use [^\n]*)$", re.MULTILINE)
@@ -18,7 +18,7 @@ def indentation(line):
 
 
 def comment_above(lines, first):
-    """The comment lines right above a line, without their marks."""
+    """The comment lines right above a line, without the signs that begin them."""
     above = []
     while first > 0 and re.match(r"\s*(--|//)", lines[first - 1]):
         first -= 1
@@ -27,7 +27,8 @@ def comment_above(lines, first):
 
 
 def block_at(lines, first):
-    """The lines of the declaration that begins here: to the next empty line or comment at its margin, or to a shallower line."""
+    """The lines of the declaration that begins here: to the next empty line or comment at its margin, or to a shallower
+    line."""
     margin = indentation(lines[first])
     last = first + 1
     while last < len(lines) and lines[last].strip() and indentation(lines[last]) >= margin:
@@ -70,7 +71,7 @@ class Kit:
 
     @lru_cache(maxsize=None)
     def logic_root(self, name):
-        """The folder of a library under the logic, by the names that the logic's project file gives them."""
+        """The folder of a library below `LOGIC`, by the names that the project file there gives them."""
         project = self.folder / LOGIC / "antt-project.json"
         mounts = json.loads(project.read_text(encoding="utf-8")).get("mounts", {}) if project.is_file() else {}
         if name not in mounts:
@@ -156,7 +157,7 @@ class Kit:
 
     @staticmethod
     def declaration(lines, name):
-        pattern = re.compile(rf"\s*{MARKS}(?P<kind>data |record )?{re.escape(name)}(?: \{{[^}}:]*\}})?(?: \(.*\)| \{{.*\}})* :(?:\s|$)")
+        pattern = re.compile(rf"\s*{MODIFIERS}(?P<kind>data |record )?{re.escape(name)}(?: \{{[^}}:]*\}})?(?: \(.*\)| \{{.*\}})* :(?:\s|$)")
         for number, line in enumerate(lines):
             match = pattern.match(line)
             if match and ("pub " in line.split(name)[0] or match["kind"]):
@@ -168,7 +169,7 @@ class Kit:
         """A constructor or field, with the first line of the block that declares it."""
         first = None
         for number, line in enumerate(lines):
-            if re.match(rf"\s*{MARKS}(data|record) ", line):
+            if re.match(rf"\s*{MODIFIERS}(data|record) ", line):
                 first = number
             match = MEMBER_OF_BLOCK.match(line)
             if first is not None and match and name in match["names"].split() and indentation(line) > indentation(lines[first]):

@@ -4,6 +4,7 @@ from html import escape
 from urllib.parse import quote
 
 STYLE_PAGE = "style.css"
+VIEWPORT = "width=device-width,initial-scale=1"
 
 
 def display_name(word):
@@ -33,7 +34,8 @@ COLUMNS = {"#": "number", "~": "aside", "@": "name"}
 
 
 def table(heads, rows):
-    """A table of cells that are HTML, in a box in which it scrolls; the sign that a head begins with says what its column holds."""
+    """A table of cells that are HTML, in a box in which it scrolls; the sign that a head begins with says what its
+    column holds."""
     styles = [next((f' class="{style}"' for sign, style in COLUMNS.items() if head.startswith(sign)), "") for head in heads]
     head = "".join(f'<th scope="col"{style}>{text.lstrip("#~@")}</th>' for style, text in zip(styles, heads))
     body = "".join("<tr>" + "".join(f"<td{style}>{cell}</td>" for style, cell in zip(styles, row)) + "</tr>\n" for row in rows)
@@ -64,7 +66,7 @@ class Frame:
 <html lang="en">
 <head>
 <meta charset="utf-8">
-<meta name="viewport" content="width=device-width, initial-scale=1">
+<meta name="viewport" content="{VIEWPORT}">
 <meta name="color-scheme" content="light dark">
 <title>{escape(title)} · {escape(self.title)}</title>
 <link rel="stylesheet" href="{STYLE_PAGE}">
@@ -91,7 +93,8 @@ def contents_navigation(contents):
         return ""
     entries = "".join(f'<li><a href="#{quote(anchor)}">{escape(text)}</a></li>' for anchor, text in contents)
     return f"""<nav class="contents wide" aria-label="On this page"><p>On this page</p><ul>{entries}</ul></nav>
-<nav class="contents narrow" aria-label="On this page"><details><summary>On this page</summary><ul>{entries}</ul></details></nav>
+<nav class="contents narrow" aria-label="On this page">
+<details><summary>On this page</summary><ul>{entries}</ul></details></nav>
 """
 
 
@@ -107,7 +110,8 @@ def piece_html(piece, text, page):
 
 
 def code_block(pieces, page, margin=0, anchors=None):
-    """Source as HTML, a line each, which wraps to its own indentation; `anchors` are the anchors of lines by their names."""
+    """Source as HTML, a line each, which wraps to its own indentation; `anchors` are the anchors of lines by their
+    names."""
     lines = [[]]
     for piece in pieces:
         for count, text in enumerate(piece.text.split("\n")):

@@ -17,7 +17,7 @@ class Token:
         return self.start + len(self.text)
 
 
-# In antt a name is any run of characters but spaces and the marks below; a dot with no space joins names to a path.
+# In antt a name is any run of characters but spaces and the symbols below; a dot with no space joins names to a path.
 ANTT_NAME = r'[^\s(){}.;,@"«»⟦⟧]+'
 ANTT_TOKENS = re.compile(
     "|".join(
@@ -27,7 +27,7 @@ ANTT_TOKENS = re.compile(
             r'(?P<string>"(?:[^"\\]|\\.)*")',
             r"(?P<rust>⟦.*?⟧)",
             rf"(?P<path>\.?(?:«[^»]*»|{ANTT_NAME})(?:\.(?:«[^»]*»|{ANTT_NAME}))*)",
-            r"(?P<mark>.)",
+            r"(?P<symbol>.)",
         )
     ),
     re.DOTALL,
@@ -43,7 +43,7 @@ RUST_TOKENS = re.compile(
             r"(?P<lifetime>'\w+)",
             r"(?P<name>[A-Za-z_]\w*)",
             r"(?P<number>\d\w*)",
-            r"(?P<mark>::|->|=>|\.\.=?|.)",
+            r"(?P<symbol>::|->|=>|\.\.=?|.)",
         )
     ),
     re.DOTALL,
@@ -98,9 +98,9 @@ def closing_bracket(text, opening):
     position = opening
     while position < len(text):
         match = RUST_TOKENS.match(text, position)
-        if match.lastgroup == "mark" and match.group() in CLOSING:
+        if match.lastgroup == "symbol" and match.group() in CLOSING:
             expected.append(CLOSING[match.group()])
-        elif match.lastgroup == "mark" and expected and match.group() == expected[-1]:
+        elif match.lastgroup == "symbol" and expected and match.group() == expected[-1]:
             expected.pop()
             if not expected:
                 return position

@@ -6,8 +6,8 @@ from html import escape
 from layout import table
 
 FENCE = re.compile(r"\s*```(?P<language>\w*)")
-HEADING = re.compile(r"(?P<marks>#{1,6}) (?P<text>.*)")
-LIST_ITEM = re.compile(r"(?P<indent>\s*)(?P<mark>[-*]|\d+\.) (?P<text>.*)")
+HEADING = re.compile(r"(?P<signs>#{1,6}) (?P<text>.*)")
+LIST_ITEM = re.compile(r"(?P<indent>\s*)(?P<symbol>[-*]|\d+\.) (?P<text>.*)")
 TABLE_RULE = re.compile(r"\s*\|?[\s:|-]+\|[\s:|-]*$")
 INLINE = re.compile(
     r"(?P<code>`[^`]+`)"
@@ -25,7 +25,8 @@ def slug(text):
 
 
 class Markdown:
-    """Renders Markdown; `code` renders a code span, and `link` gives the address of a link's target or of an item's path."""
+    """Renders Markdown; `code` renders a code span, and `link` gives the address of a link's target or of an item's
+    path."""
 
     def __init__(self, code=None, link=None, first_heading=2, has_anchors=True):
         self.code = code or (lambda text: f"<code>{escape(text)}</code>")
@@ -82,7 +83,7 @@ class Markdown:
         return html
 
     def heading(self, match):
-        level = min(6, len(match["marks"]) + self.first_heading - 1)
+        level = min(6, len(match["signs"]) + self.first_heading - 1)
         anchor = f' id="{slug(match["text"])}"' if self.has_anchors else ""
         return f"<h{level}{anchor}>{self.inline(match['text'])}</h{level}>"
 
@@ -107,9 +108,9 @@ class Markdown:
         return is_inside and bool(FENCE.match(line) or HEADING.match(line) or LIST_ITEM.match(line) or line.startswith("|"))
 
     def list(self, lines, position, html):
-        """A list; the lines under an item that are indented, or go on without a mark, are its own."""
+        """A list; the lines under an item that are indented, or go on without a symbol, are its own."""
         first = LIST_ITEM.match(lines[position])
-        tag = "ul" if first["mark"] in "-*" else "ol"
+        tag = "ul" if first["symbol"] in "-*" else "ol"
         items = []
         while position < len(lines):
             match = LIST_ITEM.match(lines[position])

@@ -1,4 +1,5 @@
-"""The repository's crates as the reference sees them: their sources, their definitions, and every word that these declare."""
+"""The repository's crates as the reference sees them: their sources, their definitions, and every word that these
+declare."""
 
 import re
 from dataclasses import dataclass, field
@@ -204,7 +205,8 @@ class Project:
         return self.add(word)
 
     def join_methods(self, crate):
-        """Notes the methods of each type, which may lie in other modules than the type, and which implementations are public."""
+        """Notes the methods of each type, which may lie in other modules than the type, and which implementations are
+        public."""
         for source in crate.sources:
             for item in source.file.items:
                 subject = re.match(r"[\w:]+", item.subject)
@@ -218,7 +220,8 @@ class Project:
                     self.publish(item.items, item.word.is_public)
 
     def is_public_implementation(self, source, item, owner):
-        """Whether a public trait is implemented for a public type; a trait that the repository does not declare is public."""
+        """Whether a public trait is implemented for a public type; a trait that the repository does not declare is
+        public."""
         trait = self.find_rust(source, re.match(r"[\w:]+", item.trait).group().split("::"))
         return bool(owner and owner.is_public and (trait is None or trait.is_public))
 

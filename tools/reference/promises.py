@@ -1,4 +1,5 @@
-"""The page of promises: a page of the repository, in which each call, law and clause that carries a promise is a link."""
+"""The page of promises: a page of the repository, in which each call, law and clause that carries a promise is a
+link."""
 
 import os
 import re
@@ -107,7 +108,8 @@ class PromisesPage(Markdown):
         return callable_words or near
 
     def items_with_clause(self, name):
-        """The public items with a clause of this name: those that the row or the table's head names, or all of the crate."""
+        """The public items with a clause of this name: those that the row or the table's head names, or all of the
+        crate."""
         if self.crate is None:
             return []
         items = self.site.references.public_contracts(self.crate)

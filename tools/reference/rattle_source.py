@@ -17,7 +17,8 @@ CLAUSE = re.compile(r"(?P<kind>requires|ensures|ghost)\*?\s*(?P<name>\w+)?\s*:?\
 
 @dataclass
 class Clause:
-    """A clause of a contract, or a ghost member of an `impl` or a `trait`: its term lies between these places of the source."""
+    """A clause of a contract, or a ghost member of an `impl` or a `trait`: its term lies between these places of the
+    source."""
 
     kind: str
     name: str
@@ -169,7 +170,8 @@ class Reader:
 
 
 def header_end(text, position):
-    """The place of the brace or semicolon that ends a header, or of its first clause; brackets in between are passed over."""
+    """The place of the brace or semicolon that ends a header, or of its first clause; brackets in between are passed
+    over."""
     while True:
         match = RUST_TOKENS.match(text, position)
         if match.group() in ("{", ";"):

@@ -25,9 +25,9 @@ def owner_of(word):
     return word.owner or word
 
 
-def lines_of_code(text, marks):
+def lines_of_code(text, comment_start):
     """How many lines of a source are neither empty nor a comment."""
-    return sum(1 for line in text.split("\n") if line.strip() and not line.strip().startswith(marks))
+    return sum(1 for line in text.split("\n") if line.strip() and not line.strip().startswith(comment_start))
 
 
 class References:

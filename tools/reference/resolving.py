@@ -166,7 +166,8 @@ class Resolver:
         return [Piece(shown, self.cite(found))] + self.field_pieces(token, [], names[count:])
 
     def is_declared_above(self, field, token):
-        """Whether a field of the record that is being declared can be named here: after its declaration, or as what is declared."""
+        """Whether a field of the record that is being declared can be named here: after its declaration, or as what is
+        declared."""
         before = self.text[: token.start].rsplit("\n", 1)[-1].strip()
         if before in ("", "pub") and re.match(r"\S+ :", self.text[token.start :]):
             return True
@@ -225,7 +226,8 @@ class ItemResolver(Resolver):
         return pieces
 
     def rust_word(self, token):
-        """The word of a name outside the clauses: a type, a constant, what begins a clause, or the ghost member that is given here."""
+        """The word of a name outside the clauses: a type, a constant, what begins a clause, or the ghost member that is
+        given here."""
         if token.text in CLAUSE_WORDS:
             return self.notation(token.text)
         if self.item.kind == "ghost" and token.text == self.item.name and self.scope.outer and self.scope.outer[0].trait:

@@ -11,12 +11,12 @@ TYPE_KINDS = ("struct", "enum", "trait", "type", "union", "constant")
 
 
 def plain(name):
-    """A name without the marks that quote it."""
+    """A name without the symbols that quote it."""
     return name.strip("«»")
 
 
 def operator_pieces(name):
-    """The words that an operator's name is written by, as `if`, `then` and `else` of `if◌then◌else◌`."""
+    """The words that an operator's name is written by, such as `if`, `then` and `else` of `if◌then◌else◌`."""
     return [piece for piece in name.split("◌") if piece] if "◌" in name else []
 
 

@@ -27,7 +27,7 @@ MENU = (
     ("All words", "words.html"),
     ("Rattle's words", "glossary.html"),
 )
-OWN_MARK = "made-by-tools-reference"
+OWN_STAMP = "made-by-tools-reference"
 
 
 class Site:
@@ -175,14 +175,14 @@ class Site:
         return (self.folder / page).resolve().exists()
 
     def write(self):
-        """Writes all pages into the folder, in place of those of an earlier run."""
-        mark = self.folder / OWN_MARK
-        if self.folder.is_dir() and any(self.folder.iterdir()) and not mark.is_file():
+        """Writes all pages into the folder, instead of those of an earlier run."""
+        stamp = self.folder / OWN_STAMP
+        if self.folder.is_dir() and any(self.folder.iterdir()) and not stamp.is_file():
             raise SystemExit(f"{self.folder} is not empty, and no earlier run of this tool made it: choose another folder")
-        if mark.is_file():
+        if stamp.is_file():
             shutil.rmtree(self.folder)
         os.makedirs(self.folder, exist_ok=True)
-        mark.write_text("tools/reference writes this folder anew.\n", encoding="utf-8")
+        stamp.write_text("tools/reference writes this folder anew.\n", encoding="utf-8")
         for address, html in self.pages.items():
             (self.folder / address).write_text(html, encoding="utf-8")
         shutil.copyfile(Path(__file__).with_name(STYLE_PAGE), self.folder / STYLE_PAGE)

@@ -1,4 +1,5 @@
-"""What an antt term binds, and where: the variables of `λ`, of `(x : A)`, of `let` and of patterns, each with its range."""
+"""What an antt term binds, and where: the variables of `λ`, of `(x : A)`, of `let` and of patterns, each with its
+range."""
 
 from dataclasses import dataclass
 
@@ -72,7 +73,8 @@ class Term:
         self.binders.append(Binder(Variable(name, type_text, beside), first, last))
 
     def argument_before(self, index):
-        """The name right before the bracket that opens before this token, which other functions in brackets may part from it."""
+        """The name right before the bracket that opens before this token, which other functions in brackets may part
+        from it."""
         opening = index - 1
         while self.text_at(opening) == "(" and self.text_at(opening - 1) == ")":
             opening = next(i for i in range(opening - 1, -1, -1) if self.text_at(i) == "(" and self.closing(i) == opening - 1)

@@ -1,4 +1,5 @@
-"""What a word of the statement can mean: the words of the pages, each with its page, its place there and its comment."""
+"""What a word of the statement can mean: the words of the pages, each with its page, its place there and its
+comment."""
 
 from dataclasses import dataclass, field
 from urllib.parse import quote
@@ -49,8 +50,8 @@ class Word:
 
 @dataclass(frozen=True)
 class Variable:
-    """A name that a clause or a definition binds, with the text of its type where that is written; of a `λ` that is an argument,
-    also the argument before it, as `r` in `IfOk r (λ x. ..)`."""
+    """A name that a clause or a definition binds, with the text of its type where that is written; of a `λ` that is an
+    argument, also the argument before it, such as `r` in `IfOk r (λ x. ..)`."""
 
     name: str
     type: str = ""
