@@ -1,7 +1,7 @@
 /* Target triples for C, by the proved library target_lexicon: reading, printing and asking.
 
    A text goes in as a pointer and a size. It need not end with a zero byte, and it need not be UTF-8. A text comes out into the
-   caller's buffer as a pointer and a size; *length is its whole length, and it is written, with no zero byte behind it, exactly
+   caller's buffer as a pointer and a size; *length is its whole length, and it is written, with no zero byte after it, exactly
    where *length <= out_size. So a call with a buffer that is too small tells how large a buffer has to be.
 
    A text or a buffer of size 0 may be null, as with snprintf; no other pointer may. No buffer, number, answer or struct that a call
@@ -37,11 +37,11 @@ extern "C" {
 enum lexicon_status {
   LEXICON_OK = 0,
   LEXICON_NO_ARCHITECTURE = 1,     /* the first part is no architecture */
-  LEXICON_NO_VENDOR = 2,           /* behind the architecture, the part is nothing that may stand there */
-  LEXICON_NO_OPERATING_SYSTEM = 3, /* so behind the vendor */
-  LEXICON_NO_ENVIRONMENT = 4,      /* so behind the operating system */
-  LEXICON_NO_BINARY_FORMAT = 5,    /* so behind the environment */
-  LEXICON_NO_FIELD = 6,            /* a part behind the binary format */
+  LEXICON_NO_VENDOR = 2,           /* after the architecture, the part is nothing that may stand there */
+  LEXICON_NO_OPERATING_SYSTEM = 3, /* so after the vendor */
+  LEXICON_NO_ENVIRONMENT = 4,      /* so after the operating system */
+  LEXICON_NO_BINARY_FORMAT = 5,    /* so after the environment */
+  LEXICON_NO_FIELD = 6,            /* a part after the binary format */
   LEXICON_NOT_UTF8 = 7,
   LEXICON_OUT_OF_MEMORY = 8,       /* the library frees what it asks malloc for before it returns */
   LEXICON_NO_SUCH_FIELD = 9        /* the number of the field is above 4 */

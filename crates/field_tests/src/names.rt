@@ -216,9 +216,9 @@ xcoff=Xcoff";
 struct IsNamed<T>(PhantomData<T>);
 
 impl<T: Debug + Display + Drop + FromStr<Err = ()>> Question for IsNamed<T> {
-    fn holds(_alloc: Global, name: &str, want: &str) -> bool {
+    fn holds(_alloc: Global, name: &str, expected: &str) -> bool {
         match name.parse::<T>() {
-            Ok(value) => prints(&value, name) && shows(&value, want),
+            Ok(value) => prints(&value, name) && shows(&value, expected),
             Err(()) => false,
         }
     }
@@ -259,14 +259,14 @@ fn kind(value: Architecture) -> &'static str {
 struct IsArchitecture;
 
 impl Question for IsArchitecture {
-    fn holds(_alloc: Global, name: &str, want: &str) -> bool {
+    fn holds(_alloc: Global, name: &str, expected: &str) -> bool {
         let Ok(value) = Architecture::from_str(name) else {
             return false;
         };
         let order = order_word(value.endianness());
         let width = width_word(value.pointer_width());
         let kind = kind(value);
-        prints(&value, name) && writes(&format_args!("{value:?} {order} {width}{kind}"), want)
+        prints(&value, name) && writes(&format_args!("{value:?} {order} {width}{kind}"), expected)
     }
 }
 
@@ -346,9 +346,9 @@ fn other_name_of(family: &str, text: &str) -> CowStr<'static> {
 struct ReadsInType;
 
 impl Question for ReadsInType {
-    fn holds(_alloc: Global, question: &str, want: &str) -> bool {
+    fn holds(_alloc: Global, question: &str, expected: &str) -> bool {
         let (family, text) = question.split_once(" ").unwrap_or((question, ""));
-        name_of(family, text).as_str() == want
+        name_of(family, text).as_str() == expected
     }
 }
 

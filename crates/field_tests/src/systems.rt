@@ -103,10 +103,10 @@ None_=
 struct IsSystem;
 
 impl Question for IsSystem {
-    fn holds(_alloc: Global, text: &str, want: &str) -> bool {
+    fn holds(_alloc: Global, text: &str, expected: &str) -> bool {
         match OperatingSystem::from_str(text) {
-            Ok(system) => prints(&system, want),
-            Err(()) => want.is_empty(),
+            Ok(system) => prints(&system, expected),
+            Err(()) => expected.is_empty(),
         }
     }
 }

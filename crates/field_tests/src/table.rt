@@ -62,7 +62,7 @@ fn fields(row: &FixedRow) -> [bool; 5] {
 struct IsAsScanned;
 
 impl Question for IsAsScanned {
-    fn holds(_alloc: Global, text: &str, _want: &str) -> bool {
+    fn holds(_alloc: Global, text: &str, _expected: &str) -> bool {
         let scanned = [
             is_in(ARCHITECTURES, text),
             is_in(VENDORS, text),
@@ -78,7 +78,7 @@ impl Question for IsAsScanned {
 }
 
 /// Texts without a row.
-const WITHOUT_ROW: &str = "\0 a A zz é ios17 darwin AARCH64 aarch6 aarch64~ pc~ zkasm~ zkasn";
+const TEXTS_WITHOUT_ROW: &str = "\0 a A zz é ios17 darwin AARCH64 aarch6 aarch64~ pc~ zkasm~ zkasn";
 
 #[test]
 fn holds_what_a_scan_finds(rt: HostRuntime) {
@@ -88,7 +88,7 @@ fn holds_what_a_scan_finds(rt: HostRuntime) {
         (OPERATING_SYSTEMS, 33),
         (ENVIRONMENTS, 35),
         (BINARY_FORMATS, 6),
-        (WITHOUT_ROW, 13),
+        (TEXTS_WITHOUT_ROW, 13),
     ];
     for (words, count) in texts {
         assert_eq!(rt; check_words::<IsAsScanned>(rt.alloc(), words), Ok(count));

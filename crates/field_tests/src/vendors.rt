@@ -3,7 +3,7 @@
 use lexicon_fields::{CustomVendor, Vendor, VendorError};
 use std::alloc::Global;
 use std::process::Abort;
-use test_support::{Question, check_rows, feed_alike, prints, shows};
+use test_support::{Question, check_rows, hash_alike, prints, shows};
 
 /// The name of each known vendor, and after `=` the vendor; and texts that parse as custom vendors.
 const READ: &str = "\
@@ -34,9 +34,9 @@ foo=Custom(Owned(\"foo\"))
 owned=Custom(Owned(\"owned\"))";
 
 /// A clone of the vendor is this one, in the form of `{:?}`.
-fn is_cloned(alloc: Global, vendor: &Vendor, want: &str) -> bool {
+fn is_cloned(alloc: Global, vendor: &Vendor, expected: &str) -> bool {
     match vendor.clone(alloc) {
-        Ok(copy) => shows(&copy, want),
+        Ok(copy) => shows(&copy, expected),
         Err(_) => false,
     }
 }
@@ -45,14 +45,14 @@ fn is_cloned(alloc: Global, vendor: &Vendor, want: &str) -> bool {
 struct ReadsAs;
 
 impl Question for ReadsAs {
-    fn holds(alloc: Global, text: &str, want: &str) -> bool {
+    fn holds(alloc: Global, text: &str, expected: &str) -> bool {
         match Vendor::from_str(alloc, text) {
             Ok(vendor) => {
                 vendor.is_plain()
                     && vendor.as_str() == text
                     && prints(&vendor, text)
-                    && shows(&vendor, want)
-                    && is_cloned(alloc, &vendor, want)
+                    && shows(&vendor, expected)
+                    && is_cloned(alloc, &vendor, expected)
             }
             Err(_) => false,
         }
@@ -94,7 +94,7 @@ fn other_texts_are_refused(rt: HostRuntime) {
 fn is_equal_to_fixed(alloc: Global, text: &'static str) -> bool {
     let fixed = Vendor::Custom(CustomVendor::Static(text));
     match Vendor::from_str(alloc, text) {
-        Ok(vendor) => feed_alike(vendor, fixed),
+        Ok(vendor) => hash_alike(vendor, fixed),
         Err(_) => false,
     }
 }
@@ -107,9 +107,9 @@ fn custom_vendors_are_compared_by_text(rt: HostRuntime) {
 }
 
 /// A clone of the vendor has this text, and is this one, in the form of `{:?}`.
-fn is_custom_cloned(alloc: Global, custom: &CustomVendor, text: &str, want: &str) -> bool {
+fn is_custom_cloned(alloc: Global, custom: &CustomVendor, text: &str, expected: &str) -> bool {
     match custom.clone(alloc) {
-        Ok(copy) => copy.as_str() == text && shows(&copy, want),
+        Ok(copy) => copy.as_str() == text && shows(&copy, expected),
         Err(_) => false,
     }
 }

@@ -7,12 +7,12 @@
 
 #include "lexicon.h"
 
-typedef uint32_t telling(const char *text, size_t text_size, char *out, size_t out_size, size_t *length);
+typedef uint32_t text_call(const char *text, size_t text_size, char *out, size_t out_size, size_t *length);
 
 struct buffer { char *bytes; size_t size, length; };
 
 /* Calls, and once more where the buffer was too small for what the call tells. */
-static uint32_t told(telling *call, const char *text, size_t size, struct buffer *buffer) {
+static uint32_t call_with_room(text_call *call, const char *text, size_t size, struct buffer *buffer) {
   uint32_t status = call(text, size, buffer->bytes, buffer->size, &buffer->length);
   if (buffer->length <= buffer->size) return status;
   char *larger = (char *)realloc(buffer->bytes, buffer->length);
@@ -38,9 +38,9 @@ static void show_facts(const struct lexicon_facts *facts) {
 
 /* Shows a line; the status is one at which the run has to end, or LEXICON_OK. */
 static uint32_t show(const char *line, size_t size, struct buffer *buffer) {
-  uint32_t status = told(lexicon_print, line, size, buffer);
+  uint32_t status = call_with_room(lexicon_print, line, size, buffer);
   if (status >= LEXICON_NO_ARCHITECTURE && status <= LEXICON_NO_FIELD) {
-    status = told(lexicon_error_line, line, size, buffer);
+    status = call_with_room(lexicon_error_line, line, size, buffer);
     if (status > LEXICON_NO_FIELD) return status;
     fputs("error: ", stdout);
     show_text(buffer);

@@ -17,7 +17,7 @@ struct Facts {
     patch: u32,
 }
 
-type Telling = unsafe extern "C" fn(*const u8, usize, *mut u8, usize, *mut usize) -> u32;
+type TextCall = unsafe extern "C" fn(*const u8, usize, *mut u8, usize, *mut usize) -> u32;
 
 unsafe extern "C" {
     fn lexicon_print(text: *const u8, text_size: usize, out: *mut u8, out_size: usize, length: *mut usize) -> u32;
@@ -26,7 +26,7 @@ unsafe extern "C" {
 }
 
 /// The status that a call answers and the text that it tells, in a buffer that grows to the text's length.
-fn told(call: Telling, text: &[u8], buffer: &mut Vec<u8>) -> (u32, usize) {
+fn call_with_room(call: TextCall, text: &[u8], buffer: &mut Vec<u8>) -> (u32, usize) {
     let mut length = 0;
     let mut ask = |out: &mut Vec<u8>| {
         // SAFETY: the pointers and sizes are those of slices, and the buffer is borrowed alone.
@@ -42,9 +42,9 @@ fn told(call: Telling, text: &[u8], buffer: &mut Vec<u8>) -> (u32, usize) {
 }
 
 fn show(line: &[u8], buffer: &mut Vec<u8>, out: &mut impl Write) -> io::Result<()> {
-    let (status, length) = told(lexicon_print, line, buffer);
+    let (status, length) = call_with_room(lexicon_print, line, buffer);
     if (1..=6).contains(&status) {
-        let (_, length) = told(lexicon_error_line, line, buffer);
+        let (_, length) = call_with_room(lexicon_error_line, line, buffer);
         out.write_all(b"error: ")?;
         out.write_all(&buffer[..length])?;
         return out.write_all(b"\n");

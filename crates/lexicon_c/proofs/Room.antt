@@ -4,10 +4,10 @@ use Rattle.std.specs.Prelude.{MatchOption}
 use Rattle.lexicon_c.specs.{Output.refusal_status, Output.IsWritten, Output.IsNothingWritten, Output.GrowsAtMost}
 use Rattle.target_lexicon.specs.{FixedPoints.RefusedPartsDoNotGrow, Reading.MayAllocate, Reading.IsRefusedAs, Refusal.Refusal}
 
--- a refused part is no longer than the text, and of want of memory nothing is told
-pub fault_has_room : RefusedPartsDoNotGrow → (text : List ℕ) (refusal : Option Refusal) (status size : ℕ) (old new : List ℕ)
+-- a refused part is no longer than the text, and of running out of memory nothing is told
+pub error_has_room : RefusedPartsDoNotGrow → (text : List ℕ) (refusal : Option Refusal) (status size : ℕ) (old new : List ℕ)
     → MatchOption refusal (MayAllocate text) (λ r. IsRefusedAs text r)
     → MatchOption refusal ((status ≡ 8) × IsNothingWritten old new size) (λ r. (status ≡ refusal_status r.expected) × IsWritten r.part old new size)
     → GrowsAtMost text size
-fault_has_room shorter text None status size old new wants output = omega (arith, output.1.1)
-fault_has_room shorter text (Some r) status size old new is output = omega (arith, shorter text r is, output.1.counted)
+error_has_room shorter text None status size old new wants output = omega (arith, output.1.1)
+error_has_room shorter text (Some r) status size old new is output = omega (arith, shorter text r is, output.1.counted)

@@ -5,7 +5,7 @@ use Rattle.target_lexicon.specs.{declared.calling_convention.CallingConvention.C
 use Rattle.target_lexicon.specs.declared.calling_convention.CallingConvention.TheVariants.{SystemV, WasmBasicCAbi, WindowsFastcall, AppleAarch64}
 use Rattle.target_lexicon.specs.declared.data_model.CDataModel.TheVariants.{LP32, ILP32, LLP64, LP64, ILP64}
 use Rattle.std.specs.Option.{option_map_or}
-use Rattle.lexicon_fields.specs.{OperatingSystem.version_held, PointerWidth.width_bits, declared.binary_format.BinaryFormat.BinaryFormat, declared.deployment_target.DeploymentTarget.DeploymentTarget}
+use Rattle.lexicon_fields.specs.{OperatingSystem.system_version, PointerWidth.width_bits, declared.binary_format.BinaryFormat.BinaryFormat, declared.deployment_target.DeploymentTarget.DeploymentTarget}
 use Rattle.lexicon_fields.specs.{declared.endianness.Endianness.Endianness, declared.endianness.Endianness.TheVariants.Little, declared.endianness.Endianness.TheVariants.Big}
 use Rattle.lexicon_c.specs.declared.facts.LexiconFacts.{LexiconFacts}
 use Rattle.lexicon_fields.specs.declared.binary_format.BinaryFormat.TheVariants as binary_format
@@ -54,7 +54,7 @@ pub record AreFactsOf (facts : LexiconFacts) (t : Values) : Type 0 where
   pub model : facts.data_model ≡ model_number (data_model t)
   pub format : facts.binary_format ≡ format_number t.binary_format
   pub implied : facts.implied_format ≡ format_number (default_binary_format t)
-  pub version : AreVersionOf facts (version_held t.operating_system)
+  pub version : AreVersionOf facts (system_version t.operating_system)
 
 -- the text reads as a triple with these facts
 abbrev pub AreFactsRead : List ℕ → LexiconFacts → Type 0

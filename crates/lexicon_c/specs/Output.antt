@@ -1,8 +1,8 @@
 -- How a text goes out, into a buffer that the caller lends, with its length beside it; and how a refusal does, with a status.
 use Rattle.std.specs.Prelude.{◌≡◌, ◌⊎◌, ℕ, suc, ◌+◌, ◌≤◌, ◌<◌, List, ◌++◌, length, drop}
-use Rattle.target_lexicon.specs.{FixedPoints.max_growth, Reading.IsRead, Reading.IsRefusedAs, Field.place, Refusal.Expected, Refusal.Expects, Refusal.ExpectsNone, Refusal.Refusal}
+use Rattle.target_lexicon.specs.{FixedPoints.max_growth, Reading.IsRead, Reading.IsRefusedAs, Field.field_number, Refusal.Expected, Refusal.Expects, Refusal.ExpectsNone, Refusal.Refusal}
 
--- the text is told: its whole length always; its bytes at the front of the buffer where they all fit, the bytes behind them and a
+-- the text is told: its whole length always; its bytes at the start of the buffer where they all fit, the bytes after them and a
 -- buffer that is too small being left as they were
 pub record IsWritten (text old new : List ℕ) (size : ℕ) : Type 0 where
   pub counted : size ≡ length text
@@ -19,7 +19,7 @@ GrowsAtMost text size = size ≤ length text + max_growth
 
 -- the status of a refusal: 1 to 5 for the field that the part lacks, 6 where it lacks any
 abbrev pub refusal_status : Expected → ℕ
-refusal_status (Expects field) = suc (place field)
+refusal_status (Expects field) = suc (field_number field)
 refusal_status ExpectsNone = 6
 
 -- the text is refused, and this is the status of it

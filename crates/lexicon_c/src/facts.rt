@@ -1,7 +1,7 @@
 //! The facts of a triple, as numbers.
 ghost use Rattle.std.specs.Prelude.{◌≡◌};
 ghost use Rattle.std.specs.Option.{option_map_or};
-ghost use Rattle.lexicon_fields.specs.OperatingSystem.{version_held};
+ghost use Rattle.lexicon_fields.specs.OperatingSystem.{system_version};
 ghost use Rattle.lexicon_fields.specs.PointerWidth.{width_bits};
 ghost use Rattle.target_lexicon.specs.Queries.{endianness, pointer_width, calling_convention, data_model};
 ghost use Rattle.target_lexicon.specs.Values.{values_of};
@@ -118,10 +118,10 @@ fn format_number(format: BinaryFormat) -> u32
 
 /// The version that an operating system holds: 1 and its three numbers; four times 0 where it holds none.
 fn version_numbers(system: OperatingSystem) -> (u32, u32, u32, u32)
-    ensures held { result.0 ≡ option_map_or (λ _. 1) (version_held system) 0 }
-    ensures major { result.1 ≡ option_map_or (λ v. v.major) (version_held system) 0 }
-    ensures minor { result.2 ≡ option_map_or (λ v. v.minor) (version_held system) 0 }
-    ensures patch { result.3 ≡ option_map_or (λ v. v.patch) (version_held system) 0 }
+    ensures held { result.0 ≡ option_map_or (λ _. 1) (system_version system) 0 }
+    ensures major { result.1 ≡ option_map_or (λ v. v.major) (system_version system) 0 }
+    ensures minor { result.2 ≡ option_map_or (λ v. v.minor) (system_version system) 0 }
+    ensures patch { result.3 ≡ option_map_or (λ v. v.patch) (system_version system) 0 }
 {
     match system.version() {
         Some(version) => (

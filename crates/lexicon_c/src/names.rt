@@ -3,7 +3,7 @@ ghost use Rattle.std.specs.Prelude.{◌≡◌, ◌≤◌, true, MatchOption};
 ghost use Rattle.lexicon_fields.specs.OperatingSystem.{operating_system_of};
 ghost use Rattle.lexicon_fields.specs.Vendor.{is_admitted};
 ghost use Rattle.target_lexicon.specs.Field as field;
-ghost use Rattle.lexicon_c.specs.Names.{name_read, HoldsVersion};
+ghost use Rattle.lexicon_c.specs.Names.{canonical_name, HasVersion};
 ghost use Rattle.lexicon_c.specs.Output.{IsWritten, IsNothingWritten};
 
 use crate::output::{write_system, write_text};
@@ -18,7 +18,7 @@ use target_lexicon::{
 
 /// Tells the name of the architecture that the text reads as, or the text.
 pub(crate) fn write_architecture(text: &str, out: &mut [u8], length: &mut usize) -> u32
-    ensures { MatchOption (name_read field.Architecture text.now)
+    ensures { MatchOption (canonical_name field.Architecture text.now)
         ((result ≡ 1) × IsWritten text.now out.old out.new length.new)
         (λ name. (result ≡ 0) × IsWritten name out.old out.new length.new) }
 {
@@ -30,7 +30,7 @@ pub(crate) fn write_architecture(text: &str, out: &mut [u8], length: &mut usize)
 
 /// Tells the name of the environment that the text reads as, or the text.
 pub(crate) fn write_environment(text: &str, out: &mut [u8], length: &mut usize) -> u32
-    ensures { MatchOption (name_read field.Environment text.now)
+    ensures { MatchOption (canonical_name field.Environment text.now)
         ((result ≡ 4) × IsWritten text.now out.old out.new length.new)
         (λ name. (result ≡ 0) × IsWritten name out.old out.new length.new) }
 {
@@ -42,7 +42,7 @@ pub(crate) fn write_environment(text: &str, out: &mut [u8], length: &mut usize) 
 
 /// Tells the name of the binary format that the text reads as, or the text.
 pub(crate) fn write_binary_format(text: &str, out: &mut [u8], length: &mut usize) -> u32
-    ensures { MatchOption (name_read field.BinaryFormat text.now)
+    ensures { MatchOption (canonical_name field.BinaryFormat text.now)
         ((result ≡ 5) × IsWritten text.now out.old out.new length.new)
         (λ name. (result ≡ 0) × IsWritten name out.old out.new length.new) }
 {
@@ -52,9 +52,9 @@ pub(crate) fn write_binary_format(text: &str, out: &mut [u8], length: &mut usize
     }
 }
 
-/// Tells the name of the vendor that the text reads as, or the text. A custom vendor wants memory.
+/// Tells the name of the vendor that the text reads as, or the text. A custom vendor may allocate.
 pub(crate) fn write_vendor(alloc: Global, text: &str, out: &mut [u8], length: &mut usize) -> u32
-    ensures output { result ≤ 6 → MatchOption (name_read field.Vendor text.now)
+    ensures output { result ≤ 6 → MatchOption (canonical_name field.Vendor text.now)
         ((result ≡ 2) × IsWritten text.now out.old out.new length.new)
         (λ name. (result ≡ 0) × IsWritten name out.old out.new length.new) }
     ensures memory { 7 ≤ result →
@@ -70,19 +70,19 @@ pub(crate) fn write_vendor(alloc: Global, text: &str, out: &mut [u8], length: &m
     }
 }
 
-/// Tells the name of the operating system that the text reads as, or the text. A version wants memory.
+/// Tells the name of the operating system that the text reads as, or the text. A version may allocate.
 pub(crate) fn write_operating_system(
     alloc: Global,
     text: &str,
     out: &mut [u8],
     length: &mut usize,
 ) -> u32
-    ensures output { result ≤ 6 → MatchOption (name_read field.OperatingSystem text.now)
+    ensures output { result ≤ 6 → MatchOption (canonical_name field.OperatingSystem text.now)
         ((result ≡ 3) × IsWritten text.now out.old out.new length.new)
         (λ name. (result ≡ 0) × IsWritten name out.old out.new length.new) }
     ensures memory { 7 ≤ result →
         (result ≡ 8)
-        × MatchOption (operating_system_of text.now) ⊥ HoldsVersion
+        × MatchOption (operating_system_of text.now) ⊥ HasVersion
         × IsNothingWritten out.old out.new length.new }
 {
     match OperatingSystem::from_str(text) {

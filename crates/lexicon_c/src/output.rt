@@ -1,9 +1,9 @@
 //! A text on its way out.
 ghost use Rattle.std.specs.Prelude.{◌≡◌, ◌<◌, ◌≤◌, IsSome};
-ghost use Rattle.lexicon_fields.specs.OperatingSystem.{operating_system_name, version_held};
-ghost use Rattle.target_lexicon.specs.Field.{Field, place};
+ghost use Rattle.lexicon_fields.specs.OperatingSystem.{operating_system_name, system_version};
+ghost use Rattle.target_lexicon.specs.Field.{Field, field_number};
 ghost use Rattle.target_lexicon.specs.Values.{values_of};
-ghost use Rattle.lexicon_c.specs.Names.{name_in, HoldsVersion};
+ghost use Rattle.lexicon_c.specs.Names.{name_in, HasVersion};
 ghost use Rattle.lexicon_c.specs.Output.{IsWritten, IsNothingWritten};
 
 use crate::status::{DONE, OUT_OF_MEMORY};
@@ -23,7 +23,7 @@ pub(crate) fn write_text(status: u32, text: &str, out: &mut [u8], length: &mut u
     status
 }
 
-/// Tells the name of an operating system, for which a version wants memory.
+/// Tells the name of an operating system, for which a version may allocate.
 pub(crate) fn write_system(
     alloc: Global,
     system: OperatingSystem,
@@ -33,7 +33,9 @@ pub(crate) fn write_system(
     ensures done { result ≡ 0 →
         IsWritten (operating_system_name system) out.old out.new length.new }
     ensures memory { 0 < result →
-        (result ≡ 8) × IsSome (version_held system) × IsNothingWritten out.old out.new length.new }
+        (result ≡ 8)
+        × IsSome (system_version system)
+        × IsNothingWritten out.old out.new length.new }
 {
     match system.into_str(alloc) {
         Ok(name) => write_text(DONE, name.as_str(), out, length),
@@ -44,7 +46,7 @@ pub(crate) fn write_system(
     }
 }
 
-/// Tells the name of a triple's value in the field of this number. A version wants memory.
+/// Tells the name of a triple's value in the field of this number. A version may allocate.
 pub(crate) fn write_name(
     alloc: Global,
     triple: &Triple,
@@ -55,12 +57,12 @@ pub(crate) fn write_name(
     requires { field ≤ 4 }
     ensures done { result ≡ 0 →
         (f : Field)
-        × (place f ≡ field)
+        × (field_number f ≡ field)
         × IsWritten (name_in (values_of triple.now) f) out.old out.new length.new }
     ensures memory { 0 < result →
         (result ≡ 8)
         × (field ≡ 2)
-        × HoldsVersion triple.now.operating_system
+        × HasVersion triple.now.operating_system
         × IsNothingWritten out.old out.new length.new }
 {
     match field {

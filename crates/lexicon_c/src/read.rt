@@ -10,7 +10,7 @@ use target_lexicon::Triple;
 use target_lexicon::laws::triples_are_equal_by_value;
 
 /// The triple that a text reads as, or the status of its error.
-#[tactic(auto, using(crate::proofs::Memory::fault_wants))]
+#[tactic(auto, using(crate::proofs::Memory::error_may_allocate))]
 #[inline(always)]
 pub(crate) fn read(alloc: Global, text: &str) -> Result<Triple, u32>
     ensures ok { IfOk result (λ triple. ReadsAs text.now (values_of triple)) }

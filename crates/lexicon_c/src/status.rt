@@ -66,7 +66,7 @@ pub(crate) fn write_refused_part(error: &ParseError, out: &mut [u8], length: &mu
     }
 }
 
-/// Tells the line of an error, which wants memory; answers the error's status, or that memory was refused.
+/// Tells the line of an error, which may allocate; answers the error's status, or that memory was refused.
 pub(crate) fn write_error_line(
     alloc: Global,
     error: &ParseError,

@@ -5,16 +5,16 @@
 -- one variant. Feeds: different values feed a hasher differently. EqualByValue: `==` is true exactly for the same
 -- values.
 pub mod EqualByValue
-pub mod Feeds
+pub mod HashInputs
 pub mod PrefixKeyLemmas
 pub mod Halving
-pub mod LookUps
+pub mod LookUpLemmas
 pub mod NamesReadBack
 pub mod OperatingSystemsReadBack
 pub mod Variants
 pub mod RowReads
 pub mod RowTexts
-pub mod RowsHold
-pub mod SystemsRead
+pub mod RowLemmas
+pub mod ParsedSystems
 pub mod VendorsReadBack
 pub mod VersionsReadBack

@@ -4,7 +4,7 @@ use Rattle.lexicon_fields.specs.{declared.architecture.Architecture.Architecture
 use Rattle.lexicon_fields.specs.{Laws.NamesReadBack, Architecture.architecture_name, Architecture.architecture_values, Architecture.architecture_of, FixedRow.row_texts}
 use Rattle.lexicon_fields.specs.Environment.{environment_name, environment_values, environment_of}
 use Rattle.lexicon_fields.specs.BinaryFormat.{binary_format_name, binary_format_values, binary_format_of}
-use Rattle.lexicon_fields.proofs.{LookUps.value_of-passes, LookUps.of_kind-read_back, RowTexts.is_row_text, RowTexts.row_text-dash_free}
+use Rattle.lexicon_fields.proofs.{LookUpLemmas.value_of-passes, LookUpLemmas.of_kind-read_back, RowTexts.is_row_text, RowTexts.row_text-dash_free}
 use Rattle.lexicon_fields.specs.declared.architecture.Architecture.TheVariants as architecture
 use Rattle.lexicon_fields.specs.declared.architecture.arm.ArmArchitecture.TheVariants as arm
 use Rattle.lexicon_fields.specs.declared.architecture.aarch64.Aarch64Architecture.TheVariants as aarch64

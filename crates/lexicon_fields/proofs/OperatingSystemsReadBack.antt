@@ -4,12 +4,12 @@ use Rattle.std.specs.List.{starts_with}
 use Rattle.std.proofs.{lemmas.Bool.false_from_ne_true, lemmas.Bool.cond-false, lemmas.List.take-append-drop, lemmas.Slice.Eq.bytes_eq-Decides}
 use Rattle.lexicon_fields.specs.{declared.deployment_target.DeploymentTarget.DeploymentTarget, declared.operating_system.OperatingSystem.OperatingSystem, Laws.IsVersionInRange, Laws.HasVersionInRange}
 use Rattle.lexicon_fields.specs.Version.{version_of, version_name}
-use Rattle.lexicon_fields.specs.OperatingSystem.{operating_system_name, fixed_operating_system_of, operating_system_of, optional_version_of, version_suffix, after_prefix, darwin_like_by, darwin_prefixes}
+use Rattle.lexicon_fields.specs.OperatingSystem.{operating_system_name, fixed_operating_system_of, operating_system_of, optional_version_of, version_suffix, text_after_prefix, darwin_like_system, darwin_prefixes}
 use Rattle.lexicon_fields.proofs.VersionsReadBack.{version_of-name}
 use Rattle.lexicon_fields.specs.declared.operating_system.OperatingSystem.TheVariants as operating_system
 
 -- a text that does not begin with a prefix has no rest after it
-has_no_prefix : (prefix text : List ℕ) → ((rest : List ℕ) → text ≢ prefix ++ rest) → after_prefix prefix text ≡ None
+has_no_prefix : (prefix text : List ℕ) → ((rest : List ℕ) → text ≢ prefix ++ rest) → text_after_prefix prefix text ≡ None
 has_no_prefix prefix text differs = cond-false (starts_with nat_eq text prefix) _ _ (false_from_ne_true _ (λ begins.
     let prefix_key = (bytes_eq-Decides prefix (take (length prefix) text)).0 begins in
     differs (drop (length prefix) text) (sym (take-append-drop (length prefix) text) ∙ ap (λ xs. xs ++ drop (length prefix) text) (sym prefix_key))))
@@ -18,7 +18,7 @@ pub no_darwin_prefix : (text : List ℕ)
     → ((rest : List ℕ) → text ≢ codes "darwin" ++ rest) → ((rest : List ℕ) → text ≢ codes "ios" ++ rest)
     → ((rest : List ℕ) → text ≢ codes "macosx" ++ rest) → ((rest : List ℕ) → text ≢ codes "tvos" ++ rest)
     → ((rest : List ℕ) → text ≢ codes "visionos" ++ rest) → ((rest : List ℕ) → text ≢ codes "watchos" ++ rest)
-    → ((rest : List ℕ) → text ≢ codes "xros" ++ rest) → darwin_like_by darwin_prefixes text ≡ None
+    → ((rest : List ℕ) → text ≢ codes "xros" ++ rest) → darwin_like_system darwin_prefixes text ≡ None
 no_darwin_prefix text darwin ios macosx tvos visionos watchos xros =
     rw (
       has_no_prefix (codes "darwin") text darwin,
@@ -38,17 +38,17 @@ unfolding version_of
 some_version [] v is = absurd cc
 some_version (c ∷ cs) v is = ap (option_map Some) is
 
-suffix_reads : (version : Option DeploymentTarget) → IfSome version IsVersionInRange → optional_version_of (version_suffix version) ≡ Some version
-suffix_reads None range = refl
-suffix_reads (Some v) range = some_version (version_name v) v (version_of-name v range.0 range.1 range.2)
+version_suffix-parses : (version : Option DeploymentTarget) → IfSome version IsVersionInRange → optional_version_of (version_suffix version) ≡ Some version
+version_suffix-parses None range = refl
+version_suffix-parses (Some v) range = some_version (version_name v) v (version_of-name v range.0 range.1 range.2)
 
 pub operating_system_of-name : (s : OperatingSystem) → HasVersionInRange s → operating_system_of (operating_system_name s) ≡ Some s
 unfolding operating_system_of fixed_operating_system_of
-operating_system_of-name (operating_system.Darwin version) range = rw (suffix_reads version range) refl
-operating_system_of-name (operating_system.IOS version) range = rw (suffix_reads version range) refl
-operating_system_of-name (operating_system.MacOSX version) range = rw (suffix_reads version range) refl
-operating_system_of-name (operating_system.TvOS version) range = rw (suffix_reads version range) refl
-operating_system_of-name (operating_system.VisionOS version) range = rw (suffix_reads version range) refl
-operating_system_of-name (operating_system.WatchOS version) range = rw (suffix_reads version range) refl
-operating_system_of-name (operating_system.XROS version) range = rw (suffix_reads version range) refl
+operating_system_of-name (operating_system.Darwin version) range = rw (version_suffix-parses version range) refl
+operating_system_of-name (operating_system.IOS version) range = rw (version_suffix-parses version range) refl
+operating_system_of-name (operating_system.MacOSX version) range = rw (version_suffix-parses version range) refl
+operating_system_of-name (operating_system.TvOS version) range = rw (version_suffix-parses version range) refl
+operating_system_of-name (operating_system.VisionOS version) range = rw (version_suffix-parses version range) refl
+operating_system_of-name (operating_system.WatchOS version) range = rw (version_suffix-parses version range) refl
+operating_system_of-name (operating_system.XROS version) range = rw (version_suffix-parses version range) refl
 operating_system_of-name _ range = refl

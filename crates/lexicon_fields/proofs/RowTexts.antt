@@ -65,8 +65,8 @@ rows_below middle s below is k lt = elim (cases_order k middle) [
   ]
 ]
 
-turned : (x y : List ℕ) (o : Ordering) → slice_cmp nat_cmp x y ≡ o → slice_cmp nat_cmp y x ≡ ordering_reverse o
-turned x y o h = nat_list_cmp_total.antisymm y x ∙ ap ordering_reverse h
+slice_cmp-reverse : (x y : List ℕ) (o : Ordering) → slice_cmp nat_cmp x y ≡ o → slice_cmp nat_cmp y x ≡ ordering_reverse o
+slice_cmp-reverse x y o h = nat_list_cmp_total.antisymm y x ∙ ap ordering_reverse h
 
 -- if a row follows a text, so do all later rows
 pub rows_above : (middle : ℕ) (s : List ℕ) → slice_cmp nat_cmp (row_text middle) s ≡ Greater → (k : ℕ) → middle ≤ k → k < row_count → slice_cmp nat_cmp (row_text k) s ≡ Greater
@@ -74,7 +74,7 @@ rows_above middle s is k le below = elim (cases_order k middle) [
   | inl same ↦ rw same is
   | inr other ↦ elim other [
     | inl less ↦ absurd (omega arith)
-    | inr more ↦ turned s (row_text k) Less (nat_list_cmp_total.trans s (row_text middle) (row_text k) (turned (row_text middle) s Greater is) (row_less middle k more below))
+    | inr more ↦ slice_cmp-reverse s (row_text k) Less (nat_list_cmp_total.trans s (row_text middle) (row_text k) (slice_cmp-reverse (row_text middle) s Greater is) (row_less middle k more below))
   ]
 ]
 

@@ -4,11 +4,11 @@ use Rattle.std.specs.{Char.is_ascii_lowercase, List.list_all, Option.option_or}
 use Rattle.std.proofs.{Math.Bool.and-true, Math.Bool.and-false, lemmas.Bool.and_parts, lemmas.Option.MatchOption-at_some, lemmas.Option.cond_some}
 use Rattle.lexicon_fields.specs.Names.{dash}
 use Rattle.lexicon_fields.specs.{declared.vendor.Vendor.Vendor, declared.known_vendor.KnownVendor.KnownVendor, declared.known_vendor.KnownVendor.TheVariants.Unknown, Names.named_values, Names.is_dash_free}
-use Rattle.lexicon_fields.specs.Vendor.{VendorValue, Known, Custom, known_name, known_vendors, custom_of, vendor_name, is_plain, is_free, is_vendor_character, has_vendor_form, vendor_of, vendor_value, owns_text, known_vendor_of, is_admitted}
+use Rattle.lexicon_fields.specs.Vendor.{VendorValue, Known, Custom, known_vendor_name, known_vendors, custom_vendor_of, vendor_name, is_plain, is_free, is_vendor_character, has_vendor_form, vendor_of, vendor_value, owns_text, known_vendor_of, is_admitted}
 use Rattle.lexicon_fields.specs.{Architecture.architecture_of, declared.operating_system.OperatingSystem.OperatingSystem, Environment.environment_of, BinaryFormat.binary_format_of, FixedRow.has_row}
-use Rattle.lexicon_fields.specs.OperatingSystem.{darwin_prefixes, darwin_like_by, fixed_operating_system_of, operating_system_of}
-use Rattle.lexicon_fields.proofs.LookUps.{value_of-passes, holds-if_read, option_map-holds, option_or-holds, option_or-none, none_is, test_apart, all-dash_free}
-use Rattle.lexicon_fields.proofs.{RowTexts.row_text-dash_free, RowsHold.known_vendor_of-row}
+use Rattle.lexicon_fields.specs.OperatingSystem.{darwin_prefixes, darwin_like_system, fixed_operating_system_of, operating_system_of}
+use Rattle.lexicon_fields.proofs.LookUpLemmas.{value_of-passes, holds-if_read, option_map-holds, option_or-holds, option_or-none, none_is, test_apart, all-dash_free}
+use Rattle.lexicon_fields.proofs.{RowTexts.row_text-dash_free, RowLemmas.known_vendor_of-row}
 use Rattle.lexicon_fields.specs.declared.vendor.Vendor.TheVariants as vendor
 
 -- a text is admitted if it has no row, is no system like Darwin, and has the form of a vendor
@@ -18,13 +18,13 @@ free_is : {K A O E B : Type 0} (known : Option K) (architecture : Option A) (fix
     ≡ (not (is_some architecture || is_some known || is_some fixed || is_some environment || is_some format) && is_none like)
 free_is known architecture fixed like environment format = grind (arith)
 
-admitted_is : (text : List ℕ) → is_admitted text ≡ (not (has_row text) && is_none (darwin_like_by darwin_prefixes text) && has_vendor_form text)
+admitted_is : (text : List ℕ) → is_admitted text ≡ (not (has_row text) && is_none (darwin_like_system darwin_prefixes text) && has_vendor_form text)
 unfolding is_admitted operating_system_of
 admitted_is text =
     ap (λ free. free && has_vendor_form text)
-    (free_is (known_vendor_of text) (architecture_of text) (fixed_operating_system_of text) (darwin_like_by darwin_prefixes text) (environment_of text) (binary_format_of text))
+    (free_is (known_vendor_of text) (architecture_of text) (fixed_operating_system_of text) (darwin_like_system darwin_prefixes text) (environment_of text) (binary_format_of text))
 
-pub admitted_without_row : (text : List ℕ) (like : Option OperatingSystem) → has_row text ≡ false → has_vendor_form text ≡ true → like ≡ darwin_like_by darwin_prefixes text → is_admitted text ≡ is_none like
+pub admitted_without_row : (text : List ℕ) (like : Option OperatingSystem) → has_row text ≡ false → has_vendor_form text ≡ true → like ≡ darwin_like_system darwin_prefixes text → is_admitted text ≡ is_none like
 admitted_without_row text like none form is = rw (admitted_is text, none, form, ← is) (and-true (is_none like))
 
 pub row_not_admitted : (text : List ℕ) → has_row text ≡ true → is_admitted text ≡ false
@@ -51,9 +51,9 @@ pub custom_read : (text : List ℕ) → known_vendor_of text ≡ None → is_adm
 unfolding vendor_of
 custom_read text none admitted = rw (none, admitted) refl
 
-pub none_read : (text : List ℕ) → known_vendor_of text ≡ None → is_admitted text ≡ false → vendor_of text ≡ None
+pub unknown_text-refused : (text : List ℕ) → known_vendor_of text ≡ None → is_admitted text ≡ false → vendor_of text ≡ None
 unfolding vendor_of
-none_read text none refused = rw (none, refused) refl
+unknown_text-refused text none refused = rw (none, refused) refl
 
 pub formless_not_admitted : (text : List ℕ) → has_vendor_form text ≡ false → is_admitted text ≡ false
 unfolding is_admitted
@@ -63,10 +63,10 @@ formless_not_admitted text formless = rw formless (and-false (is_free text))
 known_form : (text : List ℕ) (known : Option KnownVendor) → known_vendor_of text ≡ known → has_vendor_form text ≡ false → known_vendor_of text ≡ None
 unfolding known_vendor_of
 known_form text None is formless = is
-known_form text (Some v) is formless = absurd (let bad : true ≡ false = sym (value_of-passes has_vendor_form (named_values known_name known_vendors) text v refl is) ∙ formless in cc)
+known_form text (Some v) is formless = absurd (let bad : true ≡ false = sym (value_of-passes has_vendor_form (named_values known_vendor_name known_vendors) text v refl is) ∙ formless in cc)
 
 pub formless_read : (text : List ℕ) → has_vendor_form text ≡ false → vendor_of text ≡ None
-formless_read text formless = none_read text (known_form text (known_vendor_of text) refl formless) (formless_not_admitted text formless)
+formless_read text formless = unknown_text-refused text (known_form text (known_vendor_of text) refl formless) (formless_not_admitted text formless)
 
 -- every plain vendor parses back from its name
 
@@ -94,6 +94,6 @@ form-dash_free (c ∷ cs) form =
 pub vendor_of-dash_free : (text : List ℕ) (v : VendorValue) → vendor_of text ≡ Some v → is_dash_free text ≡ true
 unfolding vendor_of
 vendor_of-dash_free text v is =
-    MatchOption-at_some _ (λ _. is_dash_free text ≡ true) v is (option_or-holds _ _ (custom_of text)
+    MatchOption-at_some _ (λ _. is_dash_free text ≡ true) v is (option_or-holds _ _ (custom_vendor_of text)
     (option_map-holds _ _ Known (known_vendor_of text) (holds-if_read _ _ (λ known found. row_text-dash_free text (known_vendor_of-row text known found))) (λ _ free. free))
     (holds-if_read _ _ (λ custom found. form-dash_free text (admitted_parts text (cond_some (is_admitted text) (Custom text) custom found).0).1)))

@@ -7,9 +7,9 @@ use Rattle.std.proofs.lemmas.Fmt.{decimal_is_IsNumeral}
 use Rattle.std.proofs.lemmas.List.Splits.{slice_split_first, slice_split_none, length-slice_split}
 use Rattle.std.proofs.{lemmas.List.Sums.fails_before_first, lemmas.Str.Parse.IsNumeralModel, lemmas.Str.Parse.numerals_by_value}
 use Rattle.lexicon_fields.specs.Version.{dot}
-use Rattle.lexicon_fields.specs.{declared.deployment_target.DeploymentTarget.DeploymentTarget, Private.pieces_left}
-use Rattle.lexicon_fields.specs.Version.{number_within, piece_within, version_of_numbers, version_of_pieces, version_of, version_name, pieces_of}
-use Rattle.lexicon_fields.proofs.LookUps.{test_apart, all_apart}
+use Rattle.lexicon_fields.specs.{declared.deployment_target.DeploymentTarget.DeploymentTarget, Private.remaining_pieces}
+use Rattle.lexicon_fields.specs.Version.{number_within, piece_number_within, version_of_numbers, version_of_pieces, version_of, version_name, pieces_of}
+use Rattle.lexicon_fields.proofs.LookUpLemmas.{test_apart, all_apart}
 
 -- the test for digits is that of `parse`
 pub digits_model : IsNumeralModel (λ ds. list_all is_ascii_digit ds ≡ true) (digits_value 10)
@@ -23,7 +23,7 @@ ok_by_test (Err e) true P v to from is = absurd (is (from refl))
 ok_by_test (Err e) false P v to from is = refl
 
 -- `parse` at an unsigned type parses a piece within the limit of that type
-parse_piece : {E : Type 0} (k limit : ℕ) (piece : List ℕ) (r : Result ℕ E) → limit + 1 ≡ 2 ^ k → ParsesUnsigned k 10 piece r → result_ok r ≡ piece_within limit piece
+parse_piece : {E : Type 0} (k limit : ℕ) (piece : List ℕ) (r : Result ℕ E) → limit + 1 ≡ 2 ^ k → ParsesUnsigned k 10 piece r → result_ok r ≡ piece_number_within limit piece
 parse_piece k limit piece r fits parses =
     let ds = without_leading_plus piece in
     ok_by_test r (nat_lt 0 (length ds) && list_all is_ascii_digit ds && nat_le (digits_value 10 ds) limit) (IsNumeral 10 ds × (digits_value 10 ds < 2 ^ k)) (digits_value 10 ds)
@@ -35,7 +35,7 @@ parse_piece k limit piece r fits parses =
 
 -- what `parse` gives for a piece
 pub number_read : {E : Type 0} (k limit : ℕ) (piece : List ℕ) (r : Result ℕ E) (o x : Option ℕ)
-    → limit + 1 ≡ 2 ^ k → ParsesUnsigned k 10 piece r → o ≡ result_ok r → o ≡ x → piece_within limit piece ≡ x
+    → limit + 1 ≡ 2 ^ k → ParsesUnsigned k 10 piece r → o ≡ result_ok r → o ≡ x → piece_number_within limit piece ≡ x
 number_read k limit piece r o x fits parses taken is = sym (parse_piece k limit piece r fits parses) ∙ sym taken ∙ is
 
 -- the pieces of a text after its first dot, and those of a text without a dot
@@ -46,17 +46,17 @@ pub pieces_of-whole : (text : List ℕ) → position_or_len (λ c. nat_eq c dot)
 pieces_of-whole text none = slice_split_none (λ c. nat_eq c dot) text (λ k d h. fails_before_first (λ c. nat_eq c dot) text k d (omega (arith, none, h)))
 
 -- a last piece, and a piece that others follow
-pub pieces-last : (pieces : List (List ℕ)) (p : List ℕ) (rest : Option (Bor (List ℕ))) → pieces ≡ p ∷ pieces_left rest → is_some rest ≡ false → pieces ≡ p ∷ []
+pub pieces-last : (pieces : List (List ℕ)) (p : List ℕ) (rest : Option (Bor (List ℕ))) → pieces ≡ p ∷ remaining_pieces rest → is_some rest ≡ false → pieces ≡ p ∷ []
 pieces-last pieces p None is none = is
 pieces-last pieces p (Some others) is none = absurd cc
 
-pub pieces-more : (pieces : List (List ℕ)) (p : List ℕ) (rest : Option (Bor (List ℕ))) (others : Bor (List ℕ)) (ps : List (List ℕ)) → pieces ≡ p ∷ pieces_left rest → rest ≡ Some others → pieces_of others.now ≡ ps → pieces ≡ p ∷ ps
-pieces-more pieces p rest others ps is some more = is ∙ ap (λ x. p ∷ pieces_left x) some ∙ ap (λ x. p ∷ x) more
+pub pieces-more : (pieces : List (List ℕ)) (p : List ℕ) (rest : Option (Bor (List ℕ))) (others : Bor (List ℕ)) (ps : List (List ℕ)) → pieces ≡ p ∷ remaining_pieces rest → rest ≡ Some others → pieces_of others.now ≡ ps → pieces ≡ p ∷ ps
+pieces-more pieces p rest others ps is some more = is ∙ ap (λ x. p ∷ remaining_pieces x) some ∙ ap (λ x. p ∷ x) more
 
 -- the rest of a text has a piece
-pub pieces_left-some : (rest : Option (Bor (List ℕ))) → is_some rest ≡ true → pieces_left rest ≢ []
-pieces_left-some None some none = cc
-pieces_left-some (Some others) some none = let e = length-slice_split (λ c. nat_eq c dot) others.now in let k = ap length none in omega arith
+pub remaining_pieces-some : (rest : Option (Bor (List ℕ))) → is_some rest ≡ true → remaining_pieces rest ≢ []
+remaining_pieces-some None some none = cc
+remaining_pieces-some (Some others) some none = let e = length-slice_split (λ c. nat_eq c dot) others.now in let k = ap length none in omega arith
 
 -- a version with no second number, and one with no third
 no_second : (major patch : Option ℕ) → version_of_numbers major None patch ≡ None
@@ -70,35 +70,35 @@ no_third (Some major) (Some minor) = refl
 
 -- the version of a text by its pieces
 
-pub no_major : (text p : List ℕ) (ps : List (List ℕ)) → pieces_of text ≡ p ∷ ps → piece_within 65535 p ≡ None → version_of text ≡ None
+pub no_major : (text p : List ℕ) (ps : List (List ℕ)) → pieces_of text ≡ p ∷ ps → piece_number_within 65535 p ≡ None → version_of text ≡ None
 unfolding version_of
 no_major text p (_ ∷ _ ∷ _ ∷ _) pieces missing = ap version_of_pieces pieces
 no_major text p _ pieces missing = ap version_of_pieces pieces ∙ rw missing refl
 
-pub no_minor : (text p q : List ℕ) (ps : List (List ℕ)) → pieces_of text ≡ p ∷ q ∷ ps → piece_within 255 q ≡ None → version_of text ≡ None
+pub no_minor : (text p q : List ℕ) (ps : List (List ℕ)) → pieces_of text ≡ p ∷ q ∷ ps → piece_number_within 255 q ≡ None → version_of text ≡ None
 unfolding version_of
 no_minor text p q (_ ∷ _ ∷ _) pieces missing = ap version_of_pieces pieces
-no_minor text p q _ pieces missing = ap version_of_pieces pieces ∙ rw missing (no_second (piece_within 65535 p) _)
+no_minor text p q _ pieces missing = ap version_of_pieces pieces ∙ rw missing (no_second (piece_number_within 65535 p) _)
 
-pub no_patch : (text p q r : List ℕ) (ps : List (List ℕ)) → pieces_of text ≡ p ∷ q ∷ r ∷ ps → piece_within 255 r ≡ None → version_of text ≡ None
+pub no_patch : (text p q r : List ℕ) (ps : List (List ℕ)) → pieces_of text ≡ p ∷ q ∷ r ∷ ps → piece_number_within 255 r ≡ None → version_of text ≡ None
 unfolding version_of
 no_patch text p q r (_ ∷ _) pieces missing = ap version_of_pieces pieces
-no_patch text p q r [] pieces missing = ap version_of_pieces pieces ∙ rw missing (no_third (piece_within 65535 p) (piece_within 255 q))
+no_patch text p q r [] pieces missing = ap version_of_pieces pieces ∙ rw missing (no_third (piece_number_within 65535 p) (piece_number_within 255 q))
 
 pub too_many_pieces : (text p q r : List ℕ) (ps : List (List ℕ)) → pieces_of text ≡ p ∷ q ∷ r ∷ ps → ps ≢ [] → version_of text ≡ None
 unfolding version_of
 too_many_pieces text p q r [] pieces more = absurd (more refl)
 too_many_pieces text p q r (s ∷ ps) pieces more = ap version_of_pieces pieces
 
-pub one_piece : (text p : List ℕ) (major : ℕ) → pieces_of text ≡ p ∷ [] → piece_within 65535 p ≡ Some major → version_of text ≡ Some (record { major = major; minor = 0; patch = 0 })
+pub one_piece : (text p : List ℕ) (major : ℕ) → pieces_of text ≡ p ∷ [] → piece_number_within 65535 p ≡ Some major → version_of text ≡ Some (record { major = major; minor = 0; patch = 0 })
 unfolding version_of
 one_piece text p major pieces first = ap version_of_pieces pieces ∙ rw first refl
 
-pub two_pieces : (text p q : List ℕ) (major minor : ℕ) → pieces_of text ≡ p ∷ q ∷ [] → piece_within 65535 p ≡ Some major → piece_within 255 q ≡ Some minor → version_of text ≡ Some (record { major = major; minor = minor; patch = 0 })
+pub two_pieces : (text p q : List ℕ) (major minor : ℕ) → pieces_of text ≡ p ∷ q ∷ [] → piece_number_within 65535 p ≡ Some major → piece_number_within 255 q ≡ Some minor → version_of text ≡ Some (record { major = major; minor = minor; patch = 0 })
 unfolding version_of
 two_pieces text p q major minor pieces first second = ap version_of_pieces pieces ∙ rw (first, second) refl
 
-pub three_pieces : (text p q r : List ℕ) (major minor patch : ℕ) → pieces_of text ≡ p ∷ q ∷ r ∷ [] → piece_within 65535 p ≡ Some major → piece_within 255 q ≡ Some minor → piece_within 255 r ≡ Some patch → version_of text ≡ Some (record { major = major; minor = minor; patch = patch })
+pub three_pieces : (text p q r : List ℕ) (major minor patch : ℕ) → pieces_of text ≡ p ∷ q ∷ r ∷ [] → piece_number_within 65535 p ≡ Some major → piece_number_within 255 q ≡ Some minor → piece_number_within 255 r ≡ Some patch → version_of text ≡ Some (record { major = major; minor = minor; patch = patch })
 unfolding version_of
 three_pieces text p q r major minor patch pieces first second third = ap version_of_pieces pieces ∙ rw (first, second, third) refl
 
@@ -112,8 +112,8 @@ without_plus : (ds : List ℕ) → list_all is_ascii_digit ds ≡ true → witho
 without_plus [] digits = refl
 without_plus (c ∷ cs) digits = rw (test_apart is_ascii_digit c 43 refl (and_parts _ (list_all is_ascii_digit cs) digits).0) refl
 
-piece_within-decimal : (limit n : ℕ) → n ≤ limit → n < 2 ^ 64 → piece_within limit (decimal n) ≡ Some n
-piece_within-decimal limit n within small =
+piece_number_within-decimal : (limit n : ℕ) → n ≤ limit → n < 2 ^ 64 → piece_number_within limit (decimal n) ≡ Some n
+piece_number_within-decimal limit n within small =
     let numeral = decimal_is_IsNumeral n small in
     let digits = decimal_digits n small in
     let some : nat_lt 0 (length (decimal n)) ≡ true = lt-ltb 0 (length (decimal n)) numeral.0.0 in
@@ -137,4 +137,4 @@ version_of-name v major minor patch =
     let others = pieces_of-dot (decimal v.minor) (decimal v.patch) b ∙ ap (λ ps. decimal v.minor ∷ ps) (pieces_of-digits (decimal v.patch) c) in
     let pieces = pieces_of-dot (decimal v.major) (decimal v.minor ++ (dot ∷ decimal v.patch)) a ∙ ap (λ ps. decimal v.major ∷ ps) others in
     three_pieces (version_name v) (decimal v.major) (decimal v.minor) (decimal v.patch) v.major v.minor v.patch pieces
-    (piece_within-decimal 65535 v.major (omega arith) (omega arith)) (piece_within-decimal 255 v.minor (omega arith) (omega arith)) (piece_within-decimal 255 v.patch (omega arith) (omega arith))
+    (piece_number_within-decimal 65535 v.major (omega arith) (omega arith)) (piece_number_within-decimal 255 v.minor (omega arith) (omega arith)) (piece_number_within-decimal 255 v.patch (omega arith) (omega arith))

@@ -23,7 +23,7 @@ pub record IsRowOf (name : List ℕ) (row : FixedRow) : Type 0 where
   pub no_other_operating_system : row.operating_system ≡ operating_system_of name
 
 -- two rows have the same text, by its bytes, and the same value in each field
-pub record HoldSameValues (x y : FixedRow) : Type 0 where
+pub record HaveSameValues (x y : FixedRow) : Type 0 where
   pub text : x.text.now ≡ y.text.now
   pub architecture : x.architecture ≡ y.architecture
   pub vendor : x.vendor ≡ y.vendor

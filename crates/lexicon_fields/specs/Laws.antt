@@ -4,18 +4,18 @@ use Rattle.std.specs.Hash.{HashWrites}
 use Rattle.std.specs.Ordering.{nat_cmp, on, then_cmp}
 use Rattle.std.specs.declared.cmp.Ordering.{Ordering}
 use Rattle.lexicon_fields.specs.{declared.deployment_target.DeploymentTarget.DeploymentTarget, declared.operating_system.OperatingSystem.OperatingSystem, Names.is_dash_free}
-use Rattle.lexicon_fields.specs.OperatingSystem.{version_held}
+use Rattle.lexicon_fields.specs.OperatingSystem.{system_version}
 
 -- each value of this kind parses back from its name, and neither such a name nor any text that parses as a value has
 -- a dash
-pub record NamesOfReadBack {V : Type 0} (IsOfKind : V → Type 0) (name : V → List ℕ) (find : List ℕ → Option V) : Type 0 where
+pub record NamesReadBackOn {V : Type 0} (IsOfKind : V → Type 0) (name : V → List ℕ) (find : List ℕ → Option V) : Type 0 where
   pub reads_back : (v : V) → IsOfKind v → find (name v) ≡ Some v
   pub name_dash_free : (v : V) → IsOfKind v → is_dash_free (name v) ≡ true
   pub text_dash_free : (text : List ℕ) (v : V) → find text ≡ Some v → is_dash_free text ≡ true
 
 -- each value of the type does
 abbrev pub NamesReadBack : {V : Type 0} → (V → List ℕ) → (List ℕ → Option V) → Type 0
-NamesReadBack {V} name find = NamesOfReadBack (λ (v : V). Unit {0}) name find
+NamesReadBack {V} name find = NamesReadBackOn (λ (v : V). Unit {0}) name find
 
 -- a text that parses as a value is its name
 abbrev pub TextsAreNames : {V : Type 0} → (V → List ℕ) → (List ℕ → Option V) → Type 0
@@ -31,7 +31,7 @@ IsVersionInRange v = (v.major < 2 ^ 16) × (v.minor < 2 ^ 8) × (v.patch < 2 ^ 8
 
 -- an operating system whose version, if it has one, is in range
 abbrev pub HasVersionInRange : OperatingSystem → Type 0
-HasVersionInRange s = IfSome (version_held s) IsVersionInRange
+HasVersionInRange s = IfSome (system_version s) IsVersionInRange
 
 -- the order of versions: by major, then minor, then patch
 abbrev pub version_cmp : DeploymentTarget → DeploymentTarget → Ordering
@@ -42,8 +42,8 @@ abbrev pub ComparesByValue : {V : Type 0} → (V → V → Bool) → Type 0
 ComparesByValue {V} eq = (x y : V) → IsTrue (eq x y) ↔ (x ≡ y)
 
 -- a copy is its source, and copying allocates nothing
-abbrev pub CopiesAreTheirSources : {V : Type 0} → (V → V → Type 0) → (V → Type 0) → Type 0
-CopiesAreTheirSources {V} IsCopy NeedsNoMemory = (source : V) → NeedsNoMemory source × ((copy : V) → IsCopy source copy → copy ≡ source)
+abbrev pub CopiesEqualTheirSources : {V : Type 0} → (V → V → Type 0) → (V → Type 0) → Type 0
+CopiesEqualTheirSources {V} IsCopy NeedsNoMemory = (source : V) → NeedsNoMemory source × ((copy : V) → IsCopy source copy → copy ≡ source)
 
 -- two values of this kind feed a hasher the same exactly if what they represent is the same, and what is fed after
 -- them, such as the next field of a struct, can be distinguished from what they feed

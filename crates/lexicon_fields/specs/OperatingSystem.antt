@@ -55,15 +55,15 @@ operating_system_name (operating_system.WatchOS version) = codes "watchos" ++ ve
 operating_system_name (operating_system.XROS version) = codes "xros" ++ version_suffix version
 
 -- the version of a system, if it has one
-abbrev pub version_held : OperatingSystem → Option DeploymentTarget
-version_held (operating_system.Darwin version) = version
-version_held (operating_system.IOS version) = version
-version_held (operating_system.MacOSX version) = version
-version_held (operating_system.TvOS version) = version
-version_held (operating_system.VisionOS version) = version
-version_held (operating_system.WatchOS version) = version
-version_held (operating_system.XROS version) = version
-version_held _ = None
+abbrev pub system_version : OperatingSystem → Option DeploymentTarget
+system_version (operating_system.Darwin version) = version
+system_version (operating_system.IOS version) = version
+system_version (operating_system.MacOSX version) = version
+system_version (operating_system.TvOS version) = version
+system_version (operating_system.VisionOS version) = version
+system_version (operating_system.WatchOS version) = version
+system_version (operating_system.XROS version) = version
+system_version _ = None
 
 -- whether a system is like Darwin
 abbrev pub is_like_darwin : OperatingSystem → Bool
@@ -105,17 +105,17 @@ optional_version_of [] = Some None
 optional_version_of (c ∷ cs) = option_map Some (version_of (c ∷ cs))
 
 -- a system like Darwin by the text after its prefix
-abbrev pub with_version : (Option DeploymentTarget → OperatingSystem) → List ℕ → Option OperatingSystem
-with_version operating_system text = option_map operating_system (optional_version_of text)
+abbrev pub system_with_version : (Option DeploymentTarget → OperatingSystem) → List ℕ → Option OperatingSystem
+system_with_version operating_system text = option_map operating_system (optional_version_of text)
 
 -- the text after a prefix, if the text begins with it
-abbrev pub after_prefix : List ℕ → List ℕ → Option (List ℕ)
-after_prefix prefix text = if starts_with nat_eq text prefix then Some (drop (length prefix) text) else None
+abbrev pub text_after_prefix : List ℕ → List ℕ → Option (List ℕ)
+text_after_prefix prefix text = if starts_with nat_eq text prefix then Some (drop (length prefix) text) else None
 
 -- the system like Darwin that a text parses as, by the first of these prefixes that gives one
-abbrev pub darwin_like_by : List (Pair (Option DeploymentTarget → OperatingSystem)) → List ℕ → Option OperatingSystem
-darwin_like_by [] text = None
-darwin_like_by (row ∷ rows) text = option_or (option_and_then (with_version row.1) (after_prefix row.0 text)) (darwin_like_by rows text)
+abbrev pub darwin_like_system : List (Pair (Option DeploymentTarget → OperatingSystem)) → List ℕ → Option OperatingSystem
+darwin_like_system [] text = None
+darwin_like_system (row ∷ rows) text = option_or (option_and_then (system_with_version row.1) (text_after_prefix row.0 text)) (darwin_like_system rows text)
 
 -- the system with this fixed name, if there is one
 unfoldable pub fixed_operating_system_of : List ℕ → Option OperatingSystem
@@ -123,4 +123,4 @@ fixed_operating_system_of text = value_of (named_values operating_system_name fi
 
 -- the value that a text parses as, if any
 unfoldable pub operating_system_of : List ℕ → Option OperatingSystem
-operating_system_of text = option_or (fixed_operating_system_of text) (darwin_like_by darwin_prefixes text)
+operating_system_of text = option_or (fixed_operating_system_of text) (darwin_like_system darwin_prefixes text)

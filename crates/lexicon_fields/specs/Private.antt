@@ -4,9 +4,9 @@ use Rattle.std.specs.Borrow.{Bor}
 use Rattle.lexicon_fields.specs.Version.{pieces_of}
 
 -- the pieces of the rest of a version text, if there is a rest
-abbrev pub pieces_left : Option (Bor (List ℕ)) → List (List ℕ)
-pieces_left None = []
-pieces_left (Some rest) = pieces_of rest.now
+abbrev pub remaining_pieces : Option (Bor (List ℕ)) → List (List ℕ)
+remaining_pieces None = []
+remaining_pieces (Some rest) = pieces_of rest.now
 
 abbrev pub zero_digit : ℕ
 zero_digit = 48

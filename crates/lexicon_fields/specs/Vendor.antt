@@ -50,26 +50,26 @@ vendor_value vendor.Wrs = Known Wrs
 vendor_value (vendor.Custom custom) = Custom (custom_text custom)
 
 -- the name of a known vendor
-abbrev pub known_name : KnownVendor → List ℕ
-known_name Unknown = codes "unknown"
-known_name Amd = codes "amd"
-known_name Apple = codes "apple"
-known_name Espressif = codes "espressif"
-known_name Experimental = codes "experimental"
-known_name Fortanix = codes "fortanix"
-known_name Ibm = codes "ibm"
-known_name Kmc = codes "kmc"
-known_name Nintendo = codes "nintendo"
-known_name Nvidia = codes "nvidia"
-known_name Pc = codes "pc"
-known_name Rumprun = codes "rumprun"
-known_name Sun = codes "sun"
-known_name Uwp = codes "uwp"
-known_name Wrs = codes "wrs"
+abbrev pub known_vendor_name : KnownVendor → List ℕ
+known_vendor_name Unknown = codes "unknown"
+known_vendor_name Amd = codes "amd"
+known_vendor_name Apple = codes "apple"
+known_vendor_name Espressif = codes "espressif"
+known_vendor_name Experimental = codes "experimental"
+known_vendor_name Fortanix = codes "fortanix"
+known_vendor_name Ibm = codes "ibm"
+known_vendor_name Kmc = codes "kmc"
+known_vendor_name Nintendo = codes "nintendo"
+known_vendor_name Nvidia = codes "nvidia"
+known_vendor_name Pc = codes "pc"
+known_vendor_name Rumprun = codes "rumprun"
+known_vendor_name Sun = codes "sun"
+known_vendor_name Uwp = codes "uwp"
+known_vendor_name Wrs = codes "wrs"
 
 -- the name of a vendor; that of a custom one is its text
 abbrev pub vendor_name : VendorValue → List ℕ
-vendor_name (Known known) = known_name known
+vendor_name (Known known) = known_vendor_name known
 vendor_name (Custom text) = text
 
 abbrev pub known_vendors : List KnownVendor
@@ -77,7 +77,7 @@ known_vendors = Unknown ∷ Amd ∷ Apple ∷ Espressif ∷ Experimental ∷ For
 
 -- the known vendor with this name, if there is one
 unfoldable pub known_vendor_of : List ℕ → Option KnownVendor
-known_vendor_of text = value_of (named_values known_name known_vendors) text
+known_vendor_of text = value_of (named_values known_vendor_name known_vendors) text
 
 abbrev pub underscore : ℕ
 underscore = 95
@@ -102,12 +102,12 @@ unfoldable pub is_admitted : List ℕ → Bool
 is_admitted text = is_free text && has_vendor_form text
 
 -- the custom vendor with this text, if the text is admitted
-abbrev pub custom_of : List ℕ → Option VendorValue
-custom_of text = if is_admitted text then Some (Custom text) else None
+abbrev pub custom_vendor_of : List ℕ → Option VendorValue
+custom_vendor_of text = if is_admitted text then Some (Custom text) else None
 
 -- the value that a text parses as, if any
 unfoldable pub vendor_of : List ℕ → Option VendorValue
-vendor_of text = option_or (option_map Known (known_vendor_of text)) (custom_of text)
+vendor_of text = option_or (option_map Known (known_vendor_of text)) (custom_vendor_of text)
 
 -- whether a vendor is plain: known, or custom with an admitted text
 abbrev pub is_plain : VendorValue → Bool
@@ -124,6 +124,6 @@ abbrev pub OwnsCustomText : Vendor → Type 0
 OwnsCustomText v = IsCustom (vendor_value v) → owns_text v ≡ true
 
 -- why a text doesn't parse as a vendor: it is no vendor, or it is admitted and the allocation for it failed
-abbrev pub IsVendorFault : List ℕ → VendorError → Type 0
-IsVendorFault text Unrecognized = vendor_of text ≡ None
-IsVendorFault text OutOfMemory = is_admitted text ≡ true
+abbrev pub IsVendorErrorOf : List ℕ → VendorError → Type 0
+IsVendorErrorOf text Unrecognized = vendor_of text ≡ None
+IsVendorErrorOf text OutOfMemory = is_admitted text ≡ true

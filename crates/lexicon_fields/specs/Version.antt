@@ -17,8 +17,8 @@ number_within limit text =
     then Some (digits_value 10 text) else None
 
 -- the number of a piece, which may begin with a plus
-abbrev pub piece_within : ℕ → List ℕ → Option ℕ
-piece_within limit piece = number_within limit (without_leading_plus piece)
+abbrev pub piece_number_within : ℕ → List ℕ → Option ℕ
+piece_number_within limit piece = number_within limit (without_leading_plus piece)
 
 -- the version of three numbers, if all are there
 abbrev pub version_of_numbers : Option ℕ → Option ℕ → Option ℕ → Option DeploymentTarget
@@ -27,9 +27,9 @@ version_of_numbers _ _ _ = None
 
 -- one to three pieces: major up to 65535, minor and patch up to 255; a missing piece is 0
 abbrev pub version_of_pieces : List (List ℕ) → Option DeploymentTarget
-version_of_pieces (major ∷ []) = version_of_numbers (piece_within 65535 major) (Some 0) (Some 0)
-version_of_pieces (major ∷ minor ∷ []) = version_of_numbers (piece_within 65535 major) (piece_within 255 minor) (Some 0)
-version_of_pieces (major ∷ minor ∷ patch ∷ []) = version_of_numbers (piece_within 65535 major) (piece_within 255 minor) (piece_within 255 patch)
+version_of_pieces (major ∷ []) = version_of_numbers (piece_number_within 65535 major) (Some 0) (Some 0)
+version_of_pieces (major ∷ minor ∷ []) = version_of_numbers (piece_number_within 65535 major) (piece_number_within 255 minor) (Some 0)
+version_of_pieces (major ∷ minor ∷ patch ∷ []) = version_of_numbers (piece_number_within 65535 major) (piece_number_within 255 minor) (piece_number_within 255 patch)
 version_of_pieces _ = None
 
 -- the pieces of a text between its dots

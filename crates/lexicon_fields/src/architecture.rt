@@ -198,7 +198,7 @@ impl Architecture {
     }
 
     /// The value with this name; `arm64` is an alias of `aarch64`. `Err` for every other text.
-    #[tactic(auto, using(crate::proofs::RowsHold::nowhere))]
+    #[tactic(auto, using(crate::proofs::RowLemmas::no_name_without_row))]
     pub fn from_str(s: &str) -> Result<Self, ()>
         ensures { MatchesLookup (architecture_of s.now) result }
     {

@@ -34,7 +34,7 @@ impl BinaryFormat {
     }
 
     /// The value with this name. `Err` for every other text.
-    #[tactic(auto, using(crate::proofs::RowsHold::nowhere))]
+    #[tactic(auto, using(crate::proofs::RowLemmas::no_name_without_row))]
     pub fn from_str(s: &str) -> Result<Self, ()>
         ensures { MatchesLookup (binary_format_of s.now) result }
     {

@@ -2,7 +2,7 @@
 ghost use Rattle.std.specs.Prelude.{◌≡◌, ◌+◌, ◌<◌, [], ◌∷◌};
 ghost use Rattle.std.specs.Fmt.{WritesStyledOnOk, decimal};
 ghost use Rattle.lexicon_fields.specs.Version.{dot, version_of, version_name, pieces_of};
-ghost use Rattle.lexicon_fields.specs.Private.{pieces_left};
+ghost use Rattle.lexicon_fields.specs.Private.{remaining_pieces};
 
 use crate::decimal::write_decimal;
 use std::fmt;
@@ -62,7 +62,7 @@ impl DeploymentTarget {
 
 /// The text up to the first dot, and the text after it.
 fn first_piece(text: &str) -> (&str, Option<&str>)
-    ensures { pieces_of text.now ≡ result.0.now ∷ pieces_left result.1 }
+    ensures { pieces_of text.now ≡ result.0.now ∷ remaining_pieces result.1 }
 {
     match text.split_once('.') {
         Some((piece, rest)) => (piece, Some(rest)),

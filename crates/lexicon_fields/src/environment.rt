@@ -76,7 +76,7 @@ impl Environment {
     }
 
     /// The value with this name. `Err` for every other text.
-    #[tactic(auto, using(crate::proofs::RowsHold::nowhere))]
+    #[tactic(auto, using(crate::proofs::RowLemmas::no_name_without_row))]
     pub fn from_str(s: &str) -> Result<Self, ()>
         ensures { MatchesLookup (environment_of s.now) result }
     {

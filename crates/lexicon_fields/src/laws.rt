@@ -3,13 +3,13 @@ ghost use Rattle.std.specs.Prelude.{◌≡◌, ◌↔◌, true, ℕ, List, Some,
 ghost use Rattle.std.specs.Cmp.Lexicographic.{slice_cmp};
 ghost use Rattle.std.specs.List.Sorted.{IsStrictlySortedBy};
 ghost use Rattle.std.specs.Ordering.{nat_cmp};
-ghost use Rattle.lexicon_fields.specs.Laws.{HashInjectiveOn, HashInjective, CopiesAreTheirSources, IsVersionInRange, HasVersionInRange, NamesOfReadBack, NamesReadBack, TextsAreNames, NamesGrowAtMost, ComparesByValue, version_cmp};
+ghost use Rattle.lexicon_fields.specs.Laws.{HashInjectiveOn, HashInjective, CopiesEqualTheirSources, IsVersionInRange, HasVersionInRange, NamesReadBackOn, NamesReadBack, TextsAreNames, NamesGrowAtMost, ComparesByValue, version_cmp};
 ghost use Rattle.lexicon_fields.specs.SubArchitecture.{arm_name, aarch64_name, x86_32_name, mips32_name, mips64_name, riscv32_name, riscv64_name, clever_name, z80_name};
 ghost use Rattle.lexicon_fields.specs.Architecture.{architecture_name, architecture_of, sub_architecture_of, as_arm, as_aarch64, as_x86_32, as_mips32, as_mips64, as_riscv32, as_riscv64, as_clever, as_z80};
 ghost use Rattle.lexicon_fields.specs.Environment.{environment_name, environment_of};
 ghost use Rattle.lexicon_fields.specs.OperatingSystem.{operating_system_name, operating_system_of};
 ghost use Rattle.lexicon_fields.specs.BinaryFormat.{binary_format_name, binary_format_of};
-ghost use Rattle.lexicon_fields.specs.FixedRow.{has_row, row_count, row_texts, HoldSameValues};
+ghost use Rattle.lexicon_fields.specs.FixedRow.{has_row, row_count, row_texts, HaveSameValues};
 ghost use Rattle.lexicon_fields.specs.declared.vendor.CustomVendor.{CustomVendor};
 ghost use Rattle.lexicon_fields.specs.declared.vendor.Vendor.{Vendor};
 ghost use Rattle.lexicon_fields.specs.Vendor.{custom_text, vendor_value, vendor_name, vendor_of, is_plain};
@@ -43,11 +43,11 @@ pub fn names_read_back()
     ensures riscv64 { NamesReadBack riscv64_name (sub_architecture_of as_riscv64) }
     ensures clever { NamesReadBack clever_name (sub_architecture_of as_clever) }
     ensures z80 { NamesReadBack z80_name (sub_architecture_of as_z80) }
-    ensures operating_system { NamesOfReadBack HasVersionInRange operating_system_name
+    ensures operating_system { NamesReadBackOn HasVersionInRange operating_system_name
         operating_system_of }
     ensures environment { NamesReadBack environment_name environment_of }
     ensures binary_format { NamesReadBack binary_format_name binary_format_of }
-    ensures vendor { NamesOfReadBack (λ v. is_plain v ≡ true) vendor_name vendor_of }
+    ensures vendor { NamesReadBackOn (λ v. is_plain v ≡ true) vendor_name vendor_of }
 {}
 
 /// A text that parses as a vendor, an environment or a binary format is its name. The name of an architecture or a
@@ -61,7 +61,7 @@ pub fn names_grow_at_most()
 {}
 
 /// The version of each system that a text parses as is in range.
-#[tactic(auto, using(crate::proofs::SystemsRead::version_in_range))]
+#[tactic(auto, using(crate::proofs::ParsedSystems::version_in_range))]
 pub fn read_versions_are_in_range()
     ensures { (text : List ℕ) (s : OperatingSystem) →
         operating_system_of text ≡ Some s →
@@ -86,7 +86,7 @@ pub fn vendors_are_equal_by_value()
 {}
 
 /// The texts of the rows are the fixed names of all fields and the alias, each once, in the order of their bytes.
-pub fn rows_are_sorted_and_whole()
+pub fn rows_are_sorted_and_complete()
     ensures sorted { IsStrictlySortedBy (slice_cmp nat_cmp) row_texts }
     ensures count { length row_texts ≡ row_count }
     ensures whole { (text : List ℕ) → IsTrue (has_row text) ↔ Contains row_texts text }
@@ -113,11 +113,11 @@ pub fn values_are_equal_by_variant_and_fields()
     ensures vendor_error { ComparesByValue ⟦<VendorError as PartialEq>⟧.eq }
     ensures known_vendor { ComparesByValue ⟦<KnownVendor as PartialEq>⟧.eq }
     ensures fixed_row { (x y : FixedRow) →
-        IsTrue (⟦<FixedRow as PartialEq>⟧.eq x y) ↔ HoldSameValues x y }
+        IsTrue (⟦<FixedRow as PartialEq>⟧.eq x y) ↔ HaveSameValues x y }
 {}
 
 /// Two custom vendors feed a hasher equally exactly if their texts are equal.
-pub fn custom_vendors_feed_by_text()
+pub fn custom_vendors_hash_by_text()
     ensures { (x y : CustomVendor) →
         (⟦<CustomVendor as Hash>⟧.hash_input x ≡ ⟦<CustomVendor as Hash>⟧.hash_input y)
         ↔ (custom_text x ≡ custom_text y) }
@@ -125,7 +125,7 @@ pub fn custom_vendors_feed_by_text()
 
 /// Two values of a type feed a hasher the same exactly if they are equal, and what is fed after a value can be
 /// distinguished from what the value feeds. For systems with a version this holds if the version is in range.
-pub fn values_feed_by_variant_and_fields()
+pub fn values_hash_by_variant_and_fields()
     ensures architecture { HashInjective ⟦<Architecture as Hash>⟧.hash_input }
     ensures arm { HashInjective ⟦<ArmArchitecture as Hash>⟧.hash_input }
     ensures aarch64 { HashInjective ⟦<Aarch64Architecture as Hash>⟧.hash_input }
@@ -149,43 +149,43 @@ pub fn values_feed_by_variant_and_fields()
 {}
 
 /// A copy of a value is that value, and copying allocates nothing.
-pub fn copies_are_their_sources()
-    ensures architecture { CopiesAreTheirSources ⟦<Architecture as Clone>⟧.is_clone
+pub fn copies_equal_their_sources()
+    ensures architecture { CopiesEqualTheirSources ⟦<Architecture as Clone>⟧.is_clone
         ⟦<Architecture as Clone>⟧.is_infallible }
-    ensures arm { CopiesAreTheirSources ⟦<ArmArchitecture as Clone>⟧.is_clone
+    ensures arm { CopiesEqualTheirSources ⟦<ArmArchitecture as Clone>⟧.is_clone
         ⟦<ArmArchitecture as Clone>⟧.is_infallible }
-    ensures aarch64 { CopiesAreTheirSources ⟦<Aarch64Architecture as Clone>⟧.is_clone
+    ensures aarch64 { CopiesEqualTheirSources ⟦<Aarch64Architecture as Clone>⟧.is_clone
         ⟦<Aarch64Architecture as Clone>⟧.is_infallible }
-    ensures x86_32 { CopiesAreTheirSources ⟦<X86_32Architecture as Clone>⟧.is_clone
+    ensures x86_32 { CopiesEqualTheirSources ⟦<X86_32Architecture as Clone>⟧.is_clone
         ⟦<X86_32Architecture as Clone>⟧.is_infallible }
-    ensures mips32 { CopiesAreTheirSources ⟦<Mips32Architecture as Clone>⟧.is_clone
+    ensures mips32 { CopiesEqualTheirSources ⟦<Mips32Architecture as Clone>⟧.is_clone
         ⟦<Mips32Architecture as Clone>⟧.is_infallible }
-    ensures mips64 { CopiesAreTheirSources ⟦<Mips64Architecture as Clone>⟧.is_clone
+    ensures mips64 { CopiesEqualTheirSources ⟦<Mips64Architecture as Clone>⟧.is_clone
         ⟦<Mips64Architecture as Clone>⟧.is_infallible }
-    ensures riscv32 { CopiesAreTheirSources ⟦<Riscv32Architecture as Clone>⟧.is_clone
+    ensures riscv32 { CopiesEqualTheirSources ⟦<Riscv32Architecture as Clone>⟧.is_clone
         ⟦<Riscv32Architecture as Clone>⟧.is_infallible }
-    ensures riscv64 { CopiesAreTheirSources ⟦<Riscv64Architecture as Clone>⟧.is_clone
+    ensures riscv64 { CopiesEqualTheirSources ⟦<Riscv64Architecture as Clone>⟧.is_clone
         ⟦<Riscv64Architecture as Clone>⟧.is_infallible }
-    ensures clever { CopiesAreTheirSources ⟦<CleverArchitecture as Clone>⟧.is_clone
+    ensures clever { CopiesEqualTheirSources ⟦<CleverArchitecture as Clone>⟧.is_clone
         ⟦<CleverArchitecture as Clone>⟧.is_infallible }
-    ensures z80 { CopiesAreTheirSources ⟦<Z80Architecture as Clone>⟧.is_clone
+    ensures z80 { CopiesEqualTheirSources ⟦<Z80Architecture as Clone>⟧.is_clone
         ⟦<Z80Architecture as Clone>⟧.is_infallible }
-    ensures version { CopiesAreTheirSources ⟦<DeploymentTarget as Clone>⟧.is_clone
+    ensures version { CopiesEqualTheirSources ⟦<DeploymentTarget as Clone>⟧.is_clone
         ⟦<DeploymentTarget as Clone>⟧.is_infallible }
-    ensures operating_system { CopiesAreTheirSources ⟦<OperatingSystem as Clone>⟧.is_clone
+    ensures operating_system { CopiesEqualTheirSources ⟦<OperatingSystem as Clone>⟧.is_clone
         ⟦<OperatingSystem as Clone>⟧.is_infallible }
-    ensures environment { CopiesAreTheirSources ⟦<Environment as Clone>⟧.is_clone
+    ensures environment { CopiesEqualTheirSources ⟦<Environment as Clone>⟧.is_clone
         ⟦<Environment as Clone>⟧.is_infallible }
-    ensures binary_format { CopiesAreTheirSources ⟦<BinaryFormat as Clone>⟧.is_clone
+    ensures binary_format { CopiesEqualTheirSources ⟦<BinaryFormat as Clone>⟧.is_clone
         ⟦<BinaryFormat as Clone>⟧.is_infallible }
-    ensures endianness { CopiesAreTheirSources ⟦<Endianness as Clone>⟧.is_clone
+    ensures endianness { CopiesEqualTheirSources ⟦<Endianness as Clone>⟧.is_clone
         ⟦<Endianness as Clone>⟧.is_infallible }
-    ensures pointer_width { CopiesAreTheirSources ⟦<PointerWidth as Clone>⟧.is_clone
+    ensures pointer_width { CopiesEqualTheirSources ⟦<PointerWidth as Clone>⟧.is_clone
         ⟦<PointerWidth as Clone>⟧.is_infallible }
-    ensures vendor_error { CopiesAreTheirSources ⟦<VendorError as Clone>⟧.is_clone
+    ensures vendor_error { CopiesEqualTheirSources ⟦<VendorError as Clone>⟧.is_clone
         ⟦<VendorError as Clone>⟧.is_infallible }
-    ensures known_vendor { CopiesAreTheirSources ⟦<KnownVendor as Clone>⟧.is_clone
+    ensures known_vendor { CopiesEqualTheirSources ⟦<KnownVendor as Clone>⟧.is_clone
         ⟦<KnownVendor as Clone>⟧.is_infallible }
-    ensures fixed_row { CopiesAreTheirSources ⟦<FixedRow as Clone>⟧.is_clone
+    ensures fixed_row { CopiesEqualTheirSources ⟦<FixedRow as Clone>⟧.is_clone
         ⟦<FixedRow as Clone>⟧.is_infallible }
 {}

@@ -4,7 +4,7 @@ ghost use Rattle.std.specs.Cow.{cow_str_bytes, IsBorrowedStr};
 ghost use Rattle.lexicon_fields.specs.FixedRow.{has_row};
 ghost use Rattle.lexicon_fields.specs.Names.{MatchesLookup};
 ghost use Rattle.lexicon_fields.specs.Version.{version_name};
-ghost use Rattle.lexicon_fields.specs.OperatingSystem.{operating_system_name, operating_system_of, version_held, version_suffix, optional_version_of, darwin_like_by, darwin_prefixes, is_like_darwin};
+ghost use Rattle.lexicon_fields.specs.OperatingSystem.{operating_system_name, operating_system_of, system_version, version_suffix, optional_version_of, darwin_like_system, darwin_prefixes, is_like_darwin};
 
 use crate::deployment_target::DeploymentTarget;
 use crate::steps::Steps;
@@ -73,7 +73,7 @@ impl OperatingSystem {
     ///
     /// A text is a fixed name, or the prefix of a system like Darwin with nothing or a version after it: one to three
     /// pieces between dots, each an optional plus and digits, the first at most 65535, the others at most 255.
-    #[tactic(auto, using(crate::proofs::RowsHold::read_either_way))]
+    #[tactic(auto, using(crate::proofs::RowLemmas::operating_system_of_either_way))]
     pub fn from_str(s: &str) -> Result<Self, ()>
         ensures { MatchesLookup (operating_system_of s.now) result }
     {
@@ -88,41 +88,42 @@ impl OperatingSystem {
 
     /// The system like Darwin that the text parses as, if any. A text without a row in the table of names parses as no
     /// other system. Most other texts are rejected by their first letter.
-    #[tactic(auto, using(crate::proofs::RowsHold::without_row_is_darwin_like))]
+    #[tactic(auto, using(crate::proofs::RowLemmas::without_row_is_darwin_like))]
     pub fn parse_darwin_like(s: &str) -> Option<Self>
-        ensures like { result ≡ darwin_like_by darwin_prefixes s.now }
+        ensures like { result ≡ darwin_like_system darwin_prefixes s.now }
         ensures without_row { has_row s.now ≡ false → result ≡ operating_system_of s.now }
     {
         match s.as_bytes().first() {
-            Some(b'd' | b'i' | b'm' | b't' | b'v' | b'w' | b'x') => OperatingSystem::by_prefix(s),
+            Some(b'd' | b'i' | b'm' | b't' | b'v' | b'w' | b'x') =>
+                OperatingSystem::parse_by_prefix(s),
             _ => None,
         }
     }
 
     /// The system like Darwin with whose prefix the text begins, with the version after the prefix, if there is one.
-    fn by_prefix(s: &str) -> Option<Self>
-        ensures { result ≡ darwin_like_by darwin_prefixes s.now }
+    fn parse_by_prefix(s: &str) -> Option<Self>
+        ensures { result ≡ darwin_like_system darwin_prefixes s.now }
     {
         if let Some(rest) = s.strip_prefix("darwin") {
-            return Some(OperatingSystem::Darwin(version_after(rest)?));
+            return Some(OperatingSystem::Darwin(optional_version_of(rest)?));
         }
         if let Some(rest) = s.strip_prefix("ios") {
-            return Some(OperatingSystem::IOS(version_after(rest)?));
+            return Some(OperatingSystem::IOS(optional_version_of(rest)?));
         }
         if let Some(rest) = s.strip_prefix("macosx") {
-            return Some(OperatingSystem::MacOSX(version_after(rest)?));
+            return Some(OperatingSystem::MacOSX(optional_version_of(rest)?));
         }
         if let Some(rest) = s.strip_prefix("tvos") {
-            return Some(OperatingSystem::TvOS(version_after(rest)?));
+            return Some(OperatingSystem::TvOS(optional_version_of(rest)?));
         }
         if let Some(rest) = s.strip_prefix("visionos") {
-            return Some(OperatingSystem::VisionOS(version_after(rest)?));
+            return Some(OperatingSystem::VisionOS(optional_version_of(rest)?));
         }
         if let Some(rest) = s.strip_prefix("watchos") {
-            return Some(OperatingSystem::WatchOS(version_after(rest)?));
+            return Some(OperatingSystem::WatchOS(optional_version_of(rest)?));
         }
         if let Some(rest) = s.strip_prefix("xros") {
-            return Some(OperatingSystem::XROS(version_after(rest)?));
+            return Some(OperatingSystem::XROS(optional_version_of(rest)?));
         }
         None
     }
@@ -130,7 +131,7 @@ impl OperatingSystem {
     /// The name. Only a name with a version needs memory; `Err` if that allocation fails.
     pub fn into_str(self, alloc: Global) -> Result<CowStr<'static>, AllocError>
         ensures name { IfOk result (λ text. cow_str_bytes text ≡ operating_system_name self) }
-        ensures borrowed { IsNone (version_held self) → IsOkAnd result IsBorrowedStr }
+        ensures borrowed { IsNone (system_version self) → IsOkAnd result IsBorrowedStr }
     {
         match self.version() {
             None => Ok(CowStr::Borrowed(self.prefix())),
@@ -156,7 +157,7 @@ impl OperatingSystem {
 
     /// The name without the version.
     fn prefix(self) -> &'static str
-        ensures { result.now ++ version_suffix (version_held self) ≡ operating_system_name self }
+        ensures { result.now ++ version_suffix (system_version self) ≡ operating_system_name self }
     {
         match self {
             OperatingSystem::Unknown => "unknown",
@@ -204,7 +205,7 @@ impl OperatingSystem {
 
     /// The version of the deployment target. Only a system like Darwin can have one.
     pub fn version(self) -> Option<DeploymentTarget>
-        ensures { result ≡ version_held self }
+        ensures { result ≡ system_version self }
     {
         match self {
             OperatingSystem::Darwin(version)
@@ -220,7 +221,7 @@ impl OperatingSystem {
 }
 
 /// The version after a prefix: `Some(None)` if nothing follows, `None` if what follows is no version.
-fn version_after(rest: &str) -> Option<Option<DeploymentTarget>>
+fn optional_version_of(rest: &str) -> Option<Option<DeploymentTarget>>
     ensures { result ≡ optional_version_of rest.now }
 {
     if rest.is_empty() {

@@ -20,7 +20,7 @@ use std::cmp::Ordering;
 pub const ROW_COUNT: usize = 192;
 
 /// The number of rows that seven comparisons can search: 1 + 2 + 4 + .. + 64.
-const FOUND_BY_SEVEN: usize = 127;
+const ROWS_IN_SEVEN_STEPS: usize = 127;
 
 /// A fixed name or the alias, and the value with that name in each field.
 #[derive(Clone, Copy, Debug, PartialEq, Eq)]
@@ -107,13 +107,13 @@ fn search(text: &str, steps: &mut Steps) -> Option<usize>
     ensures counted { steps.old.count < steps.new.count }
     ensures few { steps.new.count ≤ steps.old.count + 8 }
 {
-    let mut low = ROW_COUNT - FOUND_BY_SEVEN;
-    match row_order(FOUND_BY_SEVEN, text, steps) {
+    let mut low = ROW_COUNT - ROWS_IN_SEVEN_STEPS;
+    match row_order(ROWS_IN_SEVEN_STEPS, text, steps) {
         Ordering::Less => {}
         Ordering::Greater => low = 0,
-        Ordering::Equal => return Some(FOUND_BY_SEVEN),
+        Ordering::Equal => return Some(ROWS_IN_SEVEN_STEPS),
     }
-    let mut left = FOUND_BY_SEVEN;
+    let mut left = ROWS_IN_SEVEN_STEPS;
     while left > 0 {
         let middle = low + left / 2;
         left /= 2;

@@ -7,7 +7,7 @@ ghost use Rattle.std.specs.Hash as fed;
 ghost use Rattle.std.specs.Hash.{on_Alike, same_Alike};
 ghost use Rattle.std.specs.List.{list_all};
 ghost use Rattle.lexicon_fields.specs.FixedRow.{has_row};
-ghost use Rattle.lexicon_fields.specs.Vendor.{custom_text, is_owned, owns_text, vendor_value, vendor_name, vendor_of, Known, known_vendor_of, is_vendor_character, has_vendor_form, is_admitted, is_plain, IsVendorFault};
+ghost use Rattle.lexicon_fields.specs.Vendor.{custom_text, is_owned, owns_text, vendor_value, vendor_name, vendor_of, Known, known_vendor_of, is_vendor_character, has_vendor_form, is_admitted, is_plain, IsVendorErrorOf};
 
 use crate::operating_system::OperatingSystem;
 use crate::steps::Steps;
@@ -124,7 +124,7 @@ impl Vendor {
     pub fn from_str(alloc: Global, s: &str) -> Result<Self, VendorError>
         ensures ok { IfOk result (λ vendor. vendor_of s.now ≡ Some (vendor_value vendor)) }
         ensures owned { IfOk result (λ vendor. owns_text vendor ≡ is_admitted s.now) }
-        ensures err { IfErr result (IsVendorFault s.now) }
+        ensures err { IfErr result (IsVendorErrorOf s.now) }
     {
         match fixed_row(s, &mut Steps::new()) {
             Some(row) => match row.vendor {
@@ -140,7 +140,7 @@ impl Vendor {
         requires { has_row s.now ≡ false }
         ensures ok { IfOk result (λ vendor. vendor_of s.now ≡ Some (vendor_value vendor)) }
         ensures owned { IfOk result (λ vendor. owns_text vendor ≡ is_admitted s.now) }
-        ensures err { IfErr result (IsVendorFault s.now) }
+        ensures err { IfErr result (IsVendorErrorOf s.now) }
     {
         if !has_vendor_form(s) {
             return Err(VendorError::Unrecognized);

@@ -83,13 +83,13 @@ avr-unknown-unknown=-";
 struct HasLayout;
 
 impl QuestionOf<Triple> for HasLayout {
-    fn holds(_alloc: Global, triple: &Triple, want: &str) -> bool {
+    fn holds(_alloc: Global, triple: &Triple, expected: &str) -> bool {
         match c_layout(triple) {
             Some(layout) => {
                 let (size, alignment) = (layout.long_long.size, layout.long_long.alignment);
-                writes(&format_args!("{size} {alignment}"), want)
+                writes(&format_args!("{size} {alignment}"), expected)
             }
-            None => want == "-",
+            None => expected == "-",
         }
     }
 }
@@ -110,10 +110,13 @@ fn texts_of(alloc: Global, words: &str) -> Result<Vec<String>, AllocError> {
 
 /// The matrix of the texts has two targets, and this is the second one's text; or the text at an index is refused with
 /// this line.
-fn is_matrix(alloc: Global, texts: &[String], want: &str) -> bool {
+fn is_matrix(alloc: Global, texts: &[String], expected: &str) -> bool {
     match release_matrix(alloc, texts) {
-        Ok(matrix) => matrix.len() == 2 && prints(&matrix[1], want),
-        Err(MatrixError::Refused(place, error)) => writes(&format_args!("{place}: {error}"), want),
+        Ok(matrix) => matrix.len() == 2 && prints(&matrix[1], expected),
+        Err(MatrixError::Refused(index, error)) => writes(
+            &format_args!("{index}: {error}"),
+            expected,
+        ),
         Err(MatrixError::OutOfMemory) => false,
     }
 }
@@ -121,9 +124,9 @@ fn is_matrix(alloc: Global, texts: &[String], want: &str) -> bool {
 struct HasMatrix;
 
 impl Question for HasMatrix {
-    fn holds(alloc: Global, words: &str, want: &str) -> bool {
+    fn holds(alloc: Global, words: &str, expected: &str) -> bool {
         match texts_of(alloc, words) {
-            Ok(texts) => is_matrix(alloc, &texts, want),
+            Ok(texts) => is_matrix(alloc, &texts, expected),
             Err(_) => false,
         }
     }
@@ -146,10 +149,10 @@ const TARGET_FILES: &str = "\
 struct NamesTriple;
 
 impl QuestionOf<Value> for NamesTriple {
-    fn holds(alloc: Global, file: &Value, want: &str) -> bool {
+    fn holds(alloc: Global, file: &Value, expected: &str) -> bool {
         match llvm_target(alloc, file) {
-            Ok(triple) => has_values(&triple, want),
-            Err(error) => matches!(&error, TargetFileError::NoKey) && want == "-",
+            Ok(triple) => has_values(&triple, expected),
+            Err(error) => matches!(&error, TargetFileError::NoKey) && expected == "-",
         }
     }
 }
@@ -160,9 +163,9 @@ fn a_target_file_names_its_triple(rt: HostRuntime) -> Result<(), &'static str> {
 }
 
 /// There is a text, and it is this one.
-fn is_text<E: Drop>(found: Result<String, E>, wanted: &str) -> bool {
+fn is_text<E: Drop>(found: Result<String, E>, expected: &str) -> bool {
     match found {
-        Ok(text) => text.as_str() == wanted,
+        Ok(text) => text.as_str() == expected,
         Err(_) => false,
     }
 }

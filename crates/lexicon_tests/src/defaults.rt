@@ -4,7 +4,7 @@ use crate::fixtures::{QuestionOf, check_line, with_vendor};
 use std::alloc::{AllocError, Global};
 use std::process::Abort;
 use target_lexicon::{DefaultToHost, DefaultToUnknown, Triple};
-use test_support::{feed_alike, shows};
+use test_support::{hash_alike, shows};
 
 #[test]
 fn defaults_are_the_host_and_the_unknown_triple(rt: HostRuntime) {
@@ -64,12 +64,12 @@ fn a_clone_keeps_a_custom_vendor(rt: HostRuntime) {
 }
 
 #[test]
-fn equal_triples_feed_a_hasher_alike(rt: HostRuntime) {
+fn equal_triples_hash_alike(rt: HostRuntime) {
     let triple = custom_triple(&rt, rt.alloc());
     let fixed = with_vendor(
         rt.alloc(),
         "x86_64-unknown-linux-unknown-elf",
         "customvendor",
     );
-    assert!(rt; feed_alike(Some(triple), fixed));
+    assert!(rt; hash_alike(Some(triple), fixed));
 }

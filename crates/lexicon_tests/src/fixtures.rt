@@ -10,13 +10,13 @@ use test_support::{Question, prints};
 
 /// A question about a value that a row gives as a text.
 pub(crate) trait QuestionOf<T> {
-    fn holds(alloc: Global, value: &T, want: &str) -> bool;
+    fn holds(alloc: Global, value: &T, expected: &str) -> bool;
 }
 
 /// The parsed value is this one.
-pub(crate) fn is_read<T: PartialEq + Drop, E: Drop>(read: Result<T, E>, wanted: &T) -> bool {
+pub(crate) fn is_read<T: PartialEq + Drop, E: Drop>(read: Result<T, E>, expected: &T) -> bool {
     match read {
-        Ok(value) => value == *wanted,
+        Ok(value) => value == *expected,
         Err(_) => false,
     }
 }
@@ -25,10 +25,10 @@ pub(crate) fn is_read<T: PartialEq + Drop, E: Drop>(read: Result<T, E>, wanted: 
 pub(crate) fn is_found<Q: QuestionOf<T>, T: Drop, E: Drop>(
     alloc: Global,
     found: Result<T, E>,
-    want: &str,
+    expected: &str,
 ) -> bool {
     match found {
-        Ok(value) => Q::holds(alloc, &value, want),
+        Ok(value) => Q::holds(alloc, &value, expected),
         Err(_) => false,
     }
 }
@@ -37,8 +37,8 @@ pub(crate) fn is_found<Q: QuestionOf<T>, T: Drop, E: Drop>(
 pub(crate) struct OfTriple<Q>(PhantomData<Q>);
 
 impl<Q: QuestionOf<Triple>> Question for OfTriple<Q> {
-    fn holds(alloc: Global, text: &str, want: &str) -> bool {
-        is_found::<Q, Triple, ParseError>(alloc, Triple::from_str(alloc, text), want)
+    fn holds(alloc: Global, text: &str, expected: &str) -> bool {
+        is_found::<Q, Triple, ParseError>(alloc, Triple::from_str(alloc, text), expected)
     }
 }
 
@@ -46,8 +46,8 @@ impl<Q: QuestionOf<Triple>> Question for OfTriple<Q> {
 pub(crate) struct OfValue<Q>(PhantomData<Q>);
 
 impl<Q: QuestionOf<Value>> Question for OfValue<Q> {
-    fn holds(alloc: Global, text: &str, want: &str) -> bool {
-        is_found::<Q, Value, serde_json::Error>(alloc, Value::from_str(alloc, text), want)
+    fn holds(alloc: Global, text: &str, expected: &str) -> bool {
+        is_found::<Q, Value, serde_json::Error>(alloc, Value::from_str(alloc, text), expected)
     }
 }
 

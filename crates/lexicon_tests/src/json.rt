@@ -9,9 +9,9 @@ use target_lexicon::{JsonError, ListError, ParseError, Triple, list_from_json, l
 use test_support::{check_rows, prints, shows};
 
 /// The value is written as this text.
-fn is_written(value: Result<Value, AllocError>, want: &str) -> bool {
+fn is_written(value: Result<Value, AllocError>, expected: &str) -> bool {
     match value {
-        Ok(value) => prints(&value, want),
+        Ok(value) => prints(&value, expected),
         Err(_) => false,
     }
 }
@@ -42,8 +42,8 @@ true=Not a text
 struct ValueAnswers;
 
 impl QuestionOf<Value> for ValueAnswers {
-    fn holds(alloc: Global, value: &Value, want: &str) -> bool {
-        is_answer(Triple::from_json(alloc, value), want)
+    fn holds(alloc: Global, value: &Value, expected: &str) -> bool {
+        is_answer(Triple::from_json(alloc, value), expected)
     }
 }
 
@@ -71,10 +71,10 @@ null=Not a list
 struct ListAnswers;
 
 impl QuestionOf<Value> for ListAnswers {
-    fn holds(alloc: Global, value: &Value, want: &str) -> bool {
+    fn holds(alloc: Global, value: &Value, expected: &str) -> bool {
         match list_from_json(alloc, value) {
-            Ok(triples) => is_written(list_to_json(alloc, &triples), want),
-            Err(error) => prints(&error, want),
+            Ok(triples) => is_written(list_to_json(alloc, &triples), expected),
+            Err(error) => prints(&error, expected),
         }
     }
 }
@@ -88,10 +88,10 @@ fn lists_are_read_and_written_or_refused(rt: HostRuntime) -> Result<(), &'static
 struct IsRefusedAs;
 
 impl QuestionOf<Value> for IsRefusedAs {
-    fn holds(alloc: Global, value: &Value, want: &str) -> bool {
+    fn holds(alloc: Global, value: &Value, expected: &str) -> bool {
         match list_from_json(alloc, value) {
             Ok(_) => false,
-            Err(error) => shows(&error, want),
+            Err(error) => shows(&error, expected),
         }
     }
 }

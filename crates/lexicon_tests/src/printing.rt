@@ -112,8 +112,9 @@ none x86_64-unknown-linux-unknown-elf=x86_64-none-linux=Unrecognized environment
 /// The triple of a vendor and a text prints this text, which parses with this result, and doesn't come back.
 fn is_not_plain(alloc: Global, names: &'static str, rest: &str) -> bool {
     let (vendor, text) = names.split_once(' ').unwrap_or((names, ""));
-    let (print, want) = rest.split_once('=').unwrap_or((rest, ""));
-    is_built(alloc, text, vendor, print, false) && is_answer(Triple::from_str(alloc, print), want)
+    let (print, expected) = rest.split_once('=').unwrap_or((rest, ""));
+    is_built(alloc, text, vendor, print, false)
+        && is_answer(Triple::from_str(alloc, print), expected)
 }
 
 #[test]

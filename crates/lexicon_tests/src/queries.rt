@@ -61,12 +61,15 @@ x86_64-customvendor-linux=little 64 SystemV LP64";
 struct HasAnswers;
 
 impl QuestionOf<Triple> for HasAnswers {
-    fn holds(_alloc: Global, triple: &Triple, want: &str) -> bool {
+    fn holds(_alloc: Global, triple: &Triple, expected: &str) -> bool {
         let order = order_word(triple.endianness());
         let width = width_word(triple.pointer_width());
         let convention = convention_word(triple.default_calling_convention());
         let model = model_word(triple.data_model());
-        writes(&format_args!("{order} {width} {convention} {model}"), want)
+        writes(
+            &format_args!("{order} {width} {convention} {model}"),
+            expected,
+        )
     }
 }
 

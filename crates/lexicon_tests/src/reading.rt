@@ -8,7 +8,7 @@ use target_lexicon::{JsonError, ListError, ParseError, Triple, triple};
 use test_support::{Question, check_rows, lengthened_rows, prints, reports_each_failure, writes};
 
 /// The five values of the triple are these, each in the form of `{:?}`.
-pub(crate) fn has_values(triple: &Triple, want: &str) -> bool {
+pub(crate) fn has_values(triple: &Triple, expected: &str) -> bool {
     writes(
         &format_args!(
             "{:?} {:?} {:?} {:?} {:?}",
@@ -18,22 +18,22 @@ pub(crate) fn has_values(triple: &Triple, want: &str) -> bool {
             triple.environment,
             triple.binary_format
         ),
-        want,
+        expected,
     )
 }
 
 /// The parsed triple has these values, or this is the line of the error.
-pub(crate) fn is_answer<E: Display + Drop>(read: Result<Triple, E>, want: &str) -> bool {
+pub(crate) fn is_answer<E: Display + Drop>(read: Result<Triple, E>, expected: &str) -> bool {
     match read {
-        Ok(triple) => has_values(&triple, want),
-        Err(error) => prints(&error, want),
+        Ok(triple) => has_values(&triple, expected),
+        Err(error) => prints(&error, expected),
     }
 }
 
 /// A clone of the triple is equal to it, and has these values.
-fn is_cloned(alloc: Global, triple: &Triple, want: &str) -> bool {
+fn is_cloned(alloc: Global, triple: &Triple, expected: &str) -> bool {
     match triple.clone(alloc) {
-        Ok(copy) => copy == *triple && has_values(&copy, want),
+        Ok(copy) => copy == *triple && has_values(&copy, expected),
         Err(_) => false,
     }
 }
@@ -42,8 +42,8 @@ fn is_cloned(alloc: Global, triple: &Triple, want: &str) -> bool {
 struct ReadsAs;
 
 impl QuestionOf<Triple> for ReadsAs {
-    fn holds(alloc: Global, triple: &Triple, want: &str) -> bool {
-        has_values(triple, want) && is_cloned(alloc, triple, want)
+    fn holds(alloc: Global, triple: &Triple, expected: &str) -> bool {
+        has_values(triple, expected) && is_cloned(alloc, triple, expected)
     }
 }
 

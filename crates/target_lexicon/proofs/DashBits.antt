@@ -39,7 +39,7 @@ mask_l-drop (suc n) (m ∷ ms) =
 dash_bits_by : (bytes text : List ℕ) (bits : ℕ) → bits ≡ mask_l (map is_dash bytes)
     → ((k : ℕ) → k ≤ length text → length text ≤ k + 16 → drop (16 - (length text - k)) bytes ≡ drop k text) → AreDashBits bits text
 dash_bits_by bytes text bits is same = record {
-  decides = λ k within few.
+  at_each = λ k within few.
       let n = 16 - (length text - k) in
       ap (λ b. b / 2 ^ n) is ∙ mask_l-drop n (map is_dash bytes) ∙ ap mask_l (drop-map is_dash n bytes ∙ ap (map is_dash) (same k within few));
 }
@@ -65,19 +65,19 @@ dash_bits_by_padded zeros text k bits long short is =
 
 -- the text after a dash ends like the text
 pub dash_bits_after : (bits : ℕ) (text rest : List ℕ) (i : ℕ) → i ≤ length text → AreDashBits bits text → rest ≡ drop i text → AreDashBits bits rest
-dash_bits_after bits text rest i within dashes_known after = record {
-  decides = λ k below few.
+dash_bits_after bits text rest i within are_bits after = record {
+  at_each = λ k below few.
       let long : length rest ≡ length text - i = ap length after ∙ length-drop i text in
       ap (λ n. bits / 2 ^ n) (omega (arith, long, within, below))
-      ∙ dashes_known.decides (i + k) (omega (arith, long, within, below)) (omega (arith, long, within, few))
+      ∙ are_bits.at_each (i + k) (omega (arith, long, within, below)) (omega (arith, long, within, few))
       ∙ ap (λ xs. mask_l (map is_dash xs)) (sym (drop-drop k i text) ∙ ap (drop k) (sym after));
 }
 
 -- the bits of the rest, which has at most sixteen bytes
 pub bits_of-rest : (bits : ℕ) (bytes : List ℕ) (at : ℕ) → AreDashBits bits bytes → at ≤ length bytes → length bytes - at ≤ 16
     → bits / 2 ^ (16 - (length bytes - at)) ≡ mask_l (map is_dash (take (length bytes - at) (drop at bytes)))
-bits_of-rest bits bytes at dashes_known within few =
-    dashes_known.decides at within (omega (arith, few))
+bits_of-rest bits bytes at are_bits within few =
+    are_bits.at_each at within (omega (arith, few))
     ∙ ap (λ xs. mask_l (map is_dash xs)) (sym (take_all (length bytes - at) (drop at bytes) (omega (arith, length-drop at bytes))))
 
 position_some : (bytes : List ℕ) (i : ℕ) → position_or_len is_dash bytes ≡ i → i < length bytes → position is_dash bytes ≡ Some i

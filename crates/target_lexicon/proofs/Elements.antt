@@ -3,7 +3,7 @@ use Rattle.std.proofs.Common.{◌≡◌, ℕ, zero, suc, ◌+◌, ◌<◌, ◌�
 use Rattle.std.proofs.lemmas.{List.map-append, List.Elements.All-append}
 use Rattle.serde_json.specs.{Data.Data, Data.Items, View.view, View.items_view, declared.value.Value.Value}
 use Rattle.serde_json.proofs.Views.{get_item_within}
-use Rattle.target_lexicon.specs.{Json.JsonReadsAs, Json.ElementsReadAs, Json.ElementReads, Json.JsonFault, Json.IsJsonFault, Json.IsFirstFault, Values.Values, Values.values_of}
+use Rattle.target_lexicon.specs.{Json.JsonReadsAs, Json.ElementsReadAs, Json.IsElementRead, Json.JsonErrorValue, Json.IsJsonErrorOf, Json.IsFirstError, Values.Values, Values.values_of}
 use Rattle.target_lexicon.specs.declared.triple.Triple.{Triple}
 
 -- a fact about the elements of an array is one about the value
@@ -29,7 +29,7 @@ elements_read-more xs i x old new t within is grown read reads =
 
 -- each earlier element parses
 read-before : (xs : List Value) (i : ℕ) (ts : List Values) (k : ℕ) → k < i → i ≤ length xs → ElementsReadAs (items_view (take i xs)) ts
-    → ElementReads (items_view xs) k
+    → IsElementRead (items_view xs) k
 read-before [] i ts k before within read = absurd (omega arith)
 read-before (y ∷ ys) zero ts k before within read = absurd (omega arith)
 read-before (y ∷ ys) (suc i) [] k before within read = absurd read
@@ -37,18 +37,18 @@ read-before (y ∷ ys) (suc i) (u ∷ us) zero before within read = (u, read.0)
 read-before (y ∷ ys) (suc i) (u ∷ us) (suc k) before within read = read-before ys i us k (omega arith) (omega arith) read.1
 
 -- the element at i is the first that doesn't parse
-pub elements_refused : (xs : List Value) (i : ℕ) (x : Value) (ts : List Values) (fault : JsonFault) → i < length xs → x ≡ get_or xs i x
-    → ElementsReadAs (items_view (take i xs)) ts → IsJsonFault (view x) fault → IsFirstFault (items_view xs) i fault
-elements_refused xs i x ts fault within is read refused =
-    let here : IsJsonFault (view (get_or xs i x)) fault = subst (λ (v : Value). IsJsonFault (view v) fault) is refused in
+pub elements_refused : (xs : List Value) (i : ℕ) (x : Value) (ts : List Values) (error : JsonErrorValue) → i < length xs → x ≡ get_or xs i x
+    → ElementsReadAs (items_view (take i xs)) ts → IsJsonErrorOf (view x) error → IsFirstError (items_view xs) i error
+elements_refused xs i x ts error within is read refused =
+    let here : IsJsonErrorOf (view (get_or xs i x)) error = subst (λ (v : Value). IsJsonErrorOf (view v) error) is refused in
     record {
-      here = subst (λ (o : Option Data). MatchOption o ⊥ (λ value. IsJsonFault value fault)) (get_item_within xs i x within) here;
+      here = subst (λ (o : Option Data). MatchOption o ⊥ (λ value. IsJsonErrorOf value error)) (get_item_within xs i x within) here;
       before = λ k before. read-before xs i ts k before (omega arith) read;
     }
 
 -- if one more element parses, the first element parses
 pub elements_begun : (xs : List Value) (i : ℕ) (x : Value) (ts : List Values) (t : Values) → i < length xs → x ≡ get_or xs i x
-    → ElementsReadAs (items_view (take i xs)) ts → JsonReadsAs (view x) t → ElementReads (items_view xs) 0
+    → ElementsReadAs (items_view (take i xs)) ts → JsonReadsAs (view x) t → IsElementRead (items_view xs) 0
 elements_begun xs i x ts t within is read reads =
     let here : JsonReadsAs (view (get_or xs i x)) t = subst (λ (v : Value). JsonReadsAs (view v) t) is reads in
     read-before xs (suc i) (ts ++ t ∷ []) 0 (omega arith) (omega arith) (read-more xs i x ts t within read here)

@@ -3,13 +3,13 @@ use Rattle.std.proofs.Common.{◌≡◌, ℕ, zero, suc, ◌+◌, ◌≤◌, Lis
 use Rattle.std.specs.List.{join_with_byte, slice_get}
 use Rattle.std.proofs.{lemmas.List.length-append, lemmas.List.Splits.join_with_byte-slice_split, lemmas.Option.MatchOption-at_some, lemmas.Bool.and_parts, lemmas.Bool.not-true, Math.Bool.and-false, Math.Bool.or-true}
 use Rattle.lexicon_fields.specs.Names.{dash}
-use Rattle.target_lexicon.specs.Values.{Architecture, OperatingSystem, Environment, BinaryFormat, VendorValue, Known, Values, values, is_unknown_vendor, is_clever_without_system, same_format}
+use Rattle.target_lexicon.specs.Values.{Architecture, OperatingSystem, Environment, BinaryFormat, VendorValue, Known, Values, values, is_unknown_vendor, is_clever_without_system, is_same_format}
 use Rattle.target_lexicon.specs.{Field.Field, ImpliedFormat.default_binary_format, ImpliedFormat.implied_format, Laws.ReadingIsComputed, Placement.parts_of, NormalStep.normal_step, NormalStep.elf_if_unknown}
 use Rattle.target_lexicon.specs.{FixedPoints.PrintedTextsGrowAtMost, FixedPoints.CanonicalTextsGrowAtMost, FixedPoints.RefusedPartsDoNotGrow}
 use Rattle.target_lexicon.specs.SpecialTexts.{special_text, special_values}
 use Rattle.target_lexicon.specs.Families.{IsNintendo3ds, IsEspIdf, HidesNewlib, PrintsTheEspIdfText, ShowsOnlyNone}
 use Rattle.target_lexicon.specs.Printing.{architecture_implies_format, shows_vendor, shows_operating_system, shows_environment, shows_implied_format, shows_binary_format, shows_unknowns, upstream_parts, parts_with_unknowns, shown_parts, cons_if, text_of}
-use Rattle.target_lexicon.specs.GreedyReading.{Taken, taken_part, take_part, finish, read_after, read_parts, read_unless_special, reading}
+use Rattle.target_lexicon.specs.GreedyReading.{FieldReading, field_reading_by, field_reading, final_reading, reading_after_architecture, reading_of_parts, reading_unless_special, reading}
 use Rattle.lexicon_fields.specs.{declared.architecture.clever.CleverArchitecture.CleverArchitecture, Architecture.architecture_name, Architecture.architecture_of, Laws.TextsAreNames, Laws.NamesGrowAtMost, Vendor.vendor_name, Vendor.vendor_of}
 use Rattle.lexicon_fields.specs.declared.known_vendor.KnownVendor.TheVariants.{Unknown, Nintendo, Espressif}
 use Rattle.lexicon_fields.specs.{OperatingSystem.operating_system_name, OperatingSystem.operating_system_of, Environment.environment_name, Environment.environment_of, ArchitectureQueries.is_clever}
@@ -55,23 +55,23 @@ weight-shown t true = weight-joined _ _
 weight-shown t false = weight-joined _ _
 
 -- the name of a field's value, and the parts that are left
-take_part-max_growth : {A : Type 0} (f : Field) (name : A → List ℕ) (find : List ℕ → Option A) (unfilled : A) (bytes : ℕ) (last : Field) (parts : List (List ℕ))
+field_reading-max_growth : {A : Type 0} (f : Field) (name : A → List ℕ) (find : List ℕ → Option A) (unfilled : A) (bytes : ℕ) (last : Field) (parts : List (List ℕ))
     → NamesGrowAtMost bytes name find → bytes ≤ 8 → length (name unfilled) ≤ 7
-    → let step = take_part f find unfilled last parts in weight (name step.0 ∷ step.2) ≤ weight parts + 8
-take_part-max_growth f name find unfilled bytes last [] max_growth small short = omega arith
-take_part-max_growth {A} f name find unfilled bytes last (p ∷ ps) max_growth small short = by_reading (find p) refl
+    → let step = field_reading f find unfilled last parts in weight (name step.0 ∷ step.2) ≤ weight parts + 8
+field_reading-max_growth f name find unfilled bytes last [] max_growth small short = omega arith
+field_reading-max_growth {A} f name find unfilled bytes last (p ∷ ps) max_growth small short = by_reading (find p) refl
   where
-    by_reading : (o : Option A) → find p ≡ o → let step = taken_part f o unfilled last p ps in weight (name step.0 ∷ step.2) ≤ weight (p ∷ ps) + 8
+    by_reading : (o : Option A) → find p ≡ o → let step = field_reading_by f o unfilled last p ps in weight (name step.0 ∷ step.2) ≤ weight (p ∷ ps) + 8
     by_reading None is = omega arith
     by_reading (Some x) is = omega (arith, max_growth p x is)
 
 -- an implied format that is shown is `elf`
 
-same_format-self : (f : BinaryFormat) → same_format f f ≡ true
-same_format-self binary_format.Unknown = refl
-same_format-self _ = refl
+is_same_format-self : (f : BinaryFormat) → is_same_format f f ≡ true
+is_same_format-self binary_format.Unknown = refl
+is_same_format-self _ = refl
 
-unknown-hidden : (t : Values) → same_format t.binary_format binary_format.Unknown ≡ true → shows_implied_format t ≡ false
+unknown-hidden : (t : Values) → is_same_format t.binary_format binary_format.Unknown ≡ true → shows_implied_format t ≡ false
 unknown-hidden t unknown = rw (unknown, and-false) refl
 
 implied_format-shown : (a : Architecture) (v : VendorValue) (s : OperatingSystem) (e : Environment)
@@ -86,14 +86,14 @@ implied_format-shown architecture.Unknown v operating_system.Unknown e = rw (unk
 implied_format-shown a v operating_system.Unknown e = weight-cons_if (shows_implied_format (values a v operating_system.Unknown e binary_format.Elf)) (codes "elf") []
 implied_format-shown a v s e = rw (with_system (values a v s e (implied_format a s e)) refl) (omega arith)
 
-shows_unknowns-implied : (f : BinaryFormat) → (same_format f binary_format.Unknown && not (same_format f f)) ≡ false
+shows_unknowns-implied : (f : BinaryFormat) → (is_same_format f binary_format.Unknown && not (is_same_format f f)) ≡ false
 shows_unknowns-implied binary_format.Unknown = refl
 shows_unknowns-implied _ = refl
 
 -- the format is shown with an unknown environment that is shown
 unknowns-shown : (t : Values) → shows_unknowns t ≡ true → shows_binary_format t ≡ true
 unfolding shows_binary_format
-unknowns-shown t shown = let other : same_format t.binary_format (default_binary_format t) ≡ false = not-true _ (and_parts _ _ shown).1 in rw other refl
+unknowns-shown t shown = let other : is_same_format t.binary_format (default_binary_format t) ≡ false = not-true _ (and_parts _ _ shown).1 in rw other refl
 
 -- a special text is short
 
@@ -104,25 +104,25 @@ special-short (architecture.Arm arm.Armv6k) (Known Nintendo) operating_system.Ho
 special-short (architecture.Riscv32 riscv32.Riscv32imc) (Known Espressif) operating_system.Espidf e f joined n room short = omega arith
 special-short a v s e f joined n room short = short
 
-finish-ok : (t : Values) (last : Field) (left : List (List ℕ)) (u : Values) → finish t last left ≡ Ok u → (left ≡ []) × (t ≡ u)
-finish-ok t last [] u is = (refl, cc)
-finish-ok t last (p ∷ ps) u is = absurd cc
+final_reading-ok : (t : Values) (last : Field) (left : List (List ℕ)) (u : Values) → final_reading t last left ≡ Ok u → (left ≡ []) × (t ≡ u)
+final_reading-ok t last [] u is = (refl, cc)
+final_reading-ok t last (p ∷ ps) u is = absurd cc
 
 module _ (formats : TextsAreNames binary_format_name binary_format_of) (environments : TextsAreNames environment_name environment_of) where
   module _ (a : Architecture) (v : VendorValue) (s : OperatingSystem) where
     abbrev format_shown : Environment → BinaryFormat → List (List ℕ)
     format_shown e f = cons_if (shows_binary_format (values a v s e f)) (binary_format_name f) []
 
-    abbrev format_taken : Environment → Field → List (List ℕ) → Taken BinaryFormat
-    format_taken e last parts = take_part field.BinaryFormat binary_format_of (implied_format a s e) last parts
+    abbrev format_taken : Environment → Field → List (List ℕ) → FieldReading BinaryFormat
+    format_taken e last parts = field_reading field.BinaryFormat binary_format_of (implied_format a s e) last parts
 
     format-max_growth : (e : Environment) (last : Field) (parts : List (List ℕ)) → (format_taken e last parts).2 ≡ [] → weight (format_shown e (format_taken e last parts).0) ≤ weight parts + 4
     unfolding shows_binary_format
-    format-max_growth e last [] none = rw (same_format-self (implied_format a s e)) (implied_format-shown a v s e)
+    format-max_growth e last [] none = rw (is_same_format-self (implied_format a s e)) (implied_format-shown a v s e)
     format-max_growth e last (p ∷ ps) none = by_reading (binary_format_of p) refl none
       where
-        by_reading : (o : Option BinaryFormat) → binary_format_of p ≡ o → (taken_part field.BinaryFormat o (implied_format a s e) last p ps).2 ≡ []
-            → weight (format_shown e (taken_part field.BinaryFormat o (implied_format a s e) last p ps).0) ≤ weight (p ∷ ps) + 4
+        by_reading : (o : Option BinaryFormat) → binary_format_of p ≡ o → (field_reading_by field.BinaryFormat o (implied_format a s e) last p ps).2 ≡ []
+            → weight (format_shown e (field_reading_by field.BinaryFormat o (implied_format a s e) last p ps).0) ≤ weight (p ∷ ps) + 4
         by_reading None is none = absurd cc
         by_reading (Some f) is none = omega (arith, weight-cons_if (shows_binary_format (values a v s e f)) (binary_format_name f) [], ap length (formats p f is))
 
@@ -131,14 +131,14 @@ module _ (formats : TextsAreNames binary_format_name binary_format_of) (environm
         → shows_unknowns (values a v s environment.Unknown (format_taken environment.Unknown last (p ∷ ps)).0) ≡ false
     unfilled-hidden last p ps unfilled none = by_reading (binary_format_of p) refl none
       where
-        by_reading : (o : Option BinaryFormat) → binary_format_of p ≡ o → (taken_part field.BinaryFormat o (implied_format a s environment.Unknown) last p ps).2 ≡ []
-            → shows_unknowns (values a v s environment.Unknown (taken_part field.BinaryFormat o (implied_format a s environment.Unknown) last p ps).0) ≡ false
+        by_reading : (o : Option BinaryFormat) → binary_format_of p ≡ o → (field_reading_by field.BinaryFormat o (implied_format a s environment.Unknown) last p ps).2 ≡ []
+            → shows_unknowns (values a v s environment.Unknown (field_reading_by field.BinaryFormat o (implied_format a s environment.Unknown) last p ps).0) ≡ false
         by_reading None is none = absurd cc
         by_reading (Some binary_format.Unknown) is none =
             absurd (let same = formats p binary_format.Unknown is in let reads = environment_of-format binary_format.Unknown in let fails = rw (sym same) at unfilled in cc)
         by_reading (Some _) is none = refl
 
-    abbrev environment_growth : List (List ℕ) → Taken Environment → Type 0
+    abbrev environment_growth : List (List ℕ) → FieldReading Environment → Type 0
     environment_growth parts e =
         let f = format_taken e.0 e.1 e.2 in let t = values a v s e.0 f.0 in f.2 ≡ [] → weight (after_system (shows_unknowns t) t) ≤ weight parts + 4
 
@@ -148,12 +148,12 @@ module _ (formats : TextsAreNames binary_format_name binary_format_of) (environm
     shown-max_growth p ps e f true is shown max_growth = omega (arith, rw (unknowns-shown (values a v s e f) shown) at max_growth, ap length (environments p e is))
     shown-max_growth p ps e f false is shown max_growth = omega (arith, max_growth, weight-cons_if (shows_environment (values a v s e f)) (environment_name e) (format_shown e f), ap length (environments p e is))
 
-    environment-max_growth : (last : Field) (parts : List (List ℕ)) → environment_growth parts (take_part field.Environment environment_of environment.Unknown last parts)
+    environment-max_growth : (last : Field) (parts : List (List ℕ)) → environment_growth parts (field_reading field.Environment environment_of environment.Unknown last parts)
     unfolding shows_environment
     environment-max_growth last [] none = rw (shows_unknowns-implied (implied_format a s environment.Unknown)) (format-max_growth environment.Unknown last [] none)
     environment-max_growth last (p ∷ ps) none = by_reading (environment_of p) refl none
       where
-        by_reading : (o : Option Environment) → environment_of p ≡ o → environment_growth (p ∷ ps) (taken_part field.Environment o environment.Unknown last p ps)
+        by_reading : (o : Option Environment) → environment_of p ≡ o → environment_growth (p ∷ ps) (field_reading_by field.Environment o environment.Unknown last p ps)
         by_reading None is none = rw (unfilled-hidden last p ps is none) (format-max_growth environment.Unknown last (p ∷ ps) none)
         by_reading (Some e) is none = shown-max_growth p ps e _ _ is refl (format-max_growth e field.Environment ps none)
 
@@ -161,32 +161,32 @@ module _ (formats : TextsAreNames binary_format_name binary_format_of) (environm
     abbrev GrowsAtMost : List ℕ → Values → Type 0
     GrowsAtMost text t = length (text_of t) ≤ length text + 22
 
-    by_architecture : (p : List ℕ) (ps : List (List ℕ)) (o : Option Architecture) (t : Values) → architecture_of p ≡ o → read_after o p ps ≡ Ok t → GrowsAtMost (join_with_byte dash (p ∷ ps)) t
+    by_architecture : (p : List ℕ) (ps : List (List ℕ)) (o : Option Architecture) (t : Values) → architecture_of p ≡ o → reading_after_architecture o p ps ≡ Ok t → GrowsAtMost (join_with_byte dash (p ∷ ps)) t
     unfolding text_of
     by_architecture p ps None t is read = absurd cc
     by_architecture p ps (Some a) t is read =
-        let v = take_part field.Vendor vendor_of (Known Unknown) field.Architecture ps in
-        let s = take_part field.OperatingSystem operating_system_of operating_system.Unknown v.1 v.2 in
-        let e = take_part field.Environment environment_of environment.Unknown s.1 s.2 in
+        let v = field_reading field.Vendor vendor_of (Known Unknown) field.Architecture ps in
+        let s = field_reading field.OperatingSystem operating_system_of operating_system.Unknown v.1 v.2 in
+        let e = field_reading field.Environment environment_of environment.Unknown s.1 s.2 in
         let f = format_taken a v.0 s.0 e.0 e.1 e.2 in
         let shown = values a v.0 s.0 e.0 f.0 in
-        let end = finish-ok shown f.1 f.2 t read in
+        let end = final_reading-ok shown f.1 f.2 t read in
         subst (GrowsAtMost (join_with_byte dash (p ∷ ps))) end.1 (special-short a v.0 s.0 e.0 f.0 _ _ (omega arith) (omega (
           arith,
           architectures p a is,
-          take_part-max_growth field.Vendor vendor_name vendor_of (Known Unknown) 0 field.Architecture ps (λ text x found. omega (arith, ap length (vendors text x found))) (omega arith) (omega arith),
-          take_part-max_growth field.OperatingSystem operating_system_name operating_system_of operating_system.Unknown 4 v.1 v.2 systems (omega arith) (omega arith),
+          field_reading-max_growth field.Vendor vendor_name vendor_of (Known Unknown) 0 field.Architecture ps (λ text x found. omega (arith, ap length (vendors text x found))) (omega arith) (omega arith),
+          field_reading-max_growth field.OperatingSystem operating_system_name operating_system_of operating_system.Unknown 4 v.1 v.2 systems (omega arith) (omega arith),
           environment-max_growth a v.0 s.0 s.1 s.2 end.0,
           weight-parts shown (shows_unknowns shown),
           weight-shown shown (shows_unknowns shown),
           weight-joined p ps,
         )))
 
-    by_parts : (parts : List (List ℕ)) (t : Values) → read_parts parts ≡ Ok t → GrowsAtMost (join_with_byte dash parts) t
+    by_parts : (parts : List (List ℕ)) (t : Values) → reading_of_parts parts ≡ Ok t → GrowsAtMost (join_with_byte dash parts) t
     by_parts [] t read = absurd cc
     by_parts (p ∷ ps) t read = by_architecture p ps (architecture_of p) t refl read
 
-    by_special : (text : List ℕ) (o : Option Values) (t : Values) → special_values text ≡ o → read_unless_special o text ≡ Ok t → GrowsAtMost text t
+    by_special : (text : List ℕ) (o : Option Values) (t : Values) → special_values text ≡ o → reading_unless_special o text ≡ Ok t → GrowsAtMost text t
     unfolding text_of special_text
     by_special text None t is read = subst (λ (x : List ℕ). GrowsAtMost x t) (join_with_byte-slice_split dash text) (by_parts (parts_of text) t read)
     by_special text (Some u) t is read =

@@ -4,29 +4,29 @@
 -- the text). Round trips: RoundTrips, TextRoundTrips (a printed text parsed again); StepCases, Fixed, Settled,
 -- SettlesAs (families and the normal step). For callers: OnLiterals (what computes for a literal). Queries and JSON:
 -- ModelsKnown, QueriesKept; Elements. SameValues: equality of triples. FeedsTogether: what fields feed a hasher.
-pub mod Computed
-pub mod Cuts
+pub mod ComputedReading
+pub mod PartLemmas
 pub mod DashBits
 pub mod Elements
-pub mod FeedsTogether
-pub mod Fixed
-pub mod Greedy
+pub mod HashInputPairs
+pub mod FixedPointLemmas
+pub mod GreedyPlacement
 pub mod Lengths
-pub mod LookedUp
+pub mod RowLookUps
 pub mod ModelsKnown
 pub mod NamesAcross
 pub mod OnLiterals
-pub mod Printed
+pub mod PrintingLemmas
 pub mod QueriesKept
 pub mod ReadValues
-pub mod Refused
+pub mod RefusalLemmas
 pub mod RoundTrips
 pub mod SameValues
-pub mod Settled
+pub mod SettleLemmas
 pub mod SettlesAs
 pub mod StepCases
 pub mod TextRoundTrips
-pub mod Unique
+pub mod UniqueReading
 pub mod Upstream
 pub mod Vendors
 pub mod Writes

@@ -1,7 +1,7 @@
 -- The normal step keeps the answers of the four queries.
 use Rattle.std.proofs.Common.{◌≡◌, ◌∙◌, sym, ap, refl, Bool, true, false, cond, true≢false, Some, inl, inr}
 use Rattle.target_lexicon.specs.Values.{Architecture, OperatingSystem, Environment, BinaryFormat, VendorValue, Values, values}
-use Rattle.target_lexicon.specs.{NormalStep.normal_step, Families.PrintsAsSpecial, Queries.is_ilp32, Queries.convention_on, Queries.model_of_width, Queries.pointer_width, Queries.data_model, QueryLaws.AnswersAlike}
+use Rattle.target_lexicon.specs.{NormalStep.normal_step, Families.PrintsAsSpecial, Queries.is_ilp32, Queries.convention_on, Queries.model_of_width, Queries.pointer_width, Queries.data_model, QueryLaws.HaveSameAnswers}
 use Rattle.lexicon_fields.specs.{declared.pointer_width.PointerWidth.TheVariants.U32, ArchitectureQueries.is_clever, ArchitectureQueries.architecture_width}
 use Rattle.target_lexicon.proofs.StepCases.{step_cases}
 use Rattle.target_lexicon.specs.Values.architecture
@@ -10,7 +10,7 @@ use Rattle.target_lexicon.specs.Values.environment
 
 -- vendor and format don't matter, and the environment only for the width
 alike_by_width : (a : Architecture) (v w : VendorValue) (s : OperatingSystem) (e d : Environment) (f g : BinaryFormat)
-    → pointer_width (values a v s e f) ≡ pointer_width (values a w s d g) → AnswersAlike (values a v s e f) (values a w s d g)
+    → pointer_width (values a v s e f) ≡ pointer_width (values a w s d g) → HaveSameAnswers (values a v s e f) (values a w s d g)
 unfolding data_model
 alike_by_width a v w s e d f g same = record {
   architecture = refl;
@@ -39,7 +39,7 @@ newlib-width a v w s f g = refl
 
 -- on Clever neither the system nor the environment matters
 clever-alike : (a : Architecture) (v : VendorValue) (f : BinaryFormat) → is_clever a ≡ true
-    → AnswersAlike (values a v operating_system.None_ environment.Unknown f) (values a v operating_system.Unknown environment.None f)
+    → HaveSameAnswers (values a v operating_system.None_ environment.Unknown f) (values a v operating_system.Unknown environment.None f)
 unfolding pointer_width convention_on data_model
 clever-alike (architecture.Clever sub) v f clever = record {
   architecture = refl;
@@ -50,10 +50,10 @@ clever-alike (architecture.Clever sub) v f clever = record {
 }
 clever-alike _ v f clever = absurd (true≢false (sym clever))
 
-pub kept : (t : Values) → AnswersAlike (normal_step t) t
+pub kept : (t : Values) → HaveSameAnswers (normal_step t) t
 kept t =
     let a = t.architecture in let v = t.vendor in let s = t.operating_system in let e = t.environment in let f = t.binary_format in
-    step_cases (λ u. AnswersAlike u t) t
+    step_cases (λ u. HaveSameAnswers u t) t
     (λ special. let narrow = special-narrow t special in alike_by_width a v v s _ e _ f (narrow_width _ narrow ∙ sym (narrow_width t narrow)))
     (λ newlib. rw newlib.0 (alike_by_width a v v s _ _ _ f (newlib-width a v v s _ f)))
     (λ esp. rw esp (alike_by_width _ _ _ _ _ _ _ _ (sym (newlib-width _ _ _ _ _ _))))

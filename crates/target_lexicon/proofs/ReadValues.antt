@@ -2,7 +2,7 @@
 use Rattle.std.proofs.Common.{refl, ◌≡◌, ℕ, List, Bool, true, false, cond, Option, Some, None, IfSome, MatchOption, sym, subst}
 use Rattle.std.specs.Str.{bytes_eq}
 use Rattle.target_lexicon.specs.{Values.OperatingSystem, Values.VendorValue, Values.Known, Values.Values, Field.Field, Laws.ReadVendorsArePlain, Placement.ArePartsOf}
-use Rattle.target_lexicon.specs.Reading.{HoldsParts, ReadsAs, ReadsAsLeast, IsValueOf}
+use Rattle.target_lexicon.specs.Reading.{HoldsParts, ReadsAs, PartsReadAs, IsValueOf}
 use Rattle.target_lexicon.specs.SpecialTexts.{special_values, nintendo_3ds, nintendo_3ds_text, esp_idf, esp_idf_text}
 use Rattle.lexicon_fields.specs.{Laws.HasVersionInRange, OperatingSystem.operating_system_of, declared.known_vendor.KnownVendor.TheVariants.Unknown, Vendor.vendor_of, Vendor.is_plain}
 use Rattle.target_lexicon.proofs.Vendors.{vendor-plain}
@@ -24,7 +24,7 @@ read-holds : (P : Values → Type 0) → P nintendo_3ds → P esp_idf → ((part
 read-holds P nintendo esp held text t reads = by_special (special_values text) (special-holds P text nintendo esp) reads
   where
     by_special : (special : Option Values) → IfSome special P
-        → MatchOption special ((parts : List (List ℕ)) × ArePartsOf text parts × ReadsAsLeast parts t) (λ values. t ≡ values) → P t
+        → MatchOption special ((parts : List (List ℕ)) × ArePartsOf text parts × PartsReadAs parts t) (λ values. t ≡ values) → P t
     by_special None special (parts, are, (fields, least, holds)) = held parts fields t holds
     by_special (Some s) special same = subst P (sym same) special
 

@@ -1,10 +1,10 @@
 -- The shown parts of a triple with a plain vendor parse as its normal step, if no special text is printed.
 use Rattle.std.proofs.Common.{◌≡◌, ◌∙◌, ℕ, Bool, true, false, not, ◌&&◌, ◌||◌, cond, List, [], ◌∷◌, None, Result, Ok, refl, sym, ap, ◌⊎◌, inl, inr}
-use Rattle.target_lexicon.specs.Values.{Architecture, Environment, OperatingSystem, BinaryFormat, VendorValue, Known, Values, values, implies_newlib, same_format}
+use Rattle.target_lexicon.specs.Values.{Architecture, Environment, OperatingSystem, BinaryFormat, VendorValue, Known, Values, values, implies_newlib, is_same_format}
 use Rattle.target_lexicon.specs.{Field.Field, ImpliedFormat.default_binary_format, ImpliedFormat.implied_format, Families.PrintsAsSpecial, Families.HidesNewlib, Refusal.Refusal, SpecialTexts.special_text}
 use Rattle.target_lexicon.specs.NormalStep.{normal_step, hides_newlib, prints_the_esp_idf_text, shows_only_none, elf_if_unknown}
 use Rattle.target_lexicon.specs.Printing.{shows_vendor, omits_unknown_vendor, shows_operating_system, shows_environment, names_no_system, shows_implied_format, shows_binary_format, shows_unknowns, upstream_parts, parts_with_unknowns, shown_parts, cons_if}
-use Rattle.target_lexicon.specs.GreedyReading.{read_parts, read_vendor, read_operating_system, read_environment}
+use Rattle.target_lexicon.specs.GreedyReading.{reading_of_parts, reading_from_vendor, reading_from_operating_system, reading_from_environment}
 use Rattle.lexicon_fields.specs.{declared.architecture.clever.CleverArchitecture.CleverArchitecture, Architecture.architecture_name, Laws.HasVersionInRange, Vendor.vendor_name, Vendor.is_plain, OperatingSystem.operating_system_name, Environment.environment_name, BinaryFormat.binary_format_name}
 use Rattle.lexicon_fields.specs.declared.known_vendor.KnownVendor.TheVariants.{Unknown, Nintendo, Espressif}
 use Rattle.std.proofs.{lemmas.Bool.not-false, lemmas.Bool.not-true, Math.Bool.and-false, lemmas.Bool.false≢true, lemmas.Bool.true≢false, lemmas.Bool.Decides.not_from_Decides}
@@ -17,16 +17,16 @@ use Rattle.target_lexicon.specs.Values.binary_format
 use Rattle.target_lexicon.specs.Field as field
 
 abbrev known_format : BinaryFormat → Bool
-known_format f = not (same_format f binary_format.Unknown)
+known_format f = not (is_same_format f binary_format.Unknown)
 
-pub same_format-is : (f g : BinaryFormat) → same_format f g ≡ true → f ≡ g
-same_format-is binary_format.Unknown binary_format.Unknown h = refl
-same_format-is binary_format.Elf binary_format.Elf h = refl
-same_format-is binary_format.Coff binary_format.Coff h = refl
-same_format-is binary_format.Macho binary_format.Macho h = refl
-same_format-is binary_format.Wasm binary_format.Wasm h = refl
-same_format-is binary_format.Xcoff binary_format.Xcoff h = refl
-same_format-is _ _ h = absurd (false≢true h)
+pub is_same_format-is : (f g : BinaryFormat) → is_same_format f g ≡ true → f ≡ g
+is_same_format-is binary_format.Unknown binary_format.Unknown h = refl
+is_same_format-is binary_format.Elf binary_format.Elf h = refl
+is_same_format-is binary_format.Coff binary_format.Coff h = refl
+is_same_format-is binary_format.Macho binary_format.Macho h = refl
+is_same_format-is binary_format.Wasm binary_format.Wasm h = refl
+is_same_format-is binary_format.Xcoff binary_format.Xcoff h = refl
+is_same_format-is _ _ h = absurd (false≢true h)
 
 shown_by : (same too : Bool) (f g : BinaryFormat) → (same ≡ true → f ≡ g) → cond (not same || too) f g ≡ f
 shown_by true true f g h = refl
@@ -36,7 +36,7 @@ shown_by false too f g h = refl
 -- the format is parsed back, shown or implied
 shown_or_implied : (t : Values) → cond (shows_binary_format t) t.binary_format (default_binary_format t) ≡ t.binary_format
 unfolding shows_binary_format
-shown_or_implied t = shown_by (same_format t.binary_format (default_binary_format t)) _ t.binary_format (default_binary_format t) (same_format-is t.binary_format (default_binary_format t))
+shown_or_implied t = shown_by (is_same_format t.binary_format (default_binary_format t)) _ t.binary_format (default_binary_format t) (is_same_format-is t.binary_format (default_binary_format t))
 
 -- with a system an implied format isn't shown
 pub with_system : (t : Values) → names_no_system t.operating_system ≡ false → shows_implied_format t ≡ false
@@ -69,11 +69,11 @@ not_shown a v s _ f none hidden = absurd (true≢false (rw and-false at hidden))
 
 -- the format that is parsed if the environment isn't shown
 
-shown_unless_elf : (f : BinaryFormat) → cond (known_format f && (not (same_format f binary_format.Elf) || false)) f binary_format.Elf ≡ elf_if_unknown f
+shown_unless_elf : (f : BinaryFormat) → cond (known_format f && (not (is_same_format f binary_format.Elf) || false)) f binary_format.Elf ≡ elf_if_unknown f
 shown_unless_elf binary_format.Unknown = refl
 shown_unless_elf _ = refl
 
-shown_unless_unknown : (f i : BinaryFormat) (b : Bool) → (same_format f binary_format.Unknown && not (same_format f i)) ≡ false → cond b f i ≡ f → cond (known_format f && b) f i ≡ f
+shown_unless_unknown : (f i : BinaryFormat) (b : Bool) → (is_same_format f binary_format.Unknown && not (is_same_format f i)) ≡ false → cond b f i ≡ f → cond (known_format f && b) f i ≡ f
 shown_unless_unknown binary_format.Unknown binary_format.Unknown b hidden same = refl
 shown_unless_unknown binary_format.Unknown _ b hidden same = absurd cc
 shown_unless_unknown _ i b hidden same = same
@@ -112,12 +112,12 @@ module _ (names : NamesAreRead) where
   -- the format, parsed back after an environment that is shown or not
 
   shown-read : (a : Architecture) (v : VendorValue) (s : OperatingSystem) (e : Environment) (f : BinaryFormat) (b : Bool) (last : Field)
-      → read_environment a v s last (environment_name e ∷ cons_if b (binary_format_name f) []) ≡ Ok (values a v s e (cond b f (implied_format a s e)))
+      → reading_from_environment a v s last (environment_name e ∷ cons_if b (binary_format_name f) []) ≡ Ok (values a v s e (cond b f (implied_format a s e)))
   shown-read a v s e f true last = rw (names.environment.reads_back e tt, names.binary_format.reads_back f tt) refl
   shown-read a v s e f false last = rw (names.environment.reads_back e tt) refl
 
   hidden-read : (a : Architecture) (v : VendorValue) (s : OperatingSystem) (f : BinaryFormat) (b : Bool) (last : Field)
-      → read_environment a v s last (cons_if b (binary_format_name f) []) ≡ Ok (values a v s environment.Unknown (cond (known_format f && b) f (implied_format a s environment.Unknown)))
+      → reading_from_environment a v s last (cons_if b (binary_format_name f) []) ≡ Ok (values a v s environment.Unknown (cond (known_format f && b) f (implied_format a s environment.Unknown)))
   hidden-read a v s binary_format.Unknown false last = refl
   hidden-read a v s f false last = refl
   hidden-read a v s binary_format.Unknown true last = rw (environment_of-format binary_format.Unknown) refl
@@ -125,7 +125,7 @@ module _ (names : NamesAreRead) where
 
   -- the parts that upstream shows after the system, parsed back
   abbrev ReadsAfter : Values → Field → Values → Type 0
-  ReadsAfter t last u = read_environment t.architecture t.vendor t.operating_system last
+  ReadsAfter t last u = reading_from_environment t.architecture t.vendor t.operating_system last
       (cons_if (shows_environment t) (environment_name t.environment) (cons_if (shows_binary_format t) (binary_format_name t.binary_format) [])) ≡ Ok u
 
   newlib-read : (t : Values) (last : Field) → HidesNewlib t
@@ -139,12 +139,12 @@ module _ (names : NamesAreRead) where
   module _ (a : Architecture) (v : VendorValue) (s : OperatingSystem) (e : Environment) (f : BinaryFormat) (none : special_text (values a v s e f) ≡ None)
       (hidden : shows_unknowns (values a v s e f) ≡ false) where
     unknown-read : (last : Field) → e ≡ environment.Unknown
-        → read_environment a v s last (cons_if (shows_binary_format (values a v s e f)) (binary_format_name f) []) ≡ Ok (values a v s e f)
+        → reading_from_environment a v s last (cons_if (shows_binary_format (values a v s e f)) (binary_format_name f) []) ≡ Ok (values a v s e f)
     unknown-read last is = rw is (hidden-read a v s f _ last
         ∙ ap (λ x. Ok (values a v s environment.Unknown x)) (shown_unless_unknown f _ _ (rw is at hidden) (shown_or_implied (values a v s environment.Unknown f))))
 
     outside-read : (last : Field) → ¬ HidesNewlib (values a v s e f) → (b : Bool) → shows_environment (values a v s e f) ≡ b
-        → read_environment a v s last (cons_if b (environment_name e) (cons_if (shows_binary_format (values a v s e f)) (binary_format_name f) [])) ≡ Ok (values a v s e f)
+        → reading_from_environment a v s last (cons_if b (environment_name e) (cons_if (shows_binary_format (values a v s e f)) (binary_format_name f) [])) ≡ Ok (values a v s e f)
     outside-read last outside true is = shown-read a v s e f _ last ∙ ap (λ x. Ok (values a v s e x)) (shown_or_implied (values a v s e f))
     outside-read last outside false is = elim (not_shown a v s e f none is) [
       | inl unknown ↦ unknown-read last unknown
@@ -163,23 +163,23 @@ module _ (names : NamesAreRead) where
   -- architecture, vendor and system, parsed back
 
   prefix : (a : Architecture) (v : VendorValue) (b : Bool) (rest : List (List ℕ)) (result : Result Values Refusal) → is_plain v ≡ true
-      → (b ≡ false → (v ≡ Known Unknown) × (read_vendor a rest ≡ read_operating_system a (Known Unknown) field.Architecture rest))
-      → ((last : Field) → read_operating_system a v last rest ≡ result)
-      → read_parts (architecture_name a ∷ cons_if b (vendor_name v) rest) ≡ result
+      → (b ≡ false → (v ≡ Known Unknown) × (reading_from_vendor a rest ≡ reading_from_operating_system a (Known Unknown) field.Architecture rest))
+      → ((last : Field) → reading_from_operating_system a v last rest ≡ result)
+      → reading_of_parts (architecture_name a ∷ cons_if b (vendor_name v) rest) ≡ result
   prefix a v true rest result plain hidden reads = rw (names.architecture.reads_back a tt, names.vendor.reads_back v plain) (reads field.Vendor)
   prefix a v false rest result plain hidden reads = rw (names.architecture.reads_back a tt) ((hidden refl).1 ∙ rw (sym (hidden refl).0) (reads field.Architecture))
 
   -- if the system is shown, with these parts after it
   after_system : (a : Architecture) (v : VendorValue) (s : OperatingSystem) (e : Environment) (f : BinaryFormat) (rest : List (List ℕ)) (result : Result Values Refusal) → is_plain v ≡ true → HasVersionInRange s
-      → read_environment a v s field.OperatingSystem rest ≡ result
-      → read_parts (architecture_name a ∷ cons_if (shows_vendor (values a v s e f)) (vendor_name v) (operating_system_name s ∷ rest)) ≡ result
+      → reading_from_environment a v s field.OperatingSystem rest ≡ result
+      → reading_of_parts (architecture_name a ∷ cons_if (shows_vendor (values a v s e f)) (vendor_name v) (operating_system_name s ∷ rest)) ≡ result
   after_system a v s e f rest result plain range reads = prefix a v (shows_vendor (values a v s e f)) _ _ plain
       (λ h. let is = hidden_vendor a v s e f h in (is.0, rw (vendor_of-operating_system names s range ∙ no_vendor a s e is.1) refl))
       (λ last. rw (names.operating_system.reads_back s range) reads)
 
   -- if it isn't: Clever without a system
   clever-read : (c : CleverArchitecture) (v : VendorValue) (e : Environment) (f : BinaryFormat) (last : Field) → shows_unknowns (values (architecture.Clever c) v operating_system.Unknown e f) ≡ false
-      → read_operating_system (architecture.Clever c) v last (cons_if (shows_environment (values (architecture.Clever c) v operating_system.Unknown e f)) (environment_name e)
+      → reading_from_operating_system (architecture.Clever c) v last (cons_if (shows_environment (values (architecture.Clever c) v operating_system.Unknown e f)) (environment_name e)
       (cons_if (shows_binary_format (values (architecture.Clever c) v operating_system.Unknown e f)) (binary_format_name f) []))
       ≡ Ok (normal_step (values (architecture.Clever c) v operating_system.Unknown e f))
   unfolding shows_environment shows_binary_format implied_format normal_step special_text
@@ -192,7 +192,7 @@ module _ (names : NamesAreRead) where
       ∙ ap (λ x. Ok (values (architecture.Clever c) v operating_system.Unknown e x)) (shown_or_implied (values (architecture.Clever c) v operating_system.Unknown e f)))
 
   clever-round : (c : CleverArchitecture) (v : VendorValue) (e : Environment) (f : BinaryFormat) → is_plain v ≡ true → shows_unknowns (values (architecture.Clever c) v operating_system.Unknown e f) ≡ false
-      → read_parts (upstream_parts (values (architecture.Clever c) v operating_system.Unknown e f)) ≡ Ok (normal_step (values (architecture.Clever c) v operating_system.Unknown e f))
+      → reading_of_parts (upstream_parts (values (architecture.Clever c) v operating_system.Unknown e f)) ≡ Ok (normal_step (values (architecture.Clever c) v operating_system.Unknown e f))
   unfolding upstream_parts shows_operating_system
   clever-round c v e f plain hidden =
       prefix (architecture.Clever c) v _ _ _ plain
@@ -201,11 +201,11 @@ module _ (names : NamesAreRead) where
   module _ (a : Architecture) (v : VendorValue) (s : OperatingSystem) (e : Environment) (f : BinaryFormat) (plain : is_plain v ≡ true) (range : HasVersionInRange s)
       (none : special_text (values a v s e f) ≡ None) (apart : prints_the_esp_idf_text (values a v s e f) ≡ false) where
     clever_by : (c : CleverArchitecture) → a ≡ architecture.Clever c → s ≡ operating_system.Unknown → shows_unknowns (values a v s e f) ≡ false
-        → read_parts (upstream_parts (values a v s e f)) ≡ Ok (normal_step (values a v s e f))
+        → reading_of_parts (upstream_parts (values a v s e f)) ≡ Ok (normal_step (values a v s e f))
     clever_by c is_a is_s hidden = rw (is_a, is_s) (clever-round c v e f plain (rw (is_a, is_s) at hidden))
 
     upstream-round : (b : Bool) → shows_operating_system (values a v s e f) ≡ b → shows_unknowns (values a v s e f) ≡ false
-        → read_parts (upstream_parts (values a v s e f)) ≡ Ok (normal_step (values a v s e f))
+        → reading_of_parts (upstream_parts (values a v s e f)) ≡ Ok (normal_step (values a v s e f))
     unfolding upstream_parts
     upstream-round true shown hidden = rw shown (after_system a v s e f _ _ plain range
         (tail-round a v s e f none hidden field.OperatingSystem apart (shown_system (values a v s e f) shown)))
@@ -218,14 +218,14 @@ module _ (names : NamesAreRead) where
         (λ is. absurd (not_from_Decides _ (prints_the_esp_idf_text-decides (values a v s e f)) apart is))
         (λ is. absurd (let only_none = is.environment in cc)) (λ outside. refl)
 
-    unknowns-round : (e ≡ environment.Unknown) × (f ≡ binary_format.Unknown) → read_parts (parts_with_unknowns (values a v s e f)) ≡ Ok (normal_step (values a v s e f))
+    unknowns-round : (e ≡ environment.Unknown) × (f ≡ binary_format.Unknown) → reading_of_parts (parts_with_unknowns (values a v s e f)) ≡ Ok (normal_step (values a v s e f))
     unfolding parts_with_unknowns
     unknowns-round is = after_system a v s e f _ _ plain range (shown-read a v s e f true field.OperatingSystem ∙ ap Ok (sym (unknowns-step is)))
 
-    parts_by : (b : Bool) → shows_unknowns (values a v s e f) ≡ b → read_parts (cond b (parts_with_unknowns (values a v s e f)) (upstream_parts (values a v s e f))) ≡ Ok (normal_step (values a v s e f))
+    parts_by : (b : Bool) → shows_unknowns (values a v s e f) ≡ b → reading_of_parts (cond b (parts_with_unknowns (values a v s e f)) (upstream_parts (values a v s e f))) ≡ Ok (normal_step (values a v s e f))
     parts_by true shown = unknowns-round (are_unknown a v s e f shown)
     parts_by false hidden = upstream-round _ refl hidden
 
     -- if no special text is printed, the shown parts parse as the step
-    pub parts-round : read_parts (shown_parts (values a v s e f)) ≡ Ok (normal_step (values a v s e f))
+    pub parts-round : reading_of_parts (shown_parts (values a v s e f)) ≡ Ok (normal_step (values a v s e f))
     parts-round = parts_by (shows_unknowns (values a v s e f)) refl

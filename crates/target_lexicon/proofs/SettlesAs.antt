@@ -4,7 +4,7 @@ use mathlib.Core.Bool.{true≢false}
 use Rattle.std.specs.Bool.{Decides}
 use Rattle.std.proofs.lemmas.Bool.Decides.{Decides-like, Decides-and, Decides-at}
 use Rattle.target_lexicon.specs.{FixedPoints.settled_values, NormalStep.normal_step, Values.Values}
-use Rattle.target_lexicon.proofs.{SameValues.same_values, Settled.second_changes_none, StepCases.step-architecture}
+use Rattle.target_lexicon.proofs.{SameValues.same_values, SettleLemmas.second_changes_none, StepCases.step-architecture}
 
 -- both tests hold, where the second is made only if the first holds
 

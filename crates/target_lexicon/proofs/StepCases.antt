@@ -3,7 +3,7 @@
 use Rattle.std.proofs.Common.{◌≡◌, ◌≢◌, inl, inr, true, not, ◌&&◌, codes, refl, ap}
 use Rattle.std.specs.Bool.{Decides}
 use Rattle.std.proofs.{lemmas.Slice.Eq.bytes_eq-Decides, lemmas.Bool.cond_both, lemmas.Bool.false≢true, lemmas.Bool.Decides.not_from_Decides}
-use Rattle.target_lexicon.specs.Values.{Architecture, OperatingSystem, Environment, BinaryFormat, VendorValue, Known, Custom, Values, values, is_newlib, is_clever_without_system, same_format}
+use Rattle.target_lexicon.specs.Values.{Architecture, OperatingSystem, Environment, BinaryFormat, VendorValue, Known, Custom, Values, values, is_newlib, is_clever_without_system, is_same_format}
 use Rattle.target_lexicon.specs.Families.{PrintsAsSpecial, HidesNewlib, PrintsTheEspIdfText, ShowsOnlyNone}
 use Rattle.target_lexicon.specs.SpecialTexts.{special_text}
 use Rattle.target_lexicon.specs.NormalStep.{prints_as_special, hides_newlib, prints_the_esp_idf_text, shows_only_none, normal_step, elf_if_unknown}
@@ -17,7 +17,7 @@ use Rattle.target_lexicon.specs.Values.binary_format
 
 -- a special text is printed
 
-not_newlib_elf : (e : Environment) (f : BinaryFormat) → ¬ ((e ≡ environment.Newlib) × (f ≡ binary_format.Elf)) → not (is_newlib e && same_format f binary_format.Elf) ≡ true
+not_newlib_elf : (e : Environment) (f : BinaryFormat) → ¬ ((e ≡ environment.Newlib) × (f ≡ binary_format.Elf)) → not (is_newlib e && is_same_format f binary_format.Elf) ≡ true
 not_newlib_elf environment.Newlib binary_format.Elf others = absurd (others (refl, refl))
 not_newlib_elf _ _ others = refl
 

@@ -6,13 +6,13 @@ use Rattle.lexicon_fields.specs.Names.{dash}
 use Rattle.target_lexicon.specs.Values.{Architecture, OperatingSystem, Environment, BinaryFormat, VendorValue, Known, Custom, Values, values}
 use Rattle.target_lexicon.specs.{FixedPoints.RoundIsNormalStep, ImpliedFormat.implied_format, NormalStep.normal_step, NormalStep.prints_the_esp_idf_text, Placement.parts_of}
 use Rattle.target_lexicon.specs.Printing.{shows_vendor, shows_operating_system, shows_environment, shows_binary_format, shows_unknowns, upstream_parts, parts_with_unknowns, shown_parts, text_of, cons_if}
-use Rattle.target_lexicon.specs.{Reading.ReadsAs, GreedyReading.read_parts, GreedyReading.read_unless_special, GreedyReading.reading, Refusal.Expects, Refusal.refusal_with}
+use Rattle.target_lexicon.specs.{Reading.ReadsAs, GreedyReading.reading_of_parts, GreedyReading.reading_unless_special, GreedyReading.reading, Refusal.Expects, Refusal.refusal_with}
 use Rattle.target_lexicon.specs.SpecialTexts.{special_text, special_values, nintendo_3ds, nintendo_3ds_text, esp_idf, esp_idf_text}
 use Rattle.lexicon_fields.specs.{Names.is_dash_free, Architecture.architecture_name, Architecture.architecture_of, Laws.HasVersionInRange, Environment.environment_name, Environment.environment_of}
 use Rattle.lexicon_fields.specs.declared.known_vendor.KnownVendor.TheVariants.{Nintendo, Espressif}
 use Rattle.lexicon_fields.specs.{Vendor.vendor_of, Vendor.known_vendor_of, Vendor.is_admitted, Vendor.is_plain, BinaryFormat.binary_format_name, BinaryFormat.binary_format_of}
 use Rattle.lexicon_fields.specs.OperatingSystem.{operating_system_name, operating_system_of, fixed_operating_system_of}
-use Rattle.target_lexicon.proofs.{Computed.reading_computed, Cuts.parts_of-joined, NamesAcross.NamesAreRead, RoundTrips.parts-round, StepCases.step_cases, StepCases.prints_the_esp_idf_text-decides}
+use Rattle.target_lexicon.proofs.{ComputedReading.reading_computed, PartLemmas.parts_of-joined, NamesAcross.NamesAreRead, RoundTrips.parts-round, StepCases.step_cases, StepCases.prints_the_esp_idf_text-decides}
 use Rattle.target_lexicon.specs.Values.architecture
 use Rattle.target_lexicon.specs.Values.arm
 use Rattle.target_lexicon.specs.Values.riscv32
@@ -52,27 +52,27 @@ custom_esp-round = refl
 
 -- the special texts, parsed by their parts
 
-nintendo-parts : read_parts (parts_of nintendo_3ds_text) ≡ Err (refusal_with (Expects field.OperatingSystem) (codes "3ds"))
+nintendo-parts : reading_of_parts (parts_of nintendo_3ds_text) ≡ Err (refusal_with (Expects field.OperatingSystem) (codes "3ds"))
 unfolding architecture_of vendor_of known_vendor_of operating_system_of fixed_operating_system_of environment_of binary_format_of
 nintendo-parts = refl
 
-esp_idf-parts : read_parts (parts_of esp_idf_text) ≡ Ok custom_esp
+esp_idf-parts : reading_of_parts (parts_of esp_idf_text) ≡ Ok custom_esp
 unfolding architecture_of vendor_of known_vendor_of is_admitted operating_system_of fixed_operating_system_of environment_of binary_format_of implied_format
 esp_idf-parts = refl
 
 -- a text that isn't special is parsed by its parts
 by_tests : (text : List ℕ) (ps : List (List ℕ)) (t : Values) (x y : Bool) → bytes_eq text nintendo_3ds_text ≡ x → bytes_eq text esp_idf_text ≡ y → parts_of text ≡ ps
-    → read_parts ps ≡ Ok t → ps ≢ parts_of esp_idf_text → read_unless_special (cond x (Some nintendo_3ds) (cond y (Some esp_idf) None)) text ≡ Ok t
+    → reading_of_parts ps ≡ Ok t → ps ≢ parts_of esp_idf_text → reading_unless_special (cond x (Some nintendo_3ds) (cond y (Some esp_idf) None)) text ≡ Ok t
 by_tests text ps t true y is_x is_y are reads apart =
     absurd (let same = sym are ∙ ap parts_of ((bytes_eq-Decides text nintendo_3ds_text).0 is_x) in let bad = rw same at reads in let refusal = nintendo-parts in cc)
 by_tests text ps t false true is_x is_y are reads apart = absurd (apart (sym are ∙ ap parts_of ((bytes_eq-Decides text esp_idf_text).0 is_y)))
-by_tests text ps t false false is_x is_y are reads apart = ap read_parts are ∙ reads
+by_tests text ps t false false is_x is_y are reads apart = ap reading_of_parts are ∙ reads
 
 module _ (names : NamesAreRead) (a : Architecture) (v : VendorValue) (s : OperatingSystem) (e : Environment) (f : BinaryFormat) (plain : is_plain v ≡ true) (range : HasVersionInRange s)
     (none : special_text (values a v s e f) ≡ None) (apart : prints_the_esp_idf_text (values a v s e f) ≡ false) where
   parts-apart : shown_parts (values a v s e f) ≢ parts_of esp_idf_text
   parts-apart same =
-      let reads : Ok (normal_step (values a v s e f)) ≡ Ok custom_esp = sym (parts-round names a v s e f plain range none apart) ∙ ap read_parts same ∙ esp_idf-parts in
+      let reads : Ok (normal_step (values a v s e f)) ≡ Ok custom_esp = sym (parts-round names a v s e f plain range none apart) ∙ ap reading_of_parts same ∙ esp_idf-parts in
       step_cases (λ u. u ≡ custom_esp → ⊥) (values a v s e f)
       (λ is step. let of = ap (λ x. x.environment) step in cc)
       (λ is step. let of = ap (λ x. x.vendor) step in elim is.1 [ inl on ↦ cc | inr on ↦ cc ])

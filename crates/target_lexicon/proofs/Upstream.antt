@@ -3,11 +3,11 @@ use Rattle.std.proofs.Common.{◌≡◌, ◌≢◌, ℕ, Bool, true, false, List
 use Rattle.std.specs.List.{join_with_byte}
 use Rattle.std.proofs.{lemmas.List.append_cancel_left, lemmas.List.length-append, lemmas.Bool.and_parts, lemmas.Bool.not-true, lemmas.Bool.true≢false}
 use Rattle.lexicon_fields.specs.Names.{dash}
-use Rattle.target_lexicon.specs.Values.{Architecture, OperatingSystem, BinaryFormat, VendorValue, Values, values, same_format}
+use Rattle.target_lexicon.specs.Values.{Architecture, OperatingSystem, BinaryFormat, VendorValue, Values, values, is_same_format}
 use Rattle.target_lexicon.specs.{ImpliedFormat.default_binary_format, SpecialTexts.special_text}
-use Rattle.target_lexicon.specs.Printing.{shows_vendor, shows_operating_system, shows_environment, shows_binary_format, shows_unknowns, cons_if, upstream_parts, parts_with_unknowns, text_of, upstream_text_of, ShowsUnknowns, OtherTextsThanUpstream}
+use Rattle.target_lexicon.specs.Printing.{shows_vendor, shows_operating_system, shows_environment, shows_binary_format, shows_unknowns, cons_if, upstream_parts, parts_with_unknowns, text_of, upstream_text_of, ShowsUnknowns, OnlyUnknownsDifferFromUpstream}
 use Rattle.lexicon_fields.specs.{Architecture.architecture_name, Vendor.vendor_name, OperatingSystem.operating_system_name}
-use Rattle.target_lexicon.proofs.{Printed.dashed, Printed.dashed_joined, RoundTrips.are_unknown}
+use Rattle.target_lexicon.proofs.{PrintingLemmas.dashed, PrintingLemmas.dashed_joined, RoundTrips.are_unknown}
 use Rattle.target_lexicon.specs.Values.environment
 use Rattle.target_lexicon.specs.Values.binary_format
 
@@ -39,7 +39,7 @@ max_growth a v s same =
     growth_tail (shows_operating_system t) (shows_binary_format t) (operating_system_name s)
     (same_parts (shows_vendor t) (vendor_name v) _ _ (same_first (architecture_name a) _ _ same))
 
-unknowns_shown : (i : BinaryFormat) → i ≢ binary_format.Unknown → same_format binary_format.Unknown i ≡ false
+unknowns_shown : (i : BinaryFormat) → i ≢ binary_format.Unknown → is_same_format binary_format.Unknown i ≡ false
 unknowns_shown binary_format.Unknown other = absurd (other refl)
 unknowns_shown _ other = refl
 
@@ -55,8 +55,8 @@ shows_unknowns_by t (Some text) b special shown other = absurd (other (rw specia
 shows_unknowns_by t None false special shown other = absurd (other (rw shown refl))
 shows_unknowns_by t None true special shown other =
     let are = are_unknown t.architecture t.vendor t.operating_system t.environment t.binary_format shown in
-    let differs : same_format t.binary_format (default_binary_format t) ≡ false = not-true _ (and_parts _ _ shown).1 in
+    let differs : is_same_format t.binary_format (default_binary_format t) ≡ false = not-true _ (and_parts _ _ shown).1 in
     record { environment = are.0; binary_format = are.1; implied = λ is. true≢false (rw (are.1, is) at differs); special = special }
 
-pub other_texts : OtherTextsThanUpstream
-other_texts t = (shows_unknowns_by t _ _ refl refl, other_text t)
+pub only_unknowns_differ : OnlyUnknownsDifferFromUpstream
+only_unknowns_differ t = (shows_unknowns_by t _ _ refl refl, other_text t)

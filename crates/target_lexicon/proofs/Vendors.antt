@@ -2,7 +2,7 @@
 use Rattle.std.proofs.Common.{◌≡◌, ◌⊎◌, inl, inr, ℕ, List, Bool, true, ◌&&◌, is_none, refl, sym, ◌∙◌, Option, Some, None}
 use Rattle.std.specs.{Prelude.option_map, Option.option_or}
 use Rattle.lexicon_fields.specs.{declared.known_vendor.KnownVendor.KnownVendor, declared.vendor.Vendor.Vendor}
-use Rattle.lexicon_fields.specs.Vendor.{known_vendor_of, is_admitted, custom_of, vendor_of, vendor_value, owns_text, is_plain, IsCustom, OwnsCustomText}
+use Rattle.lexicon_fields.specs.Vendor.{known_vendor_of, is_admitted, custom_vendor_of, vendor_of, vendor_value, owns_text, is_plain, IsCustom, OwnsCustomText}
 use Rattle.target_lexicon.specs.Values.{VendorValue, Known, Custom}
 use Rattle.std.proofs.lemmas.Option.{cond_some}
 
@@ -11,7 +11,7 @@ vendor-read : (text : List ℕ) (v : VendorValue) → vendor_of text ≡ Some v 
 unfolding vendor_of
 vendor-read text v h = by_known (known_vendor_of text) h
   where
-    by_known : (o : Option KnownVendor) → option_or (option_map Known o) (custom_of text) ≡ Some v
+    by_known : (o : Option KnownVendor) → option_or (option_map Known o) (custom_vendor_of text) ≡ Some v
         → ((known : KnownVendor) × (v ≡ Known known)) ⊎ ((is_admitted text ≡ true) × (v ≡ Custom text))
     by_known None h = let custom = cond_some (is_admitted text) (Custom text) v h in inr (custom.0, sym custom.1)
     by_known (Some known) h = inl (known, cc)

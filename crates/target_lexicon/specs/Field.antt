@@ -11,17 +11,17 @@ pub data Field : Type 0 where
   BinaryFormat : Field
 
 -- the index of a field in the order
-abbrev pub place : Field → ℕ
-place Architecture = 0
-place Vendor = 1
-place OperatingSystem = 2
-place Environment = 3
-place BinaryFormat = 4
+abbrev pub field_number : Field → ℕ
+field_number Architecture = 0
+field_number Vendor = 1
+field_number OperatingSystem = 2
+field_number Environment = 3
+field_number BinaryFormat = 4
 
 -- whether a text parses as a value of the field
-unfoldable pub reads : Field → List ℕ → Bool
-reads Architecture text = is_some (architecture_of text)
-reads Vendor text = is_some (vendor_of text)
-reads OperatingSystem text = is_some (operating_system_of text)
-reads Environment text = is_some (environment_of text)
-reads BinaryFormat text = is_some (binary_format_of text)
+unfoldable pub parses_as : Field → List ℕ → Bool
+parses_as Architecture text = is_some (architecture_of text)
+parses_as Vendor text = is_some (vendor_of text)
+parses_as OperatingSystem text = is_some (operating_system_of text)
+parses_as Environment text = is_some (environment_of text)
+parses_as BinaryFormat text = is_some (binary_format_of text)

@@ -1,7 +1,7 @@
 -- Laws of round trips, in which a triple is printed and its text parsed again: which triples come back, what the others
 -- become, and how long texts are.
 use Rattle.std.specs.Prelude.{ℕ, ◌+◌, ◌≤◌, List, length, ◌≡◌, ◌↔◌, ◌⊎◌, true}
-use Rattle.target_lexicon.specs.{Reading.IsRefusedAs, Reading.ReadsAs, Refusal.Refusal, Families.IsInSomeFamily, Laws.OneOutcomeEach, Laws.ComesBack, NormalStep.normal_step, Printing.text_of}
+use Rattle.target_lexicon.specs.{Reading.IsRefusedAs, Reading.ReadsAs, Refusal.Refusal, Families.IsInSomeFamily, Laws.EveryTextHasOneOutcome, Laws.ComesBack, NormalStep.normal_step, Printing.text_of}
 use Rattle.target_lexicon.specs.{QueryLaws.QueriesKept, Values.Values}
 use Rattle.lexicon_fields.specs.{Laws.HasVersionInRange, Vendor.is_plain}
 
@@ -48,7 +48,7 @@ pub record SettledTextsAreKeys : Type 0 where
 -- outside the families, the round trip of a plain triple succeeds and is the normal step, which keeps the four
 -- queries, a second step changes nothing, and canonical texts are keys
 pub record RoundTripsAreKnown : Type 0 where
-  pub texts : OneOutcomeEach
+  pub texts : EveryTextHasOneOutcome
   pub fixed : FixedExactlyOutsideFamilies
   pub round : RoundIsNormalStep
   pub queries : QueriesKept

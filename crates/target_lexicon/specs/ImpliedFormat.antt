@@ -8,10 +8,10 @@ use Rattle.target_lexicon.specs.Values.environment
 use Rattle.target_lexicon.specs.Values.binary_format
 
 -- without an operating system only the embedded ABIs imply a format
-abbrev pub bare_format : Environment → BinaryFormat
-bare_format environment.Eabi = binary_format.Elf
-bare_format environment.Eabihf = binary_format.Elf
-bare_format _ = binary_format.Unknown
+abbrev pub format_without_system : Environment → BinaryFormat
+format_without_system environment.Eabi = binary_format.Elf
+format_without_system environment.Eabihf = binary_format.Elf
+format_without_system _ = binary_format.Unknown
 
 -- Wasm on the WebAssembly architectures, unknown on an unknown architecture, and Elf on every other
 abbrev pub wasm_or_elf : Architecture → BinaryFormat
@@ -21,20 +21,20 @@ wasm_or_elf architecture.Unknown = binary_format.Unknown
 wasm_or_elf _ = binary_format.Elf
 
 -- the format on a system that isn't like Darwin
-abbrev pub other_format : Architecture → OperatingSystem → Environment → BinaryFormat
-other_format a operating_system.None_ e = bare_format e
-other_format a operating_system.Aix e = binary_format.Xcoff
-other_format a operating_system.Windows e = binary_format.Coff
-other_format a operating_system.Nebulet e = wasm_or_elf a
-other_format a operating_system.Emscripten e = wasm_or_elf a
-other_format a operating_system.VxWorks e = wasm_or_elf a
-other_format a operating_system.Wasi e = wasm_or_elf a
-other_format a operating_system.Unknown e = wasm_or_elf a
-other_format a _ e = binary_format.Elf
+abbrev pub non_darwin_format : Architecture → OperatingSystem → Environment → BinaryFormat
+non_darwin_format a operating_system.None_ e = format_without_system e
+non_darwin_format a operating_system.Aix e = binary_format.Xcoff
+non_darwin_format a operating_system.Windows e = binary_format.Coff
+non_darwin_format a operating_system.Nebulet e = wasm_or_elf a
+non_darwin_format a operating_system.Emscripten e = wasm_or_elf a
+non_darwin_format a operating_system.VxWorks e = wasm_or_elf a
+non_darwin_format a operating_system.Wasi e = wasm_or_elf a
+non_darwin_format a operating_system.Unknown e = wasm_or_elf a
+non_darwin_format a _ e = binary_format.Elf
 
 -- the format that architecture, operating system and environment imply
 unfoldable pub implied_format : Architecture → OperatingSystem → Environment → BinaryFormat
-implied_format a s e = if is_like_darwin s then binary_format.Macho else other_format a s e
+implied_format a s e = if is_like_darwin s then binary_format.Macho else non_darwin_format a s e
 
 -- the format that the other fields of a triple imply
 abbrev pub default_binary_format : Values → BinaryFormat

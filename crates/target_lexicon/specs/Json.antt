@@ -22,19 +22,19 @@ abbrev pub JsonReadsAs : Data → Values → Type 0
 JsonReadsAs value t = MatchOption (as_str value) ⊥ (λ text. ReadsAs text t)
 
 -- what an error says about a value: it is not a string, or its text is refused, or (without a refusal) memory ran out
-pub data JsonFault : Type 0 where
-  NotText : JsonFault
-  Parse : Option Refusal → JsonFault
+pub data JsonErrorValue : Type 0 where
+  NotText : JsonErrorValue
+  Parse : Option Refusal → JsonErrorValue
 
-abbrev pub json_fault_of : JsonError → JsonFault
-json_fault_of json_error.NotText = NotText
-json_fault_of (json_error.Parse error) = Parse (refusal_of error)
+abbrev pub json_error_value : JsonError → JsonErrorValue
+json_error_value json_error.NotText = NotText
+json_error_value (json_error.Parse error) = Parse (refusal_of error)
 
 -- why a value doesn't parse: it is not a string, or its text is refused, or an allocation failed where its text may
 -- allocate
-abbrev pub IsJsonFault : Data → JsonFault → Type 0
-IsJsonFault value NotText = as_str value ≡ None
-IsJsonFault value (Parse refusal) = MatchOption (as_str value) ⊥ (λ text. MatchOption refusal (MayAllocate text) (IsRefusedAs text))
+abbrev pub IsJsonErrorOf : Data → JsonErrorValue → Type 0
+IsJsonErrorOf value NotText = as_str value ≡ None
+IsJsonErrorOf value (Parse refusal) = MatchOption (as_str value) ⊥ (λ text. MatchOption refusal (MayAllocate text) (IsRefusedAs text))
 
 -- the elements parse as these triples, in order
 abbrev pub ElementsReadAs : Items → List Values → Type 0
@@ -48,39 +48,39 @@ abbrev pub ListReadsAs : Data → List Values → Type 0
 ListReadsAs value ts = MatchOption (as_array value) ⊥ (λ elements. ElementsReadAs elements ts)
 
 -- the element at i, counted from 0, parses
-abbrev pub ElementReads : Items → ℕ → Type 0
-ElementReads elements i = MatchOption (get_item i elements) ⊥ (λ value. (t : Values) × JsonReadsAs value t)
+abbrev pub IsElementRead : Items → ℕ → Type 0
+IsElementRead elements i = MatchOption (get_item i elements) ⊥ (λ value. (t : Values) × JsonReadsAs value t)
 
 -- the element at i has this error, and each earlier one parses
-pub record IsFirstFault (elements : Items) (i : ℕ) (fault : JsonFault) : Type 0 where
-  pub here : MatchOption (get_item i elements) ⊥ (λ value. IsJsonFault value fault)
-  pub before : (k : ℕ) → k < i → ElementReads elements k
+pub record IsFirstError (elements : Items) (i : ℕ) (error : JsonErrorValue) : Type 0 where
+  pub here : MatchOption (get_item i elements) ⊥ (λ value. IsJsonErrorOf value error)
+  pub before : (k : ℕ) → k < i → IsElementRead elements k
 
 -- what an error says about a list: it is not a list, or the first element that doesn't parse, or an allocation for it
 -- failed
-pub data ListFault : Type 0 where
-  NotList : ListFault
-  Element : ℕ → JsonFault → ListFault
-  OutOfMemory : ListFault
+pub data ListErrorValue : Type 0 where
+  NotList : ListErrorValue
+  Element : ℕ → JsonErrorValue → ListErrorValue
+  OutOfMemory : ListErrorValue
 
-abbrev pub list_fault_of : ListError → ListFault
-list_fault_of list_error.NotList = NotList
-list_fault_of (list_error.Element i error) = Element i (json_fault_of error)
-list_fault_of list_error.OutOfMemory = OutOfMemory
+abbrev pub list_error_value : ListError → ListErrorValue
+list_error_value list_error.NotList = NotList
+list_error_value (list_error.Element i error) = Element i (json_error_value error)
+list_error_value list_error.OutOfMemory = OutOfMemory
 
 -- why a value doesn't parse as a list; the list itself is allocated only after an element that parses
-abbrev pub IsListFault : Data → ListFault → Type 0
-IsListFault value NotList = as_array value ≡ None
-IsListFault value (Element i fault) = MatchOption (as_array value) ⊥ (λ elements. IsFirstFault elements i fault)
-IsListFault value OutOfMemory = MatchOption (as_array value) ⊥ (λ elements. ElementReads elements 0)
+abbrev pub IsListErrorOf : Data → ListErrorValue → Type 0
+IsListErrorOf value NotList = as_array value ≡ None
+IsListErrorOf value (Element i error) = MatchOption (as_array value) ⊥ (λ elements. IsFirstError elements i error)
+IsListErrorOf value OutOfMemory = MatchOption (as_array value) ⊥ (λ elements. IsElementRead elements 0)
 
 -- the line of an error of a value
-abbrev pub json_fault_line : JsonFault → List ℕ
-json_fault_line NotText = codes "Not a text"
-json_fault_line (Parse refusal) = option_map_or refusal_line refusal (codes "Out of memory")
+abbrev pub json_error_line : JsonErrorValue → List ℕ
+json_error_line NotText = codes "Not a text"
+json_error_line (Parse refusal) = option_map_or refusal_line refusal (codes "Out of memory")
 
 -- the line of an error of a list
-abbrev pub list_fault_line : ListFault → List ℕ
-list_fault_line NotList = codes "Not a list"
-list_fault_line (Element i fault) = codes "Element " ++ (decimal i ++ (codes ": " ++ json_fault_line fault))
-list_fault_line OutOfMemory = codes "Out of memory"
+abbrev pub list_error_line : ListErrorValue → List ℕ
+list_error_line NotList = codes "Not a list"
+list_error_line (Element i error) = codes "Element " ++ (decimal i ++ (codes ": " ++ json_error_line error))
+list_error_line OutOfMemory = codes "Out of memory"

@@ -1,14 +1,14 @@
 -- Laws of parsing and printing.
 use Rattle.std.specs.Prelude.{◌≡◌, ◌↔◌, ℕ, List, true, Ok, Err, ◌⊎◌}
 use Rattle.lexicon_fields.specs.Vendor.{is_plain}
-use Rattle.target_lexicon.specs.{Field.Field, Placement.IsLeast, Printing.text_of, Reading.ReadsAs, Reading.IsRead, Reading.IsRefusedAs, Reading.IsRefused, GreedyReading.reading, Refusal.Refusal}
+use Rattle.target_lexicon.specs.{Field.Field, Placement.IsLeastPlacement, Printing.text_of, Reading.ReadsAs, Reading.IsRead, Reading.IsRefusedAs, Reading.IsRefused, GreedyReading.reading, Refusal.Refusal}
 use Rattle.target_lexicon.specs.Values.{Values}
 
 -- the parts have exactly one least placement
-pub record HasOneLeast (parts : List (List ℕ)) : Type 0 where
+pub record HasOneLeastPlacement (parts : List (List ℕ)) : Type 0 where
   pub fields : List Field
-  pub least : IsLeast parts fields
-  pub only : (others : List Field) → IsLeast parts others → others ≡ fields
+  pub least : IsLeastPlacement parts fields
+  pub only : (others : List Field) → IsLeastPlacement parts others → others ≡ fields
 
 -- a text reads or is refused, in exactly one way
 pub record HasOneOutcome (text : List ℕ) : Type 0 where
@@ -18,17 +18,17 @@ pub record HasOneOutcome (text : List ℕ) : Type 0 where
   pub apart : (t : Values) → ReadsAs text t → IsRefused text → ⊥
 
 -- every text has exactly one outcome
-abbrev pub OneOutcomeEach : Type 0
-OneOutcomeEach = (text : List ℕ) → HasOneOutcome text
+abbrev pub EveryTextHasOneOutcome : Type 0
+EveryTextHasOneOutcome = (text : List ℕ) → HasOneOutcome text
 
 -- the function `reading` gives the triple that the text reads as, and how it is refused
-pub record IsComputed (text : List ℕ) : Type 0 where
+pub record HasComputedReading (text : List ℕ) : Type 0 where
   pub read : (t : Values) → ReadsAs text t ↔ (reading text ≡ Ok t)
   pub refused : (refusal : Refusal) → IsRefusedAs text refusal ↔ (reading text ≡ Err refusal)
 
 -- this holds for every text
 abbrev pub ReadingIsComputed : Type 0
-ReadingIsComputed = (text : List ℕ) → IsComputed text
+ReadingIsComputed = (text : List ℕ) → HasComputedReading text
 
 -- every triple that a text reads as has a plain vendor
 abbrev pub ReadVendorsArePlain : Type 0

@@ -6,7 +6,7 @@ pub mod ImpliedFormat
 pub mod Json
 pub mod Laws
 pub mod NormalStep
-pub mod PartsLeft
+pub mod RemainingParts
 pub mod Placement
 pub mod Printing
 pub mod Private

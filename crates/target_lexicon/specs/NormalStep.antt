@@ -2,7 +2,7 @@
 use Rattle.std.specs.Prelude.{Bool, false, not, ◌&&◌, is_some, is_none, codes, if◌then◌else◌}
 use Rattle.std.specs.Str.{bytes_eq}
 use Rattle.target_lexicon.specs.Values.{Architecture, OperatingSystem, Environment, BinaryFormat, VendorValue, Known, Custom, Values}
-use Rattle.target_lexicon.specs.{Values.is_newlib, Values.is_environment_none, Values.is_clever_without_system, Values.implies_newlib, Values.same_format, SpecialTexts.special_text}
+use Rattle.target_lexicon.specs.{Values.is_newlib, Values.is_environment_none, Values.is_clever_without_system, Values.implies_newlib, Values.is_same_format, SpecialTexts.special_text}
 use Rattle.lexicon_fields.specs.{declared.known_vendor.KnownVendor.TheVariants.Espressif, Vendor.is_plain}
 use Rattle.target_lexicon.specs.Values.architecture
 use Rattle.target_lexicon.specs.Values.riscv32
@@ -12,7 +12,7 @@ use Rattle.target_lexicon.specs.Values.binary_format
 
 -- a test for each family except the last
 abbrev pub prints_as_special : Values → Bool
-prints_as_special t = is_some (special_text t) && not (is_newlib t.environment && same_format t.binary_format binary_format.Elf)
+prints_as_special t = is_some (special_text t) && not (is_newlib t.environment && is_same_format t.binary_format binary_format.Elf)
 
 abbrev pub hides_newlib : Values → Bool
 hides_newlib t = implies_newlib t.vendor t.operating_system && is_newlib t.environment && is_none (special_text t)

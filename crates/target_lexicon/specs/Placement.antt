@@ -3,7 +3,7 @@ use Rattle.std.specs.Prelude.{◌≡◌, ◌≢◌, ℕ, ◌==◌, List, [], ◌
 use Rattle.std.specs.List.{join_with_byte, list_all, slice_split}
 use Rattle.lexicon_fields.specs.Names.{dash}
 use Rattle.lexicon_fields.specs.Names.{is_dash_free}
-use Rattle.target_lexicon.specs.Field.{Field, place, reads}
+use Rattle.target_lexicon.specs.Field.{Field, field_number, parses_as}
 use Rattle.target_lexicon.specs.Field as field
 
 -- the text is these texts, at least one and without dashes, joined by dashes
@@ -21,23 +21,23 @@ abbrev pub IsPlacedAfter : Field → List (List ℕ) → List Field → Type 0
 IsPlacedAfter last [] [] = Unit {0}
 IsPlacedAfter last [] (f ∷ fs) = ⊥
 IsPlacedAfter last (p ∷ ps) [] = ⊥
-IsPlacedAfter last (p ∷ ps) (f ∷ fs) = (place last < place f) × (reads f p ≡ true) × IsPlacedAfter f ps fs
+IsPlacedAfter last (p ∷ ps) (f ∷ fs) = (field_number last < field_number f) × (parses_as f p ≡ true) × IsPlacedAfter f ps fs
 
 -- the first part parses as an architecture, the others as strictly increasing fields after it
 abbrev pub IsPlacement : List (List ℕ) → List Field → Type 0
 IsPlacement [] fs = ⊥
 IsPlacement (p ∷ ps) [] = ⊥
-IsPlacement (p ∷ ps) (f ∷ fs) = (f ≡ field.Architecture) × (reads f p ≡ true) × IsPlacedAfter f ps fs
+IsPlacement (p ∷ ps) (f ∷ fs) = (f ≡ field.Architecture) × (parses_as f p ≡ true) × IsPlacedAfter f ps fs
 
 -- field by field, the first list is not after the second
 abbrev pub AreNotAfter : List Field → List Field → Type 0
 AreNotAfter [] [] = Unit {0}
 AreNotAfter [] (g ∷ gs) = ⊥
 AreNotAfter (f ∷ fs) [] = ⊥
-AreNotAfter (f ∷ fs) (g ∷ gs) = (place f ≤ place g) × AreNotAfter fs gs
+AreNotAfter (f ∷ fs) (g ∷ gs) = (field_number f ≤ field_number g) × AreNotAfter fs gs
 
 -- the placement that assigns to every part a field that is not after its field in any other placement
-pub record IsLeast (parts : List (List ℕ)) (fields : List Field) : Type 0 where
+pub record IsLeastPlacement (parts : List (List ℕ)) (fields : List Field) : Type 0 where
   pub placed : IsPlacement parts fields
   pub least : (others : List Field) → IsPlacement parts others → AreNotAfter fields others
 

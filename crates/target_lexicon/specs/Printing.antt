@@ -1,11 +1,11 @@
 -- The printed text of a triple: upstream's rules, and one rule on top of them, `shows_unknowns`. These definitions
 -- are held to their subject by a comparison with upstream (`checks/compare_upstream`), from which the texts differ
--- only by that rule (`OtherTextsThanUpstream`), and by the round trip: a printed text reads as the triple or its
+-- only by that rule (`OnlyUnknownsDifferFromUpstream`), and by the round trip: a printed text reads as the triple or its
 -- normal step (`RoundIsNormalStep`).
 use Rattle.std.specs.Prelude.{◌≡◌, ◌≢◌, ◌↔◌, ℕ, Bool, true, false, not, ◌&&◌, ◌||◌, List, [], ◌∷◌, None, unwrap_or, if◌then◌else◌}
 use Rattle.std.specs.List.{join_with_byte}
 use Rattle.lexicon_fields.specs.Names.{dash}
-use Rattle.target_lexicon.specs.Values.{Architecture, OperatingSystem, Environment, Values, is_unknown_vendor, is_unknown_environment, is_newlib, is_clever_without_system, implies_newlib, same_format}
+use Rattle.target_lexicon.specs.Values.{Architecture, OperatingSystem, Environment, Values, is_unknown_vendor, is_unknown_environment, is_newlib, is_clever_without_system, implies_newlib, is_same_format}
 use Rattle.target_lexicon.specs.{ImpliedFormat.default_binary_format, SpecialTexts.special_text}
 use Rattle.lexicon_fields.specs.{declared.architecture.arm.ArmArchitecture.ArmArchitecture, Architecture.architecture_name, OperatingSystem.operating_system_name, Vendor.vendor_name, Environment.environment_name, BinaryFormat.binary_format_name}
 use Rattle.target_lexicon.specs.Values.architecture
@@ -84,11 +84,11 @@ architecture_implies_format _ = false
 -- without a system a known format is shown even if it is the implied one, with these exceptions
 abbrev pub shows_implied_format : Values → Bool
 shows_implied_format t =
-    not (architecture_implies_format t.architecture) && names_no_system t.operating_system && not (environment_implies_format t.environment) && not (same_format t.binary_format binary_format.Unknown)
+    not (architecture_implies_format t.architecture) && names_no_system t.operating_system && not (environment_implies_format t.environment) && not (is_same_format t.binary_format binary_format.Unknown)
 
 -- the implied format is omitted, except in such triples
 unfoldable pub shows_binary_format : Values → Bool
-shows_binary_format t = not (same_format t.binary_format (default_binary_format t)) || shows_implied_format t
+shows_binary_format t = not (is_same_format t.binary_format (default_binary_format t)) || shows_implied_format t
 
 -- the parts with one more in front, if that is shown
 abbrev pub cons_if : Bool → List ℕ → List (List ℕ) → List (List ℕ)
@@ -105,7 +105,7 @@ upstream_parts t =
 
 -- the rule on top: an unknown environment and an unknown format are both shown if another format is implied
 abbrev pub shows_unknowns : Values → Bool
-shows_unknowns t = is_unknown_environment t.environment && same_format t.binary_format binary_format.Unknown && not (same_format t.binary_format (default_binary_format t))
+shows_unknowns t = is_unknown_environment t.environment && is_same_format t.binary_format binary_format.Unknown && not (is_same_format t.binary_format (default_binary_format t))
 
 -- the operating system is then shown too, so that each of the three parses as itself
 unfoldable pub parts_with_unknowns : Values → List (List ℕ)
@@ -133,5 +133,5 @@ pub record ShowsUnknowns (t : Values) : Type 0 where
   pub special : special_text t ≡ None
 
 -- exactly the texts of these triples differ from upstream's
-abbrev pub OtherTextsThanUpstream : Type 0
-OtherTextsThanUpstream = (t : Values) → (text_of t ≢ upstream_text_of t) ↔ ShowsUnknowns t
+abbrev pub OnlyUnknownsDifferFromUpstream : Type 0
+OnlyUnknownsDifferFromUpstream = (t : Values) → (text_of t ≢ upstream_text_of t) ↔ ShowsUnknowns t

@@ -16,7 +16,7 @@ pub record IntegersGrow (model : CDataModel) : Type 0 where
   pub long_long_long : size_bits (sizes_of model).long ≤ size_bits (sizes_of model).long_long
 
 -- both have the same architecture, and each query has the same answer or none
-pub record AnswersAlike (t u : Values) : Type 0 where
+pub record HaveSameAnswers (t u : Values) : Type 0 where
   pub architecture : t.architecture ≡ u.architecture
   pub endianness : endianness t ≡ endianness u
   pub pointer_width : pointer_width t ≡ pointer_width u
@@ -25,4 +25,4 @@ pub record AnswersAlike (t u : Values) : Type 0 where
 
 -- the normal step keeps the answers of the queries
 abbrev pub QueriesKept : Type 0
-QueriesKept = (t : Values) → AnswersAlike (normal_step t) t
+QueriesKept = (t : Values) → HaveSameAnswers (normal_step t) t

@@ -1,7 +1,7 @@
 -- Parsing: the triple that a text reads as, and how a text is refused.
 use Rattle.std.specs.Prelude.{◌≡◌, ℕ, ◌<◌, suc, List, [], ◌∷◌, Option, Some, None, take, slice_get, if◌then◌else◌, ◌==◌, IfSome, MatchOption, ◌⊎◌}
 use Rattle.lexicon_fields.specs.{Architecture.architecture_of, Vendor.IsCustom, Vendor.vendor_of, OperatingSystem.operating_system_of, Environment.environment_of, BinaryFormat.binary_format_of}
-use Rattle.target_lexicon.specs.{declared.parse_error.ParseError.ParseError, Field.Field, Field.place, ImpliedFormat.default_binary_format, Placement.ArePartsOf, Placement.IsLeast, Placement.HasPlacement}
+use Rattle.target_lexicon.specs.{declared.parse_error.ParseError.ParseError, Field.Field, Field.field_number, ImpliedFormat.default_binary_format, Placement.ArePartsOf, Placement.IsLeastPlacement, Placement.HasPlacement}
 use Rattle.target_lexicon.specs.{Refusal.Expected, Refusal.Expects, Refusal.ExpectsNone, Refusal.Refusal, Refusal.refusal_of, SpecialTexts.special_values, Values.Values}
 use Rattle.target_lexicon.specs.Values.architecture
 use Rattle.target_lexicon.specs.Values.operating_system
@@ -14,7 +14,7 @@ use Rattle.target_lexicon.specs.Field as field
 abbrev pub part_at : Field → List (List ℕ) → List Field → Option (List ℕ)
 part_at f [] gs = None
 part_at f (p ∷ ps) [] = None
-part_at f (p ∷ ps) (g ∷ gs) = if place g == place f then Some p else part_at f ps gs
+part_at f (p ∷ ps) (g ∷ gs) = if field_number g == field_number f then Some p else part_at f ps gs
 
 -- the value that the part parses as; without a part, the value of an unfilled field
 abbrev pub IsValueOf : {A : Type 0} → (List ℕ → Option A) → A → Option (List ℕ) → A → Type 0
@@ -30,13 +30,13 @@ pub record HoldsParts (parts : List (List ℕ)) (fields : List Field) (t : Value
   pub binary_format : IsValueOf binary_format_of (default_binary_format t) (part_at field.BinaryFormat parts fields) t.binary_format
 
 -- the triple that the least placement of the parts gives
-abbrev pub ReadsAsLeast : List (List ℕ) → Values → Type 0
-ReadsAsLeast parts t = (fields : List Field) × IsLeast parts fields × HoldsParts parts fields t
+abbrev pub PartsReadAs : List (List ℕ) → Values → Type 0
+PartsReadAs parts t = (fields : List Field) × IsLeastPlacement parts fields × HoldsParts parts fields t
 
 -- the triple that a text reads as: a special text as its triple, every other text by its parts
 abbrev pub ReadsAs : List ℕ → Values → Type 0
 ReadsAs text t = MatchOption (special_values text)
-    ((parts : List (List ℕ)) × ArePartsOf text parts × ReadsAsLeast parts t) (λ values. t ≡ values)
+    ((parts : List (List ℕ)) × ArePartsOf text parts × PartsReadAs parts t) (λ values. t ≡ values)
 
 -- what is expected after this field is filled: the next field, and none after the binary format
 abbrev pub expected_after : Field → Expected
@@ -47,16 +47,16 @@ expected_after field.Environment = Expects field.BinaryFormat
 expected_after field.BinaryFormat = ExpectsNone
 
 -- the last of the fields
-abbrev pub last_of : Field → List Field → Field
-last_of f [] = f
-last_of f (g ∷ gs) = last_of g gs
+abbrev pub last_field : Field → List Field → Field
+last_field f [] = f
+last_field f (g ∷ gs) = last_field g gs
 
 -- what is expected after these parts: the field after the last one that their least placement fills, and after no parts
 -- the architecture
 abbrev pub IsExpectedAfter : List (List ℕ) → Expected → Type 0
 IsExpectedAfter [] expected = expected ≡ Expects field.Architecture
 IsExpectedAfter (p ∷ ps) expected =
-    (first : Field) × ((others : List Field) × IsLeast (p ∷ ps) (first ∷ others) × (expected ≡ expected_after (last_of first others)))
+    (first : Field) × ((others : List Field) × IsLeastPlacement (p ∷ ps) (first ∷ others) × (expected ≡ expected_after (last_field first others)))
 
 -- the first part up to which the parts have no placement, and what was expected there
 pub record IsRefusal (parts : List (List ℕ)) (refusal : Refusal) : Type 0 where
@@ -89,5 +89,5 @@ abbrev pub IsErrorOf : List ℕ → ParseError → Type 0
 IsErrorOf text error = MatchOption (refusal_of error) (MayAllocate text) (λ refusal. IsRefusedAs text refusal)
 
 -- the error is the refusal of the text, or out of memory: the errors of a call that allocates more than parsing does
-abbrev pub IsRefusalOrMemory : List ℕ → ParseError → Type 0
-IsRefusalOrMemory text error = IfSome (refusal_of error) (λ refusal. IsRefusedAs text refusal)
+abbrev pub IsRefusalOrOutOfMemory : List ℕ → ParseError → Type 0
+IsRefusalOrOutOfMemory text error = IfSome (refusal_of error) (λ refusal. IsRefusedAs text refusal)

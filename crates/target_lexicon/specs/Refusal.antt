@@ -30,17 +30,17 @@ refusal_of (error.UnrecognizedField part) = Some (refusal_with ExpectsNone (stri
 refusal_of error.OutOfMemory = None
 
 -- the words of a refusal's line before the part
-abbrev pub expected_words : Expected → List ℕ
-expected_words (Expects field.Architecture) = codes "Unrecognized architecture: "
-expected_words (Expects field.Vendor) = codes "Unrecognized vendor: "
-expected_words (Expects field.OperatingSystem) = codes "Unrecognized operating system: "
-expected_words (Expects field.Environment) = codes "Unrecognized environment: "
-expected_words (Expects field.BinaryFormat) = codes "Unrecognized binary format: "
-expected_words ExpectsNone = codes "Unrecognized field: "
+abbrev pub refusal_prefix : Expected → List ℕ
+refusal_prefix (Expects field.Architecture) = codes "Unrecognized architecture: "
+refusal_prefix (Expects field.Vendor) = codes "Unrecognized vendor: "
+refusal_prefix (Expects field.OperatingSystem) = codes "Unrecognized operating system: "
+refusal_prefix (Expects field.Environment) = codes "Unrecognized environment: "
+refusal_prefix (Expects field.BinaryFormat) = codes "Unrecognized binary format: "
+refusal_prefix ExpectsNone = codes "Unrecognized field: "
 
 -- the line of a refusal
 abbrev pub refusal_line : Refusal → List ℕ
-refusal_line refusal = expected_words refusal.expected ++ refusal.part
+refusal_line refusal = refusal_prefix refusal.expected ++ refusal.part
 
 -- the line of an error
 abbrev pub error_line : ParseError → List ℕ

@@ -57,14 +57,14 @@ is_clever_without_system (architecture.Clever sub) operating_system.Unknown = tr
 is_clever_without_system _ _ = false
 
 -- whether two formats are the same
-abbrev pub same_format : BinaryFormat → BinaryFormat → Bool
-same_format binary_format.Unknown binary_format.Unknown = true
-same_format binary_format.Elf binary_format.Elf = true
-same_format binary_format.Coff binary_format.Coff = true
-same_format binary_format.Macho binary_format.Macho = true
-same_format binary_format.Wasm binary_format.Wasm = true
-same_format binary_format.Xcoff binary_format.Xcoff = true
-same_format _ _ = false
+abbrev pub is_same_format : BinaryFormat → BinaryFormat → Bool
+is_same_format binary_format.Unknown binary_format.Unknown = true
+is_same_format binary_format.Elf binary_format.Elf = true
+is_same_format binary_format.Coff binary_format.Coff = true
+is_same_format binary_format.Macho binary_format.Macho = true
+is_same_format binary_format.Wasm binary_format.Wasm = true
+is_same_format binary_format.Xcoff binary_format.Xcoff = true
+is_same_format _ _ = false
 
 -- the vendors and systems that imply the environment `Newlib`
 abbrev pub implies_newlib : VendorValue → OperatingSystem → Bool

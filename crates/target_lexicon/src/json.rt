@@ -2,7 +2,7 @@
 ghost use Rattle.std.specs.Prelude.{◌≡◌, true, map, All, IfOk, IfErr};
 ghost use Rattle.serde_json.specs.View.{view};
 ghost use Rattle.lexicon_fields.specs.Vendor.{OwnsCustomText, is_plain, vendor_value};
-ghost use Rattle.target_lexicon.specs.Json.{json_of, list_json_of, JsonReadsAs, IsJsonFault, json_fault_of, ListReadsAs, IsListFault, list_fault_of};
+ghost use Rattle.target_lexicon.specs.Json.{json_of, list_json_of, JsonReadsAs, IsJsonErrorOf, json_error_value, ListReadsAs, IsListErrorOf, list_error_value};
 ghost use Rattle.target_lexicon.specs.Values.{values_of};
 
 use crate::json_error::JsonError;
@@ -30,7 +30,8 @@ impl Triple {
         ensures ok { IfOk result (λ triple. JsonReadsAs (view value.now) (values_of triple)) }
         ensures owned { IfOk result (λ triple. OwnsCustomText triple.vendor) }
         ensures plain { IfOk result (λ triple. is_plain (vendor_value triple.vendor) ≡ true) }
-        ensures err { IfErr result (λ error. IsJsonFault (view value.now) (json_fault_of error)) }
+        ensures err { IfErr result
+            (λ error. IsJsonErrorOf (view value.now) (json_error_value error)) }
     {
         let Some(text) = value.as_str() else {
             return Err(JsonError::NotText);
@@ -69,7 +70,7 @@ pub fn list_from_json(alloc: Global, value: &Value) -> Result<Vec<Triple>, ListE
         (λ triples. All (λ triple. OwnsCustomText triple.vendor) triples.items) }
     ensures plain { IfOk result
         (λ triples. All (λ triple. is_plain (vendor_value triple.vendor) ≡ true) triples.items) }
-    ensures err { IfErr result (λ error. IsListFault (view value.now) (list_fault_of error)) }
+    ensures err { IfErr result (λ error. IsListErrorOf (view value.now) (list_error_value error)) }
 {
     let Some(elements) = value.as_array() else {
         return Err(ListError::NotList);

@@ -14,11 +14,11 @@ pub enum JsonError {
 }
 
 impl fmt::Display for JsonError {
-    ghost use Rattle.target_lexicon.specs.Json.{json_fault_of, json_fault_line};
+    ghost use Rattle.target_lexicon.specs.Json.{json_error_value, json_error_line};
 
-    ghost output = { λ error. Some (json_fault_line (json_fault_of error)) };
+    ghost output = { λ error. Some (json_error_line (json_error_value error)) };
 
-    ghost styled_output = { λ error _. Some (json_fault_line (json_fault_of error)) };
+    ghost styled_output = { λ error _. Some (json_error_line (json_error_value error)) };
 
     fn fmt<W: fmt::Write>(&self, f: &mut fmt::Formatter<W>) -> fmt::Result {
         match self {

@@ -1,15 +1,15 @@
 //! Laws of the definitions. Each function's contract is a law; a call does nothing.
 ghost use Rattle.std.specs.Prelude.{◌≡◌, ◌≢◌, ◌↔◌, ℕ, suc, true, List, All, take, IsTrue};
-ghost use Rattle.target_lexicon.specs.GreedyReading.{AnswersAreComputed};
-ghost use Rattle.target_lexicon.specs.Laws.{ComesBack, HasOneLeast, OneOutcomeEach, ReadingIsComputed, ReadVendorsArePlain, EqualTextsEqualTriples};
-ghost use Rattle.lexicon_fields.specs.Laws.{HashInjectiveOn, HashInjective, ComparesByValue, CopiesAreTheirSources, HasVersionInRange};
+ghost use Rattle.target_lexicon.specs.GreedyReading.{ResultsAreComputed};
+ghost use Rattle.target_lexicon.specs.Laws.{ComesBack, HasOneLeastPlacement, EveryTextHasOneOutcome, ReadingIsComputed, ReadVendorsArePlain, EqualTextsEqualTriples};
+ghost use Rattle.lexicon_fields.specs.Laws.{HashInjectiveOn, HashInjective, ComparesByValue, CopiesEqualTheirSources, HasVersionInRange};
 ghost use Rattle.target_lexicon.specs.FixedPoints.{ReadTriplesArePlain, FixedExactlyOutsideFamilies, RoundIsNormalStep, SecondStepChangesNone, SettledTextsAreKeys, RoundTripsAreKnown, PrintedTextsGrowAtMost, CanonicalTextsGrowAtMost, RefusedPartsDoNotGrow};
-ghost use Rattle.target_lexicon.specs.Json.{ListReadsAs, list_json_of, json_fault_of, list_fault_of};
+ghost use Rattle.target_lexicon.specs.Json.{ListReadsAs, list_json_of, json_error_value, list_error_value};
 ghost use Rattle.target_lexicon.specs.Placement.{HasPlacement};
 ghost use Rattle.target_lexicon.specs.Queries.{data_model};
 ghost use Rattle.target_lexicon.specs.QueryLaws.{ModelWidth, IntegersGrow, QueriesKept};
 ghost use Rattle.target_lexicon.specs.Refusal.{refusal_of};
-ghost use Rattle.target_lexicon.specs.Printing.{OtherTextsThanUpstream};
+ghost use Rattle.target_lexicon.specs.Printing.{OnlyUnknownsDifferFromUpstream};
 ghost use Rattle.target_lexicon.specs.Values.{Values, values_of};
 ghost use Rattle.target_lexicon.specs.declared.data_model.CDataModel.{CDataModel};
 ghost use Rattle.target_lexicon.specs.declared.json_error.JsonError.{JsonError};
@@ -30,29 +30,29 @@ pub use lexicon_fields::laws::names_read_back;
 use std::hash::Hash;
 
 /// Parts that have a placement have exactly one least placement, and so does each prefix of them.
-#[tactic(auto, using(crate::proofs::Greedy::placement_prefix, crate::proofs::Greedy::placement_least))]
+#[tactic(auto, using(crate::proofs::GreedyPlacement::placement_prefix, crate::proofs::GreedyPlacement::placement_least))]
 pub fn one_least_placement()
     ensures { (parts : List (List ℕ)) →
         HasPlacement parts →
-        HasOneLeast parts × ((n : ℕ) → HasOneLeast (take (suc n) parts)) }
+        HasOneLeastPlacement parts × ((n : ℕ) → HasOneLeastPlacement (take (suc n) parts)) }
 {}
 
 /// Every text parses or is refused, in exactly one way.
-pub fn one_outcome_each()
-    ensures { OneOutcomeEach }
+pub fn every_text_has_one_outcome()
+    ensures { EveryTextHasOneOutcome }
 {}
 
 /// The function `reading` of the definitions gives the triple that a text parses as, or how it is refused. So a
 /// caller's proof can compute the result for a text.
-#[tactic(auto, using(crate::proofs::Computed::reading_computed))]
+#[tactic(auto, using(crate::proofs::ComputedReading::reading_computed))]
 pub fn reading_is_computed()
     ensures { ReadingIsComputed }
 {}
 
 /// The result of [`Triple::from_str`] is what the function `reading` gives, or out of memory, but only for a custom
 /// vendor or a refusal. So a caller's proof can compute the result for a literal.
-pub fn answers_are_computed()
-    ensures { AnswersAreComputed }
+pub fn results_are_computed()
+    ensures { ResultsAreComputed }
 {}
 
 /// Every triple that a text parses as has a plain vendor.
@@ -75,7 +75,7 @@ pub fn read_triples_are_plain()
 #[tactic(auto, using(crate::proofs::Lengths::printed_max_growth, crate::proofs::Lengths::canonical_max_growth, crate::proofs::Lengths::refused_does_not_grow))]
 pub fn printed_texts_grow_at_most()
     ensures printed { PrintedTextsGrowAtMost }
-    ensures settled_values { CanonicalTextsGrowAtMost }
+    ensures settled { CanonicalTextsGrowAtMost }
     ensures refused { RefusedPartsDoNotGrow }
 {
     reading_is_computed();
@@ -116,7 +116,7 @@ pub fn no_rare_model()
 {}
 
 /// In each data model the sizes of `short`, `int`, `long` and `long long` don't decrease.
-pub fn integers_grow_in_each()
+pub fn integers_grow_in_each_model()
     ensures { (model : CDataModel) → IntegersGrow model }
 {}
 
@@ -145,7 +145,7 @@ pub fn defaults_are_equal_by_value()
 
 /// A triple comes back (it is printed and parsed again as itself) exactly if it is in none of five families, also if
 /// its vendor is not plain. Each triple comes back or is in a family.
-#[tactic(auto, using(crate::proofs::Fixed::fixed_exactly_outside))]
+#[tactic(auto, using(crate::proofs::FixedPointLemmas::fixed_exactly_outside))]
 pub fn fixed_exactly_outside_families()
     ensures { FixedExactlyOutsideFamilies }
 {
@@ -162,13 +162,13 @@ pub fn round_is_normal_step()
 
 /// A second normal step changes no triple, so one round trip gives the canonical form. (By upstream's rules it changes
 /// one, hence the name.)
-#[tactic(auto, using(crate::proofs::Settled::second_changes_none))]
+#[tactic(auto, using(crate::proofs::SettleLemmas::second_changes_none))]
 pub fn second_step_changes_one()
     ensures { SecondStepChangesNone }
 {}
 
 /// The canonical form of a triple with a plain vendor comes back, and no other canonical triple has its text.
-#[tactic(auto, using(crate::proofs::Settled::settled_are_keys))]
+#[tactic(auto, using(crate::proofs::SettleLemmas::settled_are_keys))]
 pub fn settled_texts_are_keys()
     ensures { SettledTextsAreKeys }
 {
@@ -182,7 +182,7 @@ pub fn settled_texts_are_keys()
 pub fn round_trips_are_known()
     ensures { RoundTripsAreKnown }
 {
-    one_outcome_each();
+    every_text_has_one_outcome();
     fixed_exactly_outside_families();
     round_is_normal_step();
     queries_kept();
@@ -192,9 +192,9 @@ pub fn round_trips_are_known()
 
 /// The printed text of a triple differs from upstream's exactly if environment and format are unknown, another format
 /// is implied, and no special text is printed.
-#[tactic(auto, using(crate::proofs::Upstream::other_texts))]
-pub fn other_texts_than_upstream()
-    ensures { OtherTextsThanUpstream }
+#[tactic(auto, using(crate::proofs::Upstream::only_unknowns_differ))]
+pub fn only_unknowns_differ_from_upstream()
+    ensures { OnlyUnknownsDifferFromUpstream }
 {}
 
 /// A list of triples that come back, written as JSON, parses as itself and as no other list.
@@ -203,33 +203,33 @@ pub fn lists_read_back()
         All ComesBack ts →
         ListReadsAs (list_json_of ts) us ↔ (us ≡ ts) }
 {
-    one_outcome_each();
+    every_text_has_one_outcome();
 }
 
 /// Two errors of a JSON value are equal exactly if both say that it is not a string, or the same about its text.
 pub fn json_errors_are_equal_by_value()
     ensures { (x y : JsonError) →
-        IsTrue (⟦<JsonError as PartialEq>⟧.eq x y) ↔ (json_fault_of x ≡ json_fault_of y) }
+        IsTrue (⟦<JsonError as PartialEq>⟧.eq x y) ↔ (json_error_value x ≡ json_error_value y) }
 {}
 
 /// Two errors of a JSON list are equal exactly if they are of one kind, with the same element and the same error of it.
 pub fn list_errors_are_equal_by_value()
     ensures { (x y : ListError) →
-        IsTrue (⟦<ListError as PartialEq>⟧.eq x y) ↔ (list_fault_of x ≡ list_fault_of y) }
+        IsTrue (⟦<ListError as PartialEq>⟧.eq x y) ↔ (list_error_value x ≡ list_error_value y) }
 {}
 
 /// A copy of a size, a data model or a calling convention is that value, and copying allocates nothing.
-pub fn copies_are_their_sources()
-    ensures size { CopiesAreTheirSources ⟦<Size as Clone>⟧.is_clone
+pub fn copies_equal_their_sources()
+    ensures size { CopiesEqualTheirSources ⟦<Size as Clone>⟧.is_clone
         ⟦<Size as Clone>⟧.is_infallible }
-    ensures data_model { CopiesAreTheirSources ⟦<CDataModel as Clone>⟧.is_clone
+    ensures data_model { CopiesEqualTheirSources ⟦<CDataModel as Clone>⟧.is_clone
         ⟦<CDataModel as Clone>⟧.is_infallible }
-    ensures calling_convention { CopiesAreTheirSources ⟦<CallingConvention as Clone>⟧.is_clone
+    ensures calling_convention { CopiesEqualTheirSources ⟦<CallingConvention as Clone>⟧.is_clone
         ⟦<CallingConvention as Clone>⟧.is_infallible }
 {}
 
 /// Sizes, data models and calling conventions feed a hasher the same exactly if their variants are the same.
-pub fn answers_feed_by_variant()
+pub fn answers_hash_by_variant()
     ensures size { HashInjective ⟦<Size as Hash>⟧.hash_input }
     ensures data_model { HashInjective ⟦<CDataModel as Hash>⟧.hash_input }
     ensures calling_convention { HashInjective ⟦<CallingConvention as Hash>⟧.hash_input }
@@ -237,7 +237,7 @@ pub fn answers_feed_by_variant()
 
 /// Two triples, with a default or without, feed a hasher the same exactly if their five values are the same, and what
 /// is fed after a triple can be distinguished from what it feeds. This is said of triples whose version is in range.
-pub fn triples_feed_by_value()
+pub fn triples_hash_by_value()
     ensures triple { HashInjectiveOn (λ t. HasVersionInRange t.operating_system) values_of
         ⟦<Triple as Hash>⟧.hash_input }
     ensures host { HashInjectiveOn (λ t. HasVersionInRange t.0.operating_system)
@@ -245,5 +245,5 @@ pub fn triples_feed_by_value()
     ensures unknown { HashInjectiveOn (λ t. HasVersionInRange t.0.operating_system)
         (λ t. values_of t.0) ⟦<DefaultToUnknown as Hash>⟧.hash_input }
 {
-    lexicon_fields::laws::values_feed_by_variant_and_fields();
+    lexicon_fields::laws::values_hash_by_variant_and_fields();
 }

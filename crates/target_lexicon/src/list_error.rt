@@ -1,7 +1,7 @@
 //! Why a JSON value doesn't parse as a list of triples.
 ghost use Rattle.std.specs.Prelude.{◌++◌, Some, codes};
 ghost use Rattle.std.specs.Fmt.{WritesStyledOnOk, decimal};
-ghost use Rattle.target_lexicon.specs.Json.{json_fault_of, json_fault_line};
+ghost use Rattle.target_lexicon.specs.Json.{json_error_value, json_error_line};
 
 use crate::json_error::JsonError;
 use lexicon_fields::write_decimal;
@@ -20,11 +20,11 @@ pub enum ListError {
 }
 
 impl fmt::Display for ListError {
-    ghost use Rattle.target_lexicon.specs.Json.{list_fault_of, list_fault_line};
+    ghost use Rattle.target_lexicon.specs.Json.{list_error_value, list_error_line};
 
-    ghost output = { λ error. Some (list_fault_line (list_fault_of error)) };
+    ghost output = { λ error. Some (list_error_line (list_error_value error)) };
 
-    ghost styled_output = { λ error _. Some (list_fault_line (list_fault_of error)) };
+    ghost styled_output = { λ error _. Some (list_error_line (list_error_value error)) };
 
     fn fmt<W: fmt::Write>(&self, f: &mut fmt::Formatter<W>) -> fmt::Result {
         match self {
@@ -43,7 +43,7 @@ fn write_element<W: fmt::Write>(
 ) -> fmt::Result
     ensures { WritesStyledOnOk W.write_str_gives f.old result
         (codes "Element "
-        ++ (decimal i ++ (codes ": " ++ json_fault_line (json_fault_of error.now)))) f.new }
+        ++ (decimal i ++ (codes ": " ++ json_error_line (json_error_value error.now)))) f.new }
 {
     f.write_str("Element ")?;
     write_decimal(f, i)?;

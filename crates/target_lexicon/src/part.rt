@@ -16,10 +16,10 @@ use std::alloc::{AllocError, Global};
 pub(crate) struct Part<'a> {
     pub text: &'a str,
     row: Option<FixedRow>,
-    pub after: Option<&'a str>,
+    pub after_dash: Option<&'a str>,
     dashes_at_end: u64,
     ghost looked_up: { IsLookedUp text.now row },
-    ghost dashes_known: { ForSome after (λ rest. AreDashBits dashes_at_end rest.now) },
+    ghost dash_bits: { ForSome after_dash (λ rest. AreDashBits dashes_at_end rest.now) },
 }
 
 /// The row of a text in the table of names.
@@ -30,10 +30,10 @@ fn row_of(text: &str) -> Option<FixedRow>
 }
 
 /// Cuts a text at its first dash, the dashes of whose end are known.
-fn cut(text: &str, at_end: u64) -> (&str, Option<&str>)
+fn split_at_dash(text: &str, at_end: u64) -> (&str, Option<&str>)
     requires { AreDashBits at_end text.now }
     ensures parts { parts_of text.now ≡ result.0.now ∷ parts_after_dash result.1 }
-    ensures dashes_known { ForSome result.1 (λ rest. AreDashBits at_end rest.now) }
+    ensures dash_bits { ForSome result.1 (λ rest. AreDashBits at_end rest.now) }
 {
     match dash_in(text, at_end) {
         Some(at) => (&text[..at], Some(&text[at + 1..])),
@@ -48,20 +48,20 @@ impl<'a> Part<'a> {
     ghost use Rattle.lexicon_fields.specs.OperatingSystem.{operating_system_of};
     ghost use Rattle.lexicon_fields.specs.Environment.{environment_of};
     ghost use Rattle.lexicon_fields.specs.BinaryFormat.{binary_format_of};
-    ghost use Rattle.target_lexicon.specs.PartsLeft.{parts_left};
+    ghost use Rattle.target_lexicon.specs.RemainingParts.{remaining_parts};
 
     /// The first part of a text.
     pub(crate) fn first(text: &'a str) -> Self
-        ensures { parts_of text.entry.now ≡ result.text.now ∷ parts_after_dash result.after }
+        ensures { parts_of text.entry.now ≡ result.text.now ∷ parts_after_dash result.after_dash }
     {
         Part::first_of(text, dashes_at_end(text))
     }
 
     /// The part after the dash.
     pub(crate) fn next(&self) -> Option<Self>
-        ensures { parts_left result ≡ parts_after_dash self.now.after }
+        ensures { remaining_parts result ≡ parts_after_dash self.now.after_dash }
     {
-        match self.after {
+        match self.after_dash {
             Some(text) => Some(Part::first_of(text, self.dashes_at_end)),
             None => None,
         }
@@ -70,13 +70,13 @@ impl<'a> Part<'a> {
     /// The first part of a text, the dashes of whose end are known.
     fn first_of(text: &'a str, dashes_at_end: u64) -> Self
         requires { AreDashBits dashes_at_end text.now }
-        ensures { parts_of text.entry.now ≡ result.text.now ∷ parts_after_dash result.after }
+        ensures { parts_of text.entry.now ≡ result.text.now ∷ parts_after_dash result.after_dash }
     {
-        let (first, after) = cut(text, dashes_at_end);
+        let (first, after_dash) = split_at_dash(text, dashes_at_end);
         Part {
             text: first,
             row: row_of(first),
-            after,
+            after_dash,
             dashes_at_end,
         }
     }

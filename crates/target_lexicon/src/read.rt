@@ -3,9 +3,9 @@ ghost use Rattle.std.specs.Prelude.{◌≡◌, Some, true, IfOk, IfErr, IfSome, 
 ghost use Rattle.lexicon_fields.specs.declared.known_vendor.KnownVendor.TheVariants.{Unknown};
 ghost use Rattle.lexicon_fields.specs.declared.vendor.Vendor.TheVariants as any_vendor;
 ghost use Rattle.lexicon_fields.specs.Vendor.{IsCustom, Known, OwnsCustomText, vendor_of, vendor_value, is_plain};
-ghost use Rattle.target_lexicon.specs.GreedyReading.{IsAnswerOf, take_part, read_parts};
+ghost use Rattle.target_lexicon.specs.GreedyReading.{IsResultOf, field_reading, reading_of_parts};
 ghost use Rattle.target_lexicon.specs.Field as field;
-ghost use Rattle.target_lexicon.specs.PartsLeft.{field_of, parts_left, taken_of};
+ghost use Rattle.target_lexicon.specs.RemainingParts.{field_of, remaining_parts, field_reading_of};
 ghost use Rattle.target_lexicon.specs.Reading.{ReadsAs, IsErrorOf, expected_after};
 ghost use Rattle.target_lexicon.specs.Refusal.{refusal_with, refusal_of};
 ghost use Rattle.target_lexicon.specs.Values.{values_of};
@@ -17,7 +17,7 @@ use crate::triple::Triple;
 use lexicon_fields::{BinaryFormat, Environment, OperatingSystem, Vendor};
 use std::alloc::{AllocError, Global};
 
-/// A field that reads from a part without a wish for memory.
+/// A field that reads from a part without allocating.
 trait ReadFrom: Sized {
     ghost use Rattle.std.specs.Prelude.{ℕ, List, Option};
 
@@ -72,7 +72,7 @@ enum Field {
 #[derive(Drop)]
 struct PartCursor<'a> {
     last: Field,
-    parts: Option<Part<'a>>,
+    next_part: Option<Part<'a>>,
 }
 
 impl<'a> PartCursor<'a> {
@@ -81,22 +81,22 @@ impl<'a> PartCursor<'a> {
     fn take_vendor(&mut self, alloc: Global) -> Result<Option<Vendor>, AllocError>
         ensures ok { IfOk result
             (λ vendor.
-            taken_of (vendor_value (unwrap_or vendor any_vendor.Unknown)) self.new
-            ≡ take_part field.Vendor vendor_of (Known Unknown) (field_of self.old.last)
-            (parts_left self.old.parts)) }
+            field_reading_of (vendor_value (unwrap_or vendor any_vendor.Unknown)) self.new
+            ≡ field_reading field.Vendor vendor_of (Known Unknown) (field_of self.old.last)
+            (remaining_parts self.old.next_part)) }
         ensures owned { IfOk result (λ vendor. IfSome vendor OwnsCustomText) }
         ensures memory { OnErr result
             (IsCustom
-            (take_part field.Vendor vendor_of (Known Unknown) (field_of self.old.last)
-            (parts_left self.old.parts)).0) }
+            (field_reading field.Vendor vendor_of (Known Unknown) (field_of self.old.last)
+            (remaining_parts self.old.next_part)).0) }
     {
-        let Some(part) = self.parts else {
+        let Some(part) = self.next_part else {
             return Ok(None);
         };
         let vendor = part.vendor(alloc)?;
         if vendor.is_some() {
             self.last = Field::Vendor;
-            self.parts = part.next();
+            self.next_part = part.next();
         }
         Ok(vendor)
     }
@@ -104,14 +104,14 @@ impl<'a> PartCursor<'a> {
     /// Takes the first part for this field, if it reads as a value of it.
     fn take<T: ReadFrom>(&mut self, field: Field) -> Option<T>
         ensures { (unfilled : T) →
-            taken_of (unwrap_or result unfilled) self.new
-            ≡ take_part (field_of field) T.find unfilled (field_of self.old.last)
-            (parts_left self.old.parts) }
+            field_reading_of (unwrap_or result unfilled) self.new
+            ≡ field_reading (field_of field) T.find unfilled (field_of self.old.last)
+            (remaining_parts self.old.next_part) }
     {
-        let part = self.parts?;
+        let part = self.next_part?;
         let value = T::read_from(&part)?;
         self.last = field;
-        self.parts = part.next();
+        self.next_part = part.next();
         Some(value)
     }
 }
@@ -148,7 +148,7 @@ impl Triple {
         ensures plain { IfOk result (λ triple. is_plain (vendor_value triple.vendor) ≡ true) }
         ensures err { IfErr result (λ error. IsErrorOf text.now error) }
     {
-        if let Some(triple) = Triple::of_special_text(text) {
+        if let Some(triple) = Triple::from_special_text(text) {
             return Ok(triple);
         }
         Triple::from_parts(alloc, Part::first(text))
@@ -156,24 +156,24 @@ impl Triple {
 
     /// The triple that the parts give of which this is the first, or why one of them is refused.
     fn from_parts(alloc: Global, first: Part<'_>) -> Result<Triple, ParseError>
-        ensures answer { IsAnswerOf (read_parts (parts_left (Some first.entry))) result }
+        ensures answer { IsResultOf (reading_of_parts (remaining_parts (Some first.entry))) result }
         ensures owned { IfOk result (λ triple. OwnsCustomText triple.vendor) }
     {
         let Some(architecture) = first.architecture() else {
             let part = String::from_str(alloc, first.text)?;
             return Err(ParseError::UnrecognizedArchitecture(part));
         };
-        let mut rest = PartCursor {
+        let mut cursor = PartCursor {
             last: Field::Architecture,
-            parts: first.next(),
+            next_part: first.next(),
         };
-        let vendor = rest.take_vendor(alloc)?;
-        let operating_system = rest.take::<OperatingSystem>(Field::OperatingSystem);
-        let environment = rest.take::<Environment>(Field::Environment);
-        let binary_format = rest.take::<BinaryFormat>(Field::BinaryFormat);
-        if let Some(left) = rest.parts {
+        let vendor = cursor.take_vendor(alloc)?;
+        let operating_system = cursor.take::<OperatingSystem>(Field::OperatingSystem);
+        let environment = cursor.take::<Environment>(Field::Environment);
+        let binary_format = cursor.take::<BinaryFormat>(Field::BinaryFormat);
+        if let Some(left) = cursor.next_part {
             let part = String::from_str(alloc, left.text)?;
-            return Err(refusal(part, rest.last));
+            return Err(refusal(part, cursor.last));
         }
         let operating_system = operating_system.unwrap_or(OperatingSystem::Unknown);
         let environment = environment.unwrap_or(Environment::Unknown);

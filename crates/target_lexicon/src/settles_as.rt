@@ -20,12 +20,12 @@ impl Triple {
         lexicon_fields::laws::vendors_are_equal_by_value();
         let espressif = Vendor::Espressif;
         let (system, environment, format) = settled_fields(self);
-        let (other_system, other_environment, other_format) = settled_fields(other);
+        let (other_system, other_environment, non_darwin_format) = settled_fields(other);
         self.architecture == other.architecture
             && settled_vendor(self, &espressif) == settled_vendor(other, &espressif)
             && system == other_system
             && environment == other_environment
-            && format == other_format
+            && format == non_darwin_format
     }
 }
 

@@ -17,7 +17,7 @@ const ESP_IDF: &str = "riscv32imc-esp-espidf";
 impl Triple {
     /// The triple of a special text.
     #[tactic(auto, unfolding(crate::specs::SpecialTexts::special_values))]
-    pub(crate) fn of_special_text(text: &str) -> Option<Triple>
+    pub(crate) fn from_special_text(text: &str) -> Option<Triple>
         ensures values { option_map values_of result ≡ special_values text.now }
         ensures owned { IfSome result (λ triple. OwnsCustomText triple.vendor) }
     {

@@ -10,7 +10,7 @@ use Rattle.target_lexicon.specs.{FixedPoints.canonical_text, Reading.ReadsAs, Re
 use Rattle.target_lexicon.specs.declared.parse_error.ParseError.TheVariants.{OutOfMemory}
 use Rattle.triples.specs.declared.matrix.HashedText.{HashedText}
 use Rattle.triples.specs.Words.{line_feed}
-use Rattle.triples.specs.Output.{Answer, Shown, Refused, IsAnswer, AreAnswers, AreAnswered, IsMatrix, shows, stays_after, staying_after, matrix_of, answer_bytes, written_lines}
+use Rattle.triples.specs.Output.{Answer, Shown, Refused, IsAnswer, AreAnswers, IsLineOutput, IsMatrix, shows, stays_after, staying_answers, matrix_of, answer_bytes, written_lines}
 use Rattle.triples.specs.Private.{hash_of, text_cmp, has_text, HasOneMore, is_repeated, AddsAnswer, AddsEntry}
 
 -- a key that is inserted among others, none of which is equal to it
@@ -64,11 +64,11 @@ abbrev pub if_stays : Bool → Answer → List Answer
 if_stays stays line = if stays then line ∷ [] else []
 
 pub staying-push : (before lines : List Answer) (line : Answer)
-    → staying_after before (lines ++ line ∷ []) ≡ staying_after before lines ++ if_stays (stays_after (before ++ lines) line) line
+    → staying_answers before (lines ++ line ∷ []) ≡ staying_answers before lines ++ if_stays (stays_after (before ++ lines) line) line
 staying-push before [] line = append-nil (if_stays (stays_after before line) line) ∙ ap (λ (t : List Answer). if_stays (stays_after t line) line) (sym (append-nil before))
 staying-push before (first ∷ lines) line =
     ap (λ (t : List Answer). if_stays (stays_after before first) first ++ t)
-    (staying-push (before ++ first ∷ []) lines line ∙ ap (λ (t : List Answer). staying_after (before ++ first ∷ []) lines ++ if_stays (stays_after t line) line) (append_assoc before (first ∷ []) lines))
+    (staying-push (before ++ first ∷ []) lines line ∙ ap (λ (t : List Answer). staying_answers (before ++ first ∷ []) lines ++ if_stays (stays_after t line) line) (append_assoc before (first ∷ []) lines))
     ∙ sym (append_assoc (if_stays (stays_after before first) first) _ _)
 
 written_lines-append : (xs ys : List Answer) → written_lines (xs ++ ys) ≡ written_lines xs ++ written_lines ys
@@ -96,7 +96,7 @@ so-far-more cut adds far = record {
       ∙ sym (written_lines-append far.before (adds.answer ∷ []));
 }
 
-pub so-far-whole : {shown : Values → List ℕ} {lines rest : List (List ℕ)} {output : List ℕ} → rest ≡ [] → IsSoFar shown lines rest output → AreAnswered shown lines output
+pub so-far-whole : {shown : Values → List ℕ} {lines rest : List (List ℕ)} {output : List ℕ} → rest ≡ [] → IsSoFar shown lines rest output → IsLineOutput shown lines output
 so-far-whole none far = (far.before, so-far-end none far.answers, far.written_lines)
 
 -- one more answer, which the matrix may keep

@@ -3,7 +3,7 @@ use Rattle.std.proofs.Common.{◌≡◌, ℕ, ◌<◌, false, List, [], ◌∷�
 use Rattle.serde_json.specs.{Data.Data, Read.read, Find.as_array, View.items_of, Written.items_have_float}
 use Rattle.serde_json.proofs.OnLiterals.{serde_json_on_literals}
 use Rattle.target_lexicon.specs.{Json.json_of, Values.Values}
-use Rattle.triples.specs.{JsonOutput.IsJsonAnswerFault, JsonOutput.IsJsonInputFault, declared.run_error.RunError.RunError}
+use Rattle.triples.specs.{JsonOutput.IsJsonAnswerErrorOf, JsonOutput.IsJsonInputErrorOf, declared.run_error.RunError.RunError}
 use Rattle.triples.specs.declared.run_error.RunError.TheVariants as run_error
 
 -- a list of texts has no floating-point number
@@ -18,8 +18,8 @@ read-some [] value found = absurd (let same : None ≡ Some value = found in cc)
 read-some (b ∷ bs) value found = omega arith
 
 -- the reason why a value has no answer is the reason why its text has no output
-pub input_fault : (input : List ℕ) (value : Data) (e : RunError) → read input ≡ Some value → IsJsonAnswerFault value e → IsJsonInputFault input e
-input_fault input value run_error.NotList found fault =
-    subst (λ (o : Option Data). MatchOption o ⊥ (λ d. as_array d ≡ None)) (sym found) fault
-input_fault input value run_error.OutOfMemory found fault = read-some input value found
-input_fault input value _ found fault = absurd fault
+pub input_error : (input : List ℕ) (value : Data) (e : RunError) → read input ≡ Some value → IsJsonAnswerErrorOf value e → IsJsonInputErrorOf input e
+input_error input value run_error.NotList found error =
+    subst (λ (o : Option Data). MatchOption o ⊥ (λ d. as_array d ≡ None)) (sym found) error
+input_error input value run_error.OutOfMemory found error = read-some input value found
+input_error input value _ found error = absurd error

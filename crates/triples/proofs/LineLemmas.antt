@@ -8,12 +8,12 @@ use Rattle.std.proofs.lemmas.Simd.{bitmask_splat, first_set_mask_l, length-chunk
 use lib.Count.{count_trailing_zeros}
 use lib.Lanes.{chunk, mask_l, top, zip2}
 use Rattle.triples.specs.Words.{line_feed}
-use Rattle.triples.specs.Output.{without_empty_last, lines_of}
+use Rattle.triples.specs.Output.{parts_without_empty_last, lines_of}
 
 abbrev pub is_line_feed : ℕ → Bool
 is_line_feed b = b == line_feed
 
-stays-first : (part : List ℕ) (parts : List (List ℕ)) → 0 < length part + length parts → without_empty_last (part ∷ parts) ≡ part ∷ without_empty_last parts
+stays-first : (part : List ℕ) (parts : List (List ℕ)) → 0 < length part + length parts → parts_without_empty_last (part ∷ parts) ≡ part ∷ parts_without_empty_last parts
 stays-first [] [] some = absurd (omega arith)
 stays-first [] (next ∷ parts) some = refl
 stays-first (b ∷ bs) [] some = refl
@@ -29,7 +29,7 @@ module _ (text : List ℕ) (end : ℕ) (is : end ≡ position_or_len is_line_fee
       let whole : end - 0 ≡ end = omega arith in
       let rest = after_first is_line_feed text in
       rw (earlier ∙ ap (λ n. take n text) (whole ∙ is), back ∙ ap (λ n. drop (n + 1) text) is)
-      (ap without_empty_last (slice_split_first is_line_feed text 0 (omega (arith, is, below)))
+      (ap parts_without_empty_last (slice_split_first is_line_feed text 0 (omega (arith, is, below)))
       ∙ stays-first _ (slice_split is_line_feed rest) (omega (arith, length-slice_split is_line_feed rest)))
 
 -- a text without a line feed is one line

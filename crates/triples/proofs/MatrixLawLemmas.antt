@@ -3,14 +3,14 @@ use Rattle.std.proofs.Common.{◌≡◌, ℕ, Bool, true, false, ◌||◌, not, 
 use Rattle.std.proofs.{lemmas.List.append-nil, Math.Bool.or-false, Math.Bool.or-true, lemmas.Bool.not-false, lemmas.List.Elements.filter-append}
 use Rattle.std.proofs.lemmas.Slice.Eq.{bytes_eq-Decides}
 use Rattle.std.specs.{Cmp.Lexicographic.same_text, List.filter, List.list_any, Str.bytes_eq}
-use Rattle.target_lexicon.specs.{FixedPoints.ReadTriplesArePlain, FixedPoints.RoundIsNormalStep, FixedPoints.SettledTextsAreKeys, FixedPoints.settled_values, FixedPoints.canonical_text, NormalStep.normal_step, Laws.OneOutcomeEach, Printing.text_of, Reading.ReadsAs, Values.Values}
-use Rattle.triples.specs.MatrixLaws.{EntriesAreSettledTriples, entries_of, is_refusal, FirstEntriesStayInOrder, EachSettledTripleIsThere, only_entries, MatricesAreTheirOwn}
-use Rattle.triples.specs.Output.{Answer, Shown, Refused, IsAnswer, AreAnswers, shows, stays_after, staying_after, matrix_of, answer_bytes}
+use Rattle.target_lexicon.specs.{FixedPoints.ReadTriplesArePlain, FixedPoints.RoundIsNormalStep, FixedPoints.SettledTextsAreKeys, FixedPoints.settled_values, FixedPoints.canonical_text, NormalStep.normal_step, Laws.EveryTextHasOneOutcome, Printing.text_of, Reading.ReadsAs, Values.Values}
+use Rattle.triples.specs.MatrixLaws.{EntriesAreSettledTriples, entries_of, is_refusal, FirstEntriesStayInOrder, EachSettledTripleHasAnEntry, only_entries, MatricesAreTheirOwn}
+use Rattle.triples.specs.Output.{Answer, Shown, Refused, IsAnswer, AreAnswers, shows, stays_after, staying_answers, matrix_of, answer_bytes}
 use Rattle.triples.proofs.AnswerLemmas.{if_stays, push-any, staying-push}
 
 -- two lines that parse have the same entry exactly if their canonical triples are equal
 
-pub entries_are_settled_triples : OneOutcomeEach → ReadTriplesArePlain → SettledTextsAreKeys → EntriesAreSettledTriples
+pub entries_are_settled_triples : EveryTextHasOneOutcome → ReadTriplesArePlain → SettledTextsAreKeys → EntriesAreSettledTriples
 entries_are_settled_triples one plain keys a b t u reads_a reads_b = (
   λ shared.
       let first : shared.1.0 ≡ t = (one a).values shared.1.0 t shared.1.1 reads_a in
@@ -35,26 +35,26 @@ stays-alike : (text : List ℕ) (before : List Answer) (line : Answer) → shows
 stays-alike text before (Shown other) is = ap (λ (t : List ℕ). not (list_any (shows t) before)) (sym (same_text text other (sym is)))
 stays-alike text before (Refused message) is = absurd cc
 
-pub entries-others : (text : List ℕ) (before lines : List Answer)
-    → entries_of text (staying_after before lines) ≡ (if list_any (shows text) before then [] else take 1 (entries_of text lines))
-entries-others text before [] = elim (list_any (shows text) before) as (λ b. ◌≡◌ {A = List Answer} [] (if b then [] else take 1 [])) [ true ↦ refl | false ↦ refl ]
-entries-others text before (line ∷ lines) =
+pub entries-staying : (text : List ℕ) (before lines : List Answer)
+    → entries_of text (staying_answers before lines) ≡ (if list_any (shows text) before then [] else take 1 (entries_of text lines))
+entries-staying text before [] = elim (list_any (shows text) before) as (λ b. ◌≡◌ {A = List Answer} [] (if b then [] else take 1 [])) [ true ↦ refl | false ↦ refl ]
+entries-staying text before (line ∷ lines) =
     let test = shows text in
-    filter-append test (if_stays (stays_after before line) line) (staying_after (before ++ line ∷ []) lines)
+    filter-append test (if_stays (stays_after before line) line) (staying_answers (before ++ line ∷ []) lines)
     ∙ ap (λ (t : List Answer). filter test (if_stays (stays_after before line) line) ++ t)
-    (entries-others text (before ++ line ∷ []) lines
+    (entries-staying text (before ++ line ∷ []) lines
     ∙ ap (λ (b : Bool). if b then [] else take 1 (filter test lines)) (push-any text before line))
     ∙ entry-case (list_any test before) (test line) (stays_after before line) test line (filter test lines) refl (stays-alike text before line)
 
-pub refusals-others : (before lines : List Answer) → filter is_refusal (staying_after before lines) ≡ filter is_refusal lines
-refusals-others before [] = refl
-refusals-others before (Shown text ∷ lines) =
-    let rest = filter is_refusal (staying_after (before ++ Shown text ∷ []) lines) in
-    filter-append is_refusal (if_stays (stays_after before (Shown text)) (Shown text)) (staying_after (before ++ Shown text ∷ []) lines)
+pub refusals-staying : (before lines : List Answer) → filter is_refusal (staying_answers before lines) ≡ filter is_refusal lines
+refusals-staying before [] = refl
+refusals-staying before (Shown text ∷ lines) =
+    let rest = filter is_refusal (staying_answers (before ++ Shown text ∷ []) lines) in
+    filter-append is_refusal (if_stays (stays_after before (Shown text)) (Shown text)) (staying_answers (before ++ Shown text ∷ []) lines)
     ∙ elim (stays_after before (Shown text)) as (λ stays. filter is_refusal (if_stays stays (Shown text)) ++ rest ≡ rest) [ true ↦ refl | false ↦ refl ]
-    ∙ refusals-others (before ++ Shown text ∷ []) lines
-refusals-others before (Refused message ∷ lines) =
-    ap (λ (t : List Answer). Refused message ∷ t) (refusals-others (before ++ Refused message ∷ []) lines)
+    ∙ refusals-staying (before ++ Shown text ∷ []) lines
+refusals-staying before (Refused message ∷ lines) =
+    ap (λ (t : List Answer). Refused message ∷ t) (refusals-staying (before ++ Refused message ∷ []) lines)
 
 -- each line is added to the matrix of the earlier ones
 
@@ -95,7 +95,7 @@ first-entry text (Shown other ∷ lines) some =
     (λ is. bytes_eq text other ≡ is → (is || list_any (shows text) lines) ≡ true → take 1 (cond is (Shown other ∷ rest) rest) ≡ Shown text ∷ [])
     [ true ↦ λ is here. ap (λ (t : List ℕ). Shown t ∷ []) (sym (same_text text other (sym is))) | false ↦ λ is later. first-entry text lines later ]) refl some
 
-module _ (one : OneOutcomeEach) (line : List ℕ) (t : Values) (reads : ReadsAs line t) where
+module _ (one : EveryTextHasOneOutcome) (line : List ℕ) (t : Values) (reads : ReadsAs line t) where
   own-entry : (answer : Answer) → IsAnswer canonical_text line answer → shows (canonical_text t) answer ≡ true
   own-entry (Shown text) is =
       let same : is.0 ≡ t = (one line).values is.0 t is.1 reads in
@@ -110,9 +110,9 @@ module _ (one : OneOutcomeEach) (line : List ℕ) (t : Values) (reads : ReadsAs 
   some-entry (other ∷ earlier) back (first ∷ others) are =
       ap (λ (b : Bool). shows (canonical_text t) first || b) (some-entry earlier back others are.1) ∙ or-true (shows (canonical_text t) first)
 
-pub each_settled_triple_is_there : OneOutcomeEach → EachSettledTripleIsThere
-each_settled_triple_is_there one earlier back line answers are t reads =
-    entries-others (canonical_text t) [] answers ∙ first-entry (canonical_text t) answers (some-entry one line t reads earlier back answers are)
+pub each_settled_triple_has_an_entry : EveryTextHasOneOutcome → EachSettledTripleHasAnEntry
+each_settled_triple_has_an_entry one earlier back line answers are t reads =
+    entries-staying (canonical_text t) [] answers ∙ first-entry (canonical_text t) answers (some-entry one line t reads earlier back answers are)
 
 -- the entries of a matrix are their own matrix
 
@@ -131,10 +131,10 @@ there-again xs text other stays is = ap (λ (t : List ℕ). list_any (shows t) x
 
 -- the entries that stay after some lines and the entry for a text
 abbrev entries_more : List Answer → List ℕ → List Answer → List Answer
-entries_more before text lines = only_entries (staying_after (before ++ Shown text ∷ []) lines)
+entries_more before text lines = only_entries (staying_answers (before ++ Shown text ∷ []) lines)
 
 stay-again : (before entries lines : List Answer) → HaveSameEntries before entries
-    → staying_after entries (only_entries (staying_after before lines)) ≡ only_entries (staying_after before lines)
+    → staying_answers entries (only_entries (staying_answers before lines)) ≡ only_entries (staying_answers before lines)
 stay-again before entries [] same = refl
 stay-again before entries (Refused message ∷ lines) same =
     stay-again (before ++ Refused message ∷ []) entries lines (λ text. push-any text before (Refused message) ∙ or-false (list_any (shows text) before) ∙ same text)
@@ -145,27 +145,27 @@ stay-again before entries (Shown text ∷ lines) same =
     (stay-again (before ++ Shown text ∷ []) (entries ++ Shown text ∷ []) lines
     (λ other. push-any other before (Shown text) ∙ ap (λ (b : Bool). b || bytes_eq other text) (same other) ∙ sym (push-any other entries (Shown text))))
   where
-    by_stay : (stays : Bool) → stays_after before (Shown text) ≡ stays → (stays_after before (Shown text) ≡ false → staying_after entries (entries_more before text lines) ≡ entries_more before text lines)
-        → staying_after (entries ++ Shown text ∷ []) (entries_more before text lines) ≡ entries_more before text lines
-        → staying_after entries (only_entries (if_stays stays (Shown text) ++ staying_after (before ++ Shown text ∷ []) lines)) ≡ only_entries (if_stays stays (Shown text) ++ staying_after (before ++ Shown text ∷ []) lines)
+    by_stay : (stays : Bool) → stays_after before (Shown text) ≡ stays → (stays_after before (Shown text) ≡ false → staying_answers entries (entries_more before text lines) ≡ entries_more before text lines)
+        → staying_answers (entries ++ Shown text ∷ []) (entries_more before text lines) ≡ entries_more before text lines
+        → staying_answers entries (only_entries (if_stays stays (Shown text) ++ staying_answers (before ++ Shown text ∷ []) lines)) ≡ only_entries (if_stays stays (Shown text) ++ staying_answers (before ++ Shown text ∷ []) lines)
     by_stay false is gone there = gone is
     by_stay true is gone there =
-        ap (λ (b : Bool). if_stays b (Shown text) ++ staying_after (entries ++ Shown text ∷ []) (entries_more before text lines)) (ap not (sym (same text)) ∙ is)
+        ap (λ (b : Bool). if_stays b (Shown text) ++ staying_answers (entries ++ Shown text ∷ []) (entries_more before text lines)) (ap not (sym (same text)) ∙ is)
         ∙ ap (λ (t : List Answer). Shown text ∷ t) there
 
 -- each entry is what mode `settle` writes for its own text
 abbrev AreOwn : List Answer → Type 0
 AreOwn lines = AreAnswers canonical_text (map answer_bytes (only_entries lines)) (only_entries lines)
 
-staying-own : (before lines : List Answer) → AreOwn lines → AreOwn (staying_after before lines)
+staying-own : (before lines : List Answer) → AreOwn lines → AreOwn (staying_answers before lines)
 staying-own before [] own = tt
 staying-own before (Refused message ∷ lines) own = staying-own (before ++ Refused message ∷ []) lines own
 staying-own before (Shown text ∷ lines) own =
     let more = before ++ Shown text ∷ [] in
     let rest = staying-own more lines own.1 in
-    elim (stays_after before (Shown text)) as (λ stays. AreOwn (if_stays stays (Shown text) ++ staying_after more lines)) [ true ↦ (own.0, rest) | false ↦ rest ]
+    elim (stays_after before (Shown text)) as (λ stays. AreOwn (if_stays stays (Shown text) ++ staying_answers more lines)) [ true ↦ (own.0, rest) | false ↦ rest ]
 
-module _ (one : OneOutcomeEach) (plain : ReadTriplesArePlain) (round : RoundIsNormalStep) (keys : SettledTextsAreKeys) where
+module _ (one : EveryTextHasOneOutcome) (plain : ReadTriplesArePlain) (round : RoundIsNormalStep) (keys : SettledTextsAreKeys) where
   -- a canonical triple stays, since it comes back and a round trip is a normal step
   settled_values-stays : (t : Values) → ReadsAs (text_of (settled_values t)) (settled_values t) → settled_values (settled_values t) ≡ settled_values t
   settled_values-stays t back =
@@ -186,6 +186,6 @@ module _ (one : OneOutcomeEach) (plain : ReadTriplesArePlain) (round : RoundIsNo
 
   pub matrices_are_their_own : MatricesAreTheirOwn
   matrices_are_their_own lines answers are = record {
-    settled_values = staying-own [] answers (are-own lines answers are);
+    settled = staying-own [] answers (are-own lines answers are);
     stays = stay-again [] [] answers (λ text. refl);
   }

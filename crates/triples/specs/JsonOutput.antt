@@ -4,7 +4,7 @@ use Rattle.serde_json.specs.Data.{Data}
 use Rattle.serde_json.specs.Find.{as_array}
 use Rattle.serde_json.specs.Read.{read}
 use Rattle.serde_json.specs.Written.{compact_text}
-use Rattle.target_lexicon.specs.Json.{JsonFault, Parse, Element, ListReadsAs, IsListFault, list_json_of, list_fault_line}
+use Rattle.target_lexicon.specs.Json.{JsonErrorValue, Parse, Element, ListReadsAs, IsListErrorOf, list_json_of, list_error_line}
 use Rattle.target_lexicon.specs.Values.{Values}
 use Rattle.triples.specs.Words.{line_feed}
 use Rattle.triples.specs.declared.run_error.RunError.{RunError}
@@ -16,8 +16,8 @@ IsListWritten value answer = (ts : List Values) × ListReadsAs value ts × (answ
 
 -- `error: ` and the line of the first element that doesn't parse, unless an allocation failed there
 abbrev pub IsElementLine : Data → List ℕ → Type 0
-IsElementLine value answer = (i : ℕ) × ((fault : JsonFault) × (IsListFault value (Element i fault) × (fault ≢ Parse None)
-    × (answer ≡ codes "error: " ++ list_fault_line (Element i fault))))
+IsElementLine value answer = (i : ℕ) × ((error : JsonErrorValue) × (IsListErrorOf value (Element i error) × (error ≢ Parse None)
+    × (answer ≡ codes "error: " ++ list_error_line (Element i error))))
 
 -- what is written for the value
 abbrev pub IsJsonAnswer : Data → List ℕ → Type 0
@@ -28,18 +28,18 @@ abbrev pub IsJsonOutput : List ℕ → List ℕ → Type 0
 IsJsonOutput input output = MatchOption (read input) ⊥ (λ value. (answer : List ℕ) × IsJsonAnswer value answer × (output ≡ answer ++ line_feed ∷ []))
 
 -- why the value has no answer: it is not a list, or an allocation failed
-abbrev pub IsJsonAnswerFault : Data → RunError → Type 0
-IsJsonAnswerFault value run_error.NotList = as_array value ≡ None
-IsJsonAnswerFault value run_error.OutOfMemory = Unit {0}
-IsJsonAnswerFault value _ = ⊥
+abbrev pub IsJsonAnswerErrorOf : Data → RunError → Type 0
+IsJsonAnswerErrorOf value run_error.NotList = as_array value ≡ None
+IsJsonAnswerErrorOf value run_error.OutOfMemory = Unit {0}
+IsJsonAnswerErrorOf value _ = ⊥
 
 -- why the input has no output: it is not JSON, or not a list, or an allocation failed, which can't be for an empty
 -- input
-abbrev pub IsJsonInputFault : List ℕ → RunError → Type 0
-IsJsonInputFault input run_error.NotJson = read input ≡ None
-IsJsonInputFault input run_error.NotList = MatchOption (read input) ⊥ (λ value. as_array value ≡ None)
-IsJsonInputFault input run_error.OutOfMemory = 0 < length input
-IsJsonInputFault input _ = ⊥
+abbrev pub IsJsonInputErrorOf : List ℕ → RunError → Type 0
+IsJsonInputErrorOf input run_error.NotJson = read input ≡ None
+IsJsonInputErrorOf input run_error.NotList = MatchOption (read input) ⊥ (λ value. as_array value ≡ None)
+IsJsonInputErrorOf input run_error.OutOfMemory = 0 < length input
+IsJsonInputErrorOf input _ = ⊥
 
 -- the errors that only mode `json` has
 abbrev pub IsOfJson : RunError → Type 0

@@ -39,8 +39,8 @@ pub record FirstEntriesStayInOrder : Type 0 where
   pub others : (before : List Answer) → StaysAtItsFirst before
 
 -- the canonical triple of each line of an input that parses has one entry in the matrix
-abbrev pub EachSettledTripleIsThere : Type 0
-EachSettledTripleIsThere = (earlier back : List (List ℕ)) (line : List ℕ) (answers : List Answer) → AreAnswers canonical_text (earlier ++ line ∷ back) answers
+abbrev pub EachSettledTripleHasAnEntry : Type 0
+EachSettledTripleHasAnEntry = (before after : List (List ℕ)) (line : List ℕ) (answers : List Answer) → AreAnswers canonical_text (before ++ line ∷ after) answers
     → (t : Values) → ReadsAs line t → entries_of (canonical_text t) (matrix_of answers) ≡ Shown (canonical_text t) ∷ []
 
 -- the entries among answers
@@ -49,7 +49,7 @@ only_entries lines = filter (λ line. not (is_refusal line)) lines
 
 -- the entries of a matrix, as lines, give the same entries: mode `settle` writes them unchanged, and all of them stay
 pub record IsItsOwnMatrix (entries : List Answer) : Type 0 where
-  pub settled_values : AreAnswers canonical_text (map answer_bytes entries) entries
+  pub settled : AreAnswers canonical_text (map answer_bytes entries) entries
   pub stays : matrix_of entries ≡ entries
 
 -- this holds for every matrix

@@ -7,24 +7,24 @@ use Rattle.triples.specs.{declared.mode.Mode.Mode, declared.run_error.RunError.R
 use Rattle.triples.specs.declared.mode.Mode.TheVariants.{Print, Show, Settle, Json, Matrix}
 use Rattle.triples.specs.{declared.output.View.View, declared.output.View.TheVariants.Printed, declared.output.View.TheVariants.WithFacts, declared.output.View.TheVariants.Canonical}
 use Rattle.triples.specs.Words.{line_feed}
-use Rattle.triples.specs.JsonOutput.{IsJsonOutput, IsJsonInputFault}
+use Rattle.triples.specs.JsonOutput.{IsJsonOutput, IsJsonInputErrorOf}
 
 -- the parts without an empty last one
-abbrev pub without_empty_last : List (List ℕ) → List (List ℕ)
-without_empty_last [] = []
-without_empty_last ([] ∷ []) = []
-without_empty_last ((b ∷ bs) ∷ []) = (b ∷ bs) ∷ []
-without_empty_last (part ∷ next ∷ parts) = part ∷ without_empty_last (next ∷ parts)
+abbrev pub parts_without_empty_last : List (List ℕ) → List (List ℕ)
+parts_without_empty_last [] = []
+parts_without_empty_last ([] ∷ []) = []
+parts_without_empty_last ((b ∷ bs) ∷ []) = (b ∷ bs) ∷ []
+parts_without_empty_last (part ∷ next ∷ parts) = part ∷ parts_without_empty_last (next ∷ parts)
 
 -- the lines of an input: it is cut at its line feeds, nothing is trimmed, and no line follows a last line feed
 abbrev pub lines_of : List ℕ → List (List ℕ)
-lines_of input = without_empty_last (slice_split (λ b. b == line_feed) input)
+lines_of input = parts_without_empty_last (slice_split (λ b. b == line_feed) input)
 
 -- what is shown of a triple
-abbrev pub shown_by : View → Values → List ℕ
-shown_by Printed = text_of
-shown_by WithFacts = text_with_facts
-shown_by Canonical = canonical_text
+abbrev pub shown_text : View → Values → List ℕ
+shown_text Printed = text_of
+shown_text WithFacts = text_with_facts
+shown_text Canonical = canonical_text
 
 -- the answer to a line: what is shown of its triple, or the text of its refusal
 pub data Answer : Type 0 where
@@ -51,14 +51,14 @@ stays_after before (Shown text) = not (list_any (shows text) before)
 stays_after before (Refused message) = true
 
 -- the answers that stay after these
-abbrev pub staying_after : List Answer → List Answer → List Answer
-staying_after before [] = []
-staying_after before (answer ∷ answers) =
-    (if stays_after before answer then answer ∷ [] else []) ++ staying_after (before ++ answer ∷ []) answers
+abbrev pub staying_answers : List Answer → List Answer → List Answer
+staying_answers before [] = []
+staying_answers before (answer ∷ answers) =
+    (if stays_after before answer then answer ∷ [] else []) ++ staying_answers (before ++ answer ∷ []) answers
 
 -- the matrix: the first answer that shows each text, and each refusal
 abbrev pub matrix_of : List Answer → List Answer
-matrix_of answers = staying_after [] answers
+matrix_of answers = staying_answers [] answers
 
 abbrev pub answer_bytes : Answer → List ℕ
 answer_bytes (Shown text) = text
@@ -70,8 +70,8 @@ written_lines [] = []
 written_lines (answer ∷ answers) = answer_bytes answer ++ (line_feed ∷ written_lines answers)
 
 -- the output is the answers to these lines, which show their triples in this way
-abbrev pub AreAnswered : (Values → List ℕ) → List (List ℕ) → List ℕ → Type 0
-AreAnswered shown lines output =
+abbrev pub IsLineOutput : (Values → List ℕ) → List (List ℕ) → List ℕ → Type 0
+IsLineOutput shown lines output =
     (answers : List Answer) × AreAnswers shown lines answers × (output ≡ written_lines answers)
 
 -- the output is the matrix of these lines
@@ -81,13 +81,13 @@ IsMatrix lines output =
 
 -- the output of a mode for an input
 abbrev pub IsOutput : Mode → List ℕ → List ℕ → Type 0
-IsOutput Print input output = AreAnswered text_of (lines_of input) output
-IsOutput Show input output = AreAnswered text_with_facts (lines_of input) output
-IsOutput Settle input output = AreAnswered canonical_text (lines_of input) output
+IsOutput Print input output = IsLineOutput text_of (lines_of input) output
+IsOutput Show input output = IsLineOutput text_with_facts (lines_of input) output
+IsOutput Settle input output = IsLineOutput canonical_text (lines_of input) output
 IsOutput Matrix input output = IsMatrix (lines_of input) output
 IsOutput Json input output = IsJsonOutput input output
 
 -- why an input has no output in a mode; in a line mode only an allocation can fail, and none is made for an empty input
-abbrev pub IsInputFault : Mode → List ℕ → RunError → Type 0
-IsInputFault Json input e = IsJsonInputFault input e
-IsInputFault _ input e = (e ≡ OutOfMemory) × (0 < length input)
+abbrev pub IsInputErrorOf : Mode → List ℕ → RunError → Type 0
+IsInputErrorOf Json input e = IsJsonInputErrorOf input e
+IsInputErrorOf _ input e = (e ≡ OutOfMemory) × (0 < length input)

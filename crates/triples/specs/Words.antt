@@ -10,8 +10,8 @@ abbrev pub line_feed : ℕ
 line_feed = 10
 
 -- the mode that a word names
-unfoldable pub mode_named : List ℕ → Option Mode
-mode_named word =
+unfoldable pub mode_from_word : List ℕ → Option Mode
+mode_from_word word =
     value_of ((codes "print", Print) ∷ (codes "show", Show) ∷ (codes "settle", Settle) ∷ (codes "json", Json) ∷ (codes "matrix", Matrix) ∷ []) word
 
 -- the line for an error

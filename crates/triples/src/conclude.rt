@@ -33,16 +33,16 @@ pub fn conclude<W: Write>(end: Option<Result<(), RunError>>, w: &mut Counted<W>)
 }
 
 /// Writes a line of two pieces and flushes.
-fn say<W: Write>(w: &mut Counted<W>, earlier: &str, back: &str) -> Result<(), RunError>
+fn say<W: Write>(w: &mut Counted<W>, head: &str, tail: &str) -> Result<(), RunError>
     ensures said { failures w.new ≡ failures w.old →
         Appends (W.contents (inner w.old)) (W.contents (inner w.new))
-        (earlier.now ++ (back.now ++ codes "\n")) }
+        (head.now ++ (tail.now ++ codes "\n")) }
     ensures begun { AppendsBeginning (W.contents (inner w.old)) (W.contents (inner w.new))
-        (earlier.now ++ (back.now ++ codes "\n")) }
+        (head.now ++ (tail.now ++ codes "\n")) }
     ensures unfailed { OnOk result (failures w.new ≡ failures w.old) }
     ensures only { IfErr result (λ e. e ≡ RunError.Write) }
 {
-    write_all(w, earlier.as_bytes())?;
-    write_all(w, back.as_bytes())?;
+    write_all(w, head.as_bytes())?;
+    write_all(w, tail.as_bytes())?;
     write_and_flush(w, b"\n")
 }

@@ -67,11 +67,11 @@ impl<W: Write> Counted<W> {
         ensures count { failures self.new ≡ failures self.old + write_failures_of result buf.now }
     {
         let answer = self.inner.write(buf);
-        let is_refused = match &answer {
+        let is_failure = match &answer {
             Ok(taken) => *taken == 0 && !buf.is_empty(),
             Err(_) => true,
         };
-        if is_refused {
+        if is_failure {
             self.failures.tick();
         }
         answer

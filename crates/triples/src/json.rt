@@ -2,9 +2,9 @@
 ghost use Rattle.std.specs.Prelude.{◌↔◌, ◌≡◌, ◌++◌, None, codes, map, string_bytes, IfOk, IfErr, IsTrue};
 ghost use Rattle.serde_json.specs.View.{view};
 ghost use Rattle.serde_json.specs.Written.{compact_text};
-ghost use Rattle.target_lexicon.specs.Json.{Parse, Element, json_fault_of, list_json_of, list_fault_line};
+ghost use Rattle.target_lexicon.specs.Json.{Parse, Element, json_error_value, list_json_of, list_error_line};
 ghost use Rattle.target_lexicon.specs.Values.{values_of};
-ghost use Rattle.triples.specs.JsonOutput.{IsJsonAnswer, IsJsonAnswerFault, IsJsonOutput, IsJsonInputFault};
+ghost use Rattle.triples.specs.JsonOutput.{IsJsonAnswer, IsJsonAnswerErrorOf, IsJsonOutput, IsJsonInputErrorOf};
 
 use crate::run_error::RunError;
 use serde_json::Value;
@@ -26,7 +26,7 @@ fn element_line(alloc: Global, i: usize, error: JsonError) -> Result<String, All
     ensures { IfOk result
         (λ line.
         string_bytes line
-        ≡ codes "error: " ++ list_fault_line (Element i (json_fault_of error))) }
+        ≡ codes "error: " ++ list_error_line (Element i (json_error_value error))) }
 {
     let error = ListError::Element(i, error);
     format!(in alloc; "error: {error}")
@@ -34,7 +34,7 @@ fn element_line(alloc: Global, i: usize, error: JsonError) -> Result<String, All
 
 /// Whether the error is an allocation failure.
 fn is_out_of_memory(error: &JsonError) -> bool
-    ensures { IsTrue result ↔ (json_fault_of error.now ≡ Parse None) }
+    ensures { IsTrue result ↔ (json_error_value error.now ≡ Parse None) }
 {
     matches!(error, JsonError::Parse(ParseError::OutOfMemory))
 }
@@ -43,7 +43,7 @@ fn is_out_of_memory(error: &JsonError) -> bool
 /// before the text is made, to save memory.
 fn answer(alloc: Global, value: Value) -> Result<String, RunError>
     ensures ok { IfOk result (λ answer. IsJsonAnswer (view value) (string_bytes answer)) }
-    ensures err { IfErr result (λ e. IsJsonAnswerFault (view value) e) }
+    ensures err { IfErr result (λ e. IsJsonAnswerErrorOf (view value) e) }
 {
     let list = list_from_json(alloc, &value);
     drop(value);
@@ -63,7 +63,7 @@ fn answer(alloc: Global, value: Value) -> Result<String, RunError>
 /// The output for an input that is one JSON text, or why there is none.
 pub(crate) fn json_output(alloc: Global, input: &str) -> Result<String, RunError>
     ensures output { IfOk result (λ output. IsJsonOutput input.now (string_bytes output)) }
-    ensures err { IfErr result (λ e. IsJsonInputFault input.now e) }
+    ensures err { IfErr result (λ e. IsJsonInputErrorOf input.now e) }
 {
     let value = match Value::from_str(alloc, input) {
         Ok(value) => value,

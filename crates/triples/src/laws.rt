@@ -1,7 +1,7 @@
 //! Laws of the definitions. Each function's contract is a law; a call does nothing.
 ghost use Rattle.std.specs.Prelude.{List};
-ghost use Rattle.lexicon_fields.specs.Laws.{ComparesByValue, CopiesAreTheirSources};
-ghost use Rattle.triples.specs.MatrixLaws.{EntriesAreSettledTriples, KeepsEntriesOnce, FirstEntriesStayInOrder, EachSettledTripleIsThere, MatricesAreTheirOwn};
+ghost use Rattle.lexicon_fields.specs.Laws.{ComparesByValue, CopiesEqualTheirSources};
+ghost use Rattle.triples.specs.MatrixLaws.{EntriesAreSettledTriples, KeepsEntriesOnce, FirstEntriesStayInOrder, EachSettledTripleHasAnEntry, MatricesAreTheirOwn};
 ghost use Rattle.triples.specs.Output.{Answer};
 ghost use Rattle.triples.specs.declared.mode.Mode.{Mode};
 ghost use Rattle.triples.specs.declared.run_error.RunError.{RunError};
@@ -12,14 +12,14 @@ use crate::run_error::RunError;
 /// Modes and errors of a run are equal exactly if their variants are.
 pub fn words_are_equal_by_variant()
     ensures mode { ComparesByValue ⟦<Mode as PartialEq>⟧.eq }
-    ensures fault { ComparesByValue ⟦<RunError as PartialEq>⟧.eq }
+    ensures error { ComparesByValue ⟦<RunError as PartialEq>⟧.eq }
 {}
 
 /// A copy of a mode or an error is that value, and copying allocates nothing.
-pub fn copies_are_their_sources()
-    ensures mode { CopiesAreTheirSources ⟦<Mode as Clone>⟧.is_clone
+pub fn copies_equal_their_sources()
+    ensures mode { CopiesEqualTheirSources ⟦<Mode as Clone>⟧.is_clone
         ⟦<Mode as Clone>⟧.is_infallible }
-    ensures error { CopiesAreTheirSources ⟦<RunError as Clone>⟧.is_clone
+    ensures error { CopiesEqualTheirSources ⟦<RunError as Clone>⟧.is_clone
         ⟦<RunError as Clone>⟧.is_infallible }
 {}
 
@@ -27,7 +27,7 @@ pub fn copies_are_their_sources()
 pub fn entries_are_settled_triples()
     ensures { EntriesAreSettledTriples }
 {
-    target_lexicon::laws::one_outcome_each();
+    target_lexicon::laws::every_text_has_one_outcome();
     target_lexicon::laws::read_triples_are_plain();
     target_lexicon::laws::settled_texts_are_keys();
 }
@@ -45,11 +45,11 @@ pub fn first_entries_stay_in_order()
 {}
 
 /// The canonical triple of each line that parses has exactly one entry in the matrix.
-#[tactic(auto, using(crate::proofs::MatrixLawLemmas::each_settled_triple_is_there))]
-pub fn each_settled_triple_is_there()
-    ensures { EachSettledTripleIsThere }
+#[tactic(auto, using(crate::proofs::MatrixLawLemmas::each_settled_triple_has_an_entry))]
+pub fn each_settled_triple_has_an_entry()
+    ensures { EachSettledTripleHasAnEntry }
 {
-    target_lexicon::laws::one_outcome_each();
+    target_lexicon::laws::every_text_has_one_outcome();
 }
 
 /// Mode `matrix` gives the entries of a matrix back, if they are its input.
@@ -57,7 +57,7 @@ pub fn each_settled_triple_is_there()
 pub fn matrices_are_their_own()
     ensures { MatricesAreTheirOwn }
 {
-    target_lexicon::laws::one_outcome_each();
+    target_lexicon::laws::every_text_has_one_outcome();
     target_lexicon::laws::read_triples_are_plain();
     target_lexicon::laws::round_is_normal_step();
     target_lexicon::laws::settled_texts_are_keys();

@@ -8,7 +8,7 @@ use std::simd::prelude::*;
 
 /// The number of bytes before the first line feed among the sixteen from `at` on, 16 if there is none.
 #[inline(always)]
-fn before_line_feed(bytes: &[u8], at: usize) -> usize
+fn length_before_line_feed(bytes: &[u8], at: usize) -> usize
     requires { at + 16 ≤ length bytes.now }
     ensures { result ≡ position_or_len (λ b. b == line_feed) (take 16 (drop at bytes.now)) }
 {
@@ -28,7 +28,7 @@ fn line_end(bytes: &[u8]) -> usize
 {
     let mut at = 0;
     while 16 <= bytes.len() - at {
-        let before = before_line_feed(bytes, at);
+        let before = length_before_line_feed(bytes, at);
         at += before;
         if before < 16 {
             return at;

@@ -26,7 +26,7 @@ use std::rt::Env;
 
 /// The mode that the arguments name: `print` without an argument, the mode that a single word names, and `None` for
 /// other words, more words, or arguments that aren't available.
-fn asked_mode(rt: &(impl Env + Alloc)) -> Option<Mode> {
+fn requested_mode(rt: &(impl Env + Alloc)) -> Option<Mode> {
     let mut args = env::args(rt).ok()?;
     let _name = args.next();
     let Some(word) = args.next() else {
@@ -41,6 +41,6 @@ fn asked_mode(rt: &(impl Env + Alloc)) -> Option<Mode> {
 fn main(rt: HostRuntime) -> ExitCode {
     let mut reader = Counted::new(rt.stdin());
     let mut writer = Counted::new(rt.stdout());
-    let end = asked_mode(&rt).map(|mode| run(rt.alloc(), mode, &mut reader, &mut writer));
+    let end = requested_mode(&rt).map(|mode| run(rt.alloc(), mode, &mut reader, &mut writer));
     ExitCode::from(conclude(end, &mut writer))
 }

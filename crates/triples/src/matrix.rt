@@ -78,7 +78,7 @@ fn push_unseen(
 
 impl Seen {
     /// No text seen.
-    pub(crate) fn none(alloc: Global) -> Self
+    pub(crate) fn new(alloc: Global) -> Self
         ensures { (text : List ℕ) → has_text result.texts text ≡ false }
     {
         Seen {

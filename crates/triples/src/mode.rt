@@ -17,12 +17,12 @@ pub enum Mode {
 }
 
 impl Mode {
-    ghost use Rattle.triples.specs.Words.{mode_named};
+    ghost use Rattle.triples.specs.Words.{mode_from_word};
 
     /// The mode that the word names, if any.
-    #[tactic(auto, unfolding(crate::specs::Words::mode_named))]
+    #[tactic(auto, unfolding(crate::specs::Words::mode_from_word))]
     pub fn from_word(word: &str) -> Option<Mode>
-        ensures { result ≡ mode_named word.now }
+        ensures { result ≡ mode_from_word word.now }
     {
         match word {
             "print" => Some(Mode::Print),

@@ -3,7 +3,7 @@ ghost use Rattle.std.specs.Prelude.{◌≡◌, ◌<◌, ◌++◌, ◌∷◌, [],
 ghost use Rattle.lexicon_fields.specs.Vendor.{is_plain, vendor_value};
 ghost use Rattle.target_lexicon.specs.Refusal.{error_line};
 ghost use Rattle.target_lexicon.specs.Values.{values_of};
-ghost use Rattle.triples.specs.Output.{lines_of, AreAnswered, IsMatrix, IsOutput, IsInputFault, shown_by};
+ghost use Rattle.triples.specs.Output.{lines_of, IsLineOutput, IsMatrix, IsOutput, IsInputErrorOf, shown_text};
 ghost use Rattle.triples.specs.Private.{AddsAnswer, AddsEntry};
 ghost use Rattle.triples.specs.Words.{line_feed};
 
@@ -31,7 +31,7 @@ enum View {
 fn push_text(output: &mut String, view: View, triple: Triple) -> Result<(), AllocError>
     requires { is_plain (vendor_value triple.vendor) ≡ true }
     ensures { OnOk result
-        (string_bytes output.new ≡ string_bytes output.old ++ shown_by view (values_of triple)) }
+        (string_bytes output.new ≡ string_bytes output.old ++ shown_text view (values_of triple)) }
 {
     match view {
         View::Printed => output.write(&triple),
@@ -45,7 +45,7 @@ fn push_line(output: &mut String, view: View, triple: Triple) -> Result<(), Allo
     requires { is_plain (vendor_value triple.vendor) ≡ true }
     ensures { OnOk result
         (string_bytes output.new
-        ≡ string_bytes output.old ++ (shown_by view (values_of triple) ++ line_feed ∷ [])) }
+        ≡ string_bytes output.old ++ (shown_text view (values_of triple) ++ line_feed ∷ [])) }
 {
     push_text(output, view, triple)?;
     output.push('\n')
@@ -66,7 +66,8 @@ fn push_refusal(output: &mut String, error: &ParseError) -> Result<(), AllocErro
 /// Appends the answer to a line, and a line feed.
 fn push_answer(alloc: Global, output: &mut String, view: View, line: &str) -> Result<(), AllocError>
     ensures { OnOk result
-        (AddsAnswer (shown_by view) line.now (string_bytes output.old) (string_bytes output.new)) }
+        (AddsAnswer (shown_text view) line.now (string_bytes output.old)
+        (string_bytes output.new)) }
 {
     match Triple::from_str(alloc, line) {
         Ok(triple) => push_line(output, view, triple),
@@ -96,7 +97,7 @@ fn push_entry(
 /// The answers to the lines of an input, in order, with a line feed after each.
 fn answers(alloc: Global, view: View, input: &str) -> Result<String, AllocError>
     ensures output { IfOk result
-        (λ output. AreAnswered (shown_by view) (lines_of input.now) (string_bytes output)) }
+        (λ output. IsLineOutput (shown_text view) (lines_of input.now) (string_bytes output)) }
     ensures memory { OnErr result (0 < length input.now) }
 {
     let mut output = String::new(alloc);
@@ -115,7 +116,7 @@ fn matrix(alloc: Global, input: &str) -> Result<String, AllocError>
     ensures memory { OnErr result (0 < length input.now) }
 {
     let mut output = String::new(alloc);
-    let mut seen = Seen::none(alloc);
+    let mut seen = Seen::new(alloc);
     let mut rest = input;
     while !rest.is_empty() {
         let (line, others) = first_line(rest);
@@ -128,7 +129,7 @@ fn matrix(alloc: Global, input: &str) -> Result<String, AllocError>
 /// The output of a mode for an input, or why there is none. Nothing is allocated for an empty input.
 pub(crate) fn output(alloc: Global, mode: Mode, input: &str) -> Result<String, RunError>
     ensures output { IfOk result (λ output. IsOutput mode input.now (string_bytes output)) }
-    ensures err { IfErr result (λ e. IsInputFault mode input.now e) }
+    ensures err { IfErr result (λ e. IsInputErrorOf mode input.now e) }
 {
     match mode {
         Mode::Print => Ok(answers(alloc, View::Printed, input)?),

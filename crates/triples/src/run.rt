@@ -3,7 +3,7 @@ ghost use Rattle.std.specs.Prelude.{◌≡◌, ◌≢◌, ◌<◌, ◌≤◌, �
 ghost use Rattle.std.specs.Str.{IsUtf8};
 ghost use Rattle.std.specs.Io.KnownBytes.{Appends, Keeps, IsAtEnd};
 ghost use Rattle.triples.specs.Run.{inner, failures, AppendsBeginning, ConsumesSome, WritesOutput};
-ghost use Rattle.triples.specs.JsonOutput.{IsOfJson, IsJsonInputFault};
+ghost use Rattle.triples.specs.JsonOutput.{IsOfJson, IsJsonInputErrorOf};
 
 use crate::counted::Counted;
 use crate::input::{read_all, write_and_flush};
@@ -66,7 +66,7 @@ pub fn run<R: Read, W: Write>(
         (λ e.
         IsOfJson e →
         IfSome (R.remaining (inner r.old))
-        (λ input. IsUtf8 input × IsJsonInputFault input e)) }
+        (λ input. IsUtf8 input × IsJsonInputErrorOf input e)) }
     ensures memory { IsErrOf result RunError.OutOfMemory →
         ConsumesSome (R.remaining (inner r.old)) (R.remaining (inner r.new)) }
 {

@@ -7,7 +7,7 @@ use Rattle.std.proofs.lemmas.List.{get_or_default}
 use Rattle.std.proofs.lemmas.List.Elements.{All-push, All-weaker}
 use Rattle.std.proofs.lemmas.List.Quantifiers.{all_pairs_push}
 use Rattle.target_lexicon.specs.{declared.triple.Triple.Triple, Laws.ComesBack, Laws.EqualTextsEqualTriples, Values.Values, Values.values_of}
-use Rattle.uses.specs.Matrix.{Text, Has, IsAdded, SettlesAs, IsOneMore, IsCovered, HaveOtherTexts}
+use Rattle.uses.specs.Matrix.{Text, Has, IsAdded, SettlesAs, IsOneMore, IsCovered, HaveDifferentTexts}
 use Rattle.uses.proofs.IsMatrix.{IsMatrix}
 
 kept : (x : Triple) (triples : List Triple) (t : Values) → Has triples t → Has (triples ++ x ∷ []) t
@@ -28,7 +28,7 @@ more equal texts text x before after settles back (inr is) m = record {
   built = FoldsTo-push IsOneMore [] texts before text after m.built (x, settles, inr is);
   each = rw is.1 (All-push (IsCovered (before ++ x ∷ [])) texts text
       (All-weaker (IsCovered before) (IsCovered (before ++ x ∷ [])) (λ _ is. (is.0, is.1, kept x before is.0 is.2)) texts m.each) (values_of x, settles, last x before));
-  apart = rw is.1 (all_pairs_push HaveOtherTexts before x m.apart (λ k d within same. is.0 (
+  apart = rw is.1 (all_pairs_push HaveDifferentTexts before x m.apart (λ k d within same. is.0 (
     k,
     within,
     λ e.

@@ -14,20 +14,20 @@ long_long_alignment (architecture.Arm sub) (operating_system.WatchOS version) = 
 long_long_alignment (architecture.Arm sub) s = if is_like_darwin s then 4 else 8
 long_long_alignment a s = 8
 
-abbrev pub aligned_to : ℕ → Size → TypeLayout
-aligned_to alignment size = record { size = size_bytes size; alignment = alignment }
+abbrev pub layout_aligned_to : ℕ → Size → TypeLayout
+layout_aligned_to alignment size = record { size = size_bytes size; alignment = alignment }
 
 -- a type that is aligned to its size
-abbrev pub natural : Size → TypeLayout
-natural size = aligned_to (size_bytes size) size
+abbrev pub natural_layout : Size → TypeLayout
+natural_layout size = layout_aligned_to (size_bytes size) size
 
 -- the layout in a data model
 abbrev pub layout_in : CDataModel → Architecture → OperatingSystem → CLayout
 layout_in model a s = record {
-  pointer = natural (sizes_of model).pointer;
-  int = natural (sizes_of model).int;
-  long = natural (sizes_of model).long;
-  long_long = aligned_to (long_long_alignment a s) (sizes_of model).long_long;
+  pointer = natural_layout (sizes_of model).pointer;
+  int = natural_layout (sizes_of model).int;
+  long = natural_layout (sizes_of model).long;
+  long_long = layout_aligned_to (long_long_alignment a s) (sizes_of model).long_long;
 }
 
 -- the layout for a triple, if its data model is known

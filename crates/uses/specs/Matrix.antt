@@ -31,11 +31,11 @@ abbrev pub IsCovered : List Triple → Text → Type 0
 IsCovered triples text = (t : Values) × SettlesAs text t × Has triples t
 
 -- two triples print different texts
-abbrev pub HaveOtherTexts : Triple → Triple → Type 0
-HaveOtherTexts x y = text_of (values_of x) ≢ text_of (values_of y)
+abbrev pub HaveDifferentTexts : Triple → Triple → Type 0
+HaveDifferentTexts x y = text_of (values_of x) ≢ text_of (values_of y)
 
 -- why a list has no matrix: the text at i has this error, and all earlier ones parse; or an allocation for the list
 -- failed
-abbrev pub IsMatrixFault : List Text → MatrixError → Type 0
-IsMatrixFault texts (Refused i error) = (i < length texts) × HoldsAt (λ text. IsErrorOf (string_bytes text) error) texts i × All (λ text. IsRead (string_bytes text)) (take i texts)
-IsMatrixFault texts OutOfMemory = 0 < length texts
+abbrev pub IsMatrixErrorOf : List Text → MatrixError → Type 0
+IsMatrixErrorOf texts (Refused i error) = (i < length texts) × HoldsAt (λ text. IsErrorOf (string_bytes text) error) texts i × All (λ text. IsRead (string_bytes text)) (take i texts)
+IsMatrixErrorOf texts OutOfMemory = 0 < length texts

@@ -15,9 +15,9 @@ abbrev pub LlvmTargetReadsAs : Data → Values → Type 0
 LlvmTargetReadsAs file t = MatchOption (llvm_target file) ⊥ (λ value. JsonReadsAs value t)
 
 -- why the file names no triple: the first of these that holds
-abbrev pub IsTargetFileFault : Data → TargetFileError → Type 0
-IsTargetFileFault file NoObject = as_object file ≡ None
-IsTargetFileFault file NoKey = IsSome (as_object file) × (llvm_target file ≡ None)
-IsTargetFileFault file NoText = MatchOption (llvm_target file) ⊥ (λ value. as_str value ≡ None)
-IsTargetFileFault file (Refused error) =
+abbrev pub IsTargetFileErrorOf : Data → TargetFileError → Type 0
+IsTargetFileErrorOf file NoObject = as_object file ≡ None
+IsTargetFileErrorOf file NoKey = IsSome (as_object file) × (llvm_target file ≡ None)
+IsTargetFileErrorOf file NoText = MatchOption (llvm_target file) ⊥ (λ value. as_str value ≡ None)
+IsTargetFileErrorOf file (Refused error) =
     MatchOption (llvm_target file) ⊥ (λ value. MatchOption (as_str value) ⊥ (λ text. IsErrorOf text error))

@@ -21,7 +21,7 @@ impl CacheKey {
     /// The key of a triple. Its vendor must be plain, as that of every parsed triple is.
     pub fn new(triple: Triple) -> Self
         requires { is_plain (vendor_value triple.vendor) ≡ true }
-        ensures settled_values { values_of result.triple ≡ settled_values (values_of triple) }
+        ensures settled { values_of result.triple ≡ settled_values (values_of triple) }
         ensures back { ComesBack (values_of result.triple) }
         ensures stays { ComesBack (values_of triple) → values_of result.triple ≡ values_of triple }
     {
@@ -44,7 +44,7 @@ impl CacheKey {
             (λ error. refusal_of error ≡ None) }
     {
         laws::reading_is_computed();
-        laws::answers_are_computed();
+        laws::results_are_computed();
         match Triple::from_str(alloc, text) {
             Ok(triple) => Ok(CacheKey::new(triple)),
             Err(error) => Err(error),

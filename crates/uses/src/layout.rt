@@ -4,7 +4,7 @@ ghost use Rattle.lexicon_fields.specs.PointerWidth.{width_bits};
 ghost use Rattle.target_lexicon.specs.DataModel.{size_bits};
 ghost use Rattle.target_lexicon.specs.Queries.{pointer_width};
 ghost use Rattle.target_lexicon.specs.Values.{values_of};
-ghost use Rattle.uses.specs.Layout.{c_layout, long_long_alignment, aligned_to, natural};
+ghost use Rattle.uses.specs.Layout.{c_layout, long_long_alignment, layout_aligned_to, natural_layout};
 
 use target_lexicon::{Architecture, OperatingSystem, Size, Triple, laws};
 
@@ -38,9 +38,9 @@ pub fn c_layout(triple: &Triple) -> Option<CLayout>
     };
     let long_long = model.long_long_size();
     Some(CLayout {
-        pointer: natural(model.pointer_width()),
-        int: natural(model.int_size()),
-        long: natural(model.long_size()),
+        pointer: natural_layout(model.pointer_width()),
+        int: natural_layout(model.int_size()),
+        long: natural_layout(model.long_size()),
         long_long: TypeLayout {
             size: long_long.bytes(),
             alignment: long_long_alignment(triple.architecture, triple.operating_system),
@@ -49,8 +49,8 @@ pub fn c_layout(triple: &Triple) -> Option<CLayout>
 }
 
 /// A type that is aligned to its size.
-fn natural(size: Size) -> TypeLayout
-    ensures layout { result ≡ natural size }
+fn natural_layout(size: Size) -> TypeLayout
+    ensures layout { result ≡ natural_layout size }
     ensures bits { 8 * result.size ≡ size_bits size }
 {
     TypeLayout {

@@ -11,7 +11,7 @@ use target_lexicon::{ParseError, Triple, laws};
 pub fn host_by_text(alloc: Global) -> Result<Triple, ParseError>
     ensures { IsOkAnd result (λ triple. values_of triple ≡ host_values) }
 {
-    laws::answers_are_computed();
+    laws::results_are_computed();
     Triple::from_str(alloc, "x86_64-unknown-linux-gnu")
 }
 
@@ -20,7 +20,7 @@ pub fn wasi_text(alloc: Global) -> Result<String, ParseError>
     ensures ok { IfOk result (λ text. string_bytes text ≡ codes "wasm32-wasi") }
     ensures err { IfErr result (λ error. refusal_of error ≡ None) }
 {
-    laws::answers_are_computed();
+    laws::results_are_computed();
     match Triple::from_str(alloc, "wasm32-unknown-wasi") {
         Ok(triple) => Ok(triple.to_text(alloc)?),
         Err(error) => Err(error),
@@ -34,6 +34,6 @@ pub fn refused_text(alloc: Global) -> Result<Triple, ParseError>
         IfSome (refusal_of error)
         (λ refusal. refusal ≡ refusal_with (Expects OperatingSystem) (codes "bar"))) }
 {
-    laws::answers_are_computed();
+    laws::results_are_computed();
     Triple::from_str(alloc, "x86_64-foo-bar")
 }

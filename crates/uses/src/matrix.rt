@@ -1,7 +1,7 @@
 //! A release matrix: the targets of a list, each once.
 ghost use Rattle.std.specs.Prelude.{[], All, IfOk, IfErr, OnOk};
 ghost use Rattle.std.specs.List.{AllPairs, FoldsTo};
-ghost use Rattle.uses.specs.Matrix.{IsAdded, IsOneMore, IsCovered, HaveOtherTexts, IsMatrixFault};
+ghost use Rattle.uses.specs.Matrix.{IsAdded, IsOneMore, IsCovered, HaveDifferentTexts, IsMatrixErrorOf};
 
 use std::alloc::{AllocError, Global};
 use target_lexicon::{ParseError, Triple, laws};
@@ -19,8 +19,8 @@ pub enum MatrixError {
 pub fn release_matrix(alloc: Global, texts: &[String]) -> Result<Vec<Triple>, MatrixError>
     ensures built { IfOk result (λ matrix. FoldsTo IsOneMore [] texts.now matrix.items) }
     ensures each { IfOk result (λ matrix. All (IsCovered matrix.items) texts.now) }
-    ensures apart { IfOk result (λ matrix. AllPairs HaveOtherTexts matrix.items) }
-    ensures err { IfErr result (λ error. IsMatrixFault texts.now error) }
+    ensures apart { IfOk result (λ matrix. AllPairs HaveDifferentTexts matrix.items) }
+    ensures err { IfErr result (λ error. IsMatrixErrorOf texts.now error) }
 {
     laws::equal_texts_equal_triples();
     let mut matrix = Vec::new(alloc);

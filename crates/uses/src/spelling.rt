@@ -2,7 +2,7 @@
 ghost use Rattle.std.specs.Prelude.{◌≡◌, IfOk, IfErr, string_bytes};
 ghost use Rattle.target_lexicon.specs.FixedPoints.{settled_values};
 ghost use Rattle.target_lexicon.specs.Printing.{text_of};
-ghost use Rattle.target_lexicon.specs.Reading.{ReadsAs, IsRefusalOrMemory};
+ghost use Rattle.target_lexicon.specs.Reading.{ReadsAs, IsRefusalOrOutOfMemory};
 ghost use Rattle.target_lexicon.specs.Values.{Values};
 
 use std::alloc::Global;
@@ -13,7 +13,7 @@ pub fn canonical_text(alloc: Global, text: &str) -> Result<String, ParseError>
     ensures ok { IfOk result
         (λ out.
         (t : Values) × ReadsAs text.now t × (string_bytes out ≡ text_of (settled_values t))) }
-    ensures err { IfErr result (λ error. IsRefusalOrMemory text.now error) }
+    ensures err { IfErr result (λ error. IsRefusalOrOutOfMemory text.now error) }
 {
     let triple = Triple::from_str(alloc, text)?;
     Ok(triple.settle().to_text(alloc)?)

@@ -2,7 +2,7 @@
 ghost use Rattle.std.specs.Prelude.{IfOk, IfErr};
 ghost use Rattle.serde_json.specs.View.{view};
 ghost use Rattle.target_lexicon.specs.Values.{values_of};
-ghost use Rattle.uses.specs.TargetFile.{LlvmTargetReadsAs, IsTargetFileFault};
+ghost use Rattle.uses.specs.TargetFile.{LlvmTargetReadsAs, IsTargetFileErrorOf};
 
 use serde_json::Value;
 use std::alloc::Global;
@@ -24,7 +24,7 @@ pub enum TargetFileError {
 /// The triple of a target file's `llvm-target`.
 pub fn llvm_target(alloc: Global, file: &Value) -> Result<Triple, TargetFileError>
     ensures ok { IfOk result (λ triple. LlvmTargetReadsAs (view file.now) (values_of triple)) }
-    ensures err { IfErr result (λ error. IsTargetFileFault (view file.now) error) }
+    ensures err { IfErr result (λ error. IsTargetFileErrorOf (view file.now) error) }
 {
     if !file.is_object() {
         return Err(TargetFileError::NoObject);

@@ -34,8 +34,8 @@ pub enum Field {
 
 impl Field {
     /// The name of the value that a text is in this field, outside any triple: `arm64` gives `aarch64`.
-    pub fn read_name(self, text: &str) -> Result<String, Error> {
-        calls::read_name(text.as_bytes(), self as u32)
+    pub fn canonical_name(self, text: &str) -> Result<String, Error> {
+        calls::canonical_name(text.as_bytes(), self as u32)
     }
 }
 

@@ -8,15 +8,15 @@ use std::cmp::Ordering;
 
 /// The order by bytes of two texts with these prefix keys.
 #[inline(always)]
-pub(crate) fn order(own_key: u64, own: &str, wanted: u64, text: &str) -> Ordering
+pub(crate) fn order(own_key: u64, own: &str, key: u64, text: &str) -> Ordering
     requires own { own_key ≡ prefix_key_of 8 own.now }
-    requires text { wanted ≡ prefix_key_of 8 text.now }
+    requires text { key ≡ prefix_key_of 8 text.now }
     ensures { result ≡ slice_cmp nat_cmp own.now text.now }
 {
-    if own_key < wanted {
+    if own_key < key {
         return Ordering::Less;
     }
-    if wanted < own_key {
+    if key < own_key {
         return Ordering::Greater;
     }
     if text.len() <= 8 {

@@ -3,8 +3,8 @@ use Rattle.std.proofs.{lemmas.Bool.leb-true, lemmas.Option.MatchOption-at_some, 
 use Rattle.lexicon_fields.specs.{Architecture.architecture_name, Architecture.architecture_values, Architecture.architecture_of, Names.named_values}
 use Rattle.lexicon_fields.specs.BinaryFormat.{binary_format_name, binary_format_values, binary_format_of}
 use Rattle.lexicon_fields.specs.Environment.{environment_name, environment_values, environment_of}
-use Rattle.lexicon_fields.specs.Vendor.{Known, Custom, known_name, known_vendors, known_vendor_of, custom_of, is_admitted, vendor_name, vendor_of}
-use Rattle.lexicon_fields.proofs.{LookUps.value_of-all, LookUps.value_of-named_values, LookUps.holds-if_read, LookUps.option_map-holds, LookUps.option_or-holds, SystemsRead.operating_system-max_growth}
+use Rattle.lexicon_fields.specs.Vendor.{Known, Custom, known_vendor_name, known_vendors, known_vendor_of, custom_vendor_of, is_admitted, vendor_name, vendor_of}
+use Rattle.lexicon_fields.proofs.{LookUpLemmas.value_of-all, LookUpLemmas.value_of-named_values, LookUpLemmas.holds-if_read, LookUpLemmas.option_map-holds, LookUpLemmas.option_or-holds, ParsedSystems.operating_system-max_growth}
 use Rattle.lexicon_fields.specs.declared.architecture.Architecture.TheVariants as architecture
 use Rattle.lexicon_fields.specs.declared.architecture.aarch64.Aarch64Architecture.TheVariants as aarch64
 use Rattle.lexicon_fields.proofs.laws.names_grow_at_most.Goals as goal
@@ -12,8 +12,8 @@ use Rattle.lexicon_fields.proofs.laws.names_grow_at_most.Goals as goal
 pub returns-clause-vendor : goal.returns-clause-vendor
 unfolding vendor_of known_vendor_of
 returns-clause-vendor c = λ text v is.
-    MatchOption-at_some _ (λ v. vendor_name v ≡ text) v is (option_or-holds _ _ (custom_of text)
-    (option_map-holds _ _ Known (known_vendor_of text) (holds-if_read _ _ (λ known found. value_of-named_values known_name known_vendors text known refl found)) (λ _ same. same))
+    MatchOption-at_some _ (λ v. vendor_name v ≡ text) v is (option_or-holds _ _ (custom_vendor_of text)
+    (option_map-holds _ _ Known (known_vendor_of text) (holds-if_read _ _ (λ known found. value_of-named_values known_vendor_name known_vendors text known refl found)) (λ _ same. same))
     (holds-if_read _ _ (λ custom found. ap vendor_name (sym (cond_some (is_admitted text) (Custom text) custom found).1))))
 
 pub returns-clause-environment : goal.returns-clause-environment

@@ -1,7 +1,7 @@
 use Rattle.std.proofs.Common.{refl}
 use Rattle.lexicon_fields.specs.Architecture.{as_arm, as_aarch64, as_x86_32, as_mips32, as_mips64, as_riscv32, as_riscv64, as_clever, as_z80}
 use Rattle.lexicon_fields.proofs.NamesReadBack.{each-read_back, architecture_of-name, architecture_of-row, part-read_back, environment_of-name, environment_of-row, binary_format_of-name, binary_format_of-row}
-use Rattle.lexicon_fields.proofs.{LookUps.of_kind-read_back, OperatingSystemsReadBack.operating_system_of-name, SystemsRead.operating_system-read}
+use Rattle.lexicon_fields.proofs.{LookUpLemmas.of_kind-read_back, OperatingSystemsReadBack.operating_system_of-name, ParsedSystems.operating_system-read}
 use Rattle.lexicon_fields.proofs.VendorsReadBack.{vendor_of-name, vendor_of-dash_free}
 use Rattle.lexicon_fields.specs.declared.architecture.Architecture.TheVariants as architecture
 use Rattle.lexicon_fields.proofs.laws.names_read_back.Goals as goal

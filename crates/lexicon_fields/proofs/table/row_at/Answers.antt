@@ -1,6 +1,6 @@
 use Rattle.std.proofs.Common.{sym, ◌∙◌, ap, option_map}
 use Rattle.lexicon_fields.specs.Vendor.{Known}
-use Rattle.lexicon_fields.proofs.{RowsHold.row-exists, RowsHold.row_reads_by_name, VendorsReadBack.row_read}
+use Rattle.lexicon_fields.proofs.{RowLemmas.row-exists, RowLemmas.row-parses_by_name, VendorsReadBack.row_read}
 use Rattle.lexicon_fields.proofs.table.row_at.Goals as goal
 
 pub returns : goal.returns
@@ -16,5 +16,5 @@ returns c =
       environment = row.environment;
       binary_format = row.binary_format;
       no_other_vendor = ap (option_map Known) row.vendor ∙ row_read _ exists;
-      no_other_operating_system = row.operating_system ∙ sym (row_reads_by_name _ exists);
+      no_other_operating_system = row.operating_system ∙ sym (row-parses_by_name _ exists);
     }

@@ -1,5 +1,5 @@
 use Rattle.std.proofs.Common.{arith, sym, ◌+◌, ◌/◌}
-use Rattle.lexicon_fields.proofs.{Halving.halved-first, Halving.halved-middle, Halving.halved-next, RowsHold.no_row-between, RowTexts.rows_below, RowTexts.rows_above, RowTexts.row_text-is}
+use Rattle.lexicon_fields.proofs.{Halving.halved-first, Halving.halved-middle, Halving.halved-next, RowLemmas.no_row-between, RowTexts.rows_below, RowTexts.rows_above, RowTexts.row_text-is}
 use Rattle.lexicon_fields.proofs.table.search.Goals.{in-Less, in-Greater}
 use Rattle.lexicon_fields.proofs.table.search.Goals as goal
 

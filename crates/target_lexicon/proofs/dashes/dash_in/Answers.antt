@@ -20,14 +20,14 @@ loop-at-preserved c = record {
 pub returns-then-dashes-eq0 : goal.returns-then-dashes-eq0
 returns-then-dashes-eq0 c =
     let bytes = c.as_bytes-bytes in
-    let dashes_known = subst (λ (text : List ℕ). AreDashBits c.args.at_end text) (sym bytes.ensures.value) c.requires in
-    let is = bits_of-rest c.args.at_end bytes.result.now c.loop-at.at dashes_known c.loop-at.invariant.within (omega arith) in
+    let are_bits = subst (λ (text : List ℕ). AreDashBits c.args.at_end text) (sym bytes.ensures.value) c.requires in
+    let is = bits_of-rest c.args.at_end bytes.result.now c.loop-at.at are_bits c.loop-at.invariant.within (omega arith) in
     let none = none_in_bits bytes.result.now c.loop-at.at _ _ (omega arith) (omega arith) c.loop-at.invariant.none is c.if-dashes-eq0.true in
     sym (no_dash bytes.result.now (λ k below. none k (omega (arith, below)))) ∙ ap (position is_dash) bytes.ensures.value
 
 pub returns-else-dashes-eq0 : goal.returns-else-dashes-eq0
 returns-else-dashes-eq0 c =
     let bytes = c.as_bytes-bytes in
-    let dashes_known = subst (λ (text : List ℕ). AreDashBits c.args.at_end text) (sym bytes.ensures.value) c.requires in
-    let is = bits_of-rest c.args.at_end bytes.result.now c.loop-at.at dashes_known c.loop-at.invariant.within (omega arith) in
+    let are_bits = subst (λ (text : List ℕ). AreDashBits c.args.at_end text) (sym bytes.ensures.value) c.requires in
+    let is = bits_of-rest c.args.at_end bytes.result.now c.loop-at.at are_bits c.loop-at.invariant.within (omega arith) in
     sym (first_in_bits bytes.result.now c.loop-at.at _ _ (omega arith) (omega arith) c.loop-at.invariant.none is (omega arith)) ∙ ap (position is_dash) bytes.ensures.value

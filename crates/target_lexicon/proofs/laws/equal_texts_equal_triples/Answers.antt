@@ -1,6 +1,6 @@
 use Rattle.std.proofs.Common.{ap, sym, subst, ℕ, List}
 use Rattle.target_lexicon.specs.{Reading.ReadsAs, Printing.text_of}
-use Rattle.target_lexicon.proofs.Unique.{values_unique}
+use Rattle.target_lexicon.proofs.UniqueReading.{values_unique}
 use Rattle.target_lexicon.proofs.laws.equal_texts_equal_triples.Goals as goal
 
 pub returns : goal.returns

@@ -1,13 +1,13 @@
 use Rattle.std.proofs.Common.{◌≡◌, ◌∙◌, zero, suc, List, [], ◌∷◌, map, All, refl, ap, subst, sym, arith}
 use Rattle.serde_json.specs.View.{items_of}
-use Rattle.target_lexicon.specs.{Json.ElementsReadAs, Json.json_of, Laws.ComesBack, Laws.OneOutcomeEach, Printing.text_of, Values.Values}
+use Rattle.target_lexicon.specs.{Json.ElementsReadAs, Json.json_of, Laws.ComesBack, Laws.EveryTextHasOneOutcome, Printing.text_of, Values.Values}
 use Rattle.target_lexicon.proofs.laws.lists_read_back.Goals as goal
 
 list-reads : (ts : List Values) → All ComesBack ts → ElementsReadAs (items_of (map json_of ts)) ts
 list-reads [] back = tt
 list-reads (t ∷ ts) back = (back zero t (omega arith), list-reads ts (λ k d within. back (suc k) d (omega arith)))
 
-list-only : OneOutcomeEach → (ts us : List Values) → All ComesBack ts → ElementsReadAs (items_of (map json_of ts)) us → us ≡ ts
+list-only : EveryTextHasOneOutcome → (ts us : List Values) → All ComesBack ts → ElementsReadAs (items_of (map json_of ts)) us → us ≡ ts
 list-only one [] [] back read = refl
 list-only one (t ∷ ts) (u ∷ us) back read =
     let first : u ≡ t = (one (text_of t)).values u t read.0 (back zero t (omega arith)) in
@@ -17,6 +17,6 @@ list-only one _ _ back read = absurd read
 
 pub returns : goal.returns
 returns c = λ ts us back. (
-  list-only c.one_outcome_each.ensures ts us back,
+  list-only c.every_text_has_one_outcome.ensures ts us back,
   λ same. subst (λ (vs : List Values). ElementsReadAs (items_of (map json_of ts)) vs) (sym same) (list-reads ts back),
 )

@@ -1,11 +1,11 @@
 use Rattle.std.proofs.Common.{rules}
 use Rattle.serde_json.specs.View.{view}
-use Rattle.triples.proofs.JsonAnswers.{input_fault, read-some}
+use Rattle.triples.proofs.JsonAnswers.{input_error, read-some}
 use Rattle.triples.proofs.json.json_output.Goals as goal
 
 pub returns-in_err-output-clause-err : goal.returns-in_err-output-clause-err
 returns-in_err-output-clause-err c =
-    search (rules, input_fault c.args.input.now (view c.in-Ok.value) c.in_err-output.field-0.0 c.in-Ok.ensures.ok c.in_err-output.ensures.err)
+    search (rules, input_error c.args.input.now (view c.in-Ok.value) c.in_err-output.field-0.0 c.in-Ok.ensures.ok c.in_err-output.ensures.err)
 
 pub returns-in_err-push-clause-err : goal.returns-in_err-push-clause-err
 returns-in_err-push-clause-err c =

@@ -7,12 +7,12 @@ use Rattle.triples.proofs.lines.line_end.Goals as goal
 pub returns-then-before-lt16 : goal.returns-then-before-lt16
 returns-then-before-lt16 c =
     let so_far = c.loop-at.invariant in
-    ends_in_load c.args.bytes.now c.loop-at.at _ (omega (arith, so_far.within, c.loop-at-test.true)) so_far c.before_line_feed-before.ensures (omega (arith, c.if-before-lt16.true))
+    ends_in_load c.args.bytes.now c.loop-at.at _ (omega (arith, so_far.within, c.loop-at-test.true)) so_far c.length_before_line_feed-before.ensures (omega (arith, c.if-before-lt16.true))
 
 pub loop-at-preserved : goal.loop-at-preserved
 loop-at-preserved c =
     let so_far = c.loop-at.invariant in
-    none_in_load c.args.bytes.now c.loop-at.at _ (omega (arith, so_far.within, c.loop-at-test.true)) so_far c.before_line_feed-before.ensures
+    none_in_load c.args.bytes.now c.loop-at.at _ (omega (arith, so_far.within, c.loop-at-test.true)) so_far c.length_before_line_feed-before.ensures
 
 pub returns-else-bytes-at-ne10 : goal.returns-else-bytes-at-ne10
 returns-else-bytes-at-ne10 c =

@@ -9,7 +9,7 @@ pub loop-rest-init : goal.loop-rest-init
 loop-rest-init c = record {
   utf8 = search rules;
   shorter = omega arith;
-  so_far = matrix-none (grind (arith, common_steps)) c.none-seen.ensures;
+  so_far = matrix-none (grind (arith, common_steps)) c.new-seen.ensures;
 }
 
 pub loop-rest-preserved : goal.loop-rest-preserved

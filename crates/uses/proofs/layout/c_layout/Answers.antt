@@ -4,4 +4,4 @@ use Rattle.uses.proofs.layout.c_layout.Goals as goal
 
 pub returns-clause-width : goal.returns-clause-width
 returns-clause-width c =
-    c.model_width.ensures (values_of c.args.triple.now) _ c.in-Ok.ensures ∙ ap Some (sym (ap size_bits c.pointer_width.ensures)) ∙ ap Some (sym c.natural.ensures.bits)
+    c.model_width.ensures (values_of c.args.triple.now) _ c.in-Ok.ensures ∙ ap Some (sym (ap size_bits c.pointer_width.ensures)) ∙ ap Some (sym c.natural_layout.ensures.bits)

@@ -1,5 +1,5 @@
 use Rattle.std.proofs.Common.{◌∙◌, is_some, refl, sym, ap}
-use Rattle.lexicon_fields.proofs.VersionsReadBack.{number_read, pieces-last, pieces-more, pieces_left-some, no_major, no_minor, no_patch, one_piece, two_pieces, three_pieces, too_many_pieces}
+use Rattle.lexicon_fields.proofs.VersionsReadBack.{number_read, pieces-last, pieces-more, remaining_pieces-some, no_major, no_minor, no_patch, one_piece, two_pieces, three_pieces, too_many_pieces}
 use Rattle.lexicon_fields.proofs.deployment_target.DeploymentTarget.from_text.Goals as goal
 
 pub returns-in_err-major : goal.returns-in_err-major
@@ -34,7 +34,7 @@ returns-in_err-patch c =
 pub returns-then-is_some : goal.returns-then-is_some
 returns-then-is_some c =
     let pieces = pieces-more _ _ _ _ _ c.first_piece.ensures c.in-Some.is (pieces-more _ _ _ _ _ c.first_piece-2.ensures c.in-Some-rest.is c.first_piece-3.ensures) in
-    sym (too_many_pieces _ _ _ _ _ pieces (pieces_left-some _ (sym c.is_some.ensures ∙ c.if-is_some.true)))
+    sym (too_many_pieces _ _ _ _ _ pieces (remaining_pieces-some _ (sym c.is_some.ensures ∙ c.if-is_some.true)))
 
 pub returns : goal.returns
 returns c =

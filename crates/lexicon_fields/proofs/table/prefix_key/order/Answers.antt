@@ -2,11 +2,11 @@ use Rattle.std.proofs.Common.{arith, sym, ◌∙◌}
 use Rattle.lexicon_fields.proofs.PrefixKeyLemmas.{less_by_key, greater_by_key, order_of_same_key}
 use Rattle.lexicon_fields.proofs.table.prefix_key.order.Goals as goal
 
-pub returns-then-own_key-wanted : goal.returns-then-own_key-wanted
-returns-then-own_key-wanted c = sym (less_by_key 8 c.args.own.now c.args.text.now (λ i. omega (arith, c.type_inv.own i)) (λ i. omega (arith, c.type_inv.text i)) (omega (arith, c.requires)))
+pub returns-then-own_key-key : goal.returns-then-own_key-key
+returns-then-own_key-key c = sym (less_by_key 8 c.args.own.now c.args.text.now (λ i. omega (arith, c.type_inv.own i)) (λ i. omega (arith, c.type_inv.text i)) (omega (arith, c.requires)))
 
-pub returns-then-wanted-own_key : goal.returns-then-wanted-own_key
-returns-then-wanted-own_key c = sym (greater_by_key 8 c.args.own.now c.args.text.now (λ i. omega (arith, c.type_inv.own i)) (λ i. omega (arith, c.type_inv.text i)) (omega (arith, c.requires)))
+pub returns-then-key-own_key : goal.returns-then-key-own_key
+returns-then-key-own_key c = sym (greater_by_key 8 c.args.own.now c.args.text.now (λ i. omega (arith, c.type_inv.own i)) (λ i. omega (arith, c.type_inv.text i)) (omega (arith, c.requires)))
 
 pub returns-then-text-le8 : goal.returns-then-text-le8
 returns-then-text-le8 c = c.cmp.ensures ∙ sym (order_of_same_key 8 c.args.own.now c.args.text.now (λ i. omega (arith, c.type_inv.own i)) (λ i. omega (arith, c.type_inv.text i)) (omega arith) (omega (arith, c.requires)))

@@ -1,5 +1,5 @@
 use Rattle.std.proofs.Common.{sym, ◌∙◌}
-use Rattle.lexicon_fields.proofs.VendorsReadBack.{row_not_admitted, known_read, known_owns_nothing, none_read}
+use Rattle.lexicon_fields.proofs.VendorsReadBack.{row_not_admitted, known_read, known_owns_nothing, unknown_text-refused}
 use Rattle.lexicon_fields.proofs.vendor.Vendor.from_str.Goals as goal
 
 pub returns-in-Some-vendor-clause-ok : goal.returns-in-Some-vendor-clause-ok
@@ -9,4 +9,4 @@ pub returns-in-Some-vendor-clause-owned : goal.returns-in-Some-vendor-clause-own
 returns-in-Some-vendor-clause-owned c = known_owns_nothing _ _ c.to_vendor.ensures ∙ sym (row_not_admitted c.args.s.now c.in-Some.ensures.row.exists)
 
 pub returns-in-None-vendor-clause-err : goal.returns-in-None-vendor-clause-err
-returns-in-None-vendor-clause-err c = none_read c.args.s.now (sym c.in-Some.ensures.row.vendor ∙ c.in-None-vendor.is) (row_not_admitted c.args.s.now c.in-Some.ensures.row.exists)
+returns-in-None-vendor-clause-err c = unknown_text-refused c.args.s.now (sym c.in-Some.ensures.row.vendor ∙ c.in-None-vendor.is) (row_not_admitted c.args.s.now c.in-Some.ensures.row.exists)

@@ -1,7 +1,7 @@
 use Rattle.std.proofs.Common.{rules}
 use Rattle.std.proofs.Output.{has_written_styled_append, has_written_styled_of_eq}
 use Rattle.target_lexicon.specs.Values.{values_of}
-use Rattle.target_lexicon.proofs.{Writes.plain_from_styled, Printed.prints_parts, Printed.prints_unknowns, Printed.prints_special}
+use Rattle.target_lexicon.proofs.{Writes.plain_from_styled, PrintingLemmas.prints_parts, PrintingLemmas.prints_unknowns, PrintingLemmas.prints_special}
 use Rattle.target_lexicon.proofs.display.TripleDisplay.fmt.Goals as goal
 
 pub returns-in-Some-clause-styled : goal.returns-in-Some-clause-styled

@@ -1,4 +1,4 @@
-use Rattle.target_lexicon.proofs.LookedUp.{without_row}
+use Rattle.target_lexicon.proofs.RowLookUps.{without_row}
 use Rattle.target_lexicon.proofs.part.Part.operating_system.Goals as goal
 
 pub returns-in-Some : goal.returns-in-Some

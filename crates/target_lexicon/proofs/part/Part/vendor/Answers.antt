@@ -1,6 +1,6 @@
 use Rattle.std.proofs.Common.{◌∙◌, Some, ap, sym, option_map}
 use Rattle.target_lexicon.specs.Values.{Known}
-use Rattle.target_lexicon.proofs.{LookedUp.without_row, Vendors.owns_custom_text}
+use Rattle.target_lexicon.proofs.{RowLookUps.without_row, Vendors.owns_custom_text}
 use Rattle.target_lexicon.proofs.part.Part.vendor.Goals as goal
 
 pub returns-in-Some-vendor-clause-ok : goal.returns-in-Some-vendor-clause-ok

@@ -1,5 +1,5 @@
 use Rattle.std.proofs.Common.{arith}
-use Rattle.target_lexicon.proofs.Fixed.{back_by_tests, tests_by_back}
+use Rattle.target_lexicon.proofs.FixedPointLemmas.{back_by_tests, tests_by_back}
 use Rattle.target_lexicon.proofs.triple.Triple.comes_back.Goals as goal
 
 pub returns : goal.returns

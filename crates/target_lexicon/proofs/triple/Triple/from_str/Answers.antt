@@ -1,17 +1,17 @@
 use Rattle.std.proofs.Common.{◌≡◌, ℕ, List, Option, Some, None, Result, Ok, Err, refl, sym, inl, inr}
 use Rattle.std.specs.Prelude.{IfOk, IfErr, IfSome, MatchOption}
 use Rattle.std.proofs.lemmas.Result.{IfOk-weaker}
-use Rattle.target_lexicon.specs.{declared.parse_error.ParseError.ParseError, declared.triple.Triple.Triple, GreedyReading.IsAnswerOf, Refusal.Refusal, Refusal.refusal_of, Reading.ReadsAs, Reading.IsRefusedAs, Reading.MayAllocate, Reading.IsErrorOf, Values.Values, Values.values_of}
-use Rattle.target_lexicon.proofs.{Computed.Holds, Computed.parts-hold, ReadValues.read_plain}
+use Rattle.target_lexicon.specs.{declared.parse_error.ParseError.ParseError, declared.triple.Triple.Triple, GreedyReading.IsResultOf, Refusal.Refusal, Refusal.refusal_of, Reading.ReadsAs, Reading.IsRefusedAs, Reading.MayAllocate, Reading.IsErrorOf, Values.Values, Values.values_of}
+use Rattle.target_lexicon.proofs.{ComputedReading.Holds, ComputedReading.parts-hold, ReadValues.read_plain}
 use Rattle.target_lexicon.proofs.triple.Triple.from_str.Goals as goal
 
 -- the computed result is the triple that the text reads as, or its error
-decides : (text : List ℕ) (found : Result Values Refusal) (result : Result Triple ParseError) → Holds text found → IsAnswerOf found result
+holds-result : (text : List ℕ) (found : Result Values Refusal) (result : Result Triple ParseError) → Holds text found → IsResultOf found result
     → IfOk result (λ triple. ReadsAs text (values_of triple)) × IfErr result (λ error. IsErrorOf text error)
-decides text (Ok t) (Ok triple) h same = (rw same h, tt)
-decides text (Ok t) (Err error) h (none, custom) = (tt, rw none (inr (t, h, custom)))
-decides text (Err x) (Ok triple) h never = absurd never
-decides text (Err x) (Err error) h answer = (tt, by_named (refusal_of error) answer)
+holds-result text (Ok t) (Ok triple) h same = (rw same h, tt)
+holds-result text (Ok t) (Err error) h (none, custom) = (tt, rw none (inr (t, h, custom)))
+holds-result text (Err x) (Ok triple) h never = absurd never
+holds-result text (Err x) (Err error) h answer = (tt, by_named (refusal_of error) answer)
   where
     by_named : (other : Option Refusal) → IfSome other (λ y. y ≡ x) → MatchOption other (MayAllocate text) (λ y. IsRefusedAs text y)
     by_named None answer = inl (x, h)
@@ -20,12 +20,12 @@ decides text (Err x) (Err error) h answer = (tt, by_named (refusal_of error) ans
 pub returns : goal.returns
 returns c =
     let holds = parts-hold c.args.text.now _ _ (sym c.in_default.ensures.values) c.first.ensures in
-    let dashes_known = decides c.args.text.now _ c.from_parts.result holds c.from_parts.ensures.answer in
+    let outcome = holds-result c.args.text.now _ c.from_parts.result holds c.from_parts.ensures.answer in
     record {
-      ok = dashes_known.0;
+      ok = outcome.0;
       owned = c.from_parts.ensures.owned;
-      plain = IfOk-weaker c.from_parts.result _ _ (λ triple h. read_plain c.args.text.now (values_of triple) h) dashes_known.0;
-      err = dashes_known.1;
+      plain = IfOk-weaker c.from_parts.result _ _ (λ triple h. read_plain c.args.text.now (values_of triple) h) outcome.0;
+      err = outcome.1;
     }
 
 pub returns-in-Some-clause-plain : goal.returns-in-Some-clause-plain

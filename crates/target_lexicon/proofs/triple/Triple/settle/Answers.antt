@@ -1,6 +1,6 @@
 use Rattle.std.proofs.Common.{sym, subst, ◌∙◌}
 use Rattle.target_lexicon.specs.Laws.{ComesBack}
-use Rattle.target_lexicon.proofs.{Settled.second_changes_none, Unique.values_unique}
+use Rattle.target_lexicon.proofs.{SettleLemmas.second_changes_none, UniqueReading.values_unique}
 use Rattle.target_lexicon.proofs.triple.Triple.settle.Goals as goal
 
 pub returns-clause-steps : goal.returns-clause-steps

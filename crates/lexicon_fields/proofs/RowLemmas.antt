@@ -1,0 +1,128 @@
+-- The rows are exactly those of the texts that are a fixed name of some field.
+use Rattle.std.proofs.Common.{◌≡◌, ◌≢◌, ◌↔◌, ◌∙◌, ℕ, ◌<◌, ◌≤◌, List, [], true, false, Option, Some, None, is_some, refl, ap, sym, get_or, arith, Ordering, Less, Greater, nat_cmp, inl, inr, Contains}
+use Rattle.std.specs.{Cmp.Lexicographic.slice_cmp, Cmp.Lexicographic.nat_list_eq_equiv, Str.bytes_eq, Option.option_or, Prelude.is_none, Ordering.is_eq}
+use Rattle.std.proofs.{lemmas.Bool.or_parts, lemmas.Bool.cases_lt, lemmas.Bool.cases_Bool, lemmas.Bool.false_from_ne_true, lemmas.List.Folds.list_any_at}
+use Rattle.std.proofs.{lemmas.Map.Text.is_eq-slice_cmp, lemmas.Map.Views.Contains-from_any, lemmas.Map.Views.list_any-from_Contains}
+use Rattle.std.proofs.{lemmas.Option.get_or_from_slice_get, lemmas.Option.slice_get-get_or, lemmas.Slice.Eq.bytes_eq-Decides}
+use Rattle.lexicon_fields.specs.{Names.named_values, Architecture.architecture_of, declared.known_vendor.KnownVendor.KnownVendor, Vendor.known_vendor_name, Vendor.known_vendors, Vendor.known_vendor_of, declared.operating_system.OperatingSystem.OperatingSystem, Environment.environment_of, BinaryFormat.binary_format_of}
+use Rattle.lexicon_fields.specs.OperatingSystem.{operating_system_name, operating_system_of, darwin_prefixes, darwin_like_system, fixed_operating_systems, fixed_operating_system_of}
+use Rattle.lexicon_fields.specs.FixedRow.{has_row, row_count, row_texts, row_text}
+use Rattle.lexicon_fields.proofs.{LookUpLemmas.value_of-passes, LookUpLemmas.option_or-none, LookUpLemmas.none_is, RowTexts.is_row_text, RowTexts.row_text-passes, RowTexts.length-row_texts}
+use Rattle.lexicon_fields.proofs.NamesReadBack.{architecture_of-row, environment_of-row, binary_format_of-row}
+
+pub known_vendor_of-row : (text : List ℕ) (v : KnownVendor) → known_vendor_of text ≡ Some v → is_row_text text ≡ true
+unfolding known_vendor_of is_row_text row_texts
+known_vendor_of-row text v found = value_of-passes is_row_text (named_values known_vendor_name known_vendors) text v refl found
+
+pub fixed_operating_system_of-row : (text : List ℕ) (v : OperatingSystem) → fixed_operating_system_of text ≡ Some v → is_row_text text ≡ true
+unfolding fixed_operating_system_of is_row_text row_texts
+fixed_operating_system_of-row text v found = value_of-passes is_row_text (named_values operating_system_name fixed_operating_systems) text v refl found
+
+-- a text that is in no row parses as no fixed name
+none_without_row : {V : Type 0} (find : List ℕ → Option V) → ((text : List ℕ) (v : V) → find text ≡ Some v → is_row_text text ≡ true)
+    → (s : List ℕ) → is_row_text s ≡ false → find s ≡ None
+none_without_row {V} find row s none = by_reading (find s) refl
+  where
+    by_reading : (reading : Option V) → find s ≡ reading → find s ≡ None
+    by_reading None is = is
+    by_reading (Some v) is = absurd (let bad : true ≡ false = sym (row s v is) ∙ none in cc)
+
+no_row : (s : List ℕ) → is_row_text s ≡ false → has_row s ≡ false
+no_row s none =
+    rw (
+      none_without_row architecture_of architecture_of-row s none,
+      none_without_row known_vendor_of known_vendor_of-row s none,
+      none_without_row fixed_operating_system_of fixed_operating_system_of-row s none,
+      none_without_row environment_of environment_of-row s none,
+      none_without_row binary_format_of binary_format_of-row s none,
+    ) refl
+
+-- each row's text is a name of some field
+row_text-exists : (s : List ℕ) → is_row_text s ≡ true → has_row s ≡ true
+unfolding row_texts architecture_of known_vendor_of fixed_operating_system_of environment_of binary_format_of
+row_text-exists s found = row_text-passes has_row s refl found
+
+row_text-found : (i : ℕ) → i < row_count → is_row_text (row_text i) ≡ true
+unfolding is_row_text
+row_text-found i below = list_any_at (bytes_eq (row_text i)) row_texts i [] (omega (arith, length-row_texts)) ((bytes_eq-Decides (row_text i) (row_text i)).1 refl)
+
+pub row-exists : (i : ℕ) → i < row_count → has_row (row_text i) ≡ true
+row-exists i below = row_text-exists (row_text i) (row_text-found i below)
+
+row_text-default : (i : ℕ) (d : List ℕ) → i < row_count → get_or row_texts i d ≡ row_text i
+row_text-default i d below = get_or_from_slice_get row_texts i (row_text i) d (slice_get-get_or row_texts i [] (omega (arith, length-row_texts)))
+
+-- the row with a text
+row_text-at : (s : List ℕ) → is_row_text s ≡ true → (i : ℕ) × (i < row_count) × (row_text i ≡ s)
+unfolding is_row_text
+row_text-at s found =
+    let at = Contains-from_any (λ x y. (bytes_eq-Decides x y).0) s row_texts found in
+    let below : at.0 < row_count = omega (arith, at.1, length-row_texts) in
+    (at.0, below, sym (row_text-default at.0 s below) ∙ at.2)
+
+slice_cmp-differ : (x y : List ℕ) (o : Ordering) → is_eq o ≡ false → slice_cmp nat_cmp x y ≡ o → x ≢ y
+slice_cmp-differ x y o other is same = let bad : true ≡ false = sym (is_eq-slice_cmp x y ∙ (bytes_eq-Decides x y).1 same) ∙ ap is_eq is ∙ other in cc
+
+-- a text that follows all rows before an index and precedes all others has no row
+pub no_row-between : (s : List ℕ) (place : ℕ) → ((k : ℕ) → k < place → slice_cmp nat_cmp (row_text k) s ≡ Less)
+    → ((k : ℕ) → place ≤ k → k < row_count → slice_cmp nat_cmp (row_text k) s ≡ Greater) → has_row s ≡ false
+no_row-between s place below above = no_row s (false_from_ne_true (is_row_text s) (λ found.
+    let at = row_text-at s found in
+    elim (cases_lt at.0 place) [
+      | inl lt ↦ slice_cmp-differ (row_text at.0) s Less refl (below at.0 lt) at.2
+      | inr ge ↦ slice_cmp-differ (row_text at.0) s Greater refl (above at.0 ge at.1) at.2
+    ]))
+
+-- the texts of the rows are all texts that have a row
+pub rows-complete : (s : List ℕ) → Contains row_texts s ↔ (has_row s ≡ true)
+unfolding is_row_text
+rows-complete s = (
+  λ at. row_text-exists s (list_any-from_Contains nat_list_eq_equiv s row_texts at),
+  λ exists. elim (cases_Bool (is_row_text s)) [
+    | inl found ↦ Contains-from_any (λ x y. (bytes_eq-Decides x y).0) s row_texts found
+    | inr none ↦ absurd (let bad : true ≡ false = sym exists ∙ no_row s none in cc)
+  ],
+)
+
+is_some-none : {V : Type 0} (o : Option V) → is_some o ≡ false → o ≡ None
+is_some-none None h = refl
+is_some-none (Some v) h = cc
+
+-- a text that has no row is a name of no field
+pub no_name_without_row : (s : List ℕ) → has_row s ≡ false → (architecture_of s ≡ None) × (known_vendor_of s ≡ None) × (fixed_operating_system_of s ≡ None) × (environment_of s ≡ None) × (binary_format_of s ≡ None)
+no_name_without_row s none =
+    let format = or_parts _ (is_some (binary_format_of s)) none in
+    let environment = or_parts _ (is_some (environment_of s)) format.0 in
+    let system = or_parts _ (is_some (fixed_operating_system_of s)) environment.0 in
+    let vendor = or_parts (is_some (architecture_of s)) (is_some (known_vendor_of s)) system.0 in
+    (is_some-none _ vendor.0, is_some-none _ vendor.1, is_some-none _ system.1, is_some-none _ environment.1, is_some-none _ format.1)
+
+-- no text of a row parses as a system like Darwin
+row_text-unlike_darwin : (s : List ℕ) → is_row_text s ≡ true → is_none (darwin_like_system darwin_prefixes s) ≡ true
+unfolding row_texts
+row_text-unlike_darwin s found = row_text-passes (λ text. is_none (darwin_like_system darwin_prefixes text)) s refl found
+
+-- so a text with a row parses as a system only by its fixed name
+pub row-parses_by_name : (s : List ℕ) → has_row s ≡ true → operating_system_of s ≡ fixed_operating_system_of s
+unfolding operating_system_of
+row-parses_by_name s exists = elim (cases_Bool (is_row_text s)) [
+  | inl found ↦ ap (option_or (fixed_operating_system_of s)) (none_is _ (row_text-unlike_darwin s found)) ∙ option_or-none _
+  | inr none ↦ absurd (let bad : true ≡ false = sym exists ∙ no_row s none in cc)
+]
+
+-- and a text without a row only as a system like Darwin
+pub without_row_is_darwin_like : (s : List ℕ) (like : Option OperatingSystem) → like ≡ darwin_like_system darwin_prefixes s → has_row s ≡ false → like ≡ operating_system_of s
+unfolding operating_system_of
+without_row_is_darwin_like s like is none = rw (no_name_without_row s none).2 is
+
+-- no fixed name begins with the prefix of a system like Darwin, so the order of the two look-ups doesn't matter
+
+option_or-either_order : {V : Type 0} (fixed like : Option V) → ((v : V) → fixed ≡ Some v → like ≡ None) → option_or fixed like ≡ option_or like fixed
+option_or-either_order None None slice_cmp-differ = refl
+option_or-either_order None (Some v) slice_cmp-differ = refl
+option_or-either_order (Some v) None slice_cmp-differ = refl
+option_or-either_order (Some v) (Some w) slice_cmp-differ = absurd (let bad = slice_cmp-differ v refl in cc)
+
+pub operating_system_of_either_way : (s : List ℕ) → operating_system_of s ≡ option_or (darwin_like_system darwin_prefixes s) (fixed_operating_system_of s)
+unfolding operating_system_of
+operating_system_of_either_way s = option_or-either_order (fixed_operating_system_of s) (darwin_like_system darwin_prefixes s) (λ v found. none_is _ (row_text-unlike_darwin s (fixed_operating_system_of-row s v found)))

@@ -1,0 +1,5 @@
+use Rattle.lexicon_fields.proofs.{RowTexts.length-row_texts, RowTexts.row_texts_sorted, RowLemmas.rows-complete}
+use Rattle.lexicon_fields.proofs.laws.rows_are_sorted_and_complete.Goals as goal
+
+pub returns : goal.returns
+returns c = record { sorted = row_texts_sorted; count = length-row_texts; whole = λ text. let both = rows-complete text in (both.1, both.0) }

@@ -1,0 +1,132 @@
+use Rattle.std.proofs.Common.{◌≡◌, ◌++◌, ◌∙◌, Option, Some, None, IfSome, length, arith, refl, sym, ap}
+use Rattle.std.specs.Hash.{HashWrites, le_bytes, option, usize, str}
+use Rattle.lexicon_fields.specs.declared.architecture.Architecture.TheVariants.{Arm, Aarch64, X86_32, Mips32, Mips64, Riscv32, Riscv64, Clever, Z80}
+use Rattle.lexicon_fields.specs.{declared.deployment_target.DeploymentTarget.DeploymentTarget, declared.vendor.CustomVendor.CustomVendor, declared.vendor.Vendor.Vendor, Laws.HashInjectiveOn, Laws.IsVersionInRange, Vendor.VendorValue, Vendor.Known, Vendor.Custom, Vendor.known_vendors, Vendor.custom_text, Vendor.vendor_value}
+use Rattle.lexicon_fields.specs.declared.operating_system.OperatingSystem.TheVariants.{Darwin, IOS, MacOSX, TvOS, VisionOS, WatchOS, XROS}
+use Rattle.lexicon_fields.proofs.HashInputs.{Distinguishes, writes_after_first, first_write, first_byte, same_u16, hash_injective_on, bare_hash_injective, enum_hash_injective, variants_distinguish, one_field}
+use denote.Enum.Declared.{tag_of}
+use Rattle.lexicon_fields.specs.declared.vendor.Vendor.TheVariants as vendors
+use Rattle.lexicon_fields.specs.contracts.vendor.VendorHash.TheImpl as vendor_hash
+use Rattle.lexicon_fields.specs.contracts.operating_system.OperatingSystemHash.TheImpl as operating_system_hash
+use Rattle.lexicon_fields.specs.contracts.deployment_target.DeploymentTargetHash.TheImpl as version_hash
+use Rattle.lexicon_fields.specs.contracts.architecture.Architecture as architecture
+use Rattle.lexicon_fields.specs.contracts.architecture.arm.ArmArchitecture as arm
+use Rattle.lexicon_fields.specs.contracts.architecture.aarch64.Aarch64Architecture as aarch64
+use Rattle.lexicon_fields.specs.contracts.architecture.x86_32.X86_32Architecture as x86_32
+use Rattle.lexicon_fields.specs.contracts.architecture.mips.Mips32Architecture as mips32
+use Rattle.lexicon_fields.specs.contracts.architecture.mips.Mips64Architecture as mips64
+use Rattle.lexicon_fields.specs.contracts.architecture.riscv.Riscv32Architecture as riscv32
+use Rattle.lexicon_fields.specs.contracts.architecture.riscv.Riscv64Architecture as riscv64
+use Rattle.lexicon_fields.specs.contracts.architecture.clever.CleverArchitecture as clever
+use Rattle.lexicon_fields.specs.contracts.architecture.z80.Z80Architecture as z80
+use Rattle.lexicon_fields.specs.contracts.environment.Environment as environment
+use Rattle.lexicon_fields.specs.contracts.binary_format.BinaryFormat as binary_format
+use Rattle.lexicon_fields.specs.contracts.endianness.Endianness as endianness
+use Rattle.lexicon_fields.specs.contracts.pointer_width.PointerWidth as pointer_width
+use Rattle.lexicon_fields.specs.contracts.known_vendor.KnownVendor as known_vendor
+use Rattle.lexicon_fields.specs.contracts.operating_system.OperatingSystem as operating_system
+use Rattle.lexicon_fields.specs.contracts.vendor.Vendor as vendor
+use Rattle.lexicon_fields.proofs.laws.values_hash_by_variant_and_fields.Goals as goal
+
+pub returns-clause-arm : goal.returns-clause-arm
+returns-clause-arm c = bare_hash_injective arm.enum tt (omega arith)
+
+pub returns-clause-aarch64 : goal.returns-clause-aarch64
+returns-clause-aarch64 c = bare_hash_injective aarch64.enum tt (omega arith)
+
+pub returns-clause-x86_32 : goal.returns-clause-x86_32
+returns-clause-x86_32 c = bare_hash_injective x86_32.enum tt (omega arith)
+
+pub returns-clause-mips32 : goal.returns-clause-mips32
+returns-clause-mips32 c = bare_hash_injective mips32.enum tt (omega arith)
+
+pub returns-clause-mips64 : goal.returns-clause-mips64
+returns-clause-mips64 c = bare_hash_injective mips64.enum tt (omega arith)
+
+pub returns-clause-riscv32 : goal.returns-clause-riscv32
+returns-clause-riscv32 c = bare_hash_injective riscv32.enum tt (omega arith)
+
+pub returns-clause-riscv64 : goal.returns-clause-riscv64
+returns-clause-riscv64 c = bare_hash_injective riscv64.enum tt (omega arith)
+
+pub returns-clause-clever : goal.returns-clause-clever
+returns-clause-clever c = bare_hash_injective clever.enum tt (omega arith)
+
+pub returns-clause-z80 : goal.returns-clause-z80
+returns-clause-z80 c = bare_hash_injective z80.enum tt (omega arith)
+
+pub returns-clause-environment : goal.returns-clause-environment
+returns-clause-environment c = bare_hash_injective environment.enum tt (omega arith)
+
+pub returns-clause-binary_format : goal.returns-clause-binary_format
+returns-clause-binary_format c = bare_hash_injective binary_format.enum tt (omega arith)
+
+pub returns-clause-endianness : goal.returns-clause-endianness
+returns-clause-endianness c = bare_hash_injective endianness.enum tt (omega arith)
+
+pub returns-clause-pointer_width : goal.returns-clause-pointer_width
+returns-clause-pointer_width c = bare_hash_injective pointer_width.enum tt (omega arith)
+
+version_distinguishes : (x y : DeploymentTarget) → Distinguishes IsVersionInRange (λ v. v) version_hash.ghosts.hash_input x y
+version_distinguishes x y a b hx hy same =
+    let major : x.major ≡ y.major = same_u16 x.major y.major hx.0 hy.0 (ap first_write same) in
+    let minor : x.minor ≡ y.minor = ap first_byte (ap writes_after_first same) in
+    let patch : x.patch ≡ y.patch = ap first_byte (ap writes_after_first (ap writes_after_first same)) in
+    ((λ i. record { major = major i; minor = minor i; patch = patch i }), ap writes_after_first (ap writes_after_first (ap writes_after_first same)))
+
+pub returns-clause-version : goal.returns-clause-version
+returns-clause-version c = hash_injective_on version_distinguishes (λ x y. ap version_hash.ghosts.hash_input)
+
+-- an optional version
+system_version-distinguishes : (x y : Option DeploymentTarget) → Distinguishes (λ v. IfSome v IsVersionInRange) (λ v. v) (option version_hash.ghosts.hash_input) x y
+unfolding le_bytes
+system_version-distinguishes None None a b hx hy same = (refl, ap writes_after_first same)
+system_version-distinguishes (Some x) (Some y) a b hx hy same =
+    let versions = version_distinguishes x y a b hx hy (ap writes_after_first same) in (ap Some versions.0, versions.1)
+system_version-distinguishes _ _ a b hx hy same = absurd (let bytes = ap first_byte same in omega arith)
+
+system_version-hash : HashInjectiveOn (λ v. IfSome v IsVersionInRange) (λ v. v) (option version_hash.ghosts.hash_input)
+system_version-hash = hash_injective_on system_version-distinguishes (λ x y. ap (option version_hash.ghosts.hash_input))
+
+pub returns-clause-architecture : goal.returns-clause-architecture
+returns-clause-architecture c =
+    enum_hash_injective architecture.enum _ (omega arith) (λ x. refl) (assumption (
+      one_field Arm (returns-clause-arm c),
+      one_field Aarch64 (returns-clause-aarch64 c),
+      one_field X86_32 (returns-clause-x86_32 c),
+      one_field Mips32 (returns-clause-mips32 c),
+      one_field Mips64 (returns-clause-mips64 c),
+      one_field Riscv32 (returns-clause-riscv32 c),
+      one_field Riscv64 (returns-clause-riscv64 c),
+      one_field Clever (returns-clause-clever c),
+      one_field Z80 (returns-clause-z80 c),
+    ))
+
+pub returns-clause-operating_system : goal.returns-clause-operating_system
+returns-clause-operating_system c =
+    hash_injective_on (variants_distinguish operating_system.enum operating_system_hash.ghosts.hash_input (omega arith) (λ x. refl) _ _ (assumption (
+      one_field Darwin system_version-hash,
+      one_field IOS system_version-hash,
+      one_field MacOSX system_version-hash,
+      one_field TvOS system_version-hash,
+      one_field VisionOS system_version-hash,
+      one_field WatchOS system_version-hash,
+      one_field XROS system_version-hash,
+    ))) (λ x y. ap operating_system_hash.ghosts.hash_input)
+
+custom_vendor-hash : HashInjectiveOn (λ (x : CustomVendor). Unit {0}) custom_text (λ x. str (custom_text x))
+custom_vendor-hash = hash_injective_on (λ x y a b _ _ same. (ap first_write same, ap writes_after_first (ap writes_after_first same))) (λ x y. ap str)
+
+-- what a vendor value feeds
+abbrev value_hash : VendorValue → HashWrites
+value_hash (Known known) = usize (tag_of known_vendor.the_type known)
+value_hash (Custom text) = usize (length known_vendors) ++ str text
+
+hash_by_value : (x : Vendor) → vendor_hash.ghosts.hash_input x ≡ value_hash (vendor_value x)
+hash_by_value (vendors.Custom custom) = refl
+hash_by_value _ = refl
+
+pub returns-clause-vendor : goal.returns-clause-vendor
+returns-clause-vendor c =
+    hash_injective_on (variants_distinguish vendor.enum vendor_hash.ghosts.hash_input (omega arith) (λ x. refl) _ _ (one_field Custom custom_vendor-hash, tt))
+    (λ x y same. hash_by_value x ∙ ap value_hash same ∙ sym (hash_by_value y))

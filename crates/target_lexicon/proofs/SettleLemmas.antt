@@ -1,0 +1,74 @@
+-- A second step changes no triple.
+use Rattle.std.proofs.Common.{◌≡◌, ◌⊎◌, inl, inr, ℕ, List, true, refl, sym, ap, subst}
+use Rattle.target_lexicon.specs.{Values.Architecture, Values.BinaryFormat, Values.VendorValue, Values.Values, Values.values, Laws.ComesBack, NormalStep.normal_step, NormalStep.elf_if_unknown}
+use Rattle.target_lexicon.specs.{Families.IsNintendo3ds, Families.IsEspIdf, Families.HidesNewlib, Families.PrintsTheEspIdfText, Printing.text_of, Reading.ReadsAs, SpecialTexts.special_text, SpecialTexts.esp_idf}
+use Rattle.target_lexicon.specs.FixedPoints.{IsPlainTriple, RoundIsNormalStep, settled_values, SecondStepChangesNone, SettledTextsAreKeys}
+use Rattle.lexicon_fields.specs.{Vendor.is_plain, Laws.HasVersionInRange}
+use Rattle.target_lexicon.proofs.{FixedPointLemmas.outside-fixed, StepCases.step_cases, UniqueReading.values_unique}
+use Rattle.target_lexicon.specs.Values.operating_system
+use Rattle.target_lexicon.specs.Values.environment
+use Rattle.target_lexicon.specs.Values.binary_format
+
+esp_idf-stays : normal_step esp_idf ≡ esp_idf
+unfolding normal_step special_text
+esp_idf-stays = refl
+
+special-stays : (t : Values) → IsNintendo3ds t ⊎ IsEspIdf t
+    → normal_step (values t.architecture t.vendor t.operating_system environment.Newlib binary_format.Elf) ≡ values t.architecture t.vendor t.operating_system environment.Newlib binary_format.Elf
+unfolding normal_step special_text
+special-stays t (inl is) = rw (is.architecture, is.vendor, is.operating_system) refl
+special-stays t (inr is) = rw (is.architecture, is.vendor, is.operating_system) refl
+
+-- with an unknown environment only the special texts decide whether a triple is unchanged
+unknown-stays : (t : Values) → t.environment ≡ environment.Unknown → ¬ (IsNintendo3ds t ⊎ IsEspIdf t) → ¬ PrintsTheEspIdfText t → normal_step t ≡ t
+unknown-stays t unknown special esp = outside-fixed t (record {
+  special = λ is. special is.fields;
+  newlib = λ is. let newlib = is.0 in cc;
+  esp = esp;
+  none = λ is. let none = is.environment in cc;
+})
+
+newlib-stays : (t : Values) → HidesNewlib t
+    → let u = values t.architecture t.vendor t.operating_system environment.Unknown (elf_if_unknown t.binary_format) in normal_step u ≡ u
+newlib-stays t (newlib, inl on) = unknown-stays (values t.architecture t.vendor t.operating_system environment.Unknown (elf_if_unknown t.binary_format)) refl
+    (λ special. elim special [ inl of ↦ on.2 of.architecture | inr of ↦ cc ]) (λ esp. let of = ap (λ x. x.vendor) esp in cc)
+newlib-stays t (newlib, inr on) = unknown-stays (values t.architecture t.vendor t.operating_system environment.Unknown (elf_if_unknown t.binary_format)) refl
+    (λ special. elim special [ inl of ↦ cc | inr of ↦ on.2 of.architecture ]) (λ esp. let of = ap (λ x. x.vendor) esp in cc)
+
+none-stays : (a : Architecture) (v : VendorValue) (f : BinaryFormat) → let u = values a v operating_system.None_ environment.Unknown f in normal_step u ≡ u
+none-stays a v f = unknown-stays (values a v operating_system.None_ environment.Unknown f) refl
+    (λ special. elim special [ inl of ↦ cc | inr of ↦ cc ]) (λ esp. let of = ap (λ x. x.operating_system) esp in cc)
+
+pub second_changes_none : SecondStepChangesNone
+second_changes_none t = step_cases (λ u. normal_step u ≡ u) t
+    (λ is. special-stays t is.fields)
+    (newlib-stays t)
+    (λ is. rw (ap (λ x. x.architecture) is, ap (λ x. x.operating_system) is) esp_idf-stays)
+    (λ is. none-stays t.architecture t.vendor t.binary_format)
+    (λ outside. outside-fixed t outside)
+
+-- the step keeps a triple plain
+
+step-vendor_plain : (t : Values) → is_plain t.vendor ≡ true → is_plain (normal_step t).vendor ≡ true
+step-vendor_plain t plain = step_cases (λ u. is_plain u.vendor ≡ true) t (λ _. plain) (λ _. plain) (λ _. refl) (λ _. plain) (λ _. plain)
+
+step-version : (t : Values) → HasVersionInRange t.operating_system → HasVersionInRange (normal_step t).operating_system
+step-version t range = step_cases (λ u. HasVersionInRange u.operating_system) t (λ _. range) (λ _. range) (λ _. range) (λ _. tt) (λ _. range)
+
+pub step-plain : (t : Values) → IsPlainTriple t → IsPlainTriple (normal_step t)
+step-plain t plain = record { vendor = step-vendor_plain t plain.vendor; version = step-version t plain.version }
+
+-- a canonical form comes back, so no other one has its text
+
+module _ (round : RoundIsNormalStep) where
+  pub settled_values-comes_back : (t : Values) → IsPlainTriple t → ComesBack (settled_values t)
+  settled_values-comes_back t plain =
+      subst (λ (u : Values). ReadsAs (text_of (settled_values t)) u) (second_changes_none (normal_step t)) (round (settled_values t) (step-plain (normal_step t) (step-plain t plain)))
+
+  pub settled_are_keys : SettledTextsAreKeys
+  settled_are_keys = record {
+    comes_back = settled_values-comes_back;
+    own = λ t u plain_t plain_u same.
+        values_unique (text_of (settled_values t)) (settled_values t) (settled_values u) (settled_values-comes_back t plain_t)
+        (subst (λ (text : List ℕ). ReadsAs text (settled_values u)) (sym same) (settled_values-comes_back u plain_u));
+  }

@@ -1,0 +1,18 @@
+use Rattle.std.proofs.Common.{◌≡◌, ℕ, List, Option, Some, None, Ok, Err, inl, inr, refl}
+use Rattle.std.specs.Prelude.{MatchOption}
+use Rattle.target_lexicon.specs.{declared.parse_error.ParseError.ParseError, GreedyReading.ResultsAreComputed, GreedyReading.IsResultOf, GreedyReading.reading, Values.values_of, Reading.IsRefusedAs, Reading.MayAllocate, Refusal.Refusal, Refusal.refusal_of}
+use Rattle.target_lexicon.proofs.ComputedReading.{reading_computed}
+use Rattle.target_lexicon.proofs.laws.results_are_computed.Goals as goal
+
+error-result : (text : List ℕ) (error : ParseError) (other : Option Refusal) → refusal_of error ≡ other
+    → MatchOption other (MayAllocate text) (λ refusal. IsRefusedAs text refusal) → IsResultOf (reading text) (Err error)
+error-result text error None is (inl (x, h)) = rw (((reading_computed text).refused x).0 h, is) tt
+error-result text error None is (inr (t, h, custom)) = rw (((reading_computed text).read t).0 h) (is, custom)
+error-result text error (Some x) is h = rw (((reading_computed text).refused x).0 h, is) refl
+
+result : ResultsAreComputed
+result text (Ok triple) ok err = rw (((reading_computed text).read (values_of triple)).0 ok) refl
+result text (Err error) ok err = error-result text error (refusal_of error) refl err
+
+pub returns : goal.returns
+returns c = result
