@@ -1,5 +1,5 @@
-//! Tests of the public calls of `lexicon_fields`. They are a crate of their own, so that `lexicon_fields` isn't proved a
-//! second time for them.
+//! Tests of the public calls of `lexicon_fields`. They are a crate of their own, so that `lexicon_fields` isn't
+//! proved a second time for them.
 #![tactic(auto)]
 
 #[cfg(test)]

@@ -1,4 +1,4 @@
--- Printed texts and names, as they go out.
+-- Printed texts and names, as they are written.
 use Rattle.std.specs.Prelude.{◌≡◌, ◌⊎◌, ℕ, suc, List, Option, Some, None, true, option_map, IsSome}
 use Rattle.lexicon_fields.specs.{Architecture.architecture_name, Architecture.architecture_of, BinaryFormat.binary_format_name, BinaryFormat.binary_format_of}
 use Rattle.lexicon_fields.specs.{Environment.environment_name, Environment.environment_of, OperatingSystem.operating_system_name, OperatingSystem.operating_system_of, OperatingSystem.system_version}
@@ -7,7 +7,7 @@ use Rattle.lexicon_c.specs.Output.{IsWritten}
 use Rattle.target_lexicon.specs.{Field.Field, Field.field_number, Reading.ReadsAs, Reading.MayAllocate, Values.Values}
 use Rattle.target_lexicon.specs.Field as field
 
--- the text reads as a triple, and what is shown of it is told
+-- the text reads as a triple, and what is shown of it is written
 abbrev pub IsTextWritten : (Values → List ℕ) → List ℕ → List ℕ → List ℕ → ℕ → Type 0
 IsTextWritten shown text old new size = (t : Values) × ReadsAs text t × IsWritten (shown t) old new size
 
@@ -19,7 +19,7 @@ name_in t field.OperatingSystem = operating_system_name t.operating_system
 name_in t field.Environment = environment_name t.environment
 name_in t field.BinaryFormat = binary_format_name t.binary_format
 
--- the text reads as a triple, whose name in the field of this number is told
+-- the text reads as a triple, whose name in the field of this number is written
 abbrev pub IsNameWritten : ℕ → List ℕ → List ℕ → List ℕ → ℕ → Type 0
 IsNameWritten number text old new size =
     (f : Field) × ((t : Values) × (field_number f ≡ number) × ReadsAs text t × IsWritten (name_in t f) old new size)
@@ -41,12 +41,12 @@ canonical_name field.OperatingSystem text = option_map operating_system_name (op
 canonical_name field.Environment text = option_map environment_name (environment_of text)
 canonical_name field.BinaryFormat text = option_map binary_format_name (binary_format_of text)
 
--- the text reads in the field of this number, and the name is told
+-- the text reads in the field of this number, and the name is written
 abbrev pub IsCanonicalNameWritten : ℕ → List ℕ → List ℕ → List ℕ → ℕ → Type 0
 IsCanonicalNameWritten number text old new size =
     (f : Field) × ((name : List ℕ) × (field_number f ≡ number) × (canonical_name f text ≡ Some name) × IsWritten name old new size)
 
--- the text doesn't read in the field of this number, and is told itself; the status is that of the field
+-- the text doesn't read in the field of this number, and is written itself; the status is that of the field
 abbrev pub IsUnknownNameWritten : ℕ → ℕ → List ℕ → List ℕ → List ℕ → ℕ → Type 0
 IsUnknownNameWritten status number text old new size =
     (f : Field) × (field_number f ≡ number) × (status ≡ suc (field_number f)) × (canonical_name f text ≡ None) × IsWritten text old new size

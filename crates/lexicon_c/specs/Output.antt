@@ -1,23 +1,23 @@
--- How a text goes out, into a buffer that the caller lends, with its length beside it; and how a refusal does, with a status.
+-- How a text is written into the caller's buffer and its length beside it, and how a refusal is, with a status.
 use Rattle.std.specs.Prelude.{◌≡◌, ◌⊎◌, ℕ, suc, ◌+◌, ◌≤◌, ◌<◌, List, ◌++◌, length, drop}
 use Rattle.target_lexicon.specs.{FixedPoints.max_growth, Reading.IsRead, Reading.IsRefusedAs, Field.field_number, Refusal.Expected, Refusal.Expects, Refusal.ExpectsNone, Refusal.Refusal}
 
--- the text is told: its whole length always; its bytes at the start of the buffer where they all fit, the bytes after them and a
--- buffer that is too small being left as they were
+-- the text is written: its whole length always; its bytes at the start of the buffer if they all fit. The bytes after
+-- them, and a buffer that is too small, stay as they were
 pub record IsWritten (text old new : List ℕ) (size : ℕ) : Type 0 where
   pub counted : size ≡ length text
   pub fits : length text ≤ length old → new ≡ text ++ drop (length text) old
   pub overflows : length old < length text → new ≡ old
 
--- no text is told: the length is 0, and the buffer is as it was
+-- no text is written: the length is 0, and the buffer is as it was
 abbrev pub IsNothingWritten : List ℕ → List ℕ → ℕ → Type 0
 IsNothingWritten old new size = (new ≡ old) × (size ≡ 0)
 
--- a buffer that is so much longer than the text has room for what is told
+-- a buffer that is `max_growth` bytes longer than the text has room for what is written
 abbrev pub GrowsAtMost : List ℕ → ℕ → Type 0
 GrowsAtMost text size = size ≤ length text + max_growth
 
--- the status of a refusal: 1 to 5 for the field that the part lacks, 6 where it lacks any
+-- the status of a refusal: 1 to 5 for the field that was expected, 6 if none was
 abbrev pub refusal_status : Expected → ℕ
 refusal_status (Expects field) = suc (field_number field)
 refusal_status ExpectsNone = 6
@@ -30,7 +30,7 @@ IsRefusedBy status text = (refusal : Refusal) × (status ≡ refusal_status refu
 abbrev pub IsEitherRefusedBy : ℕ → List ℕ → List ℕ → Type 0
 IsEitherRefusedBy status first second = IsRefusedBy status first ⊎ (IsRead first × IsRefusedBy status second)
 
--- the text is refused with this status, and what is said of the refusal is told
+-- the text is refused with this status, and what is said of the refusal is written
 abbrev pub IsRefusalWritten : (Refusal → List ℕ) → ℕ → List ℕ → List ℕ → List ℕ → ℕ → Type 0
 IsRefusalWritten said status text old new size =
     (refusal : Refusal) × (status ≡ refusal_status refusal.expected) × IsRefusedAs text refusal × IsWritten (said refusal) old new size

@@ -32,8 +32,8 @@ use target_lexicon::Triple;
 use target_lexicon::laws::printed_texts_grow_at_most;
 use utf8::from_utf8;
 
-/// Reads a text as a triple, and tells its printed text, or the refused part. A buffer that is `max_growth` bytes longer than the text
-/// has room for either.
+/// Reads a text as a triple, and writes its printed text, or the refused part. A buffer that is `max_growth` bytes
+/// longer than the text has room for either.
 #[unsafe(no_mangle)]
 pub extern "C" fn lexicon_print(
     alloc: Global,
@@ -64,8 +64,9 @@ pub extern "C" fn lexicon_print(
     }
 }
 
-/// Reads a text as a triple, settles it, and tells its printed text, or the refused part. A settled text is the key of a target:
-/// it reads and settles as itself, and no other target has it. A buffer has room as for [`lexicon_print`].
+/// Reads a text as a triple, settles it, and writes its printed text, or the refused part. The settled text is the
+/// key of a target: it reads and settles as itself, and no other target has it. A buffer has room as for
+/// [`lexicon_print`].
 #[unsafe(no_mangle)]
 pub extern "C" fn lexicon_settle(
     alloc: Global,
@@ -96,8 +97,8 @@ pub extern "C" fn lexicon_settle(
     }
 }
 
-/// Reads a text as a triple, and tells the name of one of its fields, or the refused part. The fields are numbered from 0 in
-/// their order: architecture, vendor, operating system, environment, binary format.
+/// Reads a text as a triple, and writes the name of one of its fields, or the refused part. The fields are numbered
+/// from 0 in their order: architecture, vendor, operating system, environment, binary format.
 #[unsafe(no_mangle)]
 pub extern "C" fn lexicon_field(
     alloc: Global,
@@ -129,7 +130,7 @@ pub extern "C" fn lexicon_field(
     }
 }
 
-/// Reads a text as a triple, and tells its facts.
+/// Reads a text as a triple, and writes its facts.
 #[unsafe(no_mangle)]
 pub extern "C" fn lexicon_facts(alloc: Global, text: &[u8], facts: &mut LexiconFacts) -> u32
     ensures done { result ≡ 0 → AreFactsRead text.now facts.new }
@@ -151,7 +152,7 @@ pub extern "C" fn lexicon_facts(alloc: Global, text: &[u8], facts: &mut LexiconF
     }
 }
 
-/// Reads a text as a triple, and tells whether it comes back: printed and read again, it is itself.
+/// Reads a text as a triple, and reports whether it comes back: printed and read again, it is itself.
 #[unsafe(no_mangle)]
 pub extern "C" fn lexicon_comes_back(alloc: Global, text: &[u8], answer: &mut bool) -> u32
     ensures done { result ≡ 0 → IsComesBackAnswer text.now answer.new }
@@ -173,8 +174,8 @@ pub extern "C" fn lexicon_comes_back(alloc: Global, text: &[u8], answer: &mut bo
     }
 }
 
-/// Reads two texts as triples, and tells whether these are equal. The status of a refusal is the first text's, or the second's
-/// where the first is read.
+/// Reads two texts as triples, and reports whether these are equal. The status of a refusal is that of the first text,
+/// or that of the second if the first is read.
 #[unsafe(no_mangle)]
 pub extern "C" fn lexicon_equal(
     alloc: Global,
@@ -208,8 +209,8 @@ pub extern "C" fn lexicon_equal(
     }
 }
 
-/// Tells the line of a text's refusal, as `Unrecognized operating system: bar`. A text that reads as a triple has none, and
-/// status 0.
+/// Writes the line of a text's refusal, such as `Unrecognized operating system: bar`. A text that reads as a triple has
+/// none, and status 0.
 #[unsafe(no_mangle)]
 pub extern "C" fn lexicon_error_line(
     alloc: Global,
@@ -236,8 +237,8 @@ pub extern "C" fn lexicon_error_line(
     }
 }
 
-/// Reads a text as a value of one field, numbered as for `lexicon_field`, and tells the name of the value; a text that doesn't
-/// read is told itself, and the status is that of the field.
+/// Reads a text as a value of one field, numbered as for `lexicon_field`, and writes the name of the value. A text that
+/// doesn't read is written itself, and the status is that of the field.
 #[unsafe(no_mangle)]
 pub extern "C" fn lexicon_canonical_name(
     alloc: Global,

@@ -16,7 +16,7 @@ use target_lexicon::{
     Architecture, BinaryFormat, Environment, OperatingSystem, Vendor, VendorError,
 };
 
-/// Tells the name of the architecture that the text reads as, or the text.
+/// Writes the name of the architecture that the text reads as, or the text.
 pub(crate) fn write_architecture(text: &str, out: &mut [u8], length: &mut usize) -> u32
     ensures { MatchOption (canonical_name field.Architecture text.now)
         ((result ≡ 1) × IsWritten text.now out.old out.new length.new)
@@ -28,7 +28,7 @@ pub(crate) fn write_architecture(text: &str, out: &mut [u8], length: &mut usize)
     }
 }
 
-/// Tells the name of the environment that the text reads as, or the text.
+/// Writes the name of the environment that the text reads as, or the text.
 pub(crate) fn write_environment(text: &str, out: &mut [u8], length: &mut usize) -> u32
     ensures { MatchOption (canonical_name field.Environment text.now)
         ((result ≡ 4) × IsWritten text.now out.old out.new length.new)
@@ -40,7 +40,7 @@ pub(crate) fn write_environment(text: &str, out: &mut [u8], length: &mut usize) 
     }
 }
 
-/// Tells the name of the binary format that the text reads as, or the text.
+/// Writes the name of the binary format that the text reads as, or the text.
 pub(crate) fn write_binary_format(text: &str, out: &mut [u8], length: &mut usize) -> u32
     ensures { MatchOption (canonical_name field.BinaryFormat text.now)
         ((result ≡ 5) × IsWritten text.now out.old out.new length.new)
@@ -52,7 +52,7 @@ pub(crate) fn write_binary_format(text: &str, out: &mut [u8], length: &mut usize
     }
 }
 
-/// Tells the name of the vendor that the text reads as, or the text. A custom vendor may allocate.
+/// Writes the name of the vendor that the text reads as, or the text. A custom vendor may allocate.
 pub(crate) fn write_vendor(alloc: Global, text: &str, out: &mut [u8], length: &mut usize) -> u32
     ensures output { result ≤ 6 → MatchOption (canonical_name field.Vendor text.now)
         ((result ≡ 2) × IsWritten text.now out.old out.new length.new)
@@ -70,7 +70,7 @@ pub(crate) fn write_vendor(alloc: Global, text: &str, out: &mut [u8], length: &m
     }
 }
 
-/// Tells the name of the operating system that the text reads as, or the text. A version may allocate.
+/// Writes the name of the operating system that the text reads as, or the text. A version may allocate.
 pub(crate) fn write_operating_system(
     alloc: Global,
     text: &str,

@@ -1,4 +1,4 @@
-//! A text on its way out.
+//! Writing a text into the caller's buffer.
 ghost use Rattle.std.specs.Prelude.{◌≡◌, ◌<◌, ◌≤◌, IsSome};
 ghost use Rattle.lexicon_fields.specs.OperatingSystem.{operating_system_name, system_version};
 ghost use Rattle.target_lexicon.specs.Field.{Field, field_number};
@@ -10,7 +10,7 @@ use crate::status::{DONE, OUT_OF_MEMORY};
 use std::alloc::Global;
 use target_lexicon::{OperatingSystem, Triple};
 
-/// Tells the length of a text, and the text itself where the buffer has room for all of it; answers the status.
+/// Writes the length of a text, and the text itself if the buffer has room for all of it; returns the status.
 pub(crate) fn write_text(status: u32, text: &str, out: &mut [u8], length: &mut usize) -> u32
     ensures status { result ≡ status }
     ensures output { IsWritten text.now out.old out.new length.new }
@@ -23,7 +23,7 @@ pub(crate) fn write_text(status: u32, text: &str, out: &mut [u8], length: &mut u
     status
 }
 
-/// Tells the name of an operating system, for which a version may allocate.
+/// Writes the name of an operating system, for which a version may allocate.
 pub(crate) fn write_system(
     alloc: Global,
     system: OperatingSystem,
@@ -46,7 +46,7 @@ pub(crate) fn write_system(
     }
 }
 
-/// Tells the name of a triple's value in the field of this number. A version may allocate.
+/// Writes the name of a triple's value in the field of this number. A version may allocate.
 pub(crate) fn write_name(
     alloc: Global,
     triple: &Triple,

@@ -1,4 +1,4 @@
-//! Reading a triple from a text that came in.
+//! Reading a triple from the caller's text.
 ghost use Rattle.std.specs.Prelude.{◌≡◌, ◌≢◌, ◌≤◌, ◌↔◌, true, IfOk, IfErr, IsTrue};
 ghost use Rattle.target_lexicon.specs.Reading.{ReadsAs, MayAllocate};
 ghost use Rattle.target_lexicon.specs.Values.{values_of};

@@ -1,4 +1,4 @@
-//! The statuses that a call answers.
+//! The statuses that a call returns.
 ghost use Rattle.std.specs.Prelude.{◌≡◌, ◌≢◌, ◌≤◌, MatchOption};
 ghost use Rattle.target_lexicon.specs.Refusal.{refusal_of, refusal_line};
 ghost use Rattle.lexicon_c.specs.Output.{refusal_status, IsWritten, IsNothingWritten};
@@ -43,7 +43,7 @@ pub(crate) fn status_of(error: &ParseError) -> u32
     }
 }
 
-/// Tells the refused part of an error; answers its status.
+/// Writes the refused part of an error; returns its status.
 pub(crate) fn write_refused_part(error: &ParseError, out: &mut [u8], length: &mut usize) -> u32
     ensures { MatchOption (refusal_of error.now)
         ((result ≡ 8) × IsNothingWritten out.old out.new length.new)
@@ -66,7 +66,7 @@ pub(crate) fn write_refused_part(error: &ParseError, out: &mut [u8], length: &mu
     }
 }
 
-/// Tells the line of an error, which may allocate; answers the error's status, or that memory was refused.
+/// Writes the line of an error, which may allocate; returns the error's status, or that of out of memory.
 pub(crate) fn write_error_line(
     alloc: Global,
     error: &ParseError,

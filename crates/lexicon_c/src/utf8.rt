@@ -1,4 +1,4 @@
-//! The bytes that come in, as text.
+//! The caller's bytes as text.
 ghost use Rattle.std.specs.Prelude.{◌≡◌, ◌≤◌, ◌<◌, ◌+◌, ℕ, length, slice_index, IsTrue, MatchResult};
 ghost use Rattle.std.specs.Str.{IsUtf8};
 
@@ -17,8 +17,8 @@ fn are_ascii(bytes: &[u8], at: usize) -> bool
         == 0
 }
 
-/// The text that the bytes are, if they are UTF-8. Most texts are ASCII and have sixteen to thirty-two bytes, which two loads
-/// that may overlap hold.
+/// The text that the bytes are, if they are UTF-8. Most texts are ASCII and have sixteen to thirty-two bytes, which fit
+/// in two loads that may overlap.
 #[inline(always)]
 pub(crate) fn from_utf8(bytes: &[u8]) -> Result<&str, Utf8Error>
     ensures cases { MatchResult result (λ text. (text.now ≡ bytes.now) × IsUtf8 bytes.now)
