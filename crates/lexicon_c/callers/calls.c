@@ -1,4 +1,4 @@
-/* Makes each call of the library, and compares its status and what it tells with what is expected. Right as C and as C++. */
+/* Makes each call of the library, and compares its status and what it writes with what is expected. Valid as C and as C++. */
 #include <stdio.h>
 #include <string.h>
 
@@ -12,9 +12,9 @@ static void expect(bool right, const char *what) {
   failures++;
 }
 
-enum { PRINT, SETTLE, ERROR_LINE, FIELD, READ_NAME };
+enum { PRINT, SETTLE, ERROR_LINE, FIELD, CANONICAL_NAME };
 
-struct row { int call; const char *text; uint32_t field, status; const char *told; };
+struct row { int call; const char *text; uint32_t field, status; const char *output; };
 
 static const struct row rows[] = {
     {PRINT, "wasm32-unknown-wasi", 0, LEXICON_OK, "wasm32-wasi"},
@@ -43,17 +43,17 @@ static const struct row rows[] = {
     {FIELD, "arm64-apple-darwin23", LEXICON_ENVIRONMENT, LEXICON_OK, "unknown"},
     {FIELD, "arm64-apple-darwin23", LEXICON_BINARY_FORMAT, LEXICON_OK, "macho"},
     {FIELD, "\xff", 5, LEXICON_NO_SUCH_FIELD, ""},
-    {READ_NAME, "arm64", LEXICON_ARCHITECTURE, LEXICON_OK, "aarch64"},
-    {READ_NAME, "acme", LEXICON_VENDOR, LEXICON_OK, "acme"},
-    {READ_NAME, "linux", LEXICON_VENDOR, LEXICON_NO_VENDOR, "linux"},
-    {READ_NAME, "ios17", LEXICON_OPERATING_SYSTEM, LEXICON_OK, "ios17.0.0"},
-    {READ_NAME, "linux", LEXICON_ENVIRONMENT, LEXICON_NO_ENVIRONMENT, "linux"},
-    {READ_NAME, "ios1.256", LEXICON_OPERATING_SYSTEM, LEXICON_NO_OPERATING_SYSTEM, "ios1.256"},
-    {READ_NAME, "gnu", LEXICON_ENVIRONMENT, LEXICON_OK, "gnu"},
-    {READ_NAME, "coff", LEXICON_BINARY_FORMAT, LEXICON_OK, "coff"},
-    {READ_NAME, "exe", LEXICON_BINARY_FORMAT, LEXICON_NO_BINARY_FORMAT, "exe"},
-    {READ_NAME, "\x80", LEXICON_ARCHITECTURE, LEXICON_NOT_UTF8, ""},
-    {READ_NAME, "\x80", 9, LEXICON_NO_SUCH_FIELD, ""},
+    {CANONICAL_NAME, "arm64", LEXICON_ARCHITECTURE, LEXICON_OK, "aarch64"},
+    {CANONICAL_NAME, "acme", LEXICON_VENDOR, LEXICON_OK, "acme"},
+    {CANONICAL_NAME, "linux", LEXICON_VENDOR, LEXICON_NO_VENDOR, "linux"},
+    {CANONICAL_NAME, "ios17", LEXICON_OPERATING_SYSTEM, LEXICON_OK, "ios17.0.0"},
+    {CANONICAL_NAME, "linux", LEXICON_ENVIRONMENT, LEXICON_NO_ENVIRONMENT, "linux"},
+    {CANONICAL_NAME, "ios1.256", LEXICON_OPERATING_SYSTEM, LEXICON_NO_OPERATING_SYSTEM, "ios1.256"},
+    {CANONICAL_NAME, "gnu", LEXICON_ENVIRONMENT, LEXICON_OK, "gnu"},
+    {CANONICAL_NAME, "coff", LEXICON_BINARY_FORMAT, LEXICON_OK, "coff"},
+    {CANONICAL_NAME, "exe", LEXICON_BINARY_FORMAT, LEXICON_NO_BINARY_FORMAT, "exe"},
+    {CANONICAL_NAME, "\x80", LEXICON_ARCHITECTURE, LEXICON_NOT_UTF8, ""},
+    {CANONICAL_NAME, "\x80", 9, LEXICON_NO_SUCH_FIELD, ""},
 };
 
 static uint32_t call_of(const struct row *row, const char *text, size_t size, char *out, size_t room, size_t *length) {
@@ -66,29 +66,30 @@ static uint32_t call_of(const struct row *row, const char *text, size_t size, ch
   }
 }
 
-/* A buffer with just the room is written, and no byte behind it; one that is a byte smaller, or null with size 0, is not. */
+/* A buffer of exactly the needed size is written, and no byte after it; one that is a byte smaller, or null with size 0,
+   is not. */
 static void try_row(const struct row *row) {
-  size_t size = strlen(row->text), wanted = strlen(row->told), length = 99;
+  size_t size = strlen(row->text), expected = strlen(row->output), length = 99;
   const char *text = size ? row->text : NULL;
   char out[64];
   memset(out, '~', sizeof out);
-  uint32_t status = call_of(row, text, size, out, wanted, &length);
-  expect(status == row->status && length == wanted && memcmp(out, row->told, wanted) == 0 && out[wanted] == '~', row->text);
+  uint32_t status = call_of(row, text, size, out, expected, &length);
+  expect(status == row->status && length == expected && memcmp(out, row->output, expected) == 0 && out[expected] == '~', row->text);
   status = call_of(row, text, size, NULL, 0, &length);
-  expect(status == row->status && length == wanted, row->text);
-  if (wanted == 0) return;
+  expect(status == row->status && length == expected, row->text);
+  if (expected == 0) return;
   memset(out, '~', sizeof out);
-  status = call_of(row, text, size, out, wanted - 1, &length);
-  expect(status == row->status && length == wanted && out[0] == '~' && out[wanted - 1] == '~', row->text);
+  status = call_of(row, text, size, out, expected - 1, &length);
+  expect(status == row->status && length == expected && out[0] == '~' && out[expected - 1] == '~', row->text);
 }
 
 /* The facts in the order of the struct; a refused text leaves them as they were. */
-static void try_facts(const char *text, uint32_t status, struct lexicon_facts wanted) {
-  struct lexicon_facts told, before;
-  memset(&told, 0xaa, sizeof told);
+static void try_facts(const char *text, uint32_t status, struct lexicon_facts expected) {
+  struct lexicon_facts facts, before;
+  memset(&facts, 0xaa, sizeof facts);
   memset(&before, 0xaa, sizeof before);
-  expect(lexicon_facts(text, strlen(text), &told) == status, text);
-  expect(memcmp(&told, status == LEXICON_OK ? &wanted : &before, sizeof told) == 0, text);
+  expect(lexicon_facts(text, strlen(text), &facts) == status, text);
+  expect(memcmp(&facts, status == LEXICON_OK ? &expected : &before, sizeof facts) == 0, text);
 }
 
 static void try_all_facts(void) {

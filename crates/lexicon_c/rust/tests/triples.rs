@@ -1,4 +1,4 @@
-//! The crate over the library that is installed.
+//! The crate with the installed library.
 use lexicon::{
     BinaryFormat, CDataModel, CallingConvention, Endianness, Error, Facts, Field, ParseError,
     Triple,
@@ -25,10 +25,10 @@ fn known_triples_print_as_they_are() {
 }
 
 #[test]
-fn each_refusal_tells_its_part_and_line() {
+fn each_error_has_its_part_and_line() {
     use ParseError::*;
-    type Refusing = fn(String) -> ParseError;
-    let rows: [(&str, Refusing, &str, &str); 6] = [
+    type ErrorOf = fn(String) -> ParseError;
+    let rows: [(&str, ErrorOf, &str, &str); 6] = [
         (
             "foo",
             UnrecognizedArchitecture,
@@ -70,7 +70,7 @@ fn each_refusal_tells_its_part_and_line() {
 }
 
 #[test]
-fn a_map_by_settled_key() {
+fn a_map_by_canonical_key() {
     let mut targets: HashMap<Triple, Vec<&str>> = HashMap::new();
     let texts = [
         "aarch64-nintendo-horizon-newlib-unknown",
@@ -122,10 +122,10 @@ fn facts_and_names() {
         ["aarch64", "apple", "darwin23.6.0", "unknown", "macho"]
     );
     assert_eq!(
-        Field::Architecture.read_name("arm64").as_deref(),
+        Field::Architecture.canonical_name("arm64").as_deref(),
         Ok("aarch64")
     );
-    let refused = Field::Environment.read_name("linux").unwrap_err();
+    let refused = Field::Environment.canonical_name("linux").unwrap_err();
     assert_eq!(
         refused,
         Error::Parse(ParseError::UnrecognizedEnvironment("linux".to_string()))
