@@ -1,16 +1,17 @@
 /* Target triples for C, by the proved library target_lexicon: reading, printing and asking.
 
-   A text goes in as a pointer and a size. It need not end with a zero byte, and it need not be UTF-8. A text comes out into
-   the caller's buffer, which is a pointer and a size. *length is the whole length of the text, and the text is written, with
-   no zero byte after it, exactly if *length <= out_size. So a call with too small a buffer returns the size that it needs.
+   A text goes in as a pointer and a size. It need not end with a zero byte, and it need not be UTF-8. A text comes out
+   into the caller's buffer, which is a pointer and a size. *length is the whole length of the text, and the text is
+   written, with no zero byte after it, exactly if *length <= out_size. So a call with too small a buffer returns the
+   size that it needs.
 
-   A text or a buffer of size 0 may be null, as with snprintf; no other pointer may. No buffer, number, answer or struct that a
-   call writes may overlap any other argument. Nothing is kept or shared between calls, so threads may call at once, and no call
-   stops the program. Not for signal handlers.
+   A text or a buffer of size 0 may be null, as with snprintf; no other pointer may. No buffer, number, answer or struct
+   that a call writes may overlap any other argument. Nothing is kept or shared between calls, so threads may call at
+   once, and no call stops the program. Not for signal handlers.
 
-   Each call returns a status. If it is 0, the answer is written. If it is 1 to 6, the text is refused: a call with an `out`
-   writes the refused part there, lexicon_error_line the line, lexicon_canonical_name the text itself; a struct or an answer
-   stays as it was. At any other status nothing is written but a *length of 0.
+   Each call returns a status. If it is 0, the answer is written. If it is 1 to 6, the text is refused: a call with an
+   `out` writes the refused part there, lexicon_error_line the line, lexicon_canonical_name the text itself; a struct or
+   an answer stays as it was. At any other status nothing is written but a *length of 0.
 
    The library is machine code for x86-64 Linux, level x86-64-v2 (SSE4.2 and POPCNT, as in processors since 2009).
 
@@ -18,7 +19,7 @@
 #ifndef LEXICON_H
 #define LEXICON_H
 
-/* The version of these calls. The name of the shared library has its first number. `install` reads these three lines. */
+/* The version of these calls; the name of a shared library has its first number. `install` reads these three lines. */
 #define LEXICON_VERSION_MAJOR 0
 #define LEXICON_VERSION_MINOR 1
 #define LEXICON_VERSION_PATCH 0
@@ -89,8 +90,9 @@ struct lexicon_facts {
   uint32_t major, minor, patch;
 };
 
-/* A buffer of text_size + LEXICON_MAX_GROWTH always has room for what lexicon_print and lexicon_settle write, the refused part
-   too, so that one call is enough. arm64 prints aarch64-unknown-unknown-elf, and no other text grows by more. */
+/* A buffer of text_size + LEXICON_MAX_GROWTH always has room for what lexicon_print and lexicon_settle write, the
+   refused part too, so that one call is enough. arm64 prints aarch64-unknown-unknown-elf, and no text grows by
+   more. */
 #define LEXICON_MAX_GROWTH 22
 
 /* The printed triple: wasm32-unknown-wasi gives wasm32-wasi. */
@@ -108,14 +110,14 @@ uint32_t lexicon_facts(const char *text, size_t text_size, struct lexicon_facts 
 /* Whether the triple round-trips: printing and parsing it give it again. */
 uint32_t lexicon_comes_back(const char *text, size_t text_size, bool *answer);
 
-/* Whether two texts parse as equal triples. A status 1 to 6 is of the first text, or of the second if the first parses. */
+/* Whether two texts parse as equal triples. A status 1 to 6 is the first text's or, if that parses, the second's. */
 uint32_t lexicon_equal(const char *first, size_t first_size, const char *second, size_t second_size, bool *answer);
 
 /* The error line at status 1 to 6, such as "Unrecognized operating system: bar"; an empty text at status 0. */
 uint32_t lexicon_error_line(const char *text, size_t text_size, char *out, size_t out_size, size_t *length);
 
-/* The canonical name of the value that a text is in one field, outside any triple: arm64 gives aarch64. If the text is no
-   value of the field, it is written itself, at the status of the field, 1 to 5. */
+/* The canonical name of the value that a text is in one field, outside any triple: arm64 gives aarch64. If the text is
+   no value of the field, it is written itself, at the status of the field, 1 to 5. */
 uint32_t lexicon_canonical_name(const char *text, size_t text_size, uint32_t field, char *out, size_t out_size, size_t *length);
 
 #ifdef __cplusplus

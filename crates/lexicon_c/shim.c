@@ -1,5 +1,6 @@
-/* The calls of lexicon.h, each over the proved call of the same name. All that this adds: a text or a buffer of size 0 is passed on with
-   some valid address, since a proved call takes no null. Not proved itself. `install` gives the proved calls the names below.
+/* The calls of lexicon.h, each over the proved call of the same name. All that this adds: a text or a buffer of size 0
+   is passed on with some valid address, since a proved call takes no null. Not proved itself. `install` gives the
+   proved calls the names below.
 
    SPDX-License-Identifier: Apache-2.0 WITH LLVM-exception */
 #include "lexicon.h"

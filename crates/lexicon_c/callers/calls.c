@@ -1,4 +1,5 @@
-/* Makes each call of the library, and compares its status and what it writes with what is expected. Valid as C and as C++. */
+/* Makes each call of the library, and compares its status and what it writes with what is expected. Valid as C and as
+   C++. */
 #include <stdio.h>
 #include <string.h>
 
@@ -66,8 +67,8 @@ static uint32_t call_of(const struct row *row, const char *text, size_t size, ch
   }
 }
 
-/* A buffer of exactly the needed size is written, and no byte after it; one that is a byte smaller, or null with size 0,
-   is not. */
+/* A buffer of exactly the needed size is written, and no byte after it; one that is a byte smaller, or null with size
+   0, is not. */
 static void try_row(const struct row *row) {
   size_t size = strlen(row->text), expected = strlen(row->output), length = 99;
   const char *text = size ? row->text : NULL;

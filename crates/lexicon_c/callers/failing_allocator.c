@@ -1,5 +1,5 @@
-/* Makes each call of the library while each allocation fails in turn, either only that one or also all later ones. A call
-   returns LEXICON_OUT_OF_MEMORY exactly if an allocation failed, and writes nothing then; it frees every block. */
+/* Makes each call of the library while each allocation fails in turn, either only that one or also all later ones. A
+   call returns LEXICON_OUT_OF_MEMORY exactly if an allocation failed, and writes nothing then; it frees every block. */
 #include <stdio.h>
 #include <stdlib.h>
 #include <string.h>

@@ -1,5 +1,6 @@
-/* For each line of the input, a buffer of its size plus LEXICON_MAX_GROWTH has room for what each call that prints a triple
-   writes, and no byte after the buffer is written. Prints the most bytes by which a written text is longer than its line. */
+/* For each line of the input, a buffer of its size plus LEXICON_MAX_GROWTH has room for what each call that prints a
+   triple writes, and no byte after the buffer is written. Prints the most bytes by which a written text is longer than
+   its line. */
 #define _POSIX_C_SOURCE 200809L
 #include <stdio.h>
 #include <stdlib.h>

@@ -1,5 +1,5 @@
-//! Times the calls of the library for C beside the Rust crate target-lexicon, in one process, over lines that parse and lines
-//! that are refused. Upstream gets each line as a `&str`, so it need not check UTF-8, as the calls from C do.
+//! Times the calls of the library for C beside the Rust crate target-lexicon, in one process, over lines that parse and
+//! lines that are refused. Upstream gets each line as a `&str`, so it need not check UTF-8, as the calls from C do.
 //!
 //! usage: speed FILE                   times; nanoseconds per line, the median of seven runs, the two in turn
 //!        speed FILE WHO CALL KIND N   runs one of them N times, to count instructions
