@@ -1,16 +1,17 @@
 /* Target triples for C, by the proved library target_lexicon: reading, printing and asking.
 
-   A text goes in as a pointer and a size. It need not end with a zero byte, and it need not be UTF-8. A text comes out into the
-   caller's buffer as a pointer and a size; *length is its whole length, and it is written, with no zero byte after it, exactly
-   where *length <= out_size. So a call with a buffer that is too small tells how large a buffer has to be.
+   A text goes in as a pointer and a size. It need not end with a zero byte, and it need not be UTF-8. A text comes out
+   into the caller's buffer, which is a pointer and a size. *length is the whole length of the text, and the text is
+   written, with no zero byte after it, exactly if *length <= out_size. So a call with too small a buffer returns the
+   size that it needs.
 
-   A text or a buffer of size 0 may be null, as with snprintf; no other pointer may. No buffer, number, answer or struct that a call
-   writes may overlap anything else that the call is given. Nothing is kept or shared between calls, so that threads may call at
+   A text or a buffer of size 0 may be null, as with snprintf; no other pointer may. No buffer, number, answer or struct
+   that a call writes may overlap any other argument. Nothing is kept or shared between calls, so threads may call at
    once, and no call stops the program. Not for signal handlers.
 
-   Each call answers a status. Where it is 0 the answer is told. Where it is 1 to 6 the text is refused: a call with an `out` tells the
-   refused part there, lexicon_error_line the line, lexicon_canonical_name the text itself; a struct or an answer is left as it was. At any
-   other status nothing is written but a *length of 0.
+   Each call returns a status. If it is 0, the answer is written. If it is 1 to 6, the text is refused: a call with an
+   `out` writes the refused part there, lexicon_error_line the line, lexicon_canonical_name the text itself; a struct or
+   an answer stays as it was. At any other status nothing is written but a *length of 0.
 
    The library is machine code for x86-64 Linux, level x86-64-v2 (SSE4.2 and POPCNT, as in processors since 2009).
 
@@ -18,7 +19,7 @@
 #ifndef LEXICON_H
 #define LEXICON_H
 
-/* The version of these calls, which a shared library has in its name by the first number. `install` reads these three lines. */
+/* The version of these calls; the name of a shared library has its first number. `install` reads these three lines. */
 #define LEXICON_VERSION_MAJOR 0
 #define LEXICON_VERSION_MINOR 1
 #define LEXICON_VERSION_PATCH 0
@@ -37,13 +38,13 @@ extern "C" {
 enum lexicon_status {
   LEXICON_OK = 0,
   LEXICON_NO_ARCHITECTURE = 1,     /* the first part is no architecture */
-  LEXICON_NO_VENDOR = 2,           /* after the architecture, the part is nothing that may stand there */
-  LEXICON_NO_OPERATING_SYSTEM = 3, /* so after the vendor */
-  LEXICON_NO_ENVIRONMENT = 4,      /* so after the operating system */
-  LEXICON_NO_BINARY_FORMAT = 5,    /* so after the environment */
+  LEXICON_NO_VENDOR = 2,           /* the part after the architecture is nothing that may follow it */
+  LEXICON_NO_OPERATING_SYSTEM = 3, /* likewise after the vendor */
+  LEXICON_NO_ENVIRONMENT = 4,      /* likewise after the operating system */
+  LEXICON_NO_BINARY_FORMAT = 5,    /* likewise after the environment */
   LEXICON_NO_FIELD = 6,            /* a part after the binary format */
   LEXICON_NOT_UTF8 = 7,
-  LEXICON_OUT_OF_MEMORY = 8,       /* the library frees what it asks malloc for before it returns */
+  LEXICON_OUT_OF_MEMORY = 8,       /* the library frees what it allocated before it returns */
   LEXICON_NO_SUCH_FIELD = 9        /* the number of the field is above 4 */
 };
 
@@ -89,14 +90,15 @@ struct lexicon_facts {
   uint32_t major, minor, patch;
 };
 
-/* A buffer of text_size + LEXICON_MAX_GROWTH always has room for what lexicon_print and lexicon_settle tell, the refused part too, so that one
-   call is enough: arm64 prints aarch64-unknown-unknown-elf, and no text prints one that is longer by more. */
+/* A buffer of text_size + LEXICON_MAX_GROWTH always has room for what lexicon_print and lexicon_settle write, the
+   refused part too, so that one call is enough. arm64 prints aarch64-unknown-unknown-elf, and no text grows by
+   more. */
 #define LEXICON_MAX_GROWTH 22
 
 /* The printed triple: wasm32-unknown-wasi gives wasm32-wasi. */
 uint32_t lexicon_print(const char *text, size_t text_size, char *out, size_t out_size, size_t *length);
 
-/* The printed triple, settled: a key, which no other target has. */
+/* The canonical form of the triple, printed: a key, which no other target has. */
 uint32_t lexicon_settle(const char *text, size_t text_size, char *out, size_t out_size, size_t *length);
 
 /* The name of one field of the triple. */
@@ -105,17 +107,17 @@ uint32_t lexicon_field(const char *text, size_t text_size, uint32_t field, char 
 /* What a compiler asks of the triple. */
 uint32_t lexicon_facts(const char *text, size_t text_size, struct lexicon_facts *facts);
 
-/* Whether the triple, printed and read again, is itself. */
+/* Whether the triple round-trips: printing and parsing it give it again. */
 uint32_t lexicon_comes_back(const char *text, size_t text_size, bool *answer);
 
-/* Whether two texts read as equal triples. A refusal is the first text's, or the second's where the first is read. */
+/* Whether two texts parse as equal triples. A status 1 to 6 is the first text's or, if that parses, the second's. */
 uint32_t lexicon_equal(const char *first, size_t first_size, const char *second, size_t second_size, bool *answer);
 
-/* The line of a refusal, as "Unrecognized operating system: bar", at status 1 to 6; no text at status 0. */
+/* The error line at status 1 to 6, such as "Unrecognized operating system: bar"; an empty text at status 0. */
 uint32_t lexicon_error_line(const char *text, size_t text_size, char *out, size_t out_size, size_t *length);
 
-/* The name of the value that a text is in one field, outside any triple: arm64 gives aarch64. A text that is none is told itself,
-   at the status of the field, 1 to 5. */
+/* The canonical name of the value that a text is in one field, outside any triple: arm64 gives aarch64. If the text is
+   no value of the field, it is written itself, at the status of the field, 1 to 5. */
 uint32_t lexicon_canonical_name(const char *text, size_t text_size, uint32_t field, char *out, size_t out_size, size_t *length);
 
 #ifdef __cplusplus

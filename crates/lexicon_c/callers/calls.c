@@ -1,4 +1,5 @@
-/* Makes each call of the library, and compares its status and what it tells with what is expected. Right as C and as C++. */
+/* Makes each call of the library, and compares its status and what it writes with what is expected. Valid as C and as
+   C++. */
 #include <stdio.h>
 #include <string.h>
 
@@ -66,7 +67,8 @@ static uint32_t call_of(const struct row *row, const char *text, size_t size, ch
   }
 }
 
-/* A buffer with just the room is written, and no byte after it; one that is a byte smaller, or null with size 0, is not. */
+/* A buffer of exactly the needed size is written, and no byte after it; one that is a byte smaller, or null with size
+   0, is not. */
 static void try_row(const struct row *row) {
   size_t size = strlen(row->text), expected = strlen(row->output), length = 99;
   const char *text = size ? row->text : NULL;
@@ -84,11 +86,11 @@ static void try_row(const struct row *row) {
 
 /* The facts in the order of the struct; a refused text leaves them as they were. */
 static void try_facts(const char *text, uint32_t status, struct lexicon_facts expected) {
-  struct lexicon_facts output, before;
-  memset(&output, 0xaa, sizeof output);
+  struct lexicon_facts facts, before;
+  memset(&facts, 0xaa, sizeof facts);
   memset(&before, 0xaa, sizeof before);
-  expect(lexicon_facts(text, strlen(text), &output) == status, text);
-  expect(memcmp(&output, status == LEXICON_OK ? &expected : &before, sizeof output) == 0, text);
+  expect(lexicon_facts(text, strlen(text), &facts) == status, text);
+  expect(memcmp(&facts, status == LEXICON_OK ? &expected : &before, sizeof facts) == 0, text);
 }
 
 static void try_all_facts(void) {

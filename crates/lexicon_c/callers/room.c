@@ -1,5 +1,6 @@
-/* For each line of the input: a buffer of its size and LEXICON_MAX_GROWTH has room for what each call that prints a triple tells, and no byte
-   after it is written. Prints by how many bytes the longest text is longer than its line. */
+/* For each line of the input, a buffer of its size plus LEXICON_MAX_GROWTH has room for what each call that prints a
+   triple writes, and no byte after the buffer is written. Prints the most bytes by which a written text is longer than
+   its line. */
 #define _POSIX_C_SOURCE 200809L
 #include <stdio.h>
 #include <stdlib.h>
@@ -9,8 +10,8 @@
 
 typedef uint32_t text_call(const char *text, size_t text_size, char *out, size_t out_size, size_t *length);
 
-/* The length of what is told, where it has room, and else SIZE_MAX. */
-static size_t length_of(text_call *call, const char *text, size_t size) {
+/* The length of the written text if the buffer has room for it, otherwise SIZE_MAX. */
+static size_t written_length(text_call *call, const char *text, size_t size) {
   size_t room = size + LEXICON_MAX_GROWTH, length;
   char *out = (char *)malloc(room + 1);
   if (out == NULL) return SIZE_MAX;
@@ -30,7 +31,7 @@ int main(void) {
   while ((size = getline(&line, &capacity, stdin)) > 0) {
     size_t text_size = (size_t)size - (line[size - 1] == '\n');
     for (size_t i = 0; i < 2; i++) {
-      size_t length = length_of(calls[i], line, text_size);
+      size_t length = written_length(calls[i], line, text_size);
       if (length == SIZE_MAX) {
         fprintf(stderr, "no room: %.*s\n", (int)text_size, line);
         failures++;

@@ -1,5 +1,5 @@
-/* What `triples show` does, as a C program over the library: for each line of the input the printed triple, its byte order, pointer
-   width, calling convention and data model, or `error: ` and why the line is refused. */
+/* What `triples show` does, as a C program over the library: for each line of the input it prints the triple,
+   its byte order, pointer width, calling convention and data model, or `error: ` and why the line is refused. */
 #define _POSIX_C_SOURCE 200809L
 #include <stdio.h>
 #include <stdlib.h>
@@ -11,7 +11,7 @@ typedef uint32_t text_call(const char *text, size_t text_size, char *out, size_t
 
 struct buffer { char *bytes; size_t size, length; };
 
-/* Calls, and once more where the buffer was too small for what the call tells. */
+/* Makes the call, and makes it again with a larger buffer if the buffer was too small for the text. */
 static uint32_t call_with_room(text_call *call, const char *text, size_t size, struct buffer *buffer) {
   uint32_t status = call(text, size, buffer->bytes, buffer->size, &buffer->length);
   if (buffer->length <= buffer->size) return status;
@@ -26,7 +26,7 @@ static const char *const byte_orders[] = {"-", "little", "big"};
 static const char *const conventions[] = {"-", "SystemV", "WasmBasicCAbi", "WindowsFastcall", "AppleAarch64"};
 static const char *const models[] = {"-", "LP32", "ILP32", "LLP64", "LP64", "ILP64"};
 
-/* A refused part may hold any byte, 0 too. */
+/* A refused part may hold any byte, also 0. */
 static void show_text(const struct buffer *text) { fwrite(text->bytes, 1, text->length, stdout); }
 
 static void show_facts(const struct lexicon_facts *facts) {
@@ -36,7 +36,7 @@ static void show_facts(const struct lexicon_facts *facts) {
   printf(" %s %s\n", conventions[facts->calling_convention], models[facts->data_model]);
 }
 
-/* Shows a line; the status is one at which the run has to end, or LEXICON_OK. */
+/* Shows a line. Returns LEXICON_OK, or a status at which the program has to end. */
 static uint32_t show(const char *line, size_t size, struct buffer *buffer) {
   uint32_t status = call_with_room(lexicon_print, line, size, buffer);
   if (status >= LEXICON_NO_ARCHITECTURE && status <= LEXICON_NO_FIELD) {

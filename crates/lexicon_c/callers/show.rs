@@ -25,11 +25,11 @@ unsafe extern "C" {
     fn lexicon_facts(text: *const u8, text_size: usize, facts: *mut Facts) -> u32;
 }
 
-/// The status that a call answers and the text that it tells, in a buffer that grows to the text's length.
+/// The status that a call returns and the length of its text, which is in a buffer that grows to that length.
 fn call_with_room(call: TextCall, text: &[u8], buffer: &mut Vec<u8>) -> (u32, usize) {
     let mut length = 0;
     let mut ask = |out: &mut Vec<u8>| {
-        // SAFETY: the pointers and sizes are those of slices, and the buffer is borrowed alone.
+        // SAFETY: the pointers and sizes are those of slices, and nothing else borrows the buffer.
         let status = unsafe { call(text.as_ptr(), text.len(), out.as_mut_ptr(), out.len(), &mut length) };
         (status, length)
     };
@@ -50,7 +50,7 @@ fn show(line: &[u8], buffer: &mut Vec<u8>, out: &mut impl Write) -> io::Result<(
         return out.write_all(b"\n");
     }
     let mut facts = Facts::default();
-    // SAFETY: the pointer and size are those of a slice, and the facts are borrowed alone.
+    // SAFETY: the pointer and size are those of a slice, and nothing else borrows the facts.
     let asked = unsafe { lexicon_facts(line.as_ptr(), line.len(), &mut facts) };
     if status != 0 || asked != 0 {
         return Err(io::Error::other(format!("status {}", status.max(asked))));

@@ -1,8 +1,8 @@
-//! Times the calls of the library for C beside the Rust crate target-lexicon, in one process, over lines that read and lines that are
-//! refused. Upstream is given each line as a `&str`, and so is spared the look at UTF-8 that the calls from C make.
+//! Times the calls of the library for C beside the Rust crate target-lexicon, in one process, over lines that parse and
+//! lines that are refused. Upstream gets each line as a `&str`, so it need not check UTF-8, as the calls from C do.
 //!
-//! usage: speed FILE                   times; nanoseconds a line, the median of seven runs, the two in turn
-//!        speed FILE WHO CALL KIND N   runs one of them N times, for who counts instructions
+//! usage: speed FILE                   times; nanoseconds per line, the median of seven runs, the two in turn
+//!        speed FILE WHO CALL KIND N   runs one of them N times, to count instructions
 
 use std::hint::black_box;
 use std::time::Instant;
@@ -58,7 +58,7 @@ fn our_facts(line: &str, _out: &mut [u8]) -> bool {
     status == 0
 }
 
-/// What it reads as, and five answers: byte order, pointer width, convention, data model and format.
+/// Parses the line and asks five queries: byte order, pointer width, convention, data model and format.
 fn upstream_facts(line: &str, _out: &mut [u8]) -> bool {
     match line.parse::<Triple>() {
         Ok(triple) => {
@@ -87,7 +87,7 @@ fn call(who: &str, name: &str) -> Call {
     }
 }
 
-/// How many of the lines the call reads.
+/// How many of the lines the call accepts.
 fn run(call: Call, lines: &[&str], out: &mut [u8]) -> usize {
     lines.iter().filter(|line| call(line, out)).count()
 }

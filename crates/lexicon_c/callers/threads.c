@@ -8,7 +8,7 @@
 static const char *const texts[] = {"x86_64-unknown-linux-gnu", "x86_64-customvendor-linux", "x86_64-apple-darwin23.6", "x86_64-foo-bar",
     "armv6k-nintendo-3ds", "\xff"};
 
-/* Adds the statuses up. */
+/* Adds up the statuses. */
 static void *call_all(void *sum) {
   char out[64];
   size_t length;

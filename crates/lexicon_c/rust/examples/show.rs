@@ -1,5 +1,5 @@
-//! What `triples show` does, over this crate: for each line of the input the printed triple, its byte order, pointer width, calling
-//! convention and data model, or `error: ` and why the line is refused.
+//! What `triples show` does, over this crate: for each line of the input it prints the triple, its byte order, pointer
+//! width, calling convention and data model, or `error: ` and why the line is refused.
 use lexicon::{Endianness, Error, Triple};
 use std::fmt::Debug;
 use std::io::{self, BufRead, Write};

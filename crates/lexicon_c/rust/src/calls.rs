@@ -65,30 +65,30 @@ pub fn print(text: &[u8]) -> Result<String, Error> {
     text_of(lexicon_print, text)
 }
 
-/// The printed triple, settled.
+/// The canonical form of the triple, printed.
 pub fn settle(text: &[u8]) -> Result<String, Error> {
     text_of(lexicon_settle, text)
 }
 
 /// The name of one field of the triple.
 pub fn field(text: &[u8], number: u32) -> Result<String, Error> {
-    field_text_of(lexicon_field, text, number)
+    name_of(lexicon_field, text, number)
 }
 
-/// The name of the value that a text is in one field.
+/// The canonical name of the value that a text is in one field.
 pub fn canonical_name(text: &[u8], number: u32) -> Result<String, Error> {
-    field_text_of(lexicon_canonical_name, text, number)
+    name_of(lexicon_canonical_name, text, number)
 }
 
-/// The numbers of the triple's facts. A refusal is without its part.
+/// The numbers of the triple's facts. The part in a `ParseError` is empty.
 pub fn facts(text: &[u8]) -> Result<RawFacts, Error> {
     let mut facts = RawFacts::default();
-    // SAFETY: the pointer and size are a slice's, and the facts are borrowed alone.
+    // SAFETY: the pointer and size are a slice's, and nothing else borrows the facts.
     let status = unsafe { lexicon_facts(text.as_ptr(), text.len(), &mut facts) };
     result_of(status, facts)
 }
 
-/// Whether the triple, printed and read again, is itself.
+/// Whether the triple round-trips: printing and parsing it give it again.
 pub fn comes_back(text: &[u8]) -> Result<bool, Error> {
     let mut answer = false;
     // SAFETY: as for `facts`.
@@ -96,7 +96,7 @@ pub fn comes_back(text: &[u8]) -> Result<bool, Error> {
     result_of(status, answer)
 }
 
-/// Whether two texts read as equal triples.
+/// Whether two texts parse as equal triples.
 pub fn equal(first: &[u8], second: &[u8]) -> Result<bool, Error> {
     let mut answer = false;
     // SAFETY: as for `facts`.
@@ -113,8 +113,8 @@ pub fn equal(first: &[u8], second: &[u8]) -> Result<bool, Error> {
 }
 
 fn text_of(call: TextCall, text: &[u8]) -> Result<String, Error> {
-    // SAFETY: the pointers and sizes are those of slices, and what is written is borrowed alone.
-    output_of(|out, length| unsafe {
+    // SAFETY: the pointers and sizes are those of slices, and nothing else borrows what is written.
+    output(|out, length| unsafe {
         call(
             text.as_ptr(),
             text.len(),
@@ -125,9 +125,9 @@ fn text_of(call: TextCall, text: &[u8]) -> Result<String, Error> {
     })
 }
 
-fn field_text_of(call: FieldCall, text: &[u8], number: u32) -> Result<String, Error> {
+fn name_of(call: FieldCall, text: &[u8], number: u32) -> Result<String, Error> {
     // SAFETY: as for `text_of`.
-    output_of(|out, length| unsafe {
+    output(|out, length| unsafe {
         call(
             text.as_ptr(),
             text.len(),
@@ -139,8 +139,8 @@ fn field_text_of(call: FieldCall, text: &[u8], number: u32) -> Result<String, Er
     })
 }
 
-/// What a call tells, or its refusal. A buffer that is too small is made as large as the call tells.
-fn output_of(mut call: impl FnMut(&mut [u8], &mut usize) -> u32) -> Result<String, Error> {
+/// The text that a call writes, or its error. If the buffer is too small, it gets the size that the call returns.
+fn output(mut call: impl FnMut(&mut [u8], &mut usize) -> u32) -> Result<String, Error> {
     let (mut buffer, mut length) = (vec![0; 64], 0);
     let mut status = call(&mut buffer, &mut length);
     if length > buffer.len() {
@@ -173,6 +173,6 @@ fn error_of(status: u32, part: String) -> Error {
         6 => ParseError::UnrecognizedField(part),
         7 => return Error::NotUtf8,
         8 => return Error::OutOfMemory,
-        _ => unreachable!("a status that no call here answers: {status}"),
+        _ => unreachable!("a status that no call here returns: {status}"),
     })
 }

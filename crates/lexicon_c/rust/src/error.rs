@@ -33,9 +33,9 @@ impl std::error::Error for ParseError {}
 pub enum Error {
     /// The text is refused.
     Parse(ParseError),
-    /// Bytes that are no text, of [`Triple::from_bytes`](crate::Triple::from_bytes) alone.
+    /// The bytes are not UTF-8; only from [`Triple::from_bytes`](crate::Triple::from_bytes).
     NotUtf8,
-    /// The heap refused the library's request for memory.
+    /// An allocation of the library failed.
     OutOfMemory,
 }
 

@@ -1,5 +1,5 @@
-//! Target triples, by the proved library `lexicon_c`. This crate is a safe face over its calls: what they answer is proved, the few
-//! lines here that hand it on are tested and not proved.
+//! Target triples, by the proved library `lexicon_c`. This crate is a safe wrapper of its calls: what they return is
+//! proved; the few lines here that pass it on are tested and not proved.
 //!
 //! ```
 //! use lexicon::{Endianness, Error, ParseError, Triple};
@@ -33,13 +33,13 @@ pub enum Field {
 }
 
 impl Field {
-    /// The name of the value that a text is in this field, outside any triple: `arm64` gives `aarch64`.
+    /// The canonical name of the value that a text is in this field, outside any triple: `arm64` gives `aarch64`.
     pub fn canonical_name(self, text: &str) -> Result<String, Error> {
         calls::canonical_name(text.as_bytes(), self as u32)
     }
 }
 
-/// A triple that was read: its text, and what it prints. A printed text may read as another triple, so the text is kept.
+/// A parsed triple: its text, and what it prints. A printed text may parse as another triple, so the text is kept.
 #[derive(Clone, Debug)]
 pub struct Triple {
     text: String,
@@ -47,14 +47,14 @@ pub struct Triple {
 }
 
 impl Triple {
-    /// Reads bytes that need not be a text.
+    /// Parses bytes that need not be UTF-8.
     pub fn from_bytes(text: &[u8]) -> Result<Self, Error> {
         std::str::from_utf8(text)
             .map_err(|_| Error::NotUtf8)?
             .parse()
     }
 
-    /// The settled triple: a key, which no other target has.
+    /// The canonical form of the triple: a key, which no other target has.
     pub fn settle(&self) -> Result<Self, Error> {
         let text = calls::settle(self.text.as_bytes())?;
         Ok(Triple {
@@ -63,7 +63,7 @@ impl Triple {
         })
     }
 
-    /// Whether the triple, printed and read again, is itself.
+    /// Whether the triple round-trips: printing and parsing it give it again.
     pub fn comes_back(&self) -> Result<bool, Error> {
         calls::comes_back(self.text.as_bytes())
     }
@@ -101,7 +101,7 @@ impl fmt::Display for Triple {
     }
 }
 
-/// By value, as in the Rust crate. Panics where the heap refuses the library's request, as Rust's own collections do.
+/// By value, as in the Rust crate. Panics if an allocation of the library fails, as Rust's own collections do.
 impl PartialEq for Triple {
     fn eq(&self, other: &Self) -> bool {
         calls::equal(self.text.as_bytes(), other.text.as_bytes())

@@ -1,4 +1,4 @@
-//! The crate over the library that is installed.
+//! The crate with the installed library.
 use lexicon::{
     BinaryFormat, CDataModel, CallingConvention, Endianness, Error, Facts, Field, ParseError,
     Triple,
@@ -25,7 +25,7 @@ fn known_triples_print_as_they_are() {
 }
 
 #[test]
-fn each_refusal_has_its_part_and_line() {
+fn each_error_has_its_part_and_line() {
     use ParseError::*;
     type ErrorOf = fn(String) -> ParseError;
     let rows: [(&str, ErrorOf, &str, &str); 6] = [
@@ -70,7 +70,7 @@ fn each_refusal_has_its_part_and_line() {
 }
 
 #[test]
-fn a_map_by_settled_key() {
+fn a_map_by_canonical_key() {
     let mut targets: HashMap<Triple, Vec<&str>> = HashMap::new();
     let texts = [
         "aarch64-nintendo-horizon-newlib-unknown",
