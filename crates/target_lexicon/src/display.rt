@@ -1,5 +1,5 @@
 //! The text of a triple.
-ghost use Rattle.std.specs.Prelude.{◌≡◌, Some, IfOk, option_map, string_bytes};
+ghost use Rattle.std.specs.Prelude.{◌≡◌, ◌||◌, Some, IfOk, option_map, string_bytes};
 ghost use Rattle.lexicon_fields.specs.Vendor.{vendor_value};
 ghost use Rattle.std.specs.Fmt.{DisplaysStyledOnOk, formatter_spec};
 ghost use Rattle.target_lexicon.specs.Printing.{text_of, is_bare_arm, omits_unknown_vendor, shows_vendor, shows_operating_system, shows_environment, shows_binary_format, shows_implied_format, shows_unknowns, architecture_implies_format};
@@ -28,11 +28,11 @@ impl fmt::Display for Triple {
         }
         self.architecture.fmt(f)?;
         write_part(f, self.shows_vendor(), &self.vendor)?;
-        if self.shows_unknowns() {
-            write_part(f, true, &self.operating_system)?;
+        let unknowns = self.shows_unknowns();
+        write_part(f, self.shows_system(unknowns), &self.operating_system)?;
+        if unknowns {
             return f.write_str("-unknown-unknown");
         }
-        write_part(f, self.shows_operating_system(), &self.operating_system)?;
         write_part(f, self.shows_environment(), &self.environment)?;
         write_part(f, self.shows_binary_format(), &self.binary_format)
     }
@@ -98,6 +98,13 @@ impl Triple {
         }
     }
 
+    /// Whether the operating system is shown, which it always is before two unknowns.
+    fn shows_system(&self, unknowns: bool) -> bool
+        ensures { result ≡ (unknowns || shows_operating_system (values_of self.now)) }
+    {
+        unknowns || self.shows_operating_system()
+    }
+
     /// Whether the operating system is shown.
     #[tactic(auto, unfolding(crate::specs::Printing::shows_operating_system))]
     pub(crate) fn shows_operating_system(&self) -> bool
@@ -144,11 +151,10 @@ impl Triple {
     fn shows_implied_format(&self) -> bool
         ensures { result ≡ shows_implied_format (values_of self.now) }
     {
-        !architecture_implies_format(self.architecture)
-            && matches!(
-                self.operating_system,
-                OperatingSystem::None_ | OperatingSystem::Unknown
-            )
+        matches!(
+            self.operating_system,
+            OperatingSystem::None_ | OperatingSystem::Unknown
+        ) && !architecture_implies_format(self.architecture)
             && !matches!(
                 self.environment,
                 Environment::Eabi | Environment::Eabihf | Environment::Sgx
