@@ -7,6 +7,6 @@ mod row_tests;
 mod rows;
 
 pub use rows::{
-    Question, check_rows, check_words, feed_alike, lengthened_rows, order_word, prints,
+    Question, check_rows, check_words, hash_alike, lengthened_rows, order_word, prints,
     reports_each_failure, shows, width_word, writes,
 };

@@ -1,7 +1,7 @@
 //! The walks over rows name the row that fails, and each question about a value can fail.
 
 use crate::rows::{
-    Question, check_rows, check_words, feed_alike, lengthened_rows, order_word, prints,
+    Question, check_rows, check_words, hash_alike, lengthened_rows, order_word, prints,
     reports_each_failure, shows, width_word, writes,
 };
 use lexicon_fields::{Endianness, PointerWidth, Vendor};
@@ -60,7 +60,7 @@ fn what_isnt_so_is_seen(rt: HostRuntime) {
         writes(&1u8, "1") && !writes(&1u8, "2") && !writes(&12u8, "1") && !writes(&1u8, "12")
     );
     assert!(rt; shows(&1u8, "1") && !shows(&1u8, "2"));
-    assert!(rt; feed_alike(1u8, 1u8) && !feed_alike(1u8, 2u8));
+    assert!(rt; hash_alike(1u8, 1u8) && !hash_alike(1u8, 2u8));
     assert!(rt; writes(&Deaf, "deaf") && !reports_each_failure(&Deaf) && !prints(&Deaf, "deaf"));
 }
 

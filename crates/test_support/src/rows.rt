@@ -49,7 +49,7 @@ fn hash_value<T: Hash>(value: &T) -> u64 {
 }
 
 /// Whether two values are equal and feed a hasher the same.
-pub fn feed_alike<T: Hash + PartialEq + Drop>(first: T, second: T) -> bool {
+pub fn hash_alike<T: Hash + PartialEq + Drop>(first: T, second: T) -> bool {
     first == second && hash_value(&first) == hash_value(&second)
 }
 
