@@ -1,9 +1,9 @@
--- How a text is written into the caller's buffer and its length beside it, and how a refusal is, with a status.
+-- How a text and its length are written for the caller, and how a refusal is written, with a status.
 use Rattle.std.specs.Prelude.{◌≡◌, ◌⊎◌, ℕ, suc, ◌+◌, ◌≤◌, ◌<◌, List, ◌++◌, length, drop}
 use Rattle.target_lexicon.specs.{FixedPoints.max_growth, Reading.IsRead, Reading.IsRefusedAs, Field.field_number, Refusal.Expected, Refusal.Expects, Refusal.ExpectsNone, Refusal.Refusal}
 
--- the text is written: its whole length always; its bytes at the start of the buffer if they all fit. The bytes after
--- them, and a buffer that is too small, stay as they were
+-- the length of the text is written. If the text fits into the buffer, its bytes are at the start of the buffer, and
+-- the bytes after them are unchanged; otherwise the buffer is unchanged
 pub record IsWritten (text old new : List ℕ) (size : ℕ) : Type 0 where
   pub counted : size ≡ length text
   pub fits : length text ≤ length old → new ≡ text ++ drop (length text) old

@@ -237,8 +237,8 @@ pub extern "C" fn lexicon_error_line(
     }
 }
 
-/// Reads a text as a value of one field, numbered as for `lexicon_field`, and writes the name of the value. A text that
-/// doesn't read is written itself, and the status is that of the field.
+/// Reads a text as a value of one field, and writes the name of the value. If the text doesn't read, the text itself is
+/// written, and the status is the field's. Fields are numbered as for [`lexicon_field`].
 #[unsafe(no_mangle)]
 pub extern "C" fn lexicon_canonical_name(
     alloc: Global,

@@ -100,7 +100,7 @@ impl OperatingSystem {
         }
     }
 
-    /// The system like Darwin with whose prefix the text begins, with the version after the prefix, if there is one.
+    /// The Darwin-like system with whose prefix the text begins. The rest of the text must be empty or a version.
     fn parse_by_prefix(s: &str) -> Option<Self>
         ensures { result ≡ darwin_like_system darwin_prefixes s.now }
     {

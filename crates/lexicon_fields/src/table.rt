@@ -33,8 +33,8 @@ pub struct FixedRow {
     pub binary_format: Option<BinaryFormat>,
 }
 
-/// The row of the text, or `None` if the text is no fixed name and not the alias. `steps` ticks once for each row that
-/// is compared with the text, at most eight times.
+/// The row of the text, or `None` if the text is neither a fixed name nor the alias `arm64`. `steps` ticks once for
+/// each row that is compared with the text: at least once, and at most eight times.
 #[inline(always)]
 pub fn fixed_row(text: &str, steps: &mut Steps) -> Option<FixedRow>
     ensures row { MatchOption result (has_row text.now ≡ false) (IsRowOf text.now) }

@@ -135,7 +135,7 @@ impl Vendor {
         }
     }
 
-    /// The result of `from_str` for a text without a row in the table of names, which isn't looked up again.
+    /// The result of `from_str` for a text that has no row in the table of names. The table isn't searched.
     pub fn custom_from_str(alloc: Global, s: &str) -> Result<Self, VendorError>
         requires { has_row s.now ≡ false }
         ensures ok { IfOk result (λ vendor. vendor_of s.now ≡ Some (vendor_value vendor)) }

@@ -18,7 +18,8 @@ abbrev pub field_reading_by : {A : Type 0} → Field → Option A → A → Fiel
 field_reading_by f (Some value) unfilled last p ps = (value, f, ps)
 field_reading_by f None unfilled last p ps = (unfilled, last, p ∷ ps)
 
--- a field takes the first part that is left, if that reads as it, and is unfilled otherwise
+-- a field takes the first part that is left if that part parses as a value of the field; otherwise the field has its
+-- value without a part, and all parts are left
 abbrev pub field_reading : {A : Type 0} → Field → (List ℕ → Option A) → A → Field → List (List ℕ) → FieldReading A
 field_reading f find unfilled last [] = (unfilled, last, [])
 field_reading f find unfilled last (p ∷ ps) = field_reading_by f (find p) unfilled last p ps

@@ -103,11 +103,13 @@ upstream_parts t =
     (cons_if (shows_environment t) (environment_name t.environment)
     (cons_if (shows_binary_format t) (binary_format_name t.binary_format) [])))
 
--- the rule on top: an unknown environment and an unknown format are both shown if another format is implied
+-- the one addition to upstream's rules: an unknown environment and an unknown format are both shown if another format
+-- is implied
 abbrev pub shows_unknowns : Values → Bool
 shows_unknowns t = is_unknown_environment t.environment && is_same_format t.binary_format binary_format.Unknown && not (is_same_format t.binary_format (default_binary_format t))
 
--- the operating system is then shown too, so that each of the three parses as itself
+-- the parts if `shows_unknowns` holds: the operating system is shown too, so that each of the last three parts parses
+-- as the field whose name it is
 unfoldable pub parts_with_unknowns : Values → List (List ℕ)
 parts_with_unknowns t =
     architecture_name t.architecture ∷ cons_if (shows_vendor t) (vendor_name t.vendor)

@@ -98,14 +98,14 @@ impl Triple {
         }
     }
 
-    /// Whether the operating system is shown, which it always is before two unknowns.
+    /// Whether the operating system is shown: always if environment and format are both shown as unknown.
     fn shows_system(&self, unknowns: bool) -> bool
         ensures { result ≡ (unknowns || shows_operating_system (values_of self.now)) }
     {
         unknowns || self.shows_operating_system()
     }
 
-    /// Whether the operating system is shown.
+    /// Whether the operating system is shown by upstream's rule.
     #[tactic(auto, unfolding(crate::specs::Printing::shows_operating_system))]
     pub(crate) fn shows_operating_system(&self) -> bool
         ensures { result ≡ shows_operating_system (values_of self.now) }
@@ -139,7 +139,7 @@ impl Triple {
         )
     }
 
-    /// Whether the binary format is shown.
+    /// Whether the binary format is shown: if it isn't the implied one, or `shows_implied_format` holds.
     #[tactic(auto, unfolding(crate::specs::Printing::shows_binary_format))]
     fn shows_binary_format(&self) -> bool
         ensures { result ≡ shows_binary_format (values_of self.now) }

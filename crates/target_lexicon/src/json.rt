@@ -59,10 +59,10 @@ pub fn list_to_json(alloc: Global, triples: &[Triple]) -> Result<Value, AllocErr
 /// # Errors
 ///
 /// - [`ListError::NotList`] if the value is not an array.
-/// - [`ListError::Element`] with the index and the error of the first element for which [`Triple::from_json`] has one,
-///   an allocation failure included.
-/// - [`ListError::OutOfMemory`] if an allocation for the list itself fails. The first one is made after an element that
-///   parses.
+/// - [`ListError::Element`] with the index of the first element for which [`Triple::from_json`] returns an error, and
+///   that error, which may be that it ran out of memory.
+/// - [`ListError::OutOfMemory`] if an allocation for the list itself fails. An empty list, and a list whose first
+///   element does not parse, allocate nothing for the list.
 pub fn list_from_json(alloc: Global, value: &Value) -> Result<Vec<Triple>, ListError>
     ensures ok { IfOk result
         (λ triples. ListReadsAs (view value.now) (map values_of triples.items)) }

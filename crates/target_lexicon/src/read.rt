@@ -76,8 +76,8 @@ struct PartCursor<'a> {
 }
 
 impl<'a> PartCursor<'a> {
-    /// Takes the first part for the vendor, if it reads as one. `Err` says that allocating a
-    /// custom vendor failed.
+    /// Takes the first part that is left if it parses as a vendor. `Err` says that allocating a custom
+    /// vendor failed.
     fn take_vendor(&mut self, alloc: Global) -> Result<Option<Vendor>, AllocError>
         ensures ok { IfOk result
             (λ vendor.
@@ -131,7 +131,7 @@ fn refusal(part: String, last: Field) -> ParseError
 }
 
 impl Triple {
-    /// The triple that a text reads as, or why it is refused. Most of `rustc`'s targets read.
+    /// The triple that a text reads as, or why it is refused. Most of `rustc`'s targets parse.
     ///
     /// The texts `armv6k-nintendo-3ds` and `riscv32imc-esp-espidf` have a triple of their own. Any other
     /// text is cut at its dashes. The first part is the architecture. Each other part is taken by the

@@ -57,9 +57,9 @@ impl Triple {
         self.step()
     }
 
-    /// The canonical form of the triple: the triple that comes back after normal steps, of which one is enough. The
-    /// vendor must be plain, as for `normal`. No other canonical triple has the same text, so the text serves as a
-    /// key. A triple that comes back is unchanged. Nothing is allocated.
+    /// The canonical form of the triple: the result of `normal`, which comes back. The vendor must be plain, as for
+    /// `normal`. A triple that comes back is unchanged. No other canonical triple has the same text (law
+    /// `settled_texts_are_keys`), so the text serves as a key. Nothing is allocated.
     pub fn settle(self) -> Triple
         requires { is_plain (vendor_value self.vendor) ≡ true }
         ensures steps { values_of result ≡ settled_values (values_of self) }

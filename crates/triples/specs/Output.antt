@@ -50,7 +50,7 @@ abbrev pub stays_after : List Answer → Answer → Bool
 stays_after before (Shown text) = not (list_any (shows text) before)
 stays_after before (Refused message) = true
 
--- the answers that stay after these
+-- the answers without those that show a text which an earlier one shows
 abbrev pub staying_answers : List Answer → List Answer → List Answer
 staying_answers before [] = []
 staying_answers before (answer ∷ answers) =
@@ -69,7 +69,7 @@ abbrev pub written_lines : List Answer → List ℕ
 written_lines [] = []
 written_lines (answer ∷ answers) = answer_bytes answer ++ (line_feed ∷ written_lines answers)
 
--- the output is the answers to these lines, which show their triples in this way
+-- the output is the answers to these lines, in which each triple is shown by `shown`
 abbrev pub IsLineOutput : (Values → List ℕ) → List (List ℕ) → List ℕ → Type 0
 IsLineOutput shown lines output =
     (answers : List Answer) × AreAnswers shown lines answers × (output ≡ written_lines answers)

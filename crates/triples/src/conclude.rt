@@ -9,9 +9,12 @@ use crate::input::{write_all, write_and_flush};
 use crate::run_error::RunError;
 use std::io::Write;
 
-/// Writes the closing line of the program and returns its exit status: nothing and 0 after a successful run, `fault: `
-/// and the line of the error and 1 after a failed one, the usage line and 2 if there was no run. A failing writer
-/// changes no status.
+/// Writes the closing line of the program, and returns the exit status:
+/// - after a successful run no line, and 0;
+/// - after a failed run `fault: ` and the line of the error, and 1;
+/// - if there was no run, the usage line, and 2.
+///
+/// If the writer fails, a part of the line may be missing; the status is the same.
 pub fn conclude<W: Write>(end: Option<Result<(), RunError>>, w: &mut Counted<W>) -> u8
     ensures status { result ≡ status_of end }
     ensures said { failures w.new ≡ failures w.old →

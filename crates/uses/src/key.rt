@@ -18,7 +18,8 @@ pub struct CacheKey {
 }
 
 impl CacheKey {
-    /// The key of a triple. Its vendor must be plain, as that of every parsed triple is.
+    /// The key of a triple: its canonical form. The vendor of the triple must be plain, and that of every parsed
+    /// triple is.
     pub fn new(triple: Triple) -> Self
         requires { is_plain (vendor_value triple.vendor) ≡ true }
         ensures settled { values_of result.triple ≡ settled_values (values_of triple) }
