@@ -1,0 +1,58 @@
+//! What changes in the proved text besides its ghost parts.
+
+/// The crates that are proved, in the order in which each uses the others.
+pub const CRATES: [&str; 2] = ["lexicon_fields", "target_lexicon"];
+
+/// JSON needs Rattle's `serde_json`; the macro has upstream's name and another meaning.
+pub const MODULES_LEFT_OUT: [&str; 2] = ["json", "macros"];
+
+/// The proved host is fixed; that of this crate is the target that it is built for.
+pub const FUNCTIONS_LEFT_OUT: [&str; 1] = ["host"];
+
+/// The enums that upstream may extend.
+pub const NON_EXHAUSTIVE: [&str; 16] = [
+    "Architecture",
+    "ArmArchitecture",
+    "Aarch64Architecture",
+    "CleverArchitecture",
+    "Riscv32Architecture",
+    "Riscv64Architecture",
+    "X86_32Architecture",
+    "Mips32Architecture",
+    "Mips64Architecture",
+    "Z80Architecture",
+    "Vendor",
+    "OperatingSystem",
+    "Environment",
+    "BinaryFormat",
+    "CallingConvention",
+    "CDataModel",
+];
+
+/// Functions with a precondition, for which the layer has a checked form.
+pub const RENAMED: [&str; 2] = ["normal", "settle"];
+
+/// Small functions that rustc otherwise calls instead of inlining.
+pub const INLINED: [(&str, &str, &str); 0] = [];
+
+/// An allocation that fails ends the process in Rust, so that `ParseError` has upstream's six variants only. With the
+/// feature, printing goes by upstream's rule.
+pub const REPLACED: [(&str, &str, &str); 5] = [
+    (
+        "target_lexicon/parse_error.rt",
+        "UnrecognizedField(String), OutOfMemory,",
+        "UnrecognizedField(String),",
+    ),
+    ("target_lexicon/parse_error.rt", "ParseError::OutOfMemory => ParseError::OutOfMemory,", ""),
+    (
+        "target_lexicon/parse_error.rt",
+        "-> ParseError { ParseError::OutOfMemory }",
+        "-> ParseError { crate::shim::abort() }",
+    ),
+    ("target_lexicon/parse_error.rt", "ParseError::OutOfMemory => f.write_str(\"Out of memory\"),", ""),
+    (
+        "target_lexicon/display.rt",
+        "let unknowns = self.shows_unknowns();",
+        "let unknowns = !cfg!(feature = \"upstream_printing\") && self.shows_unknowns();",
+    ),
+];

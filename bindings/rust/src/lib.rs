@@ -1,0 +1,267 @@
+//! LLVM target triples: the crate `target-lexicon` 0.13.5, compiled from the text of a verified port.
+//!
+//! The types and their methods are that text, with the parts that only proofs need erased. This file has what Rust needs
+//! in another form: calls that allocate and can't say that an allocation failed, the host, the macro and serde.
+//!
+//! ```
+//! use target_lexicon::{Architecture, Endianness, OperatingSystem, Triple};
+//!
+//! let triple: Triple = "aarch64-apple-ios".parse()?;
+//! match triple.architecture {
+//!     Architecture::Aarch64(_) => assert_eq!(triple.endianness(), Ok(Endianness::Little)),
+//!     other => panic!("{other}"),
+//! }
+//! assert_eq!(triple.operating_system, OperatingSystem::IOS(None));
+//! assert_eq!(triple.to_string(), "aarch64-apple-ios");
+//! # Ok::<(), target_lexicon::ParseError>(())
+//! ```
+#![no_std]
+#![forbid(unsafe_code)]
+
+extern crate alloc;
+
+mod shim;
+
+include!(concat!(env!("OUT_DIR"), "/erased/root.rs"));
+
+use alloc::borrow::Cow;
+use core::{fmt, str::FromStr};
+use shim::allocated;
+use shim::std::alloc::Global;
+
+pub use lexicon_fields::{
+    Aarch64Architecture, Architecture, ArmArchitecture, BinaryFormat, CleverArchitecture, CustomVendor, DeploymentTarget,
+    Endianness, Environment, Mips32Architecture, Mips64Architecture, OperatingSystem, PointerWidth, Riscv32Architecture,
+    Riscv64Architecture, Vendor, X86_32Architecture, Z80Architecture,
+};
+pub use target_lexicon::{
+    CDataModel, CallingConvention, DefaultToHost, DefaultToUnknown, ParseError, Size, Triple, default_binary_format,
+};
+
+/// `Clone` by the copy that takes the allocator.
+macro_rules! clone {
+    ($($name:ident)*) => {
+        $(impl Clone for $name {
+            fn clone(&self) -> Self {
+                allocated(self.clone_alloc(Global))
+            }
+        })*
+    };
+}
+
+clone! { CustomVendor Vendor Triple DefaultToHost DefaultToUnknown }
+
+impl Clone for ParseError {
+    fn clone(&self) -> Self {
+        allocated(self.clone_alloc(Global))
+    }
+}
+
+impl FromStr for Vendor {
+    type Err = ();
+
+    fn from_str(text: &str) -> Result<Self, ()> {
+        match Vendor::from_str_alloc(Global, text) {
+            Ok(vendor) => Ok(vendor),
+            Err(lexicon_fields::VendorError::Unrecognized) => Err(()),
+            Err(lexicon_fields::VendorError::OutOfMemory) => shim::abort(),
+        }
+    }
+}
+
+impl FromStr for Triple {
+    type Err = ParseError;
+
+    /// The triple that a text parses as.
+    ///
+    /// # Examples
+    ///
+    /// ```
+    /// use target_lexicon::{ParseError, Triple};
+    ///
+    /// let triple: Triple = "wasm32-unknown-wasi".parse().unwrap();
+    /// assert_eq!(triple.to_string(), "wasm32-wasi");
+    /// let error = "x86_64-foo-bar".parse::<Triple>().unwrap_err();
+    /// assert_eq!(error, ParseError::UnrecognizedOperatingSystem("bar".into()));
+    /// ```
+    fn from_str(text: &str) -> Result<Self, ParseError> {
+        Triple::from_str_alloc(Global, text)
+    }
+}
+
+impl OperatingSystem {
+    /// The name. It is borrowed if the system has no version.
+    ///
+    /// # Examples
+    ///
+    /// ```
+    /// use target_lexicon::OperatingSystem;
+    ///
+    /// assert_eq!(OperatingSystem::Linux.into_str(), "linux");
+    /// let system: OperatingSystem = "ios17.0".parse().unwrap();
+    /// assert_eq!(system.into_str(), "ios17.0.0");
+    /// ```
+    pub fn into_str(self) -> Cow<'static, str> {
+        allocated(self.into_str_alloc(Global))
+    }
+}
+
+/// The triple has a vendor that no text parses as, so that it has no canonical form. It gives the triple back.
+///
+/// # Examples
+///
+/// ```
+/// use target_lexicon::{CustomVendor, NotPlain, Triple, Vendor};
+///
+/// let mut triple: Triple = "x86_64-linux".parse().unwrap();
+/// triple.vendor = Vendor::Custom(CustomVendor::Static("PC"));
+/// let NotPlain(same) = triple.clone().settle().unwrap_err();
+/// assert_eq!(same, triple);
+/// ```
+#[derive(Clone, Debug, PartialEq, Eq)]
+pub struct NotPlain(pub Triple);
+
+impl fmt::Display for NotPlain {
+    fn fmt(&self, f: &mut fmt::Formatter<'_>) -> fmt::Result {
+        write!(f, "No text parses as the vendor {:?}", self.0.vendor.as_str())
+    }
+}
+
+impl core::error::Error for NotPlain {}
+
+impl Triple {
+    /// The triple that this triple's printed text parses as. A triple that [`comes_back`](Triple::comes_back) is
+    /// unchanged.
+    ///
+    /// # Errors
+    ///
+    /// [`NotPlain`] if no text parses as the vendor (see [`Vendor::is_plain`]).
+    ///
+    /// # Examples
+    ///
+    /// ```
+    /// use target_lexicon::{Environment, Triple};
+    ///
+    /// let triple: Triple = "armv7-nintendo-horizon-newlib".parse().unwrap();
+    /// let normal = triple.clone().normal()?;
+    /// assert_eq!(triple.to_string().parse(), Ok(normal.clone()));
+    /// assert_eq!(normal.environment, Environment::Unknown);
+    /// # Ok::<(), target_lexicon::NotPlain>(())
+    /// ```
+    pub fn normal(self) -> Result<Triple, NotPlain> {
+        if self.vendor.is_plain() { Ok(self.normal_unchecked()) } else { Err(NotPlain(self)) }
+    }
+
+    /// The canonical form of the triple, which comes back. Two canonical triples with the same text are the same, so the
+    /// text serves as a key. A triple that [`comes_back`](Triple::comes_back) is unchanged.
+    ///
+    /// # Errors
+    ///
+    /// [`NotPlain`] if no text parses as the vendor (see [`Vendor::is_plain`]).
+    ///
+    /// # Examples
+    ///
+    /// ```
+    /// use target_lexicon::Triple;
+    ///
+    /// let triple: Triple = "riscv32imc-esp-espidf-elf".parse().unwrap();
+    /// assert!(!triple.comes_back());
+    /// let settled = triple.settle()?;
+    /// assert!(settled.comes_back());
+    /// assert_eq!(settled.to_string(), "riscv32imc-esp-espidf");
+    /// # Ok::<(), target_lexicon::NotPlain>(())
+    /// ```
+    pub fn settle(self) -> Result<Triple, NotPlain> {
+        if self.vendor.is_plain() { Ok(self.settle_unchecked()) } else { Err(NotPlain(self)) }
+    }
+}
+
+/// The triple of the target that the crate is built for.
+macro_rules! host {
+    ($architecture:expr, $vendor:expr, $operating_system:expr, $environment:expr, $binary_format:expr) => {
+        host! { @field Architecture "architecture" $architecture }
+        host! { @field Vendor "vendor" $vendor }
+        host! { @field OperatingSystem "operating system" $operating_system }
+        host! { @field Environment "environment" $environment }
+        host! { @field BinaryFormat "binary format" $binary_format }
+
+        /// The triple of the target that the crate is built for.
+        ///
+        /// # Examples
+        ///
+        /// ```
+        /// assert_eq!(target_lexicon::HOST.architecture, target_lexicon::Architecture::host());
+        /// ```
+        pub const HOST: Triple = Triple {
+            architecture: $architecture,
+            vendor: $vendor,
+            operating_system: $operating_system,
+            environment: $environment,
+            binary_format: $binary_format,
+        };
+    };
+    (@field $name:ident $what:literal $value:expr) => {
+        impl $name {
+            #[doc = concat!("The ", $what, " of the target that the crate is built for.")]
+            ///
+            /// # Examples
+            ///
+            /// ```
+            #[doc = concat!("let ours = target_lexicon::", stringify!($name), "::host();")]
+            /// assert!(target_lexicon::HOST.to_string().contains(&ours.to_string()) || ours.to_string() == "elf");
+            /// ```
+            pub const fn host() -> Self {
+                $value
+            }
+        }
+    };
+}
+
+include!(concat!(env!("OUT_DIR"), "/erased/host.rs"));
+
+impl Triple {
+    /// The triple of the target that the crate is built for.
+    ///
+    /// # Examples
+    ///
+    /// ```
+    /// use target_lexicon::{HOST, PointerWidth, Triple};
+    ///
+    /// assert_eq!(Triple::host(), HOST);
+    /// assert_eq!(Triple::host().pointer_width().map(PointerWidth::bytes), Ok(size_of::<usize>() as u8));
+    /// ```
+    pub const fn host() -> Self {
+        HOST
+    }
+}
+
+/// The triple of a text that must be one. Any other text ends the program.
+///
+/// # Examples
+///
+/// ```
+/// use target_lexicon::{Vendor, triple};
+///
+/// assert_eq!(triple!("x86_64-pc-windows-msvc").vendor, Vendor::Pc);
+/// ```
+#[macro_export]
+macro_rules! triple {
+    ($text:tt) => {
+        <$crate::Triple as ::core::str::FromStr>::from_str($text).expect("invalid triple literal")
+    };
+}
+
+#[cfg(feature = "serde_support")]
+impl serde::Serialize for Triple {
+    fn serialize<S: serde::Serializer>(&self, serializer: S) -> Result<S::Ok, S::Error> {
+        serializer.collect_str(self)
+    }
+}
+
+#[cfg(feature = "serde_support")]
+impl<'de> serde::Deserialize<'de> for Triple {
+    fn deserialize<D: serde::Deserializer<'de>>(deserializer: D) -> Result<Self, D::Error> {
+        let text = <Cow<'de, str> as serde::Deserialize>::deserialize(deserializer)?;
+        text.parse().map_err(serde::de::Error::custom)
+    }
+}
