@@ -33,7 +33,16 @@ pub const NON_EXHAUSTIVE: [&str; 16] = [
 pub const RENAMED: [&str; 2] = ["normal", "settle"];
 
 /// Small functions that rustc otherwise calls instead of inlining.
-pub const INLINED: [(&str, &str, &str); 0] = [];
+pub const INLINED: [(&str, &str, &str); 8] = [
+    ("target_lexicon/part.rt", "", "row_of"),
+    ("target_lexicon/part.rt", "", "split_at_dash"),
+    ("target_lexicon/part.rt", "Part", "first"),
+    ("target_lexicon/part.rt", "Part", "first_of"),
+    ("target_lexicon/part.rt", "Part", "next"),
+    ("target_lexicon/part.rt", "Part", "vendor"),
+    ("target_lexicon/read.rt", "PartCursor", "take"),
+    ("target_lexicon/read.rt", "PartCursor", "take_vendor"),
+];
 
 /// An allocation that fails ends the process in Rust, so that `ParseError` has upstream's six variants only. With the
 /// feature, printing goes by upstream's rule.
