@@ -114,9 +114,13 @@ fn examples(text: &str) -> Vec<(String, String)> {
     for line in text.lines() {
         if let Some(item) = line.strip_prefix("## ") {
             found.push((item.to_string(), String::new()));
-        } else if let Some((_, code)) = found.last_mut().filter(|_| !line.is_empty()) {
+        } else if let Some((_, code)) = found.last_mut() {
             writeln!(code, "{line}").unwrap();
         }
+    }
+    for (_, code) in &mut found {
+        code.truncate(code.trim_end().len());
+        code.push('\n');
     }
     found
 }

@@ -29,12 +29,12 @@ use core::{fmt, str::FromStr};
 use shim::allocated;
 use shim::std::alloc::Global;
 
-pub use lexicon_fields::{
+pub use crate::lexicon_fields::{
     Aarch64Architecture, Architecture, ArmArchitecture, BinaryFormat, CleverArchitecture, CustomVendor, DeploymentTarget,
     Endianness, Environment, Mips32Architecture, Mips64Architecture, OperatingSystem, PointerWidth, Riscv32Architecture,
     Riscv64Architecture, Vendor, X86_32Architecture, Z80Architecture,
 };
-pub use target_lexicon::{
+pub use crate::target_lexicon::{
     CDataModel, CallingConvention, DefaultToHost, DefaultToUnknown, ParseError, Size, Triple, default_binary_format,
 };
 

@@ -1,0 +1,141 @@
+//! This crate beside upstream's, in one process.
+//!
+//! usage: beside_upstream lines < LINES  what each line parses as, or its error, has the same `Debug` text and the same
+//!                                       `Display` text but for the one rule that differs; so have the names of the fields
+//!        beside_upstream NAMES          for every architecture, vendor, system, environment and format that the names in
+//!                                       the file NAMES parse as: the printed text and the four queries
+use std::collections::hash_map::DefaultHasher;
+use std::fmt::{Debug, Display, Write};
+use std::hash::{Hash, Hasher};
+use std::io::Read;
+use std::str::FromStr;
+
+const VERSIONED: [&str; 4] = ["darwin23.6.0", "ios1", "macosx10.7", "xros65535.255.255"];
+const CUSTOM_VENDORS: [&str; 6] = ["esp", "foo", "", "a-b", "X", "linux"];
+
+fn hash(value: &impl Hash) -> u64 {
+    let mut hasher = DefaultHasher::new();
+    value.hash(&mut hasher);
+    hasher.finish()
+}
+
+fn same(ours: impl Debug, theirs: impl Debug, of: impl Display) {
+    assert_eq!(format!("{ours:?}"), format!("{theirs:?}"), "of {of}");
+}
+
+/// Compares two printed texts, and returns whether they differ by the rule: if environment and format are unknown and
+/// another format is implied, both are shown.
+fn differ_by_the_rule(triple: &ours::Triple, ours: &str, theirs: &str) -> bool {
+    if ours == theirs {
+        return false;
+    }
+    assert!(!cfg!(feature = "upstream_printing"), "{triple:?}: {ours} {theirs}");
+    let omits_system = triple.architecture.is_clever() && triple.operating_system == ours::OperatingSystem::Unknown;
+    let both_unknown = triple.environment == ours::Environment::Unknown && triple.binary_format == ours::BinaryFormat::Unknown;
+    assert!(both_unknown, "{triple:?}: {ours} {theirs}");
+    assert_eq!(ours, format!("{theirs}{}", if omits_system { "-unknown-unknown" } else { "-unknown" }));
+    true
+}
+
+fn compare_lines() {
+    let mut input = String::new();
+    std::io::stdin().read_to_string(&mut input).expect("lines");
+    let (mut parsed, mut refused, mut by_the_rule) = (0, 0, 0);
+    for line in input.split('\n') {
+        match (line.parse::<ours::Triple>(), line.parse::<upstream::Triple>()) {
+            (Err(ours), Err(theirs)) => {
+                same(&ours, &theirs, line);
+                assert_eq!(ours.to_string(), theirs.to_string());
+                assert_eq!(ours.clone(), ours);
+                refused += 1;
+            }
+            (Ok(ours), Ok(theirs)) => {
+                same(&ours, &theirs, line);
+                by_the_rule += i32::from(differ_by_the_rule(&ours, &ours.to_string(), &theirs.to_string()));
+                assert_eq!(ours.architecture.into_str(), theirs.architecture.into_str());
+                assert_eq!(ours.vendor.as_str(), theirs.vendor.as_str());
+                assert_eq!(ours.operating_system.into_str(), theirs.operating_system.into_str());
+                assert_eq!(ours.operating_system.is_like_darwin(), theirs.operating_system.is_like_darwin());
+                assert_eq!(ours.environment.into_str(), theirs.environment.into_str());
+                assert_eq!(ours.binary_format.into_str(), theirs.binary_format.into_str());
+                assert_eq!(ours.clone(), ours);
+                assert_eq!(hash(&ours.clone()), hash(&ours));
+                parsed += 1;
+            }
+            (ours, theirs) => panic!("{line}: {ours:?} {theirs:?}"),
+        }
+    }
+    println!("{parsed} lines parse and {refused} are refused as upstream's; {by_the_rule} print otherwise by the rule");
+}
+
+/// The values of a field in both crates.
+fn values<O: FromStr, U: FromStr>(names: &[&str]) -> Vec<(O, U)> {
+    let mut found = Vec::new();
+    for name in names {
+        match (name.parse::<O>(), name.parse::<U>()) {
+            (Ok(ours), Ok(theirs)) => found.push((ours, theirs)),
+            (Err(_), Err(_)) => {}
+            _ => panic!("{name} parses in one of the crates only"),
+        }
+    }
+    found
+}
+
+fn compare_queries(ours: &ours::Triple, theirs: &upstream::Triple) {
+    same(ours.endianness(), theirs.endianness(), ours);
+    same(ours.pointer_width(), theirs.pointer_width(), ours);
+    same(ours.default_calling_convention(), theirs.default_calling_convention(), ours);
+    same(ours.data_model(), theirs.data_model(), ours);
+}
+
+fn compare_tables(names: &str) {
+    let mut names: Vec<&str> = names.split_whitespace().collect();
+    names.extend(VERSIONED);
+    let architectures = values::<ours::Architecture, upstream::Architecture>(&names);
+    let mut vendors = values::<ours::Vendor, upstream::Vendor>(&names);
+    vendors.retain(|(it, _)| !matches!(it, ours::Vendor::Custom(_)));
+    for text in CUSTOM_VENDORS {
+        let ours = ours::Vendor::Custom(ours::CustomVendor::Static(text));
+        vendors.push((ours, upstream::Vendor::Custom(upstream::CustomVendor::Static(text))));
+    }
+    let systems = values::<ours::OperatingSystem, upstream::OperatingSystem>(&names);
+    let environments = values::<ours::Environment, upstream::Environment>(&names);
+    let formats = values::<ours::BinaryFormat, upstream::BinaryFormat>(&names);
+    let (mut count, mut by_the_rule) = (0u64, 0u64);
+    let (mut our_text, mut their_text) = (String::new(), String::new());
+    let mut ours = ours::Triple::unknown();
+    let mut theirs = upstream::Triple::unknown();
+    for architecture in &architectures {
+        (ours.architecture, theirs.architecture) = *architecture;
+        for (i, vendor) in vendors.iter().enumerate() {
+            (ours.vendor, theirs.vendor) = vendor.clone();
+            for system in &systems {
+                (ours.operating_system, theirs.operating_system) = *system;
+                for environment in &environments {
+                    (ours.environment, theirs.environment) = *environment;
+                    for format in &formats {
+                        (ours.binary_format, theirs.binary_format) = *format;
+                        our_text.clear();
+                        their_text.clear();
+                        write!(our_text, "{ours}").expect("memory");
+                        write!(their_text, "{theirs}").expect("memory");
+                        by_the_rule += u64::from(differ_by_the_rule(&ours, &our_text, &their_text));
+                        count += 1;
+                    }
+                    if i == 0 {
+                        compare_queries(&ours, &theirs);
+                    }
+                }
+            }
+        }
+    }
+    println!("{count} constructed triples: {by_the_rule} print otherwise than upstream's by the rule, and no other");
+}
+
+fn main() {
+    match std::env::args().nth(1).as_deref() {
+        Some("lines") => compare_lines(),
+        Some(file) => compare_tables(&std::fs::read_to_string(file).expect("a file of names")),
+        None => panic!("usage: beside_upstream lines | NAMES"),
+    }
+}

@@ -1,0 +1,1 @@
+//! Upstream's own tests, over this crate: see `tests.rs`.
