@@ -10,7 +10,10 @@ use std::hash::{Hash, Hasher};
 use std::io::Read;
 use std::str::FromStr;
 
-const VERSIONED: [&str; 4] = ["darwin23.6.0", "ios1", "macosx10.7", "xros65535.255.255"];
+/// The systems like Darwin, which the table of names has not.
+const DARWIN_LIKE: [&str; 11] = [
+    "darwin", "ios", "macosx", "tvos", "visionos", "watchos", "xros", "darwin23.6.0", "ios1", "macosx10.7", "xros65535.255.255",
+];
 const CUSTOM_VENDORS: [&str; 6] = ["esp", "foo", "", "a-b", "X", "linux"];
 
 fn hash(value: &impl Hash) -> u64 {
@@ -90,7 +93,7 @@ fn compare_queries(ours: &ours::Triple, theirs: &upstream::Triple) {
 
 fn compare_tables(names: &str) {
     let mut names: Vec<&str> = names.split_whitespace().collect();
-    names.extend(VERSIONED);
+    names.extend(DARWIN_LIKE);
     let architectures = values::<ours::Architecture, upstream::Architecture>(&names);
     let mut vendors = values::<ours::Vendor, upstream::Vendor>(&names);
     vendors.retain(|(it, _)| !matches!(it, ours::Vendor::Custom(_)));
