@@ -38,6 +38,11 @@ pub use crate::target_lexicon::{
     CDataModel, CallingConvention, DefaultToHost, DefaultToUnknown, ParseError, Size, Triple, default_binary_format,
 };
 
+/// The examples of the page are tested.
+#[cfg(doctest)]
+#[doc = include_str!("../README.md")]
+struct Readme;
+
 /// `Clone` by the copy that takes the allocator.
 macro_rules! clone {
     ($($name:ident)*) => {

@@ -98,6 +98,7 @@ pub(crate) mod std {
             }
 
             /// Sixteen answers, each a byte.
+            #[derive(Clone, Copy)]
             pub struct Mask(u64, u64);
 
             impl Mask {
