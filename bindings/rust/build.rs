@@ -165,7 +165,7 @@ fn host(here: &Path, erased: &Path) -> String {
     );
     write(&source, &text);
     let mut rustc = Command::new(env::var_os("RUSTC").unwrap_or("rustc".into()));
-    rustc.args(["--edition", "2021", "--crate-name", "host", "--crate-type", "bin"]).arg(&source).arg("-o").arg(&program);
+    rustc.args(["--edition", "2024", "--crate-name", "host", "--crate-type", "bin"]).arg(&source).arg("-o").arg(&program);
     if env::var_os("TARGET") == env::var_os("HOST") {
         if let Some(linker) = env::var_os("RUSTC_LINKER") {
             rustc.arg("-C").arg(format!("linker={}", linker.to_string_lossy()));

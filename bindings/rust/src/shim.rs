@@ -88,13 +88,13 @@ pub(crate) mod std {
                 }
             }
 
-            /// A byte 1 for each byte that both have, and a byte 0 for every other.
+            /// A byte 0x80 for each byte that both have, and a byte 0 for every other.
             #[inline(always)]
             fn equal_bytes(x: u64, y: u64) -> u64 {
                 let low_bits = u64::from_ne_bytes([0x7f; 8]);
                 let difference = x ^ y;
                 let differs = ((difference & low_bits) + low_bits) | difference;
-                (!differs >> 7) & u64::from_ne_bytes([1; 8])
+                !differs & u64::from_ne_bytes([0x80; 8])
             }
 
             /// Sixteen answers, each a byte.
@@ -109,10 +109,11 @@ pub(crate) mod std {
                 }
             }
 
-            /// The lowest bit of each byte.
+            /// The highest bit of each byte, if all other bits are 0. The product has no carries, and bit 8 * i + 7 moves to
+            /// 56 + i.
             #[inline(always)]
             fn gathered_bits(answers: u64) -> u64 {
-                answers.wrapping_mul(0x0102_0408_1020_4080) >> 56
+                answers.wrapping_mul(0x0002_0408_1020_4081) >> 56
             }
 
             #[cfg(test)]
