@@ -32,7 +32,8 @@ pub const NON_EXHAUSTIVE: [&str; 16] = [
 /// Functions with a precondition, for which the layer has a checked form.
 pub const RENAMED: [&str; 2] = ["normal", "settle"];
 
-/// Small functions that rustc otherwise calls instead of inlining.
+/// Small functions that rustc otherwise calls instead of inlining. Written in the proved text, the attribute would make
+/// the proved program slower, which another compiler builds.
 pub const INLINED: [(&str, &str, &str); 8] = [
     ("target_lexicon/part.rt", "", "row_of"),
     ("target_lexicon/part.rt", "", "split_at_dash"),
