@@ -59,12 +59,12 @@ facts_of t =
     }
 
 -- what holds at each outcome of a call that answers for the triple that the text reads as, and else changes nothing
-abbrev pub Answers : (Values → Type 0) → Type 0 → List ℕ → Outcome → Type 0
-Answers holds unchanged text =
+abbrev pub IsAnswered : (Values → Type 0) → Type 0 → List ℕ → Outcome → Type 0
+IsAnswered holds unchanged text =
     Ends (IsUtf8 text) (MayAllocate text) unchanged ((t : Values) × ReadsAs text t × holds t)
     (λ refusal. unchanged × IsRefusedAs text refusal)
 
--- likewise for two texts and whether their triples are equal. A refusal is the first text's or, if that reads, the second's
+-- likewise for two texts and whether their triples are equal; a refusal is the first text's, or else the second's
 abbrev pub Compares : Bool → Type 0 → List ℕ → List ℕ → Outcome → Type 0
 Compares answer unchanged first second =
     Ends (IsUtf8 first × IsUtf8 second) (MayAllocate first ⊎ MayAllocate second) unchanged

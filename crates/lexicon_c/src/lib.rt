@@ -10,7 +10,7 @@ mod utf8;
 
 ghost use Rattle.std.specs.Prelude.{◌≡◌, ◌↔◌, IsTrue, ⊤, []};
 ghost use Rattle.std.specs.Str.{IsUtf8};
-ghost use Rattle.lexicon_c.specs.Facts.{facts_of, Answers, Compares};
+ghost use Rattle.lexicon_c.specs.Facts.{facts_of, Compares, IsAnswered};
 ghost use Rattle.lexicon_c.specs.Names.{name_in, InField, MayAllocateName, WritesName};
 ghost use Rattle.lexicon_c.specs.Outcome.{HasOutcome};
 ghost use Rattle.lexicon_c.specs.Output.{GrowsAtMost, IsWritten, Writes, refused_part};
@@ -113,7 +113,7 @@ pub extern "C" fn lexicon_field(
 #[unsafe(no_mangle)]
 pub extern "C" fn lexicon_facts(alloc: Global, text: &[u8], facts: &mut LexiconFacts) -> u32
     ensures { HasOutcome result
-        (Answers (λ t. facts.new ≡ facts_of t) (facts.new ≡ facts.old) text.now) }
+        (IsAnswered (λ t. facts.new ≡ facts_of t) (facts.new ≡ facts.old) text.now) }
 {
     let Ok(text) = from_utf8(text) else {
         return Status::NotUtf8.number();
@@ -131,7 +131,7 @@ pub extern "C" fn lexicon_facts(alloc: Global, text: &[u8], facts: &mut LexiconF
 #[unsafe(no_mangle)]
 pub extern "C" fn lexicon_comes_back(alloc: Global, text: &[u8], answer: &mut bool) -> u32
     ensures { HasOutcome result
-        (Answers (λ t. IsTrue answer.new ↔ ComesBack t) (answer.new ≡ answer.old) text.now) }
+        (IsAnswered (λ t. IsTrue answer.new ↔ ComesBack t) (answer.new ≡ answer.old) text.now) }
 {
     let Ok(text) = from_utf8(text) else {
         return Status::NotUtf8.number();
