@@ -1,5 +1,3 @@
--- Ascii: bytes that two loads show to be text. Memory: what an error says of memory. Room: the part that an error has
--- is no longer than the text.
+-- Ascii: bytes that two loads show to be text. Errors: what an error says of memory and of room.
 pub mod Ascii
-pub mod Memory
-pub mod Room
+pub mod Errors

@@ -1,39 +1,27 @@
--- Printed texts and names, as they are written.
-use Rattle.std.specs.Prelude.{◌≡◌, ◌⊎◌, ℕ, suc, List, Option, Some, None, true, option_map, IsSome}
+-- The names of values in one field of a triple and outside any triple.
+use Rattle.std.specs.Prelude.{◌≡◌, ◌⊎◌, ℕ, List, [], Option, None, true, option_map, IsSome, MatchOption}
+use Rattle.std.specs.Str.{IsUtf8}
 use Rattle.lexicon_fields.specs.{Architecture.architecture_name, Architecture.architecture_of, BinaryFormat.binary_format_name, BinaryFormat.binary_format_of}
 use Rattle.lexicon_fields.specs.{Environment.environment_name, Environment.environment_of, OperatingSystem.operating_system_name, OperatingSystem.operating_system_of, OperatingSystem.system_version}
-use Rattle.lexicon_fields.specs.{Vendor.vendor_name, Vendor.vendor_of, Vendor.is_admitted, declared.operating_system.OperatingSystem.OperatingSystem}
-use Rattle.lexicon_c.specs.Output.{IsWritten}
-use Rattle.target_lexicon.specs.{Field.Field, Field.field_number, Reading.ReadsAs, Reading.MayAllocate, Values.Values}
-use Rattle.target_lexicon.specs.Field as field
-
--- the text reads as a triple, and what is shown of it is written
-abbrev pub IsTextWritten : (Values → List ℕ) → List ℕ → List ℕ → List ℕ → ℕ → Type 0
-IsTextWritten shown text old new size = (t : Values) × ReadsAs text t × IsWritten (shown t) old new size
+use Rattle.lexicon_fields.specs.{Vendor.vendor_name, Vendor.vendor_of, Vendor.is_admitted}
+use Rattle.lexicon_c.specs.{Outcome.Outcome, Outcome.NoSuchField, Outcome.Ends, Output.IsWritten, Outcome.field_at, Outcome.field_of, declared.field.Field.Field}
+use Rattle.target_lexicon.specs.{Reading.ReadsAs, Reading.MayAllocate, Refusal.Expects, Refusal.refusal_with, Values.Values}
+use Rattle.lexicon_c.specs.declared.field.Field.TheVariants as field
 
 -- the name of a triple's value in a field
-abbrev pub name_in : Values → Field → List ℕ
-name_in t field.Architecture = architecture_name t.architecture
-name_in t field.Vendor = vendor_name t.vendor
-name_in t field.OperatingSystem = operating_system_name t.operating_system
-name_in t field.Environment = environment_name t.environment
-name_in t field.BinaryFormat = binary_format_name t.binary_format
-
--- the text reads as a triple, whose name in the field of this number is written
-abbrev pub IsNameWritten : ℕ → List ℕ → List ℕ → List ℕ → ℕ → Type 0
-IsNameWritten number text old new size =
-    (f : Field) × ((t : Values) × (field_number f ≡ number) × ReadsAs text t × IsWritten (name_in t f) old new size)
-
--- a system that holds a version, whose name may allocate
-abbrev pub HasVersion : OperatingSystem → Type 0
-HasVersion system = IsSome (system_version system)
+abbrev pub name_in : Field → Values → List ℕ
+name_in field.Architecture t = architecture_name t.architecture
+name_in field.Vendor t = vendor_name t.vendor
+name_in field.OperatingSystem t = operating_system_name t.operating_system
+name_in field.Environment t = environment_name t.environment
+name_in field.BinaryFormat t = binary_format_name t.binary_format
 
 -- the only texts whose names may allocate: those whose reading does, and, of the system, those with a version
-abbrev pub MayAllocateName : ℕ → List ℕ → Type 0
-MayAllocateName number text =
-    MayAllocate text ⊎ ((t : Values) × (number ≡ 2) × ReadsAs text t × HasVersion t.operating_system)
+abbrev pub MayAllocateName : Field → List ℕ → Type 0
+MayAllocateName f text =
+    MayAllocate text ⊎ ((t : Values) × (f ≡ field.OperatingSystem) × ReadsAs text t × IsSome (system_version t.operating_system))
 
--- the name of the value that a text reads as in a field, if it does
+-- the name of the value that a text is in a field, if it is one
 abbrev pub canonical_name : Field → List ℕ → Option (List ℕ)
 canonical_name field.Architecture text = option_map architecture_name (architecture_of text)
 canonical_name field.Vendor text = option_map vendor_name (vendor_of text)
@@ -41,18 +29,19 @@ canonical_name field.OperatingSystem text = option_map operating_system_name (op
 canonical_name field.Environment text = option_map environment_name (environment_of text)
 canonical_name field.BinaryFormat text = option_map binary_format_name (binary_format_of text)
 
--- the text reads in the field of this number, and the name is written
-abbrev pub IsCanonicalNameWritten : ℕ → List ℕ → List ℕ → List ℕ → ℕ → Type 0
-IsCanonicalNameWritten number text old new size =
-    (f : Field) × ((name : List ℕ) × (field_number f ≡ number) × (canonical_name f text ≡ Some name) × IsWritten name old new size)
-
--- the text doesn't read in the field of this number, and is written itself; the status is that of the field
-abbrev pub IsUnknownNameWritten : ℕ → ℕ → List ℕ → List ℕ → List ℕ → ℕ → Type 0
-IsUnknownNameWritten status number text old new size =
-    (f : Field) × (field_number f ≡ number) × (status ≡ suc (field_number f)) × (canonical_name f text ≡ None) × IsWritten text old new size
-
 -- the only texts of a field that may allocate: those of custom vendors and of systems with a version
-abbrev pub MayAllocateCanonicalName : ℕ → List ℕ → Type 0
-MayAllocateCanonicalName number text =
-    ((number ≡ 1) × (is_admitted text ≡ true))
-    ⊎ ((system : OperatingSystem) × (number ≡ 2) × (operating_system_of text ≡ Some system) × HasVersion system)
+abbrev pub MayAllocateCanonicalName : Field → List ℕ → Type 0
+MayAllocateCanonicalName field.Vendor text = is_admitted text ≡ true
+MayAllocateCanonicalName field.OperatingSystem text = MatchOption (operating_system_of text) ⊥ (λ system. IsSome (system_version system))
+MayAllocateCanonicalName _ text = ⊥
+
+-- what is written at each outcome of a call on a text in one field: its name, or, if it is no value, the text itself
+abbrev pub WritesName : Field → List ℕ → List ℕ → List ℕ → ℕ → Outcome → Type 0
+WritesName f text old new size =
+    Ends (IsUtf8 text) (MayAllocateCanonicalName f text) (IsWritten [] old new size)
+    (MatchOption (canonical_name f text) ⊥ (λ name. IsWritten name old new size))
+    (λ refusal. (canonical_name f text ≡ None) × (refusal ≡ refusal_with (Expects (field_of f)) text) × IsWritten text old new size)
+
+-- what holds at each outcome of a call on the field of this number
+abbrev pub InField : ℕ → Type 0 → (Field → Outcome → Type 0) → Outcome → Type 0
+InField number unchanged holds outcome = MatchOption (field_at number) ((outcome ≡ NoSuchField) × unchanged) (λ f. holds f outcome)

@@ -1,14 +1,15 @@
-//! The facts of a triple, as numbers.
-ghost use Rattle.std.specs.Prelude.{◌≡◌};
+//! The facts of a triple, as numbers, and whether two triples are equal.
+ghost use Rattle.std.specs.Prelude.{◌≡◌, ◌↔◌, IsTrue};
 ghost use Rattle.std.specs.Option.{option_map_or};
 ghost use Rattle.lexicon_fields.specs.OperatingSystem.{system_version};
 ghost use Rattle.lexicon_fields.specs.PointerWidth.{width_bits};
 ghost use Rattle.target_lexicon.specs.Queries.{endianness, pointer_width, calling_convention, data_model};
 ghost use Rattle.target_lexicon.specs.Values.{values_of};
-ghost use Rattle.lexicon_c.specs.Facts.{AreFactsOf, endianness_number, convention_number, model_number, format_number};
+ghost use Rattle.lexicon_c.specs.Facts.{facts_of, endianness_number, convention_number, model_number, format_number};
 
+use target_lexicon::laws::triples_are_equal_by_value;
 use target_lexicon::{
-    BinaryFormat, CDataModel, CallingConvention, Endianness, OperatingSystem, PointerWidth, Triple,
+    BinaryFormat, CDataModel, CallingConvention, Endianness, OperatingSystem, Triple,
     default_binary_format,
 };
 
@@ -40,7 +41,7 @@ pub struct LexiconFacts {
 
 /// The facts of a triple.
 pub(crate) fn lexicon_facts_of(triple: &Triple) -> LexiconFacts
-    ensures { AreFactsOf result (values_of triple.now) }
+    ensures { result ≡ facts_of (values_of triple.now) }
 {
     let (has_version, major, minor, patch) = version_numbers(triple.operating_system);
     LexiconFacts {
@@ -71,9 +72,7 @@ fn pointer_bits(triple: &Triple) -> u32
     ensures { result ≡ option_map_or width_bits (pointer_width (values_of triple.now)) 0 }
 {
     match triple.pointer_width() {
-        Ok(PointerWidth::U16) => 16,
-        Ok(PointerWidth::U32) => 32,
-        Ok(PointerWidth::U64) => 64,
+        Ok(width) => u32::from(width.bits()),
         Err(()) => 0,
     }
 }
@@ -132,4 +131,12 @@ fn version_numbers(system: OperatingSystem) -> (u32, u32, u32, u32)
         ),
         None => (0, 0, 0, 0),
     }
+}
+
+/// Whether two triples are equal.
+pub(crate) fn are_equal(first: &Triple, second: &Triple) -> bool
+    ensures { IsTrue result ↔ (values_of first.now ≡ values_of second.now) }
+{
+    triples_are_equal_by_value();
+    first == second
 }

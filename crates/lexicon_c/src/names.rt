@@ -1,92 +1,99 @@
-//! The names of the values that a text reads as in each field.
-ghost use Rattle.std.specs.Prelude.{◌≡◌, ◌≤◌, true, MatchOption};
-ghost use Rattle.lexicon_fields.specs.OperatingSystem.{operating_system_of};
-ghost use Rattle.lexicon_fields.specs.Vendor.{is_admitted};
-ghost use Rattle.target_lexicon.specs.Field as field;
-ghost use Rattle.lexicon_c.specs.Names.{canonical_name, HasVersion};
-ghost use Rattle.lexicon_c.specs.Output.{IsWritten, IsNothingWritten};
+//! The names of values in one field: those of a triple, and those that a text is outside any triple.
+ghost use Rattle.lexicon_c.specs.Names.{name_in, MayAllocateName, WritesName};
+ghost use Rattle.lexicon_c.specs.Outcome.{HasOutcome};
+ghost use Rattle.lexicon_c.specs.Output.{Writes, refused_part};
 
-use crate::output::{write_system, write_text};
-use crate::status::{
-    DONE, NO_ARCHITECTURE, NO_BINARY_FORMAT, NO_ENVIRONMENT, NO_OPERATING_SYSTEM, NO_VENDOR,
-    OUT_OF_MEMORY,
-};
+use crate::field::Field;
+use crate::output::{write_nothing, write_refused_part, write_text};
+use crate::status::Status;
 use std::alloc::Global;
 use target_lexicon::{
-    Architecture, BinaryFormat, Environment, OperatingSystem, Vendor, VendorError,
+    Architecture, BinaryFormat, Environment, OperatingSystem, Triple, Vendor, VendorError,
 };
 
-/// Writes the name of the architecture that the text reads as, or the text.
-pub(crate) fn write_architecture(text: &str, out: &mut [u8], length: &mut usize) -> u32
-    ensures { MatchOption (canonical_name field.Architecture text.now)
-        ((result ≡ 1) × IsWritten text.now out.old out.new length.new)
-        (λ name. (result ≡ 0) × IsWritten name out.old out.new length.new) }
+/// Reads a text as a triple, and writes the name of one of its fields. A version may allocate.
+pub(crate) fn write_name(
+    alloc: Global,
+    text: &str,
+    field: Field,
+    out: &mut [u8],
+    length: &mut usize,
+) -> u32
+    ensures { HasOutcome result
+        (Writes (name_in field) refused_part (MayAllocateName field text.now)
+        text.now out.old out.new length.new) }
 {
-    match Architecture::from_str(text) {
-        Ok(architecture) => write_text(DONE, architecture.into_str().as_str(), out, length),
-        Err(()) => write_text(NO_ARCHITECTURE, text, out, length),
-    }
-}
-
-/// Writes the name of the environment that the text reads as, or the text.
-pub(crate) fn write_environment(text: &str, out: &mut [u8], length: &mut usize) -> u32
-    ensures { MatchOption (canonical_name field.Environment text.now)
-        ((result ≡ 4) × IsWritten text.now out.old out.new length.new)
-        (λ name. (result ≡ 0) × IsWritten name out.old out.new length.new) }
-{
-    match Environment::from_str(text) {
-        Ok(environment) => write_text(DONE, environment.into_str().as_str(), out, length),
-        Err(()) => write_text(NO_ENVIRONMENT, text, out, length),
-    }
-}
-
-/// Writes the name of the binary format that the text reads as, or the text.
-pub(crate) fn write_binary_format(text: &str, out: &mut [u8], length: &mut usize) -> u32
-    ensures { MatchOption (canonical_name field.BinaryFormat text.now)
-        ((result ≡ 5) × IsWritten text.now out.old out.new length.new)
-        (λ name. (result ≡ 0) × IsWritten name out.old out.new length.new) }
-{
-    match BinaryFormat::from_str(text) {
-        Ok(format) => write_text(DONE, format.into_str().as_str(), out, length),
-        Err(()) => write_text(NO_BINARY_FORMAT, text, out, length),
-    }
-}
-
-/// Writes the name of the vendor that the text reads as, or the text. A custom vendor may allocate.
-pub(crate) fn write_vendor(alloc: Global, text: &str, out: &mut [u8], length: &mut usize) -> u32
-    ensures output { result ≤ 6 → MatchOption (canonical_name field.Vendor text.now)
-        ((result ≡ 2) × IsWritten text.now out.old out.new length.new)
-        (λ name. (result ≡ 0) × IsWritten name out.old out.new length.new) }
-    ensures memory { 7 ≤ result →
-        (result ≡ 8) × (is_admitted text.now ≡ true) × IsNothingWritten out.old out.new length.new }
-{
-    match Vendor::from_str(alloc, text) {
-        Ok(vendor) => write_text(DONE, vendor.as_str(), out, length),
-        Err(VendorError::Unrecognized) => write_text(NO_VENDOR, text, out, length),
-        Err(VendorError::OutOfMemory) => {
-            *length = 0;
-            OUT_OF_MEMORY
+    let triple = match Triple::from_str(alloc, text) {
+        Ok(triple) => triple,
+        Err(error) => return write_refused_part(&error, out, length),
+    };
+    match field {
+        Field::Architecture => {
+            write_text(
+                Status::Done,
+                triple.architecture.into_str().as_str(),
+                out,
+                length,
+            )
+        }
+        Field::Vendor => write_text(Status::Done, triple.vendor.as_str(), out, length),
+        Field::OperatingSystem => match triple.operating_system.into_str(alloc) {
+            Ok(name) => write_text(Status::Done, name.as_str(), out, length),
+            Err(_) => write_nothing(Status::OutOfMemory, out, length),
+        },
+        Field::Environment => {
+            write_text(
+                Status::Done,
+                triple.environment.into_str().as_str(),
+                out,
+                length,
+            )
+        }
+        Field::BinaryFormat => {
+            write_text(
+                Status::Done,
+                triple.binary_format.into_str().as_str(),
+                out,
+                length,
+            )
         }
     }
 }
 
-/// Writes the name of the operating system that the text reads as, or the text. A version may allocate.
-pub(crate) fn write_operating_system(
+/// Writes the name of the value that the text is in the field, or the text. A custom vendor and a version may allocate.
+pub(crate) fn write_canonical_name(
     alloc: Global,
     text: &str,
+    field: Field,
     out: &mut [u8],
     length: &mut usize,
 ) -> u32
-    ensures output { result ≤ 6 → MatchOption (canonical_name field.OperatingSystem text.now)
-        ((result ≡ 3) × IsWritten text.now out.old out.new length.new)
-        (λ name. (result ≡ 0) × IsWritten name out.old out.new length.new) }
-    ensures memory { 7 ≤ result →
-        (result ≡ 8)
-        × MatchOption (operating_system_of text.now) ⊥ HasVersion
-        × IsNothingWritten out.old out.new length.new }
+    ensures { HasOutcome result (WritesName field text.now out.old out.new length.new) }
 {
-    match OperatingSystem::from_str(text) {
-        Ok(system) => write_system(alloc, system, out, length),
-        Err(()) => write_text(NO_OPERATING_SYSTEM, text, out, length),
+    match field {
+        Field::Architecture => match Architecture::from_str(text) {
+            Ok(value) => write_text(Status::Done, value.into_str().as_str(), out, length),
+            Err(()) => write_text(Status::Refused(field), text, out, length),
+        },
+        Field::Vendor => match Vendor::from_str(alloc, text) {
+            Ok(value) => write_text(Status::Done, value.as_str(), out, length),
+            Err(VendorError::Unrecognized) => write_text(Status::Refused(field), text, out, length),
+            Err(VendorError::OutOfMemory) => write_nothing(Status::OutOfMemory, out, length),
+        },
+        Field::OperatingSystem => match OperatingSystem::from_str(text) {
+            Ok(value) => match value.into_str(alloc) {
+                Ok(name) => write_text(Status::Done, name.as_str(), out, length),
+                Err(_) => write_nothing(Status::OutOfMemory, out, length),
+            },
+            Err(()) => write_text(Status::Refused(field), text, out, length),
+        },
+        Field::Environment => match Environment::from_str(text) {
+            Ok(value) => write_text(Status::Done, value.into_str().as_str(), out, length),
+            Err(()) => write_text(Status::Refused(field), text, out, length),
+        },
+        Field::BinaryFormat => match BinaryFormat::from_str(text) {
+            Ok(value) => write_text(Status::Done, value.into_str().as_str(), out, length),
+            Err(()) => write_text(Status::Refused(field), text, out, length),
+        },
     }
 }

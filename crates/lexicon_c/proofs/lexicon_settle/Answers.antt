@@ -1,8 +1,9 @@
-use Rattle.target_lexicon.specs.Refusal.{refusal_of}
-use Rattle.lexicon_c.proofs.Room.{error_has_room}
+use Rattle.std.proofs.Common.{rules}
+use Rattle.target_lexicon.specs.Values.{values_of}
+use Rattle.lexicon_c.specs.Outcome.{Done}
 use Rattle.lexicon_c.proofs.lexicon_settle.Goals as goal
 
-pub returns-clause-room : goal.returns-clause-room
-returns-clause-room c =
-    let shorter = c.printed_texts_grow_at_most.ensures.refused in
-    rw c.in-Ok.ensures.cases.0 at (error_has_room shorter c.in-Ok.text.now (refusal_of c.in-Err.error) _ _ _ _ c.in-Err.ensures.err c.write_refused_part.ensures)
+pub returns-in-Ok-to_text-clause-outcome : goal.returns-in-Ok-to_text-clause-outcome
+returns-in-Ok-to_text-clause-outcome c =
+    let reads = rw c.in-Ok.ensures.cases.0 at c.in-Ok-from_str.ensures.ok in
+    (Done, c.write_text.ensures.status, (c.in-Ok.ensures.cases.1, (values_of c.in-Ok-from_str.triple, reads, search rules)))
