@@ -13,6 +13,8 @@ ghost use Rattle.lexicon_fields.specs.FixedRow.{has_row, row_count, row_texts, H
 ghost use Rattle.lexicon_fields.specs.declared.vendor.CustomVendor.{CustomVendor};
 ghost use Rattle.lexicon_fields.specs.declared.vendor.Vendor.{Vendor};
 ghost use Rattle.lexicon_fields.specs.Vendor.{custom_text, vendor_value, vendor_name, vendor_of, is_plain};
+ghost use Rattle.lexicon_fields.specs.declared.vendor_ref.VendorRef.{VendorRef};
+ghost use Rattle.lexicon_fields.specs.VendorRef.{ref_value};
 
 use crate::architecture::{
     Aarch64Architecture, Architecture, ArmArchitecture, CleverArchitecture, Mips32Architecture,
@@ -28,6 +30,7 @@ use crate::operating_system::OperatingSystem;
 use crate::pointer_width::PointerWidth;
 use crate::table::FixedRow;
 use crate::vendor::{CustomVendor, Vendor, VendorError};
+use crate::vendor_ref::VendorRef;
 use std::hash::Hash;
 
 /// Each value parses back from its name, versions included, and no text that parses as a value has a dash. For
@@ -83,6 +86,18 @@ pub fn custom_vendors_are_equal_by_text()
 pub fn vendors_are_equal_by_value()
     ensures { (x y : Vendor) →
         IsTrue (⟦<Vendor as PartialEq>⟧.eq x y) ↔ (vendor_value x ≡ vendor_value y) }
+{}
+
+/// Borrowed vendors are equal by value, as [`Vendor`]s are.
+pub fn vendor_refs_are_equal_by_value()
+    ensures { (x y : VendorRef) →
+        IsTrue (⟦<VendorRef<'static> as PartialEq>⟧.eq x y) ↔ (ref_value x ≡ ref_value y) }
+{}
+
+/// Borrowed vendors feed a hasher by value. What is fed after one can be distinguished from what it feeds.
+pub fn vendor_refs_hash_by_value()
+    ensures { HashInjectiveOn (λ (v : VendorRef). Unit {0}) ref_value
+        ⟦<VendorRef<'static> as Hash>⟧.hash_input }
 {}
 
 /// The texts of the rows are the fixed names of all fields and the alias, each once, in the order of their bytes.
@@ -146,6 +161,7 @@ pub fn values_hash_by_variant_and_fields()
     ensures binary_format { HashInjective ⟦<BinaryFormat as Hash>⟧.hash_input }
     ensures endianness { HashInjective ⟦<Endianness as Hash>⟧.hash_input }
     ensures pointer_width { HashInjective ⟦<PointerWidth as Hash>⟧.hash_input }
+    ensures known_vendor { HashInjective ⟦<KnownVendor as Hash>⟧.hash_input }
 {}
 
 /// A copy of a value is that value, and copying allocates nothing.
@@ -186,6 +202,8 @@ pub fn copies_equal_their_sources()
         ⟦<VendorError as Clone>⟧.is_infallible }
     ensures known_vendor { CopiesEqualTheirSources ⟦<KnownVendor as Clone>⟧.is_clone
         ⟦<KnownVendor as Clone>⟧.is_infallible }
+    ensures vendor_ref { CopiesEqualTheirSources ⟦<VendorRef<'static> as Clone>⟧.is_clone
+        ⟦<VendorRef<'static> as Clone>⟧.is_infallible }
     ensures fixed_row { CopiesEqualTheirSources ⟦<FixedRow as Clone>⟧.is_clone
         ⟦<FixedRow as Clone>⟧.is_infallible }
 {}

@@ -17,3 +17,4 @@ pub mod GreedyReading
 pub mod Refusal
 pub mod SpecialTexts
 pub mod Values
+pub mod ValuesRef

@@ -20,6 +20,7 @@ pub mod laws;
 mod list_error;
 mod macros;
 mod parse_error;
+mod parse_error_ref;
 mod part;
 mod queries;
 mod read;
@@ -27,6 +28,7 @@ mod settle;
 mod settles_as;
 mod special;
 mod triple;
+mod triple_ref;
 
 pub use calling_convention::CallingConvention;
 pub use data_model::{CDataModel, Size};
@@ -38,9 +40,11 @@ pub use lexicon_fields::{
     Aarch64Architecture, Architecture, ArmArchitecture, BinaryFormat, CleverArchitecture,
     CustomVendor, DeploymentTarget, Endianness, Environment, FixedRow, KnownVendor,
     Mips32Architecture, Mips64Architecture, OperatingSystem, PointerWidth, ROW_COUNT,
-    Riscv32Architecture, Riscv64Architecture, Steps, Vendor, VendorError, X86_32Architecture,
-    Z80Architecture, fixed_row, row_order,
+    Riscv32Architecture, Riscv64Architecture, Steps, Vendor, VendorError, VendorRef,
+    X86_32Architecture, Z80Architecture, fixed_row, row_order,
 };
 pub use list_error::ListError;
 pub use parse_error::ParseError;
+pub use parse_error_ref::ParseErrorRef;
 pub use triple::Triple;
+pub use triple_ref::TripleRef;
