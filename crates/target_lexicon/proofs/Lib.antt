@@ -8,6 +8,7 @@ pub mod ComputedReading
 pub mod PartLemmas
 pub mod DashBits
 pub mod Elements
+pub mod ExplanationLemmas
 pub mod HashInputPairs
 pub mod FixedPointLemmas
 pub mod GreedyPlacement
@@ -25,6 +26,7 @@ pub mod SameValues
 pub mod SettleLemmas
 pub mod SettlesAs
 pub mod StepCases
+pub mod TextRanges
 pub mod TextRoundTrips
 pub mod UniqueReading
 pub mod Upstream
