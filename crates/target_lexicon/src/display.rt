@@ -1,15 +1,17 @@
 //! The text of a triple.
 ghost use Rattle.std.specs.Prelude.{◌≡◌, ◌||◌, Some, IfOk, option_map, string_bytes};
-ghost use Rattle.lexicon_fields.specs.Vendor.{vendor_value};
+ghost use Rattle.lexicon_fields.specs.VendorRef.{ref_value};
 ghost use Rattle.std.specs.Fmt.{DisplaysStyledOnOk, formatter_spec};
 ghost use Rattle.target_lexicon.specs.Printing.{text_of, is_bare_arm, omits_unknown_vendor, shows_vendor, shows_operating_system, shows_environment, shows_binary_format, shows_implied_format, shows_unknowns, architecture_implies_format};
 ghost use Rattle.target_lexicon.specs.Private.{part_text};
 ghost use Rattle.target_lexicon.specs.Values.{values_of, implies_newlib};
+ghost use Rattle.target_lexicon.specs.ValuesRef.{values_of_ref};
 
-use crate::default_format::default_binary_format;
 use crate::triple::Triple;
+use crate::triple_ref::TripleRef;
 use lexicon_fields::{
-    Architecture, ArmArchitecture, BinaryFormat, Environment, OperatingSystem, Vendor,
+    Architecture, ArmArchitecture, BinaryFormat, Environment, KnownVendor, OperatingSystem,
+    VendorRef,
 };
 use std::alloc::{AllocError, Global};
 use std::fmt;
@@ -17,10 +19,10 @@ use std::fmt;
 /// A capacity that is enough for most triples, so that their text takes one allocation.
 const USUAL_LENGTH: usize = 40;
 
-impl fmt::Display for Triple {
-    ghost output = { λ it. Some (text_of (values_of it)) };
+impl fmt::Display for TripleRef<'_> {
+    ghost output = { λ it. Some (text_of (values_of_ref it)) };
 
-    ghost styled_output = { λ it _. Some (text_of (values_of it)) };
+    ghost styled_output = { λ it _. Some (text_of (values_of_ref it)) };
 
     fn fmt<W: fmt::Write>(&self, f: &mut fmt::Formatter<W>) -> fmt::Result {
         if let Some(text) = self.special_text() {
@@ -35,6 +37,16 @@ impl fmt::Display for Triple {
         }
         write_part(f, self.shows_environment(), &self.environment)?;
         write_part(f, self.shows_binary_format(), &self.binary_format)
+    }
+}
+
+impl fmt::Display for Triple {
+    ghost output = { λ it. Some (text_of (values_of it)) };
+
+    ghost styled_output = { λ it _. Some (text_of (values_of it)) };
+
+    fn fmt<W: fmt::Write>(&self, f: &mut fmt::Formatter<W>) -> fmt::Result {
+        self.as_triple_ref().fmt(f)
     }
 }
 
@@ -60,6 +72,15 @@ impl Triple {
     pub fn to_text(&self, alloc: Global) -> Result<String, AllocError>
         ensures { IfOk result (λ text. string_bytes text ≡ text_of (values_of self.now)) }
     {
+        self.as_triple_ref().to_text(alloc)
+    }
+}
+
+impl TripleRef<'_> {
+    /// The printed text. `Err` if the allocation for it fails.
+    pub fn to_text(&self, alloc: Global) -> Result<String, AllocError>
+        ensures { IfOk result (λ text. string_bytes text ≡ text_of (values_of_ref self.now)) }
+    {
         let mut text = String::with_capacity(alloc, USUAL_LENGTH)?;
         text.write(self)?;
         Ok(text)
@@ -68,11 +89,14 @@ impl Triple {
     /// Whether the vendor is shown.
     #[tactic(auto, unfolding(crate::specs::Printing::shows_vendor))]
     fn shows_vendor(&self) -> bool
-        ensures { result ≡ shows_vendor (values_of self.now) }
+        ensures { result ≡ shows_vendor (values_of_ref self.now) }
     {
-        match (&self.vendor, self.environment) {
-            (Vendor::Unknown, Environment::HermitKernel | Environment::LinuxKernel) => true,
-            (Vendor::Unknown, _) => !self.omits_unknown_vendor(),
+        match (self.vendor, self.environment) {
+            (
+                VendorRef::Known(KnownVendor::Unknown),
+                Environment::HermitKernel | Environment::LinuxKernel,
+            ) => true,
+            (VendorRef::Known(KnownVendor::Unknown), _) => !self.omits_unknown_vendor(),
             _ => true,
         }
     }
@@ -100,7 +124,7 @@ impl Triple {
 
     /// Whether the operating system is shown: always if environment and format are both shown as unknown.
     fn shows_system(&self, unknowns: bool) -> bool
-        ensures { result ≡ (unknowns || shows_operating_system (values_of self.now)) }
+        ensures { result ≡ (unknowns || shows_operating_system (values_of_ref self.now)) }
     {
         unknowns || self.shows_operating_system()
     }
@@ -108,7 +132,7 @@ impl Triple {
     /// Whether the operating system is shown by upstream's rule.
     #[tactic(auto, unfolding(crate::specs::Printing::shows_operating_system))]
     pub(crate) fn shows_operating_system(&self) -> bool
-        ensures { result ≡ shows_operating_system (values_of self.now) }
+        ensures { result ≡ shows_operating_system (values_of_ref self.now) }
     {
         !matches!(
             (self.architecture, self.operating_system),
@@ -119,7 +143,7 @@ impl Triple {
     /// Whether the environment is shown.
     #[tactic(auto, unfolding(crate::specs::Printing::shows_environment))]
     fn shows_environment(&self) -> bool
-        ensures { result ≡ shows_environment (values_of self.now) }
+        ensures { result ≡ shows_environment (values_of_ref self.now) }
     {
         match self.environment {
             Environment::Unknown => false,
@@ -130,26 +154,31 @@ impl Triple {
 
     /// Whether the environment `Newlib` is omitted.
     pub(crate) fn implies_newlib(&self) -> bool
-        ensures { result ≡ implies_newlib (vendor_value self.now.vendor) self.now.operating_system }
+        ensures { result ≡ implies_newlib (ref_value self.now.vendor) self.now.operating_system }
     {
         matches!(
-            (&self.vendor, self.operating_system),
-            (Vendor::Nintendo, OperatingSystem::Horizon)
-                | (Vendor::Espressif, OperatingSystem::Espidf)
+            (self.vendor, self.operating_system),
+            (
+                VendorRef::Known(KnownVendor::Nintendo),
+                OperatingSystem::Horizon
+            ) | (
+                VendorRef::Known(KnownVendor::Espressif),
+                OperatingSystem::Espidf
+            )
         )
     }
 
     /// Whether the binary format is shown: if it isn't the implied one, or `shows_implied_format` holds.
     #[tactic(auto, unfolding(crate::specs::Printing::shows_binary_format))]
     fn shows_binary_format(&self) -> bool
-        ensures { result ≡ shows_binary_format (values_of self.now) }
+        ensures { result ≡ shows_binary_format (values_of_ref self.now) }
     {
-        self.binary_format != default_binary_format(self) || self.shows_implied_format()
+        self.binary_format != self.default_binary_format() || self.shows_implied_format()
     }
 
     /// Whether the binary format is shown even if it is the implied one.
     fn shows_implied_format(&self) -> bool
-        ensures { result ≡ shows_implied_format (values_of self.now) }
+        ensures { result ≡ shows_implied_format (values_of_ref self.now) }
     {
         matches!(
             self.operating_system,
@@ -164,12 +193,12 @@ impl Triple {
 
     /// Whether environment and format are both shown as unknown, and the operating system with them.
     fn shows_unknowns(&self) -> bool
-        ensures { result ≡ shows_unknowns (values_of self.now) }
+        ensures { result ≡ shows_unknowns (values_of_ref self.now) }
     {
         matches!(
             (self.environment, self.binary_format),
             (Environment::Unknown, BinaryFormat::Unknown)
-        ) && self.binary_format != default_binary_format(self)
+        ) && self.binary_format != self.default_binary_format()
     }
 }
 

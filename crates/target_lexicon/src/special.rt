@@ -3,11 +3,13 @@ ghost use Rattle.std.specs.Prelude.{◌≡◌, Option, option_map, IfSome, List,
 ghost use Rattle.lexicon_fields.specs.Vendor.{OwnsCustomText, vendor_value};
 ghost use Rattle.target_lexicon.specs.SpecialTexts.{special_text, special_values};
 ghost use Rattle.target_lexicon.specs.Values.{values_of};
+ghost use Rattle.target_lexicon.specs.ValuesRef.{values_of_ref};
 
 use crate::triple::Triple;
+use crate::triple_ref::TripleRef;
 use lexicon_fields::{
-    Architecture, ArmArchitecture, BinaryFormat, Environment, OperatingSystem, Riscv32Architecture,
-    Vendor,
+    Architecture, ArmArchitecture, BinaryFormat, Environment, KnownVendor, OperatingSystem,
+    Riscv32Architecture, Vendor, VendorRef,
 };
 
 const NINTENDO_3DS: &str = "armv6k-nintendo-3ds";
@@ -39,22 +41,24 @@ impl Triple {
             _ => None,
         }
     }
+}
 
+impl TripleRef<'_> {
     /// The special text that the triple prints, if any. Environment and format don't matter.
     #[tactic(auto, unfolding(crate::specs::SpecialTexts::special_text))]
     pub(crate) fn special_text(&self) -> Option<&'static str>
         ensures { option_map {U = List ℕ} (λ text. text.now) result
-            ≡ special_text (values_of self.now) }
+            ≡ special_text (values_of_ref self.now) }
     {
-        match (self.architecture, &self.vendor, self.operating_system) {
+        match (self.architecture, self.vendor, self.operating_system) {
             (
                 Architecture::Arm(ArmArchitecture::Armv6k),
-                Vendor::Nintendo,
+                VendorRef::Known(KnownVendor::Nintendo),
                 OperatingSystem::Horizon,
             ) => Some(NINTENDO_3DS),
             (
                 Architecture::Riscv32(Riscv32Architecture::Riscv32imc),
-                Vendor::Espressif,
+                VendorRef::Known(KnownVendor::Espressif),
                 OperatingSystem::Espidf,
             ) => Some(ESP_IDF),
             _ => None,

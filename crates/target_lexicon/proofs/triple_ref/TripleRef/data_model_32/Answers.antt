@@ -1,5 +1,5 @@
 use Rattle.target_lexicon.proofs.ModelsKnown.{no_model_32}
-use Rattle.target_lexicon.proofs.triple.Triple.data_model_32.Goals as goal
+use Rattle.target_lexicon.proofs.triple_ref.TripleRef.data_model_32.Goals as goal
 
 pub returns-in_default-2 : goal.returns-in_default-2
 returns-in_default-2 c =
