@@ -7,6 +7,8 @@ pub mod Json
 pub mod Laws
 pub mod NormalStep
 pub mod RemainingParts
+pub mod Pieces
+pub mod Put
 pub mod Placement
 pub mod Printing
 pub mod Private
@@ -18,3 +20,4 @@ pub mod Refusal
 pub mod SpecialTexts
 pub mod Values
 pub mod ValuesRef
+pub mod Written

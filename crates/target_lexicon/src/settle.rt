@@ -234,6 +234,6 @@ fn elf_if_unknown(binary_format: BinaryFormat) -> BinaryFormat
 }
 
 /// The version of a system is in range, by its types.
-fn version_fits(operating_system: OperatingSystem)
+pub(crate) fn version_fits(operating_system: OperatingSystem)
     ensures { HasVersionInRange operating_system }
 {}

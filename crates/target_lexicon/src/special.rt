@@ -1,5 +1,6 @@
 //! The two texts that have a triple of their own.
-ghost use Rattle.std.specs.Prelude.{◌≡◌, Option, option_map, IfSome, List, ℕ};
+ghost use Rattle.std.specs.Prelude.{◌≡◌, ◌≤◌, length, Option, option_map, IfSome, List, ℕ};
+ghost use Rattle.lexicon_fields.specs.Laws.{max_name_length};
 ghost use Rattle.lexicon_fields.specs.Vendor.{OwnsCustomText, vendor_value};
 ghost use Rattle.target_lexicon.specs.SpecialTexts.{special_text, special_values};
 ghost use Rattle.target_lexicon.specs.Values.{values_of};
@@ -47,8 +48,9 @@ impl TripleRef<'_> {
     /// The special text that the triple prints, if any. Environment and format don't matter.
     #[tactic(auto, unfolding(crate::specs::SpecialTexts::special_text))]
     pub(crate) fn special_text(&self) -> Option<&'static str>
-        ensures { option_map {U = List ℕ} (λ text. text.now) result
+        ensures text { option_map {U = List ℕ} (λ text. text.now) result
             ≡ special_text (values_of_ref self.now) }
+        ensures bound { IfSome result (λ text. length text.now ≤ max_name_length) }
     {
         match (self.architecture, self.vendor, self.operating_system) {
             (
