@@ -1,6 +1,7 @@
 pub mod DataModel
 pub mod Families
 pub mod Field
+pub mod FieldTexts
 pub mod FixedPoints
 pub mod ImpliedFormat
 pub mod Json

@@ -13,6 +13,7 @@ mod data_model;
 mod default_format;
 mod defaults;
 mod display;
+mod field_parts;
 mod host;
 mod json;
 mod json_error;
