@@ -1,9 +1,9 @@
 //! Laws of names, queries, equality and hashing. Each function's contract is a law; a call does nothing.
-ghost use Rattle.std.specs.Prelude.{◌≡◌, ◌↔◌, true, ℕ, List, Some, length, Contains, IsTrue};
+ghost use Rattle.std.specs.Prelude.{◌≡◌, ◌↔◌, ◌≤◌, true, ℕ, List, Some, length, Contains, IsTrue};
 ghost use Rattle.std.specs.Cmp.Lexicographic.{slice_cmp};
 ghost use Rattle.std.specs.List.Sorted.{IsStrictlySortedBy};
 ghost use Rattle.std.specs.Ordering.{nat_cmp};
-ghost use Rattle.lexicon_fields.specs.Laws.{HashInjectiveOn, HashInjective, CopiesEqualTheirSources, IsVersionInRange, HasVersionInRange, NamesReadBackOn, NamesReadBack, TextsAreNames, NamesGrowAtMost, ComparesByValue, version_cmp};
+ghost use Rattle.lexicon_fields.specs.Laws.{HashInjectiveOn, HashInjective, CopiesEqualTheirSources, IsVersionInRange, HasVersionInRange, NamesReadBackOn, NamesReadBack, TextsAreNames, NamesGrowAtMost, NamesAreShort, max_name_length, ComparesByValue, version_cmp};
 ghost use Rattle.lexicon_fields.specs.SubArchitecture.{arm_name, aarch64_name, x86_32_name, mips32_name, mips64_name, riscv32_name, riscv64_name, clever_name, z80_name};
 ghost use Rattle.lexicon_fields.specs.Architecture.{architecture_name, architecture_of, sub_architecture_of, as_arm, as_aarch64, as_x86_32, as_mips32, as_mips64, as_riscv32, as_riscv64, as_clever, as_z80};
 ghost use Rattle.lexicon_fields.specs.Environment.{environment_name, environment_of};
@@ -12,7 +12,7 @@ ghost use Rattle.lexicon_fields.specs.BinaryFormat.{binary_format_name, binary_f
 ghost use Rattle.lexicon_fields.specs.FixedRow.{has_row, row_count, row_texts, HaveSameValues};
 ghost use Rattle.lexicon_fields.specs.declared.vendor.CustomVendor.{CustomVendor};
 ghost use Rattle.lexicon_fields.specs.declared.vendor.Vendor.{Vendor};
-ghost use Rattle.lexicon_fields.specs.Vendor.{custom_text, vendor_value, vendor_name, vendor_of, is_plain};
+ghost use Rattle.lexicon_fields.specs.Vendor.{custom_text, known_vendor_name, vendor_value, vendor_name, vendor_of, is_plain};
 ghost use Rattle.lexicon_fields.specs.declared.vendor_ref.VendorRef.{VendorRef};
 ghost use Rattle.lexicon_fields.specs.VendorRef.{ref_value};
 
@@ -61,6 +61,18 @@ pub fn names_grow_at_most()
     ensures binary_format { TextsAreNames binary_format_name binary_format_of }
     ensures architecture { NamesGrowAtMost 2 architecture_name architecture_of }
     ensures operating_system { NamesGrowAtMost 4 operating_system_name operating_system_of }
+{}
+
+/// No name has more than 21 bytes, except the text of a custom vendor.
+#[tactic(auto, using(crate::proofs::NameLengths::architectures_are_short, crate::proofs::NameLengths::known_vendors_are_short, crate::proofs::NameLengths::operating_systems_are_short, crate::proofs::NameLengths::environments_are_short, crate::proofs::NameLengths::binary_formats_are_short))]
+pub fn names_are_short()
+    ensures architecture { NamesAreShort architecture_name }
+    ensures vendor { NamesAreShort known_vendor_name }
+    ensures operating_system { (s : OperatingSystem) →
+        HasVersionInRange s →
+        length (operating_system_name s) ≤ max_name_length }
+    ensures environment { NamesAreShort environment_name }
+    ensures binary_format { NamesAreShort binary_format_name }
 {}
 
 /// The version of each system that a text parses as is in range.

@@ -2,7 +2,6 @@
 -- field, parsed as an earlier field); Greedy, Refused, Unique, Computed (from parsing as a function to the least
 -- placement); ReadValues (facts about all parsed triples). Printing: Printed, Writes, Lengths (how much longer than
 -- the text). Round trips: RoundTrips, TextRoundTrips (a printed text parsed again); StepCases, Fixed, Settled,
--- SettlesAs (families and the normal step). For callers: OnLiterals (what computes for a literal). Queries and JSON:
 -- ModelsKnown, QueriesKept; Elements. SameValues: equality of triples. FeedsTogether: what fields feed a hasher.
 pub mod ComputedReading
 pub mod PartLemmas
@@ -24,7 +23,6 @@ pub mod RefusalLemmas
 pub mod RoundTrips
 pub mod SameValues
 pub mod SettleLemmas
-pub mod SettlesAs
 pub mod StepCases
 pub mod TextRanges
 pub mod TextRoundTrips

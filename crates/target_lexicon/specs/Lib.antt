@@ -9,6 +9,8 @@ pub mod Json
 pub mod Laws
 pub mod NormalStep
 pub mod RemainingParts
+pub mod Pieces
+pub mod Put
 pub mod Placement
 pub mod Printing
 pub mod Private
@@ -20,3 +22,4 @@ pub mod Refusal
 pub mod SpecialTexts
 pub mod Values
 pub mod ValuesRef
+pub mod Written

@@ -24,6 +24,8 @@ mod macros;
 mod parse_error;
 mod parse_error_ref;
 mod part;
+mod pieces;
+mod put;
 mod queries;
 mod read;
 mod settle;
