@@ -3,10 +3,14 @@
 //! usage: upstream MODE [own]
 //!
 //! With `own`, triples print by upstream's rules only. Without it, an unknown environment and an unknown format are both
-//! shown if another format is implied. There are two more modes: `hex` is `print` with texts and answers in hexadecimal;
-//! `fields` writes for each line the first letters of the fields that can parse it, or `-`.
+//! shown if another format is implied. There are three more modes: `hex` is `print` with texts and answers in hexadecimal;
+//! `fields` writes for each line the first letters of the fields that can parse it, or `-`; `names` reads a field and a
+//! text in each line, and writes the value that the text parses as, its name, and where its variants are declared, or `-`.
 use std::collections::HashSet;
+use std::fmt::{Debug, Display};
+use std::hash::{Hash, Hasher};
 use std::io::{self, Read, Write};
+use std::str::FromStr;
 use target_lexicon::{Architecture, BinaryFormat, Environment, OperatingSystem, Triple, Vendor};
 
 fn print(triple: &Triple, own: bool) -> String {
@@ -34,7 +38,7 @@ fn settled(mut triple: Triple, own: bool) -> Option<Triple> {
     None
 }
 
-fn debug_word<T: std::fmt::Debug>(answer: Result<T, ()>) -> String {
+fn debug_word<T: Debug>(answer: Result<T, ()>) -> String {
     answer.map_or("-".to_string(), |it| format!("{it:?}"))
 }
 
@@ -55,6 +59,38 @@ fn fields(text: &str) -> String {
     ];
     let letters: String = parses.iter().filter(|it| it.1).map(|it| it.0).collect();
     if letters.is_empty() { "-".to_string() } else { letters }
+}
+
+/// The numbers of a value's variants, in the order of their declarations: these are what it feeds a hasher first.
+#[derive(Default)]
+struct Variants(Vec<u8>);
+
+impl Hasher for Variants {
+    fn finish(&self) -> u64 {
+        0
+    }
+
+    fn write(&mut self, bytes: &[u8]) {
+        self.0.push(bytes[0]);
+    }
+}
+
+fn named<T: FromStr + Debug + Display + Hash>(text: &str) -> String {
+    text.parse::<T>().map_or("-".to_string(), |it| {
+        let mut variants = Variants::default();
+        it.hash(&mut variants);
+        format!("{it:?} {it} {:?}", variants.0)
+    })
+}
+
+fn name(line: &str) -> String {
+    match line.split_once(' ').expect("a field and a text") {
+        ("architecture", text) => named::<Architecture>(text),
+        ("vendor", text) => named::<Vendor>(text),
+        ("operating_system", text) => named::<OperatingSystem>(text),
+        ("environment", text) => named::<Environment>(text),
+        (_, text) => named::<BinaryFormat>(text),
+    }
 }
 
 fn from_hex(digits: &str) -> String {
@@ -79,6 +115,7 @@ fn main() -> io::Result<()> {
         let text = if mode == "hex" { from_hex(line) } else { line.to_string() };
         let answer = match (mode, text.parse::<Triple>()) {
             ("fields", _) => fields(line),
+            ("names", _) => name(line),
             ("hex", Ok(triple)) => to_hex(&print(&triple, own)),
             ("hex", Err(error)) => to_hex(&format!("error: {error}")),
             (_, Err(error)) => format!("error: {error}"),

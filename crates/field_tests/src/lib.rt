@@ -3,6 +3,8 @@
 #![tactic(auto)]
 
 #[cfg(test)]
+mod all_names;
+#[cfg(test)]
 mod names;
 #[cfg(test)]
 mod systems;

@@ -1,27 +1,13 @@
 //! Vendors: known, custom and none.
 
+use crate::all_names::VENDORS;
 use lexicon_fields::{CustomVendor, Vendor, VendorError};
 use std::alloc::Global;
 use std::process::Abort;
 use test_support::{Question, check_rows, hash_alike, prints, shows};
 
-/// The name of each known vendor, and after `=` the vendor; and texts that parse as custom vendors.
+/// Texts that parse as custom vendors, and after `=` the vendor.
 const READ: &str = "\
-unknown=Unknown
-amd=Amd
-apple=Apple
-espressif=Espressif
-experimental=Experimental
-fortanix=Fortanix
-ibm=Ibm
-kmc=Kmc
-nintendo=Nintendo
-nvidia=Nvidia
-pc=Pc
-rumprun=Rumprun
-sun=Sun
-uwp=Uwp
-wrs=Wrs
 esp32s2=Custom(Owned(\"esp32s2\"))
 a_b.c9=Custom(Owned(\"a_b.c9\"))
 iosfoo=Custom(Owned(\"iosfoo\"))
@@ -61,6 +47,7 @@ impl Question for ReadsAs {
 
 #[test]
 fn vendors_are_read_and_named(rt: HostRuntime) -> Result<(), &'static str> {
+    check_rows::<ReadsAs>(rt.alloc(), VENDORS)?;
     check_rows::<ReadsAs>(rt.alloc(), READ)
 }
 

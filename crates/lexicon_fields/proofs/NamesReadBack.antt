@@ -1,7 +1,7 @@
 -- Names of the types whose values are listed: each parses back, and each text that parses is that of a row.
-use Rattle.std.proofs.Common.{◌≡◌, ◌∙◌, ℕ, List, ◌∷◌, true, Option, Some, None, codes, refl, ap, option_and_then}
+use Rattle.std.proofs.Common.{◌≡◌, ◌∙◌, ℕ, List, true, Option, Some, None, refl, ap, option_and_then}
 use Rattle.lexicon_fields.specs.{declared.architecture.Architecture.Architecture, declared.environment.Environment.Environment, declared.binary_format.BinaryFormat.BinaryFormat, Names.named_values}
-use Rattle.lexicon_fields.specs.{Laws.NamesReadBack, Architecture.architecture_name, Architecture.architecture_values, Architecture.architecture_of, FixedRow.row_texts}
+use Rattle.lexicon_fields.specs.{Laws.NamesReadBack, Architecture.architecture_name, Architecture.architecture_texts, Architecture.architecture_of, FixedRow.row_texts}
 use Rattle.lexicon_fields.specs.Environment.{environment_name, environment_values, environment_of}
 use Rattle.lexicon_fields.specs.BinaryFormat.{binary_format_name, binary_format_values, binary_format_of}
 use Rattle.lexicon_fields.proofs.{LookUpLemmas.value_of-passes, LookUpLemmas.of_kind-read_back, RowTexts.is_row_text, RowTexts.row_text-dash_free}
@@ -56,7 +56,7 @@ architecture_of-name _ = refl
 
 pub architecture_of-row : (text : List ℕ) (a : Architecture) → architecture_of text ≡ Some a → is_row_text text ≡ true
 unfolding architecture_of is_row_text row_texts
-architecture_of-row text a found = value_of-passes is_row_text ((codes "arm64", architecture.Aarch64 aarch64.Aarch64) ∷ named_values architecture_name architecture_values) text a refl found
+architecture_of-row text a found = value_of-passes is_row_text architecture_texts text a refl found
 
 -- a family of architectures: the sub-architecture of an architecture, and the architecture with a sub-architecture
 pub part-read_back : {V : Type 0} (whole : V → Architecture) (part : Architecture → Option V) → ((v : V) → part (whole v) ≡ Some v)

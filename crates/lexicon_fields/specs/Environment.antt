@@ -5,6 +5,7 @@ use Rattle.lexicon_fields.specs.declared.environment.Environment.TheVariants as 
 
 -- the name of an environment
 abbrev pub environment_name : Environment → List ℕ
+-- written by tools/names/write: environment_name
 environment_name environment.Unknown = codes "unknown"
 environment_name environment.AmdGiz = codes "amdgiz"
 environment_name environment.Android = codes "android"
@@ -41,15 +42,21 @@ environment_name environment.Spe = codes "spe"
 environment_name environment.Threads = codes "threads"
 environment_name environment.Ohos = codes "ohos"
 
+-- end of what is written
+
 -- all values
 abbrev pub environment_values : List Environment
+-- written by tools/names/write: environment_values
 environment_values =
-    environment.Unknown ∷ environment.AmdGiz ∷ environment.Android ∷ environment.Androideabi ∷ environment.Eabi ∷ environment.Eabihf ∷
-    environment.Gnu ∷ environment.Gnuabi64 ∷ environment.Gnueabi ∷ environment.Gnueabihf ∷ environment.Gnuspe ∷ environment.Gnux32 ∷
-    environment.GnuIlp32 ∷ environment.GnuLlvm ∷ environment.HermitKernel ∷ environment.HurdKernel ∷ environment.LinuxKernel ∷ environment.Macabi ∷
-    environment.Musl ∷ environment.Musleabi ∷ environment.Musleabihf ∷ environment.Muslabi64 ∷ environment.Msvc ∷ environment.Newlib ∷
-    environment.None ∷ environment.Kernel ∷ environment.Uclibc ∷ environment.Uclibceabi ∷ environment.Uclibceabihf ∷ environment.Sgx ∷
+    environment.Unknown ∷ environment.AmdGiz ∷ environment.Android ∷ environment.Androideabi ∷ environment.Eabi ∷
+    environment.Eabihf ∷ environment.Gnu ∷ environment.Gnuabi64 ∷ environment.Gnueabi ∷ environment.Gnueabihf ∷
+    environment.Gnuspe ∷ environment.Gnux32 ∷ environment.GnuIlp32 ∷ environment.GnuLlvm ∷ environment.HermitKernel ∷
+    environment.HurdKernel ∷ environment.LinuxKernel ∷ environment.Macabi ∷ environment.Musl ∷ environment.Musleabi ∷
+    environment.Musleabihf ∷ environment.Muslabi64 ∷ environment.Msvc ∷ environment.Newlib ∷ environment.None ∷
+    environment.Kernel ∷ environment.Uclibc ∷ environment.Uclibceabi ∷ environment.Uclibceabihf ∷ environment.Sgx ∷
     environment.Sim ∷ environment.Softfloat ∷ environment.Spe ∷ environment.Threads ∷ environment.Ohos ∷ []
+
+-- end of what is written
 
 -- the value that a text parses as, if any
 unfoldable pub environment_of : List ℕ → Option Environment

@@ -1,5 +1,5 @@
--- The names of the sub-architectures, and the values of each family.
-use Rattle.std.specs.Prelude.{ℕ, List, [], ◌∷◌, codes}
+-- The names of the sub-architectures.
+use Rattle.std.specs.Prelude.{ℕ, List, codes}
 use Rattle.lexicon_fields.specs.{declared.architecture.arm.ArmArchitecture.ArmArchitecture, declared.architecture.aarch64.Aarch64Architecture.Aarch64Architecture}
 use Rattle.lexicon_fields.specs.{declared.architecture.x86_32.X86_32Architecture.X86_32Architecture, declared.architecture.mips.Mips32Architecture.Mips32Architecture}
 use Rattle.lexicon_fields.specs.{declared.architecture.mips.Mips64Architecture.Mips64Architecture, declared.architecture.riscv.Riscv32Architecture.Riscv32Architecture}
@@ -17,6 +17,7 @@ use Rattle.lexicon_fields.specs.declared.architecture.z80.Z80Architecture.TheVar
 
 -- the name of an Arm architecture
 abbrev pub arm_name : ArmArchitecture → List ℕ
+-- written by tools/names/write: arm_name
 arm_name arm.Arm = codes "arm"
 arm_name arm.Armeb = codes "armeb"
 arm_name arm.Armv4 = codes "armv4"
@@ -60,53 +61,48 @@ arm_name arm.Thumbv7neon = codes "thumbv7neon"
 arm_name arm.Thumbv8mBase = codes "thumbv8m.base"
 arm_name arm.Thumbv8mMain = codes "thumbv8m.main"
 
-abbrev pub arm_values : List ArmArchitecture
-arm_values =
-    arm.Arm ∷ arm.Armeb ∷ arm.Armv4 ∷ arm.Armv4t ∷ arm.Armv5t ∷ arm.Armv5te ∷ arm.Armv5tej ∷ arm.Armv6 ∷ arm.Armv6j ∷ arm.Armv6k ∷ arm.Armv6z ∷
-    arm.Armv6kz ∷ arm.Armv6t2 ∷ arm.Armv6m ∷ arm.Armv7 ∷ arm.Armv7a ∷ arm.Armv7k ∷ arm.Armv7ve ∷ arm.Armv7m ∷ arm.Armv7r ∷ arm.Armv7s ∷ arm.Armv8 ∷
-    arm.Armv8a ∷ arm.Armv8_1a ∷ arm.Armv8_2a ∷ arm.Armv8_3a ∷ arm.Armv8_4a ∷ arm.Armv8_5a ∷ arm.Armv8mBase ∷ arm.Armv8mMain ∷ arm.Armv8r ∷
-    arm.Armebv7r ∷ arm.Thumbeb ∷ arm.Thumbv4t ∷ arm.Thumbv5te ∷ arm.Thumbv6m ∷ arm.Thumbv7a ∷ arm.Thumbv7em ∷ arm.Thumbv7m ∷ arm.Thumbv7neon ∷
-    arm.Thumbv8mBase ∷ arm.Thumbv8mMain ∷ []
+-- end of what is written
 
 -- the name of a 64-bit Arm architecture
 abbrev pub aarch64_name : Aarch64Architecture → List ℕ
+-- written by tools/names/write: aarch64_name
 aarch64_name aarch64.Aarch64 = codes "aarch64"
 aarch64_name aarch64.Aarch64be = codes "aarch64_be"
 
-abbrev pub aarch64_values : List Aarch64Architecture
-aarch64_values = aarch64.Aarch64 ∷ aarch64.Aarch64be ∷ []
+-- end of what is written
 
 -- the name of a 32-bit x86 architecture
 abbrev pub x86_32_name : X86_32Architecture → List ℕ
+-- written by tools/names/write: x86_32_name
 x86_32_name x86_32.I386 = codes "i386"
 x86_32_name x86_32.I586 = codes "i586"
 x86_32_name x86_32.I686 = codes "i686"
 
-abbrev pub x86_32_values : List X86_32Architecture
-x86_32_values = x86_32.I386 ∷ x86_32.I586 ∷ x86_32.I686 ∷ []
+-- end of what is written
 
 -- the name of a 32-bit MIPS architecture
 abbrev pub mips32_name : Mips32Architecture → List ℕ
+-- written by tools/names/write: mips32_name
 mips32_name mips32.Mips = codes "mips"
 mips32_name mips32.Mipsel = codes "mipsel"
 mips32_name mips32.Mipsisa32r6 = codes "mipsisa32r6"
 mips32_name mips32.Mipsisa32r6el = codes "mipsisa32r6el"
 
-abbrev pub mips32_values : List Mips32Architecture
-mips32_values = mips32.Mips ∷ mips32.Mipsel ∷ mips32.Mipsisa32r6 ∷ mips32.Mipsisa32r6el ∷ []
+-- end of what is written
 
 -- the name of a 64-bit MIPS architecture
 abbrev pub mips64_name : Mips64Architecture → List ℕ
+-- written by tools/names/write: mips64_name
 mips64_name mips64.Mips64 = codes "mips64"
 mips64_name mips64.Mips64el = codes "mips64el"
 mips64_name mips64.Mipsisa64r6 = codes "mipsisa64r6"
 mips64_name mips64.Mipsisa64r6el = codes "mipsisa64r6el"
 
-abbrev pub mips64_values : List Mips64Architecture
-mips64_values = mips64.Mips64 ∷ mips64.Mips64el ∷ mips64.Mipsisa64r6 ∷ mips64.Mipsisa64r6el ∷ []
+-- end of what is written
 
 -- the name of a 32-bit RISC-V architecture
 abbrev pub riscv32_name : Riscv32Architecture → List ℕ
+-- written by tools/names/write: riscv32_name
 riscv32_name riscv32.Riscv32 = codes "riscv32"
 riscv32_name riscv32.Riscv32gc = codes "riscv32gc"
 riscv32_name riscv32.Riscv32i = codes "riscv32i"
@@ -116,31 +112,29 @@ riscv32_name riscv32.Riscv32imac = codes "riscv32imac"
 riscv32_name riscv32.Riscv32imafc = codes "riscv32imafc"
 riscv32_name riscv32.Riscv32imc = codes "riscv32imc"
 
-abbrev pub riscv32_values : List Riscv32Architecture
-riscv32_values =
-    riscv32.Riscv32 ∷ riscv32.Riscv32gc ∷ riscv32.Riscv32i ∷ riscv32.Riscv32im ∷ riscv32.Riscv32ima ∷ riscv32.Riscv32imac ∷ riscv32.Riscv32imafc ∷
-    riscv32.Riscv32imc ∷ []
+-- end of what is written
 
 -- the name of a 64-bit RISC-V architecture
 abbrev pub riscv64_name : Riscv64Architecture → List ℕ
+-- written by tools/names/write: riscv64_name
 riscv64_name riscv64.Riscv64 = codes "riscv64"
 riscv64_name riscv64.Riscv64gc = codes "riscv64gc"
 riscv64_name riscv64.Riscv64imac = codes "riscv64imac"
 riscv64_name riscv64.Riscv64a23 = codes "riscv64a23"
 
-abbrev pub riscv64_values : List Riscv64Architecture
-riscv64_values = riscv64.Riscv64 ∷ riscv64.Riscv64gc ∷ riscv64.Riscv64imac ∷ riscv64.Riscv64a23 ∷ []
+-- end of what is written
 
 -- the name of a Clever architecture
 abbrev pub clever_name : CleverArchitecture → List ℕ
+-- written by tools/names/write: clever_name
 clever_name clever.Clever = codes "clever"
 clever_name clever.Clever1_0 = codes "clever1.0"
 
-abbrev pub clever_values : List CleverArchitecture
-clever_values = clever.Clever ∷ clever.Clever1_0 ∷ []
+-- end of what is written
 
 -- the name of an architecture of the Z80 family
 abbrev pub z80_name : Z80Architecture → List ℕ
+-- written by tools/names/write: z80_name
 z80_name z80.Z80 = codes "z80"
 z80_name z80.Z180 = codes "z180"
 z80_name z80.Ez80 = codes "ez80"
@@ -152,6 +146,4 @@ z80_name z80.Rabbit3000A = codes "rabbit3000a"
 z80_name z80.Tlcs90 = codes "tlcs90"
 z80_name z80.R800 = codes "r800"
 
-abbrev pub z80_values : List Z80Architecture
-z80_values =
-    z80.Z80 ∷ z80.Z180 ∷ z80.Ez80 ∷ z80.Sm83 ∷ z80.Rabbit2000 ∷ z80.Rabbit2000A ∷ z80.Rabbit3000 ∷ z80.Rabbit3000A ∷ z80.Tlcs90 ∷ z80.R800 ∷ []
+-- end of what is written

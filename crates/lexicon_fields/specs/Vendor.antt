@@ -3,11 +3,11 @@ use Rattle.std.specs.Prelude.{◌≡◌, ℕ, ◌==◌, Bool, true, false, ◌&&
 use Rattle.std.specs.Char.{is_ascii_digit, is_ascii_lowercase}
 use Rattle.std.specs.List.{list_all}
 use Rattle.std.specs.Option.{option_or}
-pub use Rattle.lexicon_fields.specs.declared.known_vendor.KnownVendor.{KnownVendor}
-pub use Rattle.lexicon_fields.specs.declared.known_vendor.KnownVendor.TheVariants.{Unknown, Amd, Apple, Espressif, Experimental, Fortanix, Ibm, Kmc, Nintendo, Nvidia, Pc, Rumprun, Sun, Uwp, Wrs}
+use Rattle.lexicon_fields.specs.declared.known_vendor.KnownVendor.{KnownVendor}
 use Rattle.lexicon_fields.specs.{declared.vendor.CustomVendor.CustomVendor, declared.vendor.CustomVendor.TheVariants.Owned, declared.vendor.CustomVendor.TheVariants.Static, Environment.environment_of}
 use Rattle.lexicon_fields.specs.{Version.dot, declared.vendor.Vendor.Vendor, declared.vendor.VendorError.VendorError, Names.value_of, Names.named_values, Architecture.architecture_of, OperatingSystem.operating_system_of}
 use Rattle.lexicon_fields.specs.{declared.vendor.VendorError.TheVariants.Unrecognized, declared.vendor.VendorError.TheVariants.OutOfMemory, BinaryFormat.binary_format_of}
+use Rattle.lexicon_fields.specs.declared.known_vendor.KnownVendor.TheVariants as known_vendor
 use Rattle.lexicon_fields.specs.declared.vendor.Vendor.TheVariants as vendor
 
 -- a vendor as the rules see it: a known one, or a custom one, which is its text
@@ -32,40 +32,45 @@ owns_text _ = false
 
 -- the value of a vendor
 abbrev pub vendor_value : Vendor → VendorValue
-vendor_value vendor.Unknown = Known Unknown
-vendor_value vendor.Amd = Known Amd
-vendor_value vendor.Apple = Known Apple
-vendor_value vendor.Espressif = Known Espressif
-vendor_value vendor.Experimental = Known Experimental
-vendor_value vendor.Fortanix = Known Fortanix
-vendor_value vendor.Ibm = Known Ibm
-vendor_value vendor.Kmc = Known Kmc
-vendor_value vendor.Nintendo = Known Nintendo
-vendor_value vendor.Nvidia = Known Nvidia
-vendor_value vendor.Pc = Known Pc
-vendor_value vendor.Rumprun = Known Rumprun
-vendor_value vendor.Sun = Known Sun
-vendor_value vendor.Uwp = Known Uwp
-vendor_value vendor.Wrs = Known Wrs
+-- written by tools/names/write: vendor_value
+vendor_value vendor.Unknown = Known known_vendor.Unknown
+vendor_value vendor.Amd = Known known_vendor.Amd
+vendor_value vendor.Apple = Known known_vendor.Apple
+vendor_value vendor.Espressif = Known known_vendor.Espressif
+vendor_value vendor.Experimental = Known known_vendor.Experimental
+vendor_value vendor.Fortanix = Known known_vendor.Fortanix
+vendor_value vendor.Ibm = Known known_vendor.Ibm
+vendor_value vendor.Kmc = Known known_vendor.Kmc
+vendor_value vendor.Nintendo = Known known_vendor.Nintendo
+vendor_value vendor.Nvidia = Known known_vendor.Nvidia
+vendor_value vendor.Pc = Known known_vendor.Pc
+vendor_value vendor.Rumprun = Known known_vendor.Rumprun
+vendor_value vendor.Sun = Known known_vendor.Sun
+vendor_value vendor.Uwp = Known known_vendor.Uwp
+vendor_value vendor.Wrs = Known known_vendor.Wrs
+-- end of what is written
 vendor_value (vendor.Custom custom) = Custom (custom_text custom)
 
 -- the name of a known vendor
 abbrev pub known_vendor_name : KnownVendor → List ℕ
-known_vendor_name Unknown = codes "unknown"
-known_vendor_name Amd = codes "amd"
-known_vendor_name Apple = codes "apple"
-known_vendor_name Espressif = codes "espressif"
-known_vendor_name Experimental = codes "experimental"
-known_vendor_name Fortanix = codes "fortanix"
-known_vendor_name Ibm = codes "ibm"
-known_vendor_name Kmc = codes "kmc"
-known_vendor_name Nintendo = codes "nintendo"
-known_vendor_name Nvidia = codes "nvidia"
-known_vendor_name Pc = codes "pc"
-known_vendor_name Rumprun = codes "rumprun"
-known_vendor_name Sun = codes "sun"
-known_vendor_name Uwp = codes "uwp"
-known_vendor_name Wrs = codes "wrs"
+-- written by tools/names/write: known_vendor_name
+known_vendor_name known_vendor.Unknown = codes "unknown"
+known_vendor_name known_vendor.Amd = codes "amd"
+known_vendor_name known_vendor.Apple = codes "apple"
+known_vendor_name known_vendor.Espressif = codes "espressif"
+known_vendor_name known_vendor.Experimental = codes "experimental"
+known_vendor_name known_vendor.Fortanix = codes "fortanix"
+known_vendor_name known_vendor.Ibm = codes "ibm"
+known_vendor_name known_vendor.Kmc = codes "kmc"
+known_vendor_name known_vendor.Nintendo = codes "nintendo"
+known_vendor_name known_vendor.Nvidia = codes "nvidia"
+known_vendor_name known_vendor.Pc = codes "pc"
+known_vendor_name known_vendor.Rumprun = codes "rumprun"
+known_vendor_name known_vendor.Sun = codes "sun"
+known_vendor_name known_vendor.Uwp = codes "uwp"
+known_vendor_name known_vendor.Wrs = codes "wrs"
+
+-- end of what is written
 
 -- the name of a vendor; that of a custom one is its text
 abbrev pub vendor_name : VendorValue → List ℕ
@@ -73,7 +78,14 @@ vendor_name (Known known) = known_vendor_name known
 vendor_name (Custom text) = text
 
 abbrev pub known_vendors : List KnownVendor
-known_vendors = Unknown ∷ Amd ∷ Apple ∷ Espressif ∷ Experimental ∷ Fortanix ∷ Ibm ∷ Kmc ∷ Nintendo ∷ Nvidia ∷ Pc ∷ Rumprun ∷ Sun ∷ Uwp ∷ Wrs ∷ []
+-- written by tools/names/write: known_vendors
+known_vendors =
+    known_vendor.Unknown ∷ known_vendor.Amd ∷ known_vendor.Apple ∷ known_vendor.Espressif ∷
+    known_vendor.Experimental ∷ known_vendor.Fortanix ∷ known_vendor.Ibm ∷ known_vendor.Kmc ∷ known_vendor.Nintendo ∷
+    known_vendor.Nvidia ∷ known_vendor.Pc ∷ known_vendor.Rumprun ∷ known_vendor.Sun ∷ known_vendor.Uwp ∷
+    known_vendor.Wrs ∷ []
+
+-- end of what is written
 
 -- the known vendor with this name, if there is one
 unfoldable pub known_vendor_of : List ℕ → Option KnownVendor

@@ -31,6 +31,7 @@ pub use z80::Z80Architecture;
 /// An architecture, with its sub-architecture if it has one.
 #[derive(Clone, Copy, Debug, PartialEq, Eq, Hash)]
 pub enum Architecture {
+    // written by tools/names/write: the variants of Architecture
     Unknown,
     /// AMD's GCN graphics processors.
     AmdGcn,
@@ -88,6 +89,7 @@ pub enum Architecture {
     Riscv64(Riscv64Architecture),
     Clever(CleverArchitecture),
     Z80(Z80Architecture),
+    // end of what is written
 }
 
 impl Architecture {
@@ -221,6 +223,7 @@ impl Architecture {
         ensures { result.now ≡ architecture_name self }
     {
         match self {
+            // written by tools/names/write: the names of Architecture
             Architecture::Unknown => "unknown",
             Architecture::AmdGcn => "amdgcn",
             Architecture::Asmjs => "asmjs",
@@ -258,6 +261,7 @@ impl Architecture {
             Architecture::Riscv64(sub) => sub.name(),
             Architecture::Clever(sub) => sub.name(),
             Architecture::Z80(sub) => sub.name(),
+            // end of what is written
         }
     }
 }

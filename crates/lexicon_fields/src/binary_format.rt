@@ -13,6 +13,7 @@ use std::str::FromStr;
 /// The format of object files.
 #[derive(Clone, Copy, Debug, PartialEq, Eq, Hash)]
 pub enum BinaryFormat {
+    // written by tools/names/write: the variants of BinaryFormat
     Unknown,
     Elf,
     /// COFF, the format of Windows.
@@ -23,6 +24,7 @@ pub enum BinaryFormat {
     Wasm,
     /// XCOFF, the format of AIX.
     Xcoff,
+    // end of what is written
 }
 
 impl BinaryFormat {
@@ -57,12 +59,14 @@ impl BinaryFormat {
         ensures { result.now ≡ binary_format_name self }
     {
         match self {
+            // written by tools/names/write: the names of BinaryFormat
             BinaryFormat::Unknown => "unknown",
             BinaryFormat::Elf => "elf",
             BinaryFormat::Coff => "coff",
             BinaryFormat::Macho => "macho",
             BinaryFormat::Wasm => "wasm",
             BinaryFormat::Xcoff => "xcoff",
+            // end of what is written
         }
     }
 }

@@ -13,6 +13,7 @@ use std::str::FromStr;
 /// The environment on an operating system, such as its ABI or C library.
 #[derive(Clone, Copy, Debug, PartialEq, Eq, Hash)]
 pub enum Environment {
+    // written by tools/names/write: the variants of Environment
     Unknown,
     /// AMD graphics processors where the generic address space is number 0.
     AmdGiz,
@@ -65,6 +66,7 @@ pub enum Environment {
     Threads,
     /// OpenHarmony.
     Ohos,
+    // end of what is written
 }
 
 impl Environment {
@@ -99,6 +101,7 @@ impl Environment {
         ensures { result.now ≡ environment_name self }
     {
         match self {
+            // written by tools/names/write: the names of Environment
             Environment::Unknown => "unknown",
             Environment::AmdGiz => "amdgiz",
             Environment::Android => "android",
@@ -134,6 +137,7 @@ impl Environment {
             Environment::Spe => "spe",
             Environment::Threads => "threads",
             Environment::Ohos => "ohos",
+            // end of what is written
         }
     }
 }

@@ -7,6 +7,7 @@ use crate::vendor::Vendor;
 /// A vendor that has a fixed name.
 #[derive(Clone, Copy, Debug, PartialEq, Eq, Hash)]
 pub enum KnownVendor {
+    // written by tools/names/write: the variants of KnownVendor
     Unknown,
     Amd,
     Apple,
@@ -22,6 +23,7 @@ pub enum KnownVendor {
     Sun,
     Uwp,
     Wrs,
+    // end of what is written
 }
 
 impl KnownVendor {
@@ -30,6 +32,7 @@ impl KnownVendor {
         ensures { vendor_value result ≡ Known self }
     {
         match self {
+            // written by tools/names/write: each KnownVendor as a Vendor
             KnownVendor::Unknown => Vendor::Unknown,
             KnownVendor::Amd => Vendor::Amd,
             KnownVendor::Apple => Vendor::Apple,
@@ -45,6 +48,7 @@ impl KnownVendor {
             KnownVendor::Sun => Vendor::Sun,
             KnownVendor::Uwp => Vendor::Uwp,
             KnownVendor::Wrs => Vendor::Wrs,
+            // end of what is written
         }
     }
 

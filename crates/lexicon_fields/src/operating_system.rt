@@ -17,6 +17,7 @@ use std::str::FromStr;
 /// The operating system. One like Darwin can have the version of its deployment target.
 #[derive(Clone, Copy, Debug, PartialEq, Eq, Hash)]
 pub enum OperatingSystem {
+    // written by tools/names/write: the variants of OperatingSystem
     Unknown,
     Aix,
     AmdHsa,
@@ -59,6 +60,7 @@ pub enum OperatingSystem {
     WatchOS(Option<DeploymentTarget>),
     Windows,
     XROS(Option<DeploymentTarget>),
+    // end of what is written
 }
 
 impl OperatingSystem {
@@ -94,8 +96,10 @@ impl OperatingSystem {
         ensures without_row { has_row s.now ≡ false → result ≡ operating_system_of s.now }
     {
         match s.as_bytes().first() {
+            // written by tools/names/write: the first letters of systems like Darwin
             Some(b'd' | b'i' | b'm' | b't' | b'v' | b'w' | b'x') =>
                 OperatingSystem::parse_by_prefix(s),
+            // end of what is written
             _ => None,
         }
     }
@@ -104,6 +108,7 @@ impl OperatingSystem {
     fn parse_by_prefix(s: &str) -> Option<Self>
         ensures { result ≡ darwin_like_system darwin_prefixes s.now }
     {
+        // written by tools/names/write: the prefixes of systems like Darwin
         if let Some(rest) = s.strip_prefix("darwin") {
             return Some(OperatingSystem::Darwin(optional_version_of(rest)?));
         }
@@ -125,6 +130,7 @@ impl OperatingSystem {
         if let Some(rest) = s.strip_prefix("xros") {
             return Some(OperatingSystem::XROS(optional_version_of(rest)?));
         }
+        // end of what is written
         None
     }
 
@@ -145,6 +151,7 @@ impl OperatingSystem {
     {
         matches!(
             self,
+            // written by tools/names/write: the systems like Darwin
             OperatingSystem::Darwin(_)
                 | OperatingSystem::IOS(_)
                 | OperatingSystem::MacOSX(_)
@@ -152,6 +159,7 @@ impl OperatingSystem {
                 | OperatingSystem::VisionOS(_)
                 | OperatingSystem::WatchOS(_)
                 | OperatingSystem::XROS(_)
+            // end of what is written
         )
     }
 
@@ -160,6 +168,7 @@ impl OperatingSystem {
         ensures { result.now ++ version_suffix (system_version self) ≡ operating_system_name self }
     {
         match self {
+            // written by tools/names/write: the names of OperatingSystem
             OperatingSystem::Unknown => "unknown",
             OperatingSystem::Aix => "aix",
             OperatingSystem::AmdHsa => "amdhsa",
@@ -200,6 +209,7 @@ impl OperatingSystem {
             OperatingSystem::WatchOS(_) => "watchos",
             OperatingSystem::Windows => "windows",
             OperatingSystem::XROS(_) => "xros",
+            // end of what is written
         }
     }
 
@@ -208,6 +218,7 @@ impl OperatingSystem {
         ensures { result ≡ system_version self }
     {
         match self {
+            // written by tools/names/write: the versions of systems like Darwin
             OperatingSystem::Darwin(version)
             | OperatingSystem::IOS(version)
             | OperatingSystem::MacOSX(version)
@@ -215,6 +226,7 @@ impl OperatingSystem {
             | OperatingSystem::VisionOS(version)
             | OperatingSystem::WatchOS(version)
             | OperatingSystem::XROS(version) => version,
+            // end of what is written
             _ => None,
         }
     }

@@ -17,7 +17,9 @@ use rows::row;
 use std::cmp::Ordering;
 
 /// The number of rows.
+// written by tools/names/write: the number of rows
 pub const ROW_COUNT: usize = 192;
+// end of what is written
 
 /// The number of rows that seven comparisons can search: 1 + 2 + 4 + .. + 64.
 const ROWS_IN_SEVEN_STEPS: usize = 127;

@@ -85,6 +85,7 @@ impl Hash for CustomVendor {
 /// The vendor of a target.
 #[derive(Debug, Drop, PartialEq, Eq, Hash)]
 pub enum Vendor {
+    // written by tools/names/write: the variants of Vendor
     Unknown,
     Amd,
     Apple,
@@ -100,6 +101,7 @@ pub enum Vendor {
     Sun,
     Uwp,
     Wrs,
+    // end of what is written
     /// Any other vendor. Parsing produces only admitted texts (see `from_str`); code can make a value with any text.
     Custom(CustomVendor),
 }
@@ -159,6 +161,7 @@ impl Vendor {
         ensures { result.now ≡ vendor_name (vendor_value self.now) }
     {
         match self {
+            // written by tools/names/write: the names of Vendor
             Vendor::Unknown => "unknown",
             Vendor::Amd => "amd",
             Vendor::Apple => "apple",
@@ -174,6 +177,7 @@ impl Vendor {
             Vendor::Sun => "sun",
             Vendor::Uwp => "uwp",
             Vendor::Wrs => "wrs",
+            // end of what is written
             Vendor::Custom(custom) => custom.as_str(),
         }
     }
@@ -195,6 +199,7 @@ impl Vendor {
         ensures succeeds { owns_text self.now ≡ false → IsOk result }
     {
         Ok(match self {
+            // written by tools/names/write: each Vendor as itself
             Vendor::Unknown => Vendor::Unknown,
             Vendor::Amd => Vendor::Amd,
             Vendor::Apple => Vendor::Apple,
@@ -210,6 +215,7 @@ impl Vendor {
             Vendor::Sun => Vendor::Sun,
             Vendor::Uwp => Vendor::Uwp,
             Vendor::Wrs => Vendor::Wrs,
+            // end of what is written
             Vendor::Custom(custom) => Vendor::Custom(custom.clone(alloc)?),
         })
     }

@@ -13,14 +13,18 @@ use target_lexicon::{
 };
 
 /// The names of the operating systems, without a version.
-const SYSTEMS: &str =
-    "unknown aix amdhsa bitrig cloudabi cuda cygwin dragonfly emscripten espidf freebsd fuchsia haiku hermit \
-    horizon hurd illumos l4re linux nebulet netbsd none openbsd psp redox solaris solid_asp3 uefi vxworks wasi wasip1 wasip2 \
-    windows darwin ios macosx tvos visionos watchos xros";
+// written by tools/names/write: the names of systems
+const SYSTEMS: &str = "\
+unknown aix amdhsa bitrig cloudabi cuda cygwin dragonfly emscripten espidf freebsd fuchsia haiku hermit horizon hurd
+illumos l4re linux nebulet netbsd none openbsd psp redox solaris solid_asp3 uefi vxworks wasi wasip1 wasip2 windows
+darwin ios macosx tvos visionos watchos xros";
+// end of what is written
 
 /// The names of the known vendors.
-const VENDORS: &str =
-    "unknown amd apple espressif experimental fortanix ibm kmc nintendo nvidia pc rumprun sun uwp wrs";
+// written by tools/names/write: the names of vendors
+const VENDORS: &str = "\
+unknown amd apple espressif experimental fortanix ibm kmc nintendo nvidia pc rumprun sun uwp wrs";
+// end of what is written
 
 /// Texts that are refused as vendors: for their first character, for another character, or because they name another
 /// field, with or without a version.
@@ -39,13 +43,13 @@ pub(crate) fn report_calls_without_allocation(rt: &impl Print, alloc: Global) {
 
 /// Reports the calls on the texts of vendors and of operating systems.
 fn report_texts(rt: &impl Print, alloc: Global) {
-    for text in VENDORS.split(' ') {
+    for text in VENDORS.split_whitespace() {
         report_known_vendor(rt, alloc, text);
     }
     for text in REFUSED_VENDORS.split(',') {
         report_parsed_vendor(rt, alloc, text);
     }
-    for text in SYSTEMS.split(' ') {
+    for text in SYSTEMS.split_whitespace() {
         report_system(rt, alloc, text);
     }
 }

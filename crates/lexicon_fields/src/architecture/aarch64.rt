@@ -16,10 +16,12 @@ use std::str::FromStr;
 /// A 64-bit Arm architecture.
 #[derive(Clone, Copy, Debug, PartialEq, Eq, Hash)]
 pub enum Aarch64Architecture {
+    // written by tools/names/write: the variants of Aarch64Architecture
     /// Little-endian.
     Aarch64,
     /// Big-endian.
     Aarch64be,
+    // end of what is written
 }
 
 impl Aarch64Architecture {
@@ -69,8 +71,10 @@ impl Aarch64Architecture {
         ensures { result.now ≡ aarch64_name self }
     {
         match self {
+            // written by tools/names/write: the names of Aarch64Architecture
             Aarch64Architecture::Aarch64 => "aarch64",
             Aarch64Architecture::Aarch64be => "aarch64_be",
+            // end of what is written
         }
     }
 }

@@ -16,6 +16,7 @@ use std::str::FromStr;
 /// A 32-bit Arm architecture, in the Arm or the Thumb instruction set.
 #[derive(Clone, Copy, Debug, PartialEq, Eq, Hash)]
 pub enum ArmArchitecture {
+    // written by tools/names/write: the variants of ArmArchitecture
     /// Arm of no stated version.
     Arm,
     /// Arm of no stated version, big-endian.
@@ -69,6 +70,7 @@ pub enum ArmArchitecture {
     Thumbv8mBase,
     /// Armv8-M in Thumb, the mainline.
     Thumbv8mMain,
+    // end of what is written
 }
 
 impl ArmArchitecture {
@@ -105,7 +107,45 @@ impl ArmArchitecture {
         match self {
             ArmArchitecture::Armeb | ArmArchitecture::Armebv7r | ArmArchitecture::Thumbeb =>
                 Endianness::Big,
-            _ => Endianness::Little,
+            ArmArchitecture::Arm
+            | ArmArchitecture::Armv4
+            | ArmArchitecture::Armv4t
+            | ArmArchitecture::Armv5t
+            | ArmArchitecture::Armv5te
+            | ArmArchitecture::Armv5tej
+            | ArmArchitecture::Armv6
+            | ArmArchitecture::Armv6j
+            | ArmArchitecture::Armv6k
+            | ArmArchitecture::Armv6z
+            | ArmArchitecture::Armv6kz
+            | ArmArchitecture::Armv6t2
+            | ArmArchitecture::Armv6m
+            | ArmArchitecture::Armv7
+            | ArmArchitecture::Armv7a
+            | ArmArchitecture::Armv7k
+            | ArmArchitecture::Armv7ve
+            | ArmArchitecture::Armv7m
+            | ArmArchitecture::Armv7r
+            | ArmArchitecture::Armv7s
+            | ArmArchitecture::Armv8
+            | ArmArchitecture::Armv8a
+            | ArmArchitecture::Armv8_1a
+            | ArmArchitecture::Armv8_2a
+            | ArmArchitecture::Armv8_3a
+            | ArmArchitecture::Armv8_4a
+            | ArmArchitecture::Armv8_5a
+            | ArmArchitecture::Armv8mBase
+            | ArmArchitecture::Armv8mMain
+            | ArmArchitecture::Armv8r
+            | ArmArchitecture::Thumbv4t
+            | ArmArchitecture::Thumbv5te
+            | ArmArchitecture::Thumbv6m
+            | ArmArchitecture::Thumbv7a
+            | ArmArchitecture::Thumbv7em
+            | ArmArchitecture::Thumbv7m
+            | ArmArchitecture::Thumbv7neon
+            | ArmArchitecture::Thumbv8mBase
+            | ArmArchitecture::Thumbv8mMain => Endianness::Little,
         }
     }
 
@@ -131,6 +171,7 @@ impl ArmArchitecture {
         ensures { result.now ≡ arm_name self }
     {
         match self {
+            // written by tools/names/write: the names of ArmArchitecture
             ArmArchitecture::Arm => "arm",
             ArmArchitecture::Armeb => "armeb",
             ArmArchitecture::Armv4 => "armv4",
@@ -173,6 +214,7 @@ impl ArmArchitecture {
             ArmArchitecture::Thumbv7neon => "thumbv7neon",
             ArmArchitecture::Thumbv8mBase => "thumbv8m.base",
             ArmArchitecture::Thumbv8mMain => "thumbv8m.main",
+            // end of what is written
         }
     }
 }

@@ -13,9 +13,11 @@ use std::str::FromStr;
 /// A Clever architecture.
 #[derive(Clone, Copy, Debug, PartialEq, Eq, Hash)]
 pub enum CleverArchitecture {
+    // written by tools/names/write: the variants of CleverArchitecture
     /// No stated version.
     Clever,
     Clever1_0,
+    // end of what is written
 }
 
 impl CleverArchitecture {
@@ -41,8 +43,10 @@ impl CleverArchitecture {
         ensures { result.now ≡ clever_name self }
     {
         match self {
+            // written by tools/names/write: the names of CleverArchitecture
             CleverArchitecture::Clever => "clever",
             CleverArchitecture::Clever1_0 => "clever1.0",
+            // end of what is written
         }
     }
 }

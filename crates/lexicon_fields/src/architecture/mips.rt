@@ -13,6 +13,7 @@ use std::str::FromStr;
 /// A 32-bit MIPS architecture.
 #[derive(Clone, Copy, Debug, PartialEq, Eq, Hash)]
 pub enum Mips32Architecture {
+    // written by tools/names/write: the variants of Mips32Architecture
     /// Big-endian.
     Mips,
     /// Little-endian.
@@ -21,6 +22,7 @@ pub enum Mips32Architecture {
     Mipsisa32r6,
     /// Release 6, little-endian.
     Mipsisa32r6el,
+    // end of what is written
 }
 
 impl Mips32Architecture {
@@ -46,10 +48,12 @@ impl Mips32Architecture {
         ensures { result.now ≡ mips32_name self }
     {
         match self {
+            // written by tools/names/write: the names of Mips32Architecture
             Mips32Architecture::Mips => "mips",
             Mips32Architecture::Mipsel => "mipsel",
             Mips32Architecture::Mipsisa32r6 => "mipsisa32r6",
             Mips32Architecture::Mipsisa32r6el => "mipsisa32r6el",
+            // end of what is written
         }
     }
 }
@@ -77,6 +81,7 @@ impl fmt::Display for Mips32Architecture {
 /// A 64-bit MIPS architecture.
 #[derive(Clone, Copy, Debug, PartialEq, Eq, Hash)]
 pub enum Mips64Architecture {
+    // written by tools/names/write: the variants of Mips64Architecture
     /// Big-endian.
     Mips64,
     /// Little-endian.
@@ -85,6 +90,7 @@ pub enum Mips64Architecture {
     Mipsisa64r6,
     /// Release 6, little-endian.
     Mipsisa64r6el,
+    // end of what is written
 }
 
 impl Mips64Architecture {
@@ -110,10 +116,12 @@ impl Mips64Architecture {
         ensures { result.now ≡ mips64_name self }
     {
         match self {
+            // written by tools/names/write: the names of Mips64Architecture
             Mips64Architecture::Mips64 => "mips64",
             Mips64Architecture::Mips64el => "mips64el",
             Mips64Architecture::Mipsisa64r6 => "mipsisa64r6",
             Mips64Architecture::Mipsisa64r6el => "mipsisa64r6el",
+            // end of what is written
         }
     }
 }

@@ -13,6 +13,7 @@ use std::str::FromStr;
 /// A 32-bit RISC-V architecture, by its extensions.
 #[derive(Clone, Copy, Debug, PartialEq, Eq, Hash)]
 pub enum Riscv32Architecture {
+    // written by tools/names/write: the variants of Riscv32Architecture
     /// No stated extensions.
     Riscv32,
     /// The general extensions, `imafd`, and compressed instructions.
@@ -23,6 +24,7 @@ pub enum Riscv32Architecture {
     Riscv32imac,
     Riscv32imafc,
     Riscv32imc,
+    // end of what is written
 }
 
 impl Riscv32Architecture {
@@ -48,6 +50,7 @@ impl Riscv32Architecture {
         ensures { result.now ≡ riscv32_name self }
     {
         match self {
+            // written by tools/names/write: the names of Riscv32Architecture
             Riscv32Architecture::Riscv32 => "riscv32",
             Riscv32Architecture::Riscv32gc => "riscv32gc",
             Riscv32Architecture::Riscv32i => "riscv32i",
@@ -56,6 +59,7 @@ impl Riscv32Architecture {
             Riscv32Architecture::Riscv32imac => "riscv32imac",
             Riscv32Architecture::Riscv32imafc => "riscv32imafc",
             Riscv32Architecture::Riscv32imc => "riscv32imc",
+            // end of what is written
         }
     }
 }
@@ -83,6 +87,7 @@ impl fmt::Display for Riscv32Architecture {
 /// A 64-bit RISC-V architecture, by its extensions.
 #[derive(Clone, Copy, Debug, PartialEq, Eq, Hash)]
 pub enum Riscv64Architecture {
+    // written by tools/names/write: the variants of Riscv64Architecture
     /// No stated extensions.
     Riscv64,
     /// The general extensions, `imafd`, and compressed instructions.
@@ -90,6 +95,7 @@ pub enum Riscv64Architecture {
     Riscv64imac,
     /// The profile RVA23.
     Riscv64a23,
+    // end of what is written
 }
 
 impl Riscv64Architecture {
@@ -115,10 +121,12 @@ impl Riscv64Architecture {
         ensures { result.now ≡ riscv64_name self }
     {
         match self {
+            // written by tools/names/write: the names of Riscv64Architecture
             Riscv64Architecture::Riscv64 => "riscv64",
             Riscv64Architecture::Riscv64gc => "riscv64gc",
             Riscv64Architecture::Riscv64imac => "riscv64imac",
             Riscv64Architecture::Riscv64a23 => "riscv64a23",
+            // end of what is written
         }
     }
 }

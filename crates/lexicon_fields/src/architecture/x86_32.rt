@@ -13,9 +13,11 @@ use std::str::FromStr;
 /// A 32-bit x86 architecture.
 #[derive(Clone, Copy, Debug, PartialEq, Eq, Hash)]
 pub enum X86_32Architecture {
+    // written by tools/names/write: the variants of X86_32Architecture
     I386,
     I586,
     I686,
+    // end of what is written
 }
 
 impl X86_32Architecture {
@@ -41,9 +43,11 @@ impl X86_32Architecture {
         ensures { result.now ≡ x86_32_name self }
     {
         match self {
+            // written by tools/names/write: the names of X86_32Architecture
             X86_32Architecture::I386 => "i386",
             X86_32Architecture::I586 => "i586",
             X86_32Architecture::I686 => "i686",
+            // end of what is written
         }
     }
 }

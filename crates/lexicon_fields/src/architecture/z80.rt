@@ -13,6 +13,7 @@ use std::str::FromStr;
 /// An architecture of the Z80 family.
 #[derive(Clone, Copy, Debug, PartialEq, Eq, Hash)]
 pub enum Z80Architecture {
+    // written by tools/names/write: the variants of Z80Architecture
     Z80,
     Z180,
     Ez80,
@@ -26,6 +27,7 @@ pub enum Z80Architecture {
     Tlcs90,
     /// ASCII's R800, of the MSX turbo R.
     R800,
+    // end of what is written
 }
 
 impl Z80Architecture {
@@ -51,6 +53,7 @@ impl Z80Architecture {
         ensures { result.now ≡ z80_name self }
     {
         match self {
+            // written by tools/names/write: the names of Z80Architecture
             Z80Architecture::Z80 => "z80",
             Z80Architecture::Z180 => "z180",
             Z80Architecture::Ez80 => "ez80",
@@ -61,6 +64,7 @@ impl Z80Architecture {
             Z80Architecture::Rabbit3000A => "rabbit3000a",
             Z80Architecture::Tlcs90 => "tlcs90",
             Z80Architecture::R800 => "r800",
+            // end of what is written
         }
     }
 }

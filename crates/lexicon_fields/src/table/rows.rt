@@ -63,6 +63,7 @@ fn rows() -> &'static [Row]
 
 #[rattlefmt::skip]
 static ROWS: [Row; ROW_COUNT] = [
+    // written by tools/names/write: the rows
     ("aarch64", 0x6161726368363400, Some(Architecture::Aarch64(Aarch64Architecture::Aarch64)), None, None, None, None),
     ("aarch64_be", 0x616172636836345f, Some(Architecture::Aarch64(Aarch64Architecture::Aarch64be)), None, None, None, None),
     ("aix", 0x6169780000000000, None, None, Some(OperatingSystem::Aix), None, None),
@@ -255,4 +256,5 @@ static ROWS: [Row; ROW_COUNT] = [
     ("z180", 0x7a31383000000000, Some(Architecture::Z80(Z80Architecture::Z180)), None, None, None, None),
     ("z80", 0x7a38300000000000, Some(Architecture::Z80(Z80Architecture::Z80)), None, None, None, None),
     ("zkasm", 0x7a6b61736d000000, Some(Architecture::ZkAsm), None, None, None, None),
+    // end of what is written
 ];

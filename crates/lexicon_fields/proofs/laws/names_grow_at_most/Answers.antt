@@ -1,12 +1,10 @@
-use Rattle.std.proofs.Common.{◌≡◌, ◌∷◌, codes, length, nat_le, ◌+◌, refl, sym, ap}
+use Rattle.std.proofs.Common.{◌≡◌, length, nat_le, ◌+◌, refl, sym, ap}
 use Rattle.std.proofs.{lemmas.Bool.leb-true, lemmas.Option.MatchOption-at_some, lemmas.Option.cond_some}
-use Rattle.lexicon_fields.specs.{Architecture.architecture_name, Architecture.architecture_values, Architecture.architecture_of, Names.named_values}
+use Rattle.lexicon_fields.specs.{Architecture.architecture_name, Architecture.architecture_texts, Architecture.architecture_of}
 use Rattle.lexicon_fields.specs.BinaryFormat.{binary_format_name, binary_format_values, binary_format_of}
 use Rattle.lexicon_fields.specs.Environment.{environment_name, environment_values, environment_of}
 use Rattle.lexicon_fields.specs.Vendor.{Known, Custom, known_vendor_name, known_vendors, known_vendor_of, custom_vendor_of, is_admitted, vendor_name, vendor_of}
 use Rattle.lexicon_fields.proofs.{LookUpLemmas.value_of-all, LookUpLemmas.value_of-named_values, LookUpLemmas.holds-if_read, LookUpLemmas.option_map-holds, LookUpLemmas.option_or-holds, ParsedSystems.operating_system-max_growth}
-use Rattle.lexicon_fields.specs.declared.architecture.Architecture.TheVariants as architecture
-use Rattle.lexicon_fields.specs.declared.architecture.aarch64.Aarch64Architecture.TheVariants as aarch64
 use Rattle.lexicon_fields.proofs.laws.names_grow_at_most.Goals as goal
 
 pub returns-clause-vendor : goal.returns-clause-vendor
@@ -27,8 +25,7 @@ returns-clause-binary_format c = λ text v found. value_of-named_values binary_f
 pub returns-clause-architecture : goal.returns-clause-architecture
 unfolding architecture_of
 returns-clause-architecture c = λ text a found.
-    leb-true _ _ (value_of-all (λ pair. nat_le (length (architecture_name pair.1)) (length pair.0 + 2))
-    ((codes "arm64", architecture.Aarch64 aarch64.Aarch64) ∷ named_values architecture_name architecture_values) text a refl found)
+    leb-true _ _ (value_of-all (λ pair. nat_le (length (architecture_name pair.1)) (length pair.0 + 2)) architecture_texts text a refl found)
 
 pub returns-clause-operating_system : goal.returns-clause-operating_system
 returns-clause-operating_system c = operating_system-max_growth

@@ -8,6 +8,7 @@ pub returns : goal.returns
 returns c (vendor.Custom a) (vendor.Custom b) =
     let decides = bytes_eq-Decides (custom_text a) (custom_text b) in
     (λ same. ap Custom (decides.0 same), λ same. decides.1 (let texts : custom_text a ≡ custom_text b = cc in texts))
+-- written by tools/names/write: equal vendors
 returns c vendor.Unknown vendor.Unknown = (λ _. refl, λ _. refl)
 returns c vendor.Amd vendor.Amd = (λ _. refl, λ _. refl)
 returns c vendor.Apple vendor.Apple = (λ _. refl, λ _. refl)
@@ -23,4 +24,5 @@ returns c vendor.Rumprun vendor.Rumprun = (λ _. refl, λ _. refl)
 returns c vendor.Sun vendor.Sun = (λ _. refl, λ _. refl)
 returns c vendor.Uwp vendor.Uwp = (λ _. refl, λ _. refl)
 returns c vendor.Wrs vendor.Wrs = (λ _. refl, λ _. refl)
+-- end of what is written
 returns c _ _ = (λ same. absurd (false≢true same), λ same. absurd cc)
