@@ -58,6 +58,7 @@ pub(crate) fn lexicon_facts_of(triple: &Triple) -> LexiconFacts
     }
 }
 
+/// 1 if the triple is little-endian, 2 if it is big-endian, and 0 if the query has no answer.
 fn endianness_number(triple: &Triple) -> u32
     ensures { result ≡ endianness_number (endianness (values_of triple.now)) }
 {
@@ -68,6 +69,7 @@ fn endianness_number(triple: &Triple) -> u32
     }
 }
 
+/// The width of a pointer in bits, or 0 if the query has no answer.
 fn pointer_bits(triple: &Triple) -> u32
     ensures { result ≡ option_map_or width_bits (pointer_width (values_of triple.now)) 0 }
 {
@@ -77,6 +79,7 @@ fn pointer_bits(triple: &Triple) -> u32
     }
 }
 
+/// The number of the calling convention, as in the header, or 0 if the query has no answer.
 fn convention_number(triple: &Triple) -> u32
     ensures { result ≡ convention_number (calling_convention (values_of triple.now)) }
 {
@@ -89,6 +92,7 @@ fn convention_number(triple: &Triple) -> u32
     }
 }
 
+/// The number of the data model of C, as in the header, or 0 if the query has no answer.
 fn model_number(triple: &Triple) -> u32
     ensures { result ≡ model_number (data_model (values_of triple.now)) }
 {
@@ -102,6 +106,7 @@ fn model_number(triple: &Triple) -> u32
     }
 }
 
+/// The number of a binary format, as in the header; 0 is `Unknown`.
 fn format_number(format: BinaryFormat) -> u32
     ensures { result ≡ format_number format }
 {
@@ -133,7 +138,7 @@ fn version_numbers(system: OperatingSystem) -> (u32, u32, u32, u32)
     }
 }
 
-/// Whether two triples are equal.
+/// Whether two triples are equal: all five fields are the same.
 pub(crate) fn are_equal(first: &Triple, second: &Triple) -> bool
     ensures { IsTrue result ↔ (values_of first.now ≡ values_of second.now) }
 {

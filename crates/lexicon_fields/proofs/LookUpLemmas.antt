@@ -4,31 +4,31 @@ use Rattle.std.specs.{Option.option_or, Str.bytes_eq, List.list_all}
 use Rattle.std.proofs.{lemmas.Bool.and_parts, lemmas.Bool.ne_eqb, lemmas.List.Folds.list_any_none, lemmas.List.Sums.AllPass-from_list_all}
 use Rattle.std.proofs.lemmas.Slice.Eq.{bytes_eq-Decides}
 use Rattle.lexicon_fields.specs.Names.{dash}
-use Rattle.lexicon_fields.specs.{Names.Pair, Names.value_of, Names.named_values, Names.is_dash_free, Laws.NamesReadBackOn}
+use Rattle.lexicon_fields.specs.{Names.Pair, Names.value_named, Names.named_values, Names.is_dash_free, Laws.NamesReadBackOn}
 
 -- a test that every pair passes holds for each text and the value that it parses as
-pub value_of-all : {V : Type 0} (test : Pair V → Bool) (pairs : List (Pair V)) (text : List ℕ) (v : V) → list_all test pairs ≡ true → value_of pairs text ≡ Some v → test (text, v) ≡ true
-value_of-all test [] text v all found = cc
-value_of-all {V} test (pair ∷ pairs) text v all found =
+pub value_named-all : {V : Type 0} (test : Pair V → Bool) (pairs : List (Pair V)) (text : List ℕ) (v : V) → list_all test pairs ≡ true → value_named pairs text ≡ Some v → test (text, v) ≡ true
+value_named-all test [] text v all found = cc
+value_named-all {V} test (pair ∷ pairs) text v all found =
     let parts = and_parts (test pair) (list_all test pairs) all in
-    let P : Bool → Type 0 = λ b. bytes_eq text pair.0 ≡ b → cond b (Some pair.1) (value_of pairs text) ≡ Some v → test (text, v) ≡ true in
+    let P : Bool → Type 0 = λ b. bytes_eq text pair.0 ≡ b → cond b (Some pair.1) (value_named pairs text) ≡ Some v → test (text, v) ≡ true in
     (elim (bytes_eq text pair.0) as P [
       | true ↦ λ same is.
           (let the_text : text ≡ pair.0 = (bytes_eq-Decides text pair.0).0 same in
           let held : test (pair.0, pair.1) ≡ true = parts.0 in
           cc)
-      | false ↦ λ _ is. value_of-all test pairs text v parts.1 is
+      | false ↦ λ _ is. value_named-all test pairs text v parts.1 is
     ]) refl found
 
 -- a text in a table passes each test that all texts of the table pass
-pub value_of-passes : {V : Type 0} (test : List ℕ → Bool) (pairs : List (Pair V)) (text : List ℕ) (v : V) → list_all (λ pair. test pair.0) pairs ≡ true → value_of pairs text ≡ Some v → test text ≡ true
-value_of-passes test pairs text v all found = value_of-all (λ pair. test pair.0) pairs text v all found
+pub value_named-passes : {V : Type 0} (test : List ℕ → Bool) (pairs : List (Pair V)) (text : List ℕ) (v : V) → list_all (λ pair. test pair.0) pairs ≡ true → value_named pairs text ≡ Some v → test text ≡ true
+value_named-passes test pairs text v all found = value_named-all (λ pair. test pair.0) pairs text v all found
 
 -- a text in a table of names is the name of the value that it parses as
-pub value_of-named_values : {V : Type 0} (name : V → List ℕ) (values : List V) (text : List ℕ) (v : V)
-    → list_all (λ pair. bytes_eq pair.0 (name pair.1)) (named_values name values) ≡ true → value_of (named_values name values) text ≡ Some v → name v ≡ text
-value_of-named_values name values text v all found =
-    sym ((bytes_eq-Decides text (name v)).0 (value_of-all (λ pair. bytes_eq pair.0 (name pair.1)) (named_values name values) text v all found))
+pub value_named-named_values : {V : Type 0} (name : V → List ℕ) (values : List V) (text : List ℕ) (v : V)
+    → list_all (λ pair. bytes_eq pair.0 (name pair.1)) (named_values name values) ≡ true → value_named (named_values name values) text ≡ Some v → name v ≡ text
+value_named-named_values name values text v all found =
+    sym ((bytes_eq-Decides text (name v)).0 (value_named-all (λ pair. bytes_eq pair.0 (name pair.1)) (named_values name values) text v all found))
 
 -- a property of every parsed value carries over: from a part to the whole, to the next step, and to the first of two
 -- parsers that succeeds

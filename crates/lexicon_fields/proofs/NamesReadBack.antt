@@ -4,7 +4,7 @@ use Rattle.lexicon_fields.specs.{declared.architecture.Architecture.Architecture
 use Rattle.lexicon_fields.specs.{Laws.NamesReadBack, Architecture.architecture_name, Architecture.architecture_texts, Architecture.architecture_of, FixedRow.row_texts}
 use Rattle.lexicon_fields.specs.Environment.{environment_name, environment_values, environment_of}
 use Rattle.lexicon_fields.specs.BinaryFormat.{binary_format_name, binary_format_values, binary_format_of}
-use Rattle.lexicon_fields.proofs.{LookUpLemmas.value_of-passes, LookUpLemmas.of_kind-read_back, RowTexts.is_row_text, RowTexts.row_text-dash_free}
+use Rattle.lexicon_fields.proofs.{LookUpLemmas.value_named-passes, LookUpLemmas.of_kind-read_back, RowTexts.is_row_text, RowTexts.row_text-dash_free}
 use Rattle.lexicon_fields.specs.declared.architecture.Architecture.TheVariants as architecture
 use Rattle.lexicon_fields.specs.declared.architecture.arm.ArmArchitecture.TheVariants as arm
 use Rattle.lexicon_fields.specs.declared.architecture.aarch64.Aarch64Architecture.TheVariants as aarch64
@@ -30,7 +30,7 @@ environment_of-name _ = refl
 
 pub environment_of-row : (text : List ℕ) (v : Environment) → environment_of text ≡ Some v → is_row_text text ≡ true
 unfolding environment_of is_row_text row_texts
-environment_of-row text v found = value_of-passes is_row_text (named_values environment_name environment_values) text v refl found
+environment_of-row text v found = value_named-passes is_row_text (named_values environment_name environment_values) text v refl found
 
 pub binary_format_of-name : (v : BinaryFormat) → binary_format_of (binary_format_name v) ≡ Some v
 unfolding binary_format_of
@@ -39,7 +39,7 @@ binary_format_of-name _ = refl
 
 pub binary_format_of-row : (text : List ℕ) (v : BinaryFormat) → binary_format_of text ≡ Some v → is_row_text text ≡ true
 unfolding binary_format_of is_row_text row_texts
-binary_format_of-row text v found = value_of-passes is_row_text (named_values binary_format_name binary_format_values) text v refl found
+binary_format_of-row text v found = value_named-passes is_row_text (named_values binary_format_name binary_format_values) text v refl found
 
 pub architecture_of-name : (a : Architecture) → architecture_of (architecture_name a) ≡ Some a
 unfolding architecture_of
@@ -56,7 +56,7 @@ architecture_of-name _ = refl
 
 pub architecture_of-row : (text : List ℕ) (a : Architecture) → architecture_of text ≡ Some a → is_row_text text ≡ true
 unfolding architecture_of is_row_text row_texts
-architecture_of-row text a found = value_of-passes is_row_text architecture_texts text a refl found
+architecture_of-row text a found = value_named-passes is_row_text architecture_texts text a refl found
 
 -- a family of architectures: the sub-architecture of an architecture, and the architecture with a sub-architecture
 pub part-read_back : {V : Type 0} (whole : V → Architecture) (part : Architecture → Option V) → ((v : V) → part (whole v) ≡ Some v)

@@ -14,7 +14,7 @@ use Rattle.lexicon_fields.specs.{declared.deployment_target.DeploymentTarget.Dep
 use Rattle.lexicon_fields.specs.Version.{piece_number_within, version_of_numbers, version_of_pieces, version_of, version_name, pieces_of}
 use Rattle.lexicon_fields.specs.OperatingSystem.{operating_system_name, fixed_operating_systems, fixed_operating_system_of, operating_system_of, darwin_prefixes, darwin_like_system, text_after_prefix, system_with_version, optional_version_of, system_version, version_suffix}
 use Rattle.lexicon_fields.specs.Laws.{IsVersionInRange, HasVersionInRange}
-use Rattle.lexicon_fields.proofs.LookUpLemmas.{value_of-all, holds-if_read, option_map-holds, option_and_then-holds, option_or-holds, all-dash_free}
+use Rattle.lexicon_fields.proofs.LookUpLemmas.{value_named-all, holds-if_read, option_map-holds, option_and_then-holds, option_or-holds, all-dash_free}
 use Rattle.lexicon_fields.proofs.VersionsReadBack.{digits_model}
 
 is_dash_free-append : (s t : List ℕ) → is_dash_free s ≡ true → is_dash_free t ≡ true → is_dash_free (s ++ t) ≡ true
@@ -133,7 +133,7 @@ no_version-in_range (Some v) none = absurd cc
 fixed-read : (text : List ℕ) → IfSome (fixed_operating_system_of text) (IsSystemRead text)
 unfolding fixed_operating_system_of
 fixed-read text = holds-if_read _ (fixed_operating_system_of text) (λ s is.
-    let test = value_of-all (λ pair. is_dash_free pair.0 && is_none (system_version pair.1) && nat_le (length (operating_system_name pair.1)) (length pair.0)) (named_values operating_system_name fixed_operating_systems) text s refl is in
+    let test = value_named-all (λ pair. is_dash_free pair.0 && is_none (system_version pair.1) && nat_le (length (operating_system_name pair.1)) (length pair.0)) (named_values operating_system_name fixed_operating_systems) text s refl is in
     let parts = and_parts _ (nat_le (length (operating_system_name s)) (length text)) test in
     let prefix_key = and_parts (is_dash_free text) (is_none (system_version s)) parts.0 in
     (prefix_key.0, no_version-in_range (system_version s) prefix_key.1, omega (arith, leb-true _ _ parts.1)))

@@ -7,16 +7,16 @@ use Rattle.std.proofs.{lemmas.Option.get_or_from_slice_get, lemmas.Option.slice_
 use Rattle.lexicon_fields.specs.{Names.named_values, Architecture.architecture_of, declared.known_vendor.KnownVendor.KnownVendor, Vendor.known_vendor_name, Vendor.known_vendors, Vendor.known_vendor_of, declared.operating_system.OperatingSystem.OperatingSystem, Environment.environment_of, BinaryFormat.binary_format_of}
 use Rattle.lexicon_fields.specs.OperatingSystem.{operating_system_name, operating_system_of, darwin_prefixes, darwin_like_system, fixed_operating_systems, fixed_operating_system_of}
 use Rattle.lexicon_fields.specs.FixedRow.{has_row, row_count, row_texts, row_text}
-use Rattle.lexicon_fields.proofs.{LookUpLemmas.value_of-passes, LookUpLemmas.option_or-none, LookUpLemmas.none_is, RowTexts.is_row_text, RowTexts.row_text-passes, RowTexts.length-row_texts}
+use Rattle.lexicon_fields.proofs.{LookUpLemmas.value_named-passes, LookUpLemmas.option_or-none, LookUpLemmas.none_is, RowTexts.is_row_text, RowTexts.row_text-passes, RowTexts.length-row_texts}
 use Rattle.lexicon_fields.proofs.NamesReadBack.{architecture_of-row, environment_of-row, binary_format_of-row}
 
 pub known_vendor_of-row : (text : List ℕ) (v : KnownVendor) → known_vendor_of text ≡ Some v → is_row_text text ≡ true
 unfolding known_vendor_of is_row_text row_texts
-known_vendor_of-row text v found = value_of-passes is_row_text (named_values known_vendor_name known_vendors) text v refl found
+known_vendor_of-row text v found = value_named-passes is_row_text (named_values known_vendor_name known_vendors) text v refl found
 
 pub fixed_operating_system_of-row : (text : List ℕ) (v : OperatingSystem) → fixed_operating_system_of text ≡ Some v → is_row_text text ≡ true
 unfolding fixed_operating_system_of is_row_text row_texts
-fixed_operating_system_of-row text v found = value_of-passes is_row_text (named_values operating_system_name fixed_operating_systems) text v refl found
+fixed_operating_system_of-row text v found = value_named-passes is_row_text (named_values operating_system_name fixed_operating_systems) text v refl found
 
 -- a text that is in no row parses as no fixed name
 none_without_row : {V : Type 0} (find : List ℕ → Option V) → ((text : List ℕ) (v : V) → find text ≡ Some v → is_row_text text ≡ true)

@@ -7,7 +7,7 @@ use Rattle.lexicon_fields.specs.{declared.vendor.Vendor.Vendor, declared.known_v
 use Rattle.lexicon_fields.specs.Vendor.{VendorValue, Known, Custom, known_vendor_name, known_vendors, custom_vendor_of, vendor_name, is_plain, is_free, is_vendor_character, has_vendor_form, vendor_of, vendor_value, owns_text, known_vendor_of, is_admitted}
 use Rattle.lexicon_fields.specs.{Architecture.architecture_of, declared.operating_system.OperatingSystem.OperatingSystem, Environment.environment_of, BinaryFormat.binary_format_of, FixedRow.has_row}
 use Rattle.lexicon_fields.specs.OperatingSystem.{darwin_prefixes, darwin_like_system, fixed_operating_system_of, operating_system_of}
-use Rattle.lexicon_fields.proofs.LookUpLemmas.{value_of-passes, holds-if_read, option_map-holds, option_or-holds, option_or-none, none_is, test_apart, all-dash_free}
+use Rattle.lexicon_fields.proofs.LookUpLemmas.{value_named-passes, holds-if_read, option_map-holds, option_or-holds, option_or-none, none_is, test_apart, all-dash_free}
 use Rattle.lexicon_fields.proofs.{RowTexts.row_text-dash_free, RowLemmas.known_vendor_of-row, RowLemmas.no_name_without_row}
 use Rattle.lexicon_fields.specs.declared.vendor.Vendor.TheVariants as vendor
 
@@ -67,7 +67,7 @@ formless_not_admitted text formless = rw formless (and-false (is_free text))
 known_form : (text : List ℕ) (known : Option KnownVendor) → known_vendor_of text ≡ known → has_vendor_form text ≡ false → known_vendor_of text ≡ None
 unfolding known_vendor_of
 known_form text None is formless = is
-known_form text (Some v) is formless = absurd (let bad : true ≡ false = sym (value_of-passes has_vendor_form (named_values known_vendor_name known_vendors) text v refl is) ∙ formless in cc)
+known_form text (Some v) is formless = absurd (let bad : true ≡ false = sym (value_named-passes has_vendor_form (named_values known_vendor_name known_vendors) text v refl is) ∙ formless in cc)
 
 pub formless_read : (text : List ℕ) → has_vendor_form text ≡ false → vendor_of text ≡ None
 formless_read text formless = unknown_text-refused text (known_form text (known_vendor_of text) refl formless) (formless_not_admitted text formless)

@@ -1,7 +1,7 @@
 -- The names of the architectures.
 use Rattle.std.specs.Prelude.{ℕ, List, [], ◌∷◌, ◌++◌, codes, Option, Some, None, option_and_then}
 use Rattle.lexicon_fields.specs.{declared.architecture.Architecture.Architecture, declared.architecture.arm.ArmArchitecture.ArmArchitecture, declared.architecture.z80.Z80Architecture.Z80Architecture}
-use Rattle.lexicon_fields.specs.{declared.architecture.aarch64.Aarch64Architecture.Aarch64Architecture, declared.architecture.x86_32.X86_32Architecture.X86_32Architecture, Names.Pair, Names.value_of, Names.named_values}
+use Rattle.lexicon_fields.specs.{declared.architecture.aarch64.Aarch64Architecture.Aarch64Architecture, declared.architecture.x86_32.X86_32Architecture.X86_32Architecture, Names.Pair, Names.value_named, Names.named_values}
 use Rattle.lexicon_fields.specs.{declared.architecture.mips.Mips32Architecture.Mips32Architecture, declared.architecture.mips.Mips64Architecture.Mips64Architecture}
 use Rattle.lexicon_fields.specs.{declared.architecture.riscv.Riscv32Architecture.Riscv32Architecture, declared.architecture.riscv.Riscv64Architecture.Riscv64Architecture}
 use Rattle.lexicon_fields.specs.declared.architecture.clever.CleverArchitecture.{CleverArchitecture}
@@ -117,7 +117,7 @@ architecture_texts = architecture_aliases ++ named_values architecture_name arch
 
 -- the architecture that a text parses as, if any
 unfoldable pub architecture_of : List ℕ → Option Architecture
-architecture_of text = value_of architecture_texts text
+architecture_of text = value_named architecture_texts text
 
 -- the sub-architecture of an architecture, if it is of that family
 abbrev pub as_arm : Architecture → Option ArmArchitecture

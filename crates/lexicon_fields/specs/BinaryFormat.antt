@@ -1,6 +1,6 @@
 -- The names of the binary formats.
 use Rattle.std.specs.Prelude.{ℕ, List, [], ◌∷◌, codes, Option}
-use Rattle.lexicon_fields.specs.{declared.binary_format.BinaryFormat.BinaryFormat, Names.value_of, Names.named_values}
+use Rattle.lexicon_fields.specs.{declared.binary_format.BinaryFormat.BinaryFormat, Names.value_named, Names.named_values}
 use Rattle.lexicon_fields.specs.declared.binary_format.BinaryFormat.TheVariants as binary_format
 
 -- the name of a binary format
@@ -26,4 +26,4 @@ binary_format_values =
 
 -- the value that a text parses as, if any
 unfoldable pub binary_format_of : List ℕ → Option BinaryFormat
-binary_format_of text = value_of (named_values binary_format_name binary_format_values) text
+binary_format_of text = value_named (named_values binary_format_name binary_format_values) text

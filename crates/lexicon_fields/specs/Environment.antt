@@ -1,6 +1,6 @@
 -- The names of the environments.
 use Rattle.std.specs.Prelude.{ℕ, List, [], ◌∷◌, codes, Option}
-use Rattle.lexicon_fields.specs.{declared.environment.Environment.Environment, Names.value_of, Names.named_values}
+use Rattle.lexicon_fields.specs.{declared.environment.Environment.Environment, Names.value_named, Names.named_values}
 use Rattle.lexicon_fields.specs.declared.environment.Environment.TheVariants as environment
 
 -- the name of an environment
@@ -60,4 +60,4 @@ environment_values =
 
 -- the value that a text parses as, if any
 unfoldable pub environment_of : List ℕ → Option Environment
-environment_of text = value_of (named_values environment_name environment_values) text
+environment_of text = value_named (named_values environment_name environment_values) text

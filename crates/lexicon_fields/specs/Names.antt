@@ -12,9 +12,9 @@ abbrev pub named_values : {V : Type 0} → (V → List ℕ) → List V → List 
 named_values name values = map (λ v. (name v, v)) values
 
 -- the value of the first pair with this text
-abbrev pub value_of : {V : Type 0} → List (Pair V) → List ℕ → Option V
-value_of [] text = None
-value_of (pair ∷ pairs) text = if bytes_eq text pair.0 then Some pair.1 else value_of pairs text
+abbrev pub value_named : {V : Type 0} → List (Pair V) → List ℕ → Option V
+value_named [] text = None
+value_named (pair ∷ pairs) text = if bytes_eq text pair.0 then Some pair.1 else value_named pairs text
 
 -- the result is the value that the look-up gives, and an error if it gives none
 abbrev pub MatchesLookup : {V E : Type 0} → Option V → Result V E → Type 0

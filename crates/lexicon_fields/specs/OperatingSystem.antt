@@ -2,7 +2,7 @@
 use Rattle.std.specs.Prelude.{ℕ, Bool, true, false, List, [], ◌∷◌, ◌++◌, codes, nat_eq, length, drop, Option, Some, None, option_map, option_and_then, if◌then◌else◌}
 use Rattle.std.specs.List.{starts_with}
 use Rattle.std.specs.Option.{option_or}
-use Rattle.lexicon_fields.specs.{declared.deployment_target.DeploymentTarget.DeploymentTarget, declared.operating_system.OperatingSystem.OperatingSystem, Names.Pair, Names.value_of, Names.named_values}
+use Rattle.lexicon_fields.specs.{declared.deployment_target.DeploymentTarget.DeploymentTarget, declared.operating_system.OperatingSystem.OperatingSystem, Names.Pair, Names.value_named, Names.named_values}
 use Rattle.lexicon_fields.specs.Version.{version_of, version_name}
 use Rattle.lexicon_fields.specs.declared.operating_system.OperatingSystem.TheVariants as operating_system
 
@@ -130,7 +130,7 @@ darwin_like_system (row ∷ rows) text = option_or (option_and_then (system_with
 
 -- the system with this fixed name, if there is one
 unfoldable pub fixed_operating_system_of : List ℕ → Option OperatingSystem
-fixed_operating_system_of text = value_of (named_values operating_system_name fixed_operating_systems) text
+fixed_operating_system_of text = value_named (named_values operating_system_name fixed_operating_systems) text
 
 -- the value that a text parses as, if any
 unfoldable pub operating_system_of : List ℕ → Option OperatingSystem

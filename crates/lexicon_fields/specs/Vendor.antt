@@ -5,7 +5,7 @@ use Rattle.std.specs.List.{list_all}
 use Rattle.std.specs.Option.{option_or}
 use Rattle.lexicon_fields.specs.declared.known_vendor.KnownVendor.{KnownVendor}
 use Rattle.lexicon_fields.specs.{declared.vendor.CustomVendor.CustomVendor, declared.vendor.CustomVendor.TheVariants.Owned, declared.vendor.CustomVendor.TheVariants.Static, Environment.environment_of}
-use Rattle.lexicon_fields.specs.{Version.dot, declared.vendor.Vendor.Vendor, declared.vendor.VendorError.VendorError, Names.value_of, Names.named_values, Architecture.architecture_of, OperatingSystem.operating_system_of}
+use Rattle.lexicon_fields.specs.{Version.dot, declared.vendor.Vendor.Vendor, declared.vendor.VendorError.VendorError, Names.value_named, Names.named_values, Architecture.architecture_of, OperatingSystem.operating_system_of}
 use Rattle.lexicon_fields.specs.{declared.vendor.VendorError.TheVariants.Unrecognized, declared.vendor.VendorError.TheVariants.OutOfMemory, BinaryFormat.binary_format_of}
 use Rattle.lexicon_fields.specs.declared.known_vendor.KnownVendor.TheVariants as known_vendor
 use Rattle.lexicon_fields.specs.declared.vendor.Vendor.TheVariants as vendor
@@ -89,7 +89,7 @@ known_vendors =
 
 -- the known vendor with this name, if there is one
 unfoldable pub known_vendor_of : List ℕ → Option KnownVendor
-known_vendor_of text = value_of (named_values known_vendor_name known_vendors) text
+known_vendor_of text = value_named (named_values known_vendor_name known_vendors) text
 
 abbrev pub underscore : ℕ
 underscore = 95

@@ -35,7 +35,7 @@ impl BinaryFormat {
         Self::Elf
     }
 
-    /// The value with this name. `Err` for every other text.
+    /// The binary format with the name `s`; `Err` if there is none.
     #[tactic(auto, using(crate::proofs::RowLemmas::no_name_without_row))]
     pub fn from_str(s: &str) -> Result<Self, ()>
         ensures { MatchesLookup (binary_format_of s.now) result }

@@ -134,7 +134,8 @@ impl OperatingSystem {
         None
     }
 
-    /// The name. Only a name with a version needs memory; `Err` if that allocation fails.
+    /// The name of this system. Without a version it is borrowed; with one it is allocated, and `Err` says that the
+    /// allocation failed.
     pub fn into_str(self, alloc: Global) -> Result<CowStr<'static>, AllocError>
         ensures name { IfOk result (λ text. cow_str_bytes text ≡ operating_system_name self) }
         ensures borrowed { IsNone (system_version self) → IsOkAnd result IsBorrowedStr }

@@ -2,7 +2,7 @@
 use Rattle.std.proofs.Common.{◌≡◌, ◌⊎◌, inl, inr, ℕ, List, true, refl, sym, ap, subst}
 use Rattle.target_lexicon.specs.{Values.Architecture, Values.BinaryFormat, Values.VendorValue, Values.Values, Values.values, Laws.ComesBack, NormalStep.normal_step, NormalStep.elf_if_unknown}
 use Rattle.target_lexicon.specs.{Families.IsNintendo3ds, Families.IsEspIdf, Families.HidesNewlib, Families.PrintsTheEspIdfText, Printing.text_of, Reading.ReadsAs, SpecialTexts.special_text, SpecialTexts.esp_idf}
-use Rattle.target_lexicon.specs.FixedPoints.{IsPlainTriple, RoundIsNormalStep, settled_values, SecondStepChangesNone, SettledTextsAreKeys}
+use Rattle.target_lexicon.specs.FixedPoints.{IsPlainTriple, RoundIsNormalStep, settled_values, OneStepSettles, SettledTextsAreKeys}
 use Rattle.lexicon_fields.specs.{Vendor.is_plain, Laws.HasVersionInRange}
 use Rattle.target_lexicon.proofs.{FixedPointLemmas.outside-fixed, StepCases.step_cases, UniqueReading.values_unique}
 use Rattle.target_lexicon.specs.Values.operating_system
@@ -39,7 +39,7 @@ none-stays : (a : Architecture) (v : VendorValue) (f : BinaryFormat) → let u =
 none-stays a v f = unknown-stays (values a v operating_system.None_ environment.Unknown f) refl
     (λ special. elim special [ inl of ↦ cc | inr of ↦ cc ]) (λ esp. let of = ap (λ x. x.operating_system) esp in cc)
 
-pub second_changes_none : SecondStepChangesNone
+pub second_changes_none : OneStepSettles
 second_changes_none t = step_cases (λ u. normal_step u ≡ u) t
     (λ is. special-stays t is.fields)
     (newlib-stays t)

@@ -35,9 +35,9 @@ settled_values t = normal_step (normal_step t)
 abbrev pub canonical_text : Values → List ℕ
 canonical_text t = text_of (settled_values t)
 
--- a second step changes no triple
-abbrev pub SecondStepChangesNone : Type 0
-SecondStepChangesNone = (t : Values) → settled_values t ≡ normal_step t
+-- one normal step already gives the canonical form of each triple
+abbrev pub OneStepSettles : Type 0
+OneStepSettles = (t : Values) → settled_values t ≡ normal_step t
 
 -- the canonical form of a plain triple comes back, and no other canonical form has its text
 pub record SettledTextsAreKeys : Type 0 where
@@ -52,7 +52,7 @@ pub record RoundTripsAreKnown : Type 0 where
   pub fixed : FixedExactlyOutsideFamilies
   pub round : RoundIsNormalStep
   pub queries : QueriesKept
-  pub steps : SecondStepChangesNone
+  pub steps : OneStepSettles
   pub keys : SettledTextsAreKeys
 
 -- the growth bound: a printed text is at most this much longer than a text that reads as its triple; it is reached by

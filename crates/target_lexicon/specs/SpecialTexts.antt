@@ -1,7 +1,7 @@
 -- The two texts that have a triple of their own.
 use Rattle.std.specs.Prelude.{ℕ, List, [], ◌∷◌, codes, Option, Some, None}
 use Rattle.target_lexicon.specs.Values.{Architecture, OperatingSystem, VendorValue, Known, Values, values}
-use Rattle.lexicon_fields.specs.{Names.value_of, declared.known_vendor.KnownVendor.TheVariants.Nintendo, declared.known_vendor.KnownVendor.TheVariants.Espressif}
+use Rattle.lexicon_fields.specs.{Names.value_named, declared.known_vendor.KnownVendor.TheVariants.Nintendo, declared.known_vendor.KnownVendor.TheVariants.Espressif}
 use Rattle.target_lexicon.specs.Values.architecture
 use Rattle.target_lexicon.specs.Values.arm
 use Rattle.target_lexicon.specs.Values.riscv32
@@ -23,7 +23,7 @@ esp_idf = values (architecture.Riscv32 riscv32.Riscv32imc) (Known Espressif) ope
 
 -- the triple of a special text
 unfoldable pub special_values : List ℕ → Option Values
-special_values text = value_of ((nintendo_3ds_text, nintendo_3ds) ∷ (esp_idf_text, esp_idf) ∷ []) text
+special_values text = value_named ((nintendo_3ds_text, nintendo_3ds) ∷ (esp_idf_text, esp_idf) ∷ []) text
 
 -- the special text that a triple prints, by its first three fields
 unfoldable pub special_text : Values → Option (List ℕ)

@@ -7,7 +7,7 @@ ghost use Rattle.target_lexicon.specs.Private.{AreDashBits};
 
 use std::simd::prelude::*;
 
-/// A bit for each of the sixteen bytes from `at` on, set for a dash. The lowest bit is that of the first byte.
+/// A mask of the dashes in the sixteen bytes from `at`: bit i is set if byte `at + i` is a dash. Higher bits are 0.
 #[inline(always)]
 fn dashes_from(bytes: &[u8], at: usize) -> u64
     requires { at + 16 ≤ length bytes.now }

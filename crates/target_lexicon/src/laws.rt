@@ -3,7 +3,7 @@ ghost use Rattle.std.specs.Prelude.{◌≡◌, ◌≢◌, ◌↔◌, ℕ, suc, t
 ghost use Rattle.target_lexicon.specs.GreedyReading.{ResultsAreComputed};
 ghost use Rattle.target_lexicon.specs.Laws.{ComesBack, HasOneLeastPlacement, EveryTextHasOneOutcome, ReadingIsComputed, ReadVendorsArePlain, EqualTextsEqualTriples};
 ghost use Rattle.lexicon_fields.specs.Laws.{HashInjectiveOn, HashInjective, ComparesByValue, CopiesEqualTheirSources, HasVersionInRange};
-ghost use Rattle.target_lexicon.specs.FixedPoints.{ReadTriplesArePlain, FixedExactlyOutsideFamilies, RoundIsNormalStep, SecondStepChangesNone, SettledTextsAreKeys, RoundTripsAreKnown, PrintedTextsGrowAtMost, CanonicalTextsGrowAtMost, RefusedPartsDoNotGrow};
+ghost use Rattle.target_lexicon.specs.FixedPoints.{ReadTriplesArePlain, FixedExactlyOutsideFamilies, RoundIsNormalStep, OneStepSettles, SettledTextsAreKeys, RoundTripsAreKnown, PrintedTextsGrowAtMost, CanonicalTextsGrowAtMost, RefusedPartsDoNotGrow};
 ghost use Rattle.target_lexicon.specs.Json.{ListReadsAs, list_json_of, json_error_value, list_error_value};
 ghost use Rattle.target_lexicon.specs.Placement.{HasPlacement};
 ghost use Rattle.target_lexicon.specs.Queries.{data_model};
@@ -132,20 +132,21 @@ pub fn integers_grow_in_each_model()
     ensures { (model : CDataModel) → IntegersGrow model }
 {}
 
-/// The normal step keeps the architecture of a triple and the answers of the four queries.
+/// The normal step (`Triple::normal`) keeps the architecture of a triple, and so its byte order, pointer width, calling
+/// convention and data model, or that it has none.
 #[tactic(auto, using(crate::proofs::QueriesKept::kept))]
 pub fn queries_kept()
     ensures { QueriesKept }
 {}
 
-/// Sizes, data models and calling conventions are equal exactly if their variants are.
+/// Two sizes, two data models or two calling conventions are equal exactly if they are the same variant.
 pub fn answers_are_equal_by_variant()
     ensures size { ComparesByValue ⟦<Size as PartialEq>⟧.eq }
     ensures data_model { ComparesByValue ⟦<CDataModel as PartialEq>⟧.eq }
     ensures calling_convention { ComparesByValue ⟦<CallingConvention as PartialEq>⟧.eq }
 {}
 
-/// Triples with a default are equal exactly if their five values are.
+/// Two `DefaultToHost`, or two `DefaultToUnknown`, are equal exactly if the triples in them have the same five fields.
 pub fn defaults_are_equal_by_value()
     ensures host { (x y : DefaultToHost) →
         IsTrue (⟦<DefaultToHost as PartialEq>⟧.eq x y) ↔ (values_of x.0 ≡ values_of y.0) }
@@ -176,7 +177,7 @@ pub fn round_is_normal_step()
 /// one, hence the name.)
 #[tactic(auto, using(crate::proofs::SettleLemmas::second_changes_none))]
 pub fn second_step_changes_one()
-    ensures { SecondStepChangesNone }
+    ensures { OneStepSettles }
 {}
 
 /// The canonical form of a triple with a plain vendor comes back, and no other canonical triple has its text.

@@ -24,7 +24,7 @@ pub(crate) struct Part<'a> {
     ghost dash_bits: { ForSome after_dash (λ rest. AreDashBits dashes_at_end rest.now) },
 }
 
-/// The row of a text in the table of names.
+/// The row of the name `text` in the table of fixed names, or `None` if the table hasn't it. Its steps aren't counted.
 #[inline(always)]
 fn row_of(text: &str) -> Option<FixedRow>
     ensures { IsLookedUp text.now result }

@@ -9,7 +9,7 @@ use Rattle.std.specs.declared.cmp.Ordering.TheVariants.{Less, Equal, Greater}
 use Rattle.target_lexicon.specs.{FixedPoints.canonical_text, Reading.ReadsAs, Reading.IsRefusedAs, Refusal.Refusal, Refusal.refusal_line, Values.Values}
 use Rattle.triples.specs.declared.matrix.HashedText.{HashedText}
 use Rattle.triples.specs.Words.{line_feed}
-use Rattle.triples.specs.Output.{Answer, Shown, Refused, IsAnswer, AreAnswers, IsLineOutput, IsMatrix, shows, stays_after, staying_answers, matrix_of, answer_bytes, written_lines}
+use Rattle.triples.specs.Output.{Answer, Shown, Refused, IsAnswer, AreAnswers, IsLineOutput, IsMatrix, shows, is_kept_after, kept_answers, matrix_of, answer_bytes, written_lines}
 use Rattle.triples.specs.Private.{hash_of, text_cmp, has_text, HasOneMore, is_repeated, AddsAnswer, AddsEntry}
 
 -- a key that is inserted among others, none of which is equal to it
@@ -63,12 +63,12 @@ abbrev pub if_stays : Bool → Answer → List Answer
 if_stays stays line = if stays then line ∷ [] else []
 
 pub staying-push : (before lines : List Answer) (line : Answer)
-    → staying_answers before (lines ++ line ∷ []) ≡ staying_answers before lines ++ if_stays (stays_after (before ++ lines) line) line
-staying-push before [] line = append-nil (if_stays (stays_after before line) line) ∙ ap (λ (t : List Answer). if_stays (stays_after t line) line) (sym (append-nil before))
+    → kept_answers before (lines ++ line ∷ []) ≡ kept_answers before lines ++ if_stays (is_kept_after (before ++ lines) line) line
+staying-push before [] line = append-nil (if_stays (is_kept_after before line) line) ∙ ap (λ (t : List Answer). if_stays (is_kept_after t line) line) (sym (append-nil before))
 staying-push before (first ∷ lines) line =
-    ap (λ (t : List Answer). if_stays (stays_after before first) first ++ t)
-    (staying-push (before ++ first ∷ []) lines line ∙ ap (λ (t : List Answer). staying_answers (before ++ first ∷ []) lines ++ if_stays (stays_after t line) line) (append_assoc before (first ∷ []) lines))
-    ∙ sym (append_assoc (if_stays (stays_after before first) first) _ _)
+    ap (λ (t : List Answer). if_stays (is_kept_after before first) first ++ t)
+    (staying-push (before ++ first ∷ []) lines line ∙ ap (λ (t : List Answer). kept_answers (before ++ first ∷ []) lines ++ if_stays (is_kept_after t line) line) (append_assoc before (first ∷ []) lines))
+    ∙ sym (append_assoc (if_stays (is_kept_after before first) first) _ _)
 
 written_lines-append : (xs ys : List Answer) → written_lines (xs ++ ys) ≡ written_lines xs ++ written_lines ys
 written_lines-append [] ys = refl
@@ -76,7 +76,7 @@ written_lines-append (x ∷ xs) ys = ap (λ (t : List ℕ). answer_bytes x ++ (l
 
 repeated-stays : (before : List Answer) (seen : BTreeSet HashedText) (answer : Answer)
     → ((text : List ℕ) → has_text seen text ≡ list_any (shows text) before)
-    → (if is_repeated seen answer then [] else answer ∷ []) ≡ if_stays (stays_after before answer) answer
+    → (if is_repeated seen answer then [] else answer ∷ []) ≡ if_stays (is_kept_after before answer) answer
 repeated-stays before seen (Shown text) agree =
     rw (agree text) (elim (list_any (shows text) before) as (λ b. (if b then [] else Shown text ∷ []) ≡ if_stays (not b) (Shown text)) [ true ↦ refl | false ↦ refl ])
 repeated-stays before seen (Refused message) agree = refl

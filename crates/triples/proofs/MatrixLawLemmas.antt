@@ -5,7 +5,7 @@ use Rattle.std.proofs.lemmas.Slice.Eq.{bytes_eq-Decides}
 use Rattle.std.specs.{Cmp.Lexicographic.same_text, List.filter, List.list_any, Str.bytes_eq}
 use Rattle.target_lexicon.specs.{FixedPoints.ReadTriplesArePlain, FixedPoints.RoundIsNormalStep, FixedPoints.SettledTextsAreKeys, FixedPoints.settled_values, FixedPoints.canonical_text, NormalStep.normal_step, Laws.EveryTextHasOneOutcome, Printing.text_of, Reading.ReadsAs, Values.Values}
 use Rattle.triples.specs.MatrixLaws.{EntriesAreSettledTriples, entries_of, is_refusal, FirstEntriesStayInOrder, EachSettledTripleHasAnEntry, only_entries, MatricesAreTheirOwn}
-use Rattle.triples.specs.Output.{Answer, Shown, Refused, IsAnswer, AreAnswers, shows, stays_after, staying_answers, matrix_of, answer_bytes}
+use Rattle.triples.specs.Output.{Answer, Shown, Refused, IsAnswer, AreAnswers, shows, is_kept_after, kept_answers, matrix_of, answer_bytes}
 use Rattle.triples.proofs.AnswerLemmas.{if_stays, push-any, staying-push}
 
 -- two lines that parse have the same entry exactly if their canonical triples are equal
@@ -31,27 +31,27 @@ entry-case true false false test line rest is alike = refl
 entry-case false false true test line rest is alike = rw is refl
 entry-case false false false test line rest is alike = refl
 
-stays-alike : (text : List ℕ) (before : List Answer) (line : Answer) → shows text line ≡ true → stays_after before line ≡ not (list_any (shows text) before)
+stays-alike : (text : List ℕ) (before : List Answer) (line : Answer) → shows text line ≡ true → is_kept_after before line ≡ not (list_any (shows text) before)
 stays-alike text before (Shown other) is = ap (λ (t : List ℕ). not (list_any (shows t) before)) (sym (same_text text other (sym is)))
 stays-alike text before (Refused message) is = absurd cc
 
 pub entries-staying : (text : List ℕ) (before lines : List Answer)
-    → entries_of text (staying_answers before lines) ≡ (if list_any (shows text) before then [] else take 1 (entries_of text lines))
+    → entries_of text (kept_answers before lines) ≡ (if list_any (shows text) before then [] else take 1 (entries_of text lines))
 entries-staying text before [] = elim (list_any (shows text) before) as (λ b. ◌≡◌ {A = List Answer} [] (if b then [] else take 1 [])) [ true ↦ refl | false ↦ refl ]
 entries-staying text before (line ∷ lines) =
     let test = shows text in
-    filter-append test (if_stays (stays_after before line) line) (staying_answers (before ++ line ∷ []) lines)
-    ∙ ap (λ (t : List Answer). filter test (if_stays (stays_after before line) line) ++ t)
+    filter-append test (if_stays (is_kept_after before line) line) (kept_answers (before ++ line ∷ []) lines)
+    ∙ ap (λ (t : List Answer). filter test (if_stays (is_kept_after before line) line) ++ t)
     (entries-staying text (before ++ line ∷ []) lines
     ∙ ap (λ (b : Bool). if b then [] else take 1 (filter test lines)) (push-any text before line))
-    ∙ entry-case (list_any test before) (test line) (stays_after before line) test line (filter test lines) refl (stays-alike text before line)
+    ∙ entry-case (list_any test before) (test line) (is_kept_after before line) test line (filter test lines) refl (stays-alike text before line)
 
-pub refusals-staying : (before lines : List Answer) → filter is_refusal (staying_answers before lines) ≡ filter is_refusal lines
+pub refusals-staying : (before lines : List Answer) → filter is_refusal (kept_answers before lines) ≡ filter is_refusal lines
 refusals-staying before [] = refl
 refusals-staying before (Shown text ∷ lines) =
-    let rest = filter is_refusal (staying_answers (before ++ Shown text ∷ []) lines) in
-    filter-append is_refusal (if_stays (stays_after before (Shown text)) (Shown text)) (staying_answers (before ++ Shown text ∷ []) lines)
-    ∙ elim (stays_after before (Shown text)) as (λ stays. filter is_refusal (if_stays stays (Shown text)) ++ rest ≡ rest) [ true ↦ refl | false ↦ refl ]
+    let rest = filter is_refusal (kept_answers (before ++ Shown text ∷ []) lines) in
+    filter-append is_refusal (if_stays (is_kept_after before (Shown text)) (Shown text)) (kept_answers (before ++ Shown text ∷ []) lines)
+    ∙ elim (is_kept_after before (Shown text)) as (λ stays. filter is_refusal (if_stays stays (Shown text)) ++ rest ≡ rest) [ true ↦ refl | false ↦ refl ]
     ∙ refusals-staying (before ++ Shown text ∷ []) lines
 refusals-staying before (Refused message ∷ lines) =
     ap (λ (t : List Answer). Refused message ∷ t) (refusals-staying (before ++ Refused message ∷ []) lines)
@@ -131,39 +131,39 @@ there-again xs text other stays is = ap (λ (t : List ℕ). list_any (shows t) x
 
 -- the entries that stay after some lines and the entry for a text
 abbrev entries_more : List Answer → List ℕ → List Answer → List Answer
-entries_more before text lines = only_entries (staying_answers (before ++ Shown text ∷ []) lines)
+entries_more before text lines = only_entries (kept_answers (before ++ Shown text ∷ []) lines)
 
 stay-again : (before entries lines : List Answer) → HaveSameEntries before entries
-    → staying_answers entries (only_entries (staying_answers before lines)) ≡ only_entries (staying_answers before lines)
+    → kept_answers entries (only_entries (kept_answers before lines)) ≡ only_entries (kept_answers before lines)
 stay-again before entries [] same = refl
 stay-again before entries (Refused message ∷ lines) same =
     stay-again (before ++ Refused message ∷ []) entries lines (λ text. push-any text before (Refused message) ∙ or-false (list_any (shows text) before) ∙ same text)
 stay-again before entries (Shown text ∷ lines) same =
-    by_stay (stays_after before (Shown text)) refl
+    by_stay (is_kept_after before (Shown text)) refl
     (λ is. stay-again (before ++ Shown text ∷ []) entries lines
     (λ other. push-any other before (Shown text) ∙ or-there (list_any (shows other) before) (bytes_eq other text) (there-again before text other is) ∙ same other))
     (stay-again (before ++ Shown text ∷ []) (entries ++ Shown text ∷ []) lines
     (λ other. push-any other before (Shown text) ∙ ap (λ (b : Bool). b || bytes_eq other text) (same other) ∙ sym (push-any other entries (Shown text))))
   where
-    by_stay : (stays : Bool) → stays_after before (Shown text) ≡ stays → (stays_after before (Shown text) ≡ false → staying_answers entries (entries_more before text lines) ≡ entries_more before text lines)
-        → staying_answers (entries ++ Shown text ∷ []) (entries_more before text lines) ≡ entries_more before text lines
-        → staying_answers entries (only_entries (if_stays stays (Shown text) ++ staying_answers (before ++ Shown text ∷ []) lines)) ≡ only_entries (if_stays stays (Shown text) ++ staying_answers (before ++ Shown text ∷ []) lines)
+    by_stay : (stays : Bool) → is_kept_after before (Shown text) ≡ stays → (is_kept_after before (Shown text) ≡ false → kept_answers entries (entries_more before text lines) ≡ entries_more before text lines)
+        → kept_answers (entries ++ Shown text ∷ []) (entries_more before text lines) ≡ entries_more before text lines
+        → kept_answers entries (only_entries (if_stays stays (Shown text) ++ kept_answers (before ++ Shown text ∷ []) lines)) ≡ only_entries (if_stays stays (Shown text) ++ kept_answers (before ++ Shown text ∷ []) lines)
     by_stay false is gone there = gone is
     by_stay true is gone there =
-        ap (λ (b : Bool). if_stays b (Shown text) ++ staying_answers (entries ++ Shown text ∷ []) (entries_more before text lines)) (ap not (sym (same text)) ∙ is)
+        ap (λ (b : Bool). if_stays b (Shown text) ++ kept_answers (entries ++ Shown text ∷ []) (entries_more before text lines)) (ap not (sym (same text)) ∙ is)
         ∙ ap (λ (t : List Answer). Shown text ∷ t) there
 
 -- each entry is what mode `settle` writes for its own text
 abbrev AreOwn : List Answer → Type 0
 AreOwn lines = AreAnswers canonical_text (map answer_bytes (only_entries lines)) (only_entries lines)
 
-staying-own : (before lines : List Answer) → AreOwn lines → AreOwn (staying_answers before lines)
+staying-own : (before lines : List Answer) → AreOwn lines → AreOwn (kept_answers before lines)
 staying-own before [] own = tt
 staying-own before (Refused message ∷ lines) own = staying-own (before ++ Refused message ∷ []) lines own
 staying-own before (Shown text ∷ lines) own =
     let more = before ++ Shown text ∷ [] in
     let rest = staying-own more lines own.1 in
-    elim (stays_after before (Shown text)) as (λ stays. AreOwn (if_stays stays (Shown text) ++ staying_answers more lines)) [ true ↦ (own.0, rest) | false ↦ rest ]
+    elim (is_kept_after before (Shown text)) as (λ stays. AreOwn (if_stays stays (Shown text) ++ kept_answers more lines)) [ true ↦ (own.0, rest) | false ↦ rest ]
 
 module _ (one : EveryTextHasOneOutcome) (plain : ReadTriplesArePlain) (round : RoundIsNormalStep) (keys : SettledTextsAreKeys) where
   -- a canonical triple stays, since it comes back and a round trip is a normal step

@@ -46,19 +46,19 @@ shows text (Shown other) = bytes_eq text other
 shows text (Refused message) = false
 
 -- whether an answer stays after earlier ones: none of them shows the same text
-abbrev pub stays_after : List Answer → Answer → Bool
-stays_after before (Shown text) = not (list_any (shows text) before)
-stays_after before (Refused message) = true
+abbrev pub is_kept_after : List Answer → Answer → Bool
+is_kept_after before (Shown text) = not (list_any (shows text) before)
+is_kept_after before (Refused message) = true
 
 -- the answers without those that show a text which an earlier one shows
-abbrev pub staying_answers : List Answer → List Answer → List Answer
-staying_answers before [] = []
-staying_answers before (answer ∷ answers) =
-    (if stays_after before answer then answer ∷ [] else []) ++ staying_answers (before ++ answer ∷ []) answers
+abbrev pub kept_answers : List Answer → List Answer → List Answer
+kept_answers before [] = []
+kept_answers before (answer ∷ answers) =
+    (if is_kept_after before answer then answer ∷ [] else []) ++ kept_answers (before ++ answer ∷ []) answers
 
 -- the matrix: the first answer that shows each text, and each refusal
 abbrev pub matrix_of : List Answer → List Answer
-matrix_of answers = staying_answers [] answers
+matrix_of answers = kept_answers [] answers
 
 abbrev pub answer_bytes : Answer → List ℕ
 answer_bytes (Shown text) = text

@@ -12,7 +12,8 @@ AppendsBeginning old new bytes = (n : ℕ) × Appends old new (take n bytes)
 abbrev pub ConsumesSome : Option (List ℕ) → Option (List ℕ) → Type 0
 ConsumesSome old new = (bytes : List ℕ) × (0 < length bytes) × Consumes old new bytes
 
--- if the reader's bytes are known, they are UTF-8, and the writer's grew in this way by the output of the mode for them
+-- if the bytes of the input are known, they are UTF-8, and `GrewBy` holds for the bytes that the writer had, those that
+-- it has now, and the output of the mode for the input
 abbrev pub WritesOutput : (Option (List ℕ) → Option (List ℕ) → List ℕ → Type 0) → Mode → Option (List ℕ) → Option (List ℕ) → Option (List ℕ) → Type 0
 WritesOutput GrewBy mode input old new =
     IfSome input (λ text. IsUtf8 text × ((output : List ℕ) × IsOutput mode text output × GrewBy old new output))

@@ -1,6 +1,6 @@
 -- The words of the modes, the lines of the errors, and the end of the program.
 use Rattle.std.specs.Prelude.{ℕ, List, [], ◌∷◌, ◌++◌, Option, Some, None, codes, Result, Ok, Err}
-use Rattle.lexicon_fields.specs.Names.{value_of}
+use Rattle.lexicon_fields.specs.Names.{value_named}
 use Rattle.triples.specs.{declared.mode.Mode.Mode, declared.run_error.RunError.RunError}
 use Rattle.triples.specs.declared.mode.Mode.TheVariants.{Print, Show, Settle, Json, Matrix}
 use Rattle.triples.specs.declared.run_error.RunError.TheVariants.{Read, Write, NotUtf8, NotJson, NotList, OutOfMemory}
@@ -12,7 +12,7 @@ line_feed = 10
 -- the mode that a word names
 unfoldable pub mode_from_word : List ℕ → Option Mode
 mode_from_word word =
-    value_of ((codes "print", Print) ∷ (codes "show", Show) ∷ (codes "settle", Settle) ∷ (codes "json", Json) ∷ (codes "matrix", Matrix) ∷ []) word
+    value_named ((codes "print", Print) ∷ (codes "show", Show) ∷ (codes "settle", Settle) ∷ (codes "json", Json) ∷ (codes "matrix", Matrix) ∷ []) word
 
 -- the line for an error
 abbrev pub line_of : RunError → List ℕ

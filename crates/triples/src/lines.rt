@@ -40,7 +40,8 @@ fn line_end(bytes: &[u8]) -> usize
     at
 }
 
-/// The first line, and the text after its line feed.
+/// The first line of a text that isn't empty, without its line feed, and the text after it: without a line feed, the
+/// whole text and the empty text.
 pub(crate) fn first_line(text: &str) -> (&str, &str)
     requires { 0 < length text.now }
     ensures lines { lines_of text.now ≡ result.0.now ∷ lines_of result.1.now }

@@ -149,7 +149,7 @@ impl ArmArchitecture {
         }
     }
 
-    /// The value with this name. `Err` for every other text.
+    /// The sub-architecture with the name `s`; `Err` if there is none.
     pub fn from_str(s: &str) -> Result<Self, ()>
         ensures { MatchesLookup (sub_architecture_of as_arm s.now) result }
     {

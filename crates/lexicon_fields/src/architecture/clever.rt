@@ -21,7 +21,7 @@ pub enum CleverArchitecture {
 }
 
 impl CleverArchitecture {
-    /// The value with this name. `Err` for every other text.
+    /// The sub-architecture with the name `s`; `Err` if there is none.
     pub fn from_str(s: &str) -> Result<Self, ()>
         ensures { MatchesLookup (sub_architecture_of as_clever s.now) result }
     {

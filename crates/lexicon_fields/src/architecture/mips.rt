@@ -26,7 +26,7 @@ pub enum Mips32Architecture {
 }
 
 impl Mips32Architecture {
-    /// The value with this name. `Err` for every other text.
+    /// The sub-architecture with the name `s`; `Err` if there is none.
     pub fn from_str(s: &str) -> Result<Self, ()>
         ensures { MatchesLookup (sub_architecture_of as_mips32 s.now) result }
     {
@@ -94,7 +94,7 @@ pub enum Mips64Architecture {
 }
 
 impl Mips64Architecture {
-    /// The value with this name. `Err` for every other text.
+    /// The sub-architecture with the name `s`; `Err` if there is none.
     pub fn from_str(s: &str) -> Result<Self, ()>
         ensures { MatchesLookup (sub_architecture_of as_mips64 s.now) result }
     {

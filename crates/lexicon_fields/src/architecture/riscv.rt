@@ -28,7 +28,7 @@ pub enum Riscv32Architecture {
 }
 
 impl Riscv32Architecture {
-    /// The value with this name. `Err` for every other text.
+    /// The sub-architecture with the name `s`; `Err` if there is none.
     pub fn from_str(s: &str) -> Result<Self, ()>
         ensures { MatchesLookup (sub_architecture_of as_riscv32 s.now) result }
     {
@@ -99,7 +99,7 @@ pub enum Riscv64Architecture {
 }
 
 impl Riscv64Architecture {
-    /// The value with this name. `Err` for every other text.
+    /// The sub-architecture with the name `s`; `Err` if there is none.
     pub fn from_str(s: &str) -> Result<Self, ()>
         ensures { MatchesLookup (sub_architecture_of as_riscv64 s.now) result }
     {

@@ -21,7 +21,7 @@ pub enum X86_32Architecture {
 }
 
 impl X86_32Architecture {
-    /// The value with this name. `Err` for every other text.
+    /// The sub-architecture with the name `s`; `Err` if there is none.
     pub fn from_str(s: &str) -> Result<Self, ()>
         ensures { MatchesLookup (sub_architecture_of as_x86_32 s.now) result }
     {

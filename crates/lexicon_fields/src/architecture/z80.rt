@@ -31,7 +31,7 @@ pub enum Z80Architecture {
 }
 
 impl Z80Architecture {
-    /// The value with this name. `Err` for every other text.
+    /// The sub-architecture with the name `s`; `Err` if there is none.
     pub fn from_str(s: &str) -> Result<Self, ()>
         ensures { MatchesLookup (sub_architecture_of as_z80 s.now) result }
     {
