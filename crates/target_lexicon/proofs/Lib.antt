@@ -7,6 +7,7 @@ pub mod ComputedReading
 pub mod PartLemmas
 pub mod DashBits
 pub mod Elements
+pub mod ExplanationLemmas
 pub mod HashInputPairs
 pub mod FixedPointLemmas
 pub mod GreedyPlacement
@@ -23,6 +24,7 @@ pub mod RoundTrips
 pub mod SameValues
 pub mod SettleLemmas
 pub mod StepCases
+pub mod TextRanges
 pub mod TextRoundTrips
 pub mod UniqueReading
 pub mod Upstream

@@ -13,6 +13,7 @@ mod data_model;
 mod default_format;
 mod defaults;
 mod display;
+mod explain;
 mod field_parts;
 mod host;
 mod json;
@@ -37,6 +38,7 @@ pub use calling_convention::CallingConvention;
 pub use data_model::{CDataModel, Size};
 pub use default_format::default_binary_format;
 pub use defaults::{DefaultToHost, DefaultToUnknown};
+pub use explain::{ExplainedError, Explanation, Source, Sources, TextPart};
 pub use json::{list_from_json, list_to_json};
 pub use json_error::JsonError;
 pub use lexicon_fields::{

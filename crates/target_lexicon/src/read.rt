@@ -56,7 +56,8 @@ impl<'a> PartCursor<'a> {
     /// Takes the first part that is left, if it parses as a vendor. The part is returned beside the value.
     #[inline(always)]
     fn take_vendor(&mut self) -> (Option<VendorRef<'a>>, Option<&'a str>)
-        ensures value { field_reading_of (unwrap_or (option_map ref_value result.0) (Known Unknown)) self.new
+        ensures value { field_reading_of (unwrap_or (option_map ref_value result.0) (Known Unknown))
+            self.new
             ≡ field_reading field.Vendor vendor_of (Known Unknown) (field_of self.old.last)
             (remaining_parts self.old.next_part) }
         ensures part { part_bytes result.1

@@ -8,8 +8,8 @@ use lexicon_fields::{
 };
 use std::alloc::{AllocError, Global};
 
-/// A target triple whose custom vendor, if it has one, borrows its text. It is copied freely, and no call on it needs an
-/// allocator but those that make an owned value. The fields are those of [`Triple`].
+/// A target triple whose custom vendor, if it has one, borrows its text. It is copied freely, and only the calls that
+/// make an owned value need an allocator. The fields are those of [`Triple`].
 #[derive(Clone, Copy, Debug, PartialEq, Eq, Hash)]
 pub struct TripleRef<'a> {
     /// The instruction set, with its sub-architecture if it has one.
