@@ -63,7 +63,8 @@ fn push_refusal(output: &mut String, refusal: ParseErrorRef<'_>) -> Result<(), A
         ++ line_feed ∷ [])) }
 {
     output.push_str("error: ")?;
-    output.write(&refusal)?;
+    output.push_str(refusal.prefix())?;
+    output.push_str(refusal.part())?;
     output.push('\n')
 }
 
