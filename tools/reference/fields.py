@@ -33,7 +33,7 @@ class FieldFinder:
         home = word.owner.file if word.owner else None
         if home is None:
             return self.scope, ""
-        if word.owner.kind == "record":
+        if word.owner.kind in ("record", "data"):
             return DefinitionScope(self.project, home), word.text.partition(" : ")[2]
         return ContractScope.of_source(self.project, home), word.text
 

@@ -2,7 +2,7 @@
 use Rattle.std.proofs.Common.{◌≡◌, ◌+◌, ◌≤◌, ◌++◌, ℕ, List, [], codes, length, nat_le, true, Option, Some, None, IfSome, refl, arith}
 use Rattle.std.proofs.{lemmas.Bool.leb-true, lemmas.List.length-append, lemmas.Fmt.length-decimal-le}
 use Rattle.lexicon_fields.specs.{declared.architecture.Architecture.Architecture, declared.environment.Environment.Environment, declared.binary_format.BinaryFormat.BinaryFormat}
-use Rattle.lexicon_fields.specs.{declared.operating_system.OperatingSystem.OperatingSystem, Vendor.KnownVendor}
+use Rattle.lexicon_fields.specs.{declared.operating_system.OperatingSystem.OperatingSystem, declared.known_vendor.KnownVendor.KnownVendor}
 use Rattle.lexicon_fields.specs.{declared.deployment_target.DeploymentTarget.DeploymentTarget, Version.version_name, OperatingSystem.version_suffix}
 use Rattle.lexicon_fields.specs.{Laws.IsVersionInRange, Laws.HasVersionInRange, Laws.NamesAreShort, Laws.max_name_length}
 use Rattle.lexicon_fields.specs.{Architecture.architecture_name, Environment.environment_name, BinaryFormat.binary_format_name, OperatingSystem.operating_system_name, Vendor.known_vendor_name}
