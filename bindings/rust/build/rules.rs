@@ -47,7 +47,7 @@ pub const INLINED: [(&str, &str, &str); 8] = [
 
 /// An allocation that fails ends the process in Rust, so that `ParseError` has upstream's six variants only. With the
 /// feature, printing goes by upstream's rule.
-pub const REPLACED: [(&str, &str, &str); 5] = [
+pub const REPLACED: [(&str, &str, &str); 7] = [
     (
         "target_lexicon/parse_error.rt",
         "UnrecognizedField(String), OutOfMemory,",
@@ -59,10 +59,16 @@ pub const REPLACED: [(&str, &str, &str); 5] = [
         "-> ParseError { ParseError::OutOfMemory }",
         "-> ParseError { crate::shim::abort() }",
     ),
-    ("target_lexicon/parse_error.rt", "ParseError::OutOfMemory => f.write_str(\"Out of memory\"),", ""),
+    ("target_lexicon/parse_error_ref.rt", "ParseError::OutOfMemory => None,", ""),
+    ("target_lexicon/parse_error_ref.rt", "return ParseError::OutOfMemory;", "crate::shim::abort()"),
     (
         "target_lexicon/display.rt",
         "let unknowns = self.shows_unknowns();",
         "let unknowns = !cfg!(feature = \"upstream_printing\") && self.shows_unknowns();",
+    ),
+    (
+        "target_lexicon/display.rt",
+        "self.pieces_with(self.shows_unknowns())",
+        "self.pieces_with(!cfg!(feature = \"upstream_printing\") && self.shows_unknowns())",
     ),
 ];
