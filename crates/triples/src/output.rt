@@ -104,6 +104,9 @@ fn answers(alloc: Global, view: View, input: &str) -> Result<String, AllocError>
     ensures memory { OnErr result (0 < length input.now) }
 {
     let mut output = String::new(alloc);
+    if !input.is_empty() {
+        output.reserve(input.len())?;
+    }
     let mut rest = input;
     while !rest.is_empty() {
         let (line, others) = first_line(rest);
