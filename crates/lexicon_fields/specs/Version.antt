@@ -25,8 +25,8 @@ abbrev pub version_of_numbers : Option ℕ → Option ℕ → Option ℕ → Opt
 version_of_numbers (Some major) (Some minor) (Some patch) = Some (record { major = major; minor = minor; patch = patch })
 version_of_numbers _ _ _ = None
 
--- the version whose numbers are these pieces: the major, up to 65535, and then minor and patch, each up to 255, and 0 if
--- it is missing; none for another number of pieces
+-- the version whose numbers are these pieces: the major, up to 65535, and then minor and patch, each up to 255, and 0
+-- if it is missing; none for another number of pieces
 abbrev pub version_of_pieces : List (List ℕ) → Option DeploymentTarget
 version_of_pieces (major ∷ []) = version_of_numbers (piece_number_within 65535 major) (Some 0) (Some 0)
 version_of_pieces (major ∷ minor ∷ []) = version_of_numbers (piece_number_within 65535 major) (piece_number_within 255 minor) (Some 0)
