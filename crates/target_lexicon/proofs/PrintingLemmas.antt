@@ -5,7 +5,7 @@ use Rattle.std.proofs.lemmas.List.{append-nil}
 use Rattle.lexicon_fields.specs.Names.{dash}
 use Rattle.lexicon_fields.specs.{Architecture.architecture_name, Vendor.vendor_name, OperatingSystem.operating_system_name, Environment.environment_name, BinaryFormat.binary_format_name}
 use Rattle.target_lexicon.specs.{Values.Values, Private.part_text, Put.text_with, SpecialTexts.special_text}
-use Rattle.target_lexicon.specs.Printing.{shows_vendor, shows_operating_system, shows_environment, shows_binary_format, cons_if, upstream_parts, parts_with_unknowns}
+use Rattle.target_lexicon.specs.Printing.{shows_vendor, shows_operating_system, shows_environment, shows_binary_format, cons_if, upstream_parts, shows_unknowns, parts_with_unknowns, text_of}
 
 -- each part after a dash
 unfoldable pub dashed : List (List ℕ) → List ℕ
@@ -56,3 +56,16 @@ text_of_pieces unknowns t first vendor system environment format v e f w x y z n
 
 pub special_pieces : (unknowns : Bool) (t : Values) (text : List ℕ) → Some text ≡ special_text t → text ≡ text_with unknowns t
 special_pieces unknowns t text special = rw (sym special) refl
+
+-- so is the text that is printed part by part
+pub prints_parts : (t : Values) → None ≡ special_text t
+    → (((architecture_name t.architecture ++ part_text (shows_vendor t) (vendor_name t.vendor))
+    ++ part_text (shows_unknowns t || shows_operating_system t) (operating_system_name t.operating_system))
+    ++ part_text (shows_unknowns t || shows_environment t) (environment_name t.environment))
+    ++ part_text (shows_unknowns t || shows_binary_format t) (binary_format_name t.binary_format) ≡ text_of t
+unfolding text_of
+prints_parts t none = shown_pieces (shows_unknowns t) t none
+
+pub prints_special : (t : Values) (text : List ℕ) → Some text ≡ special_text t → text ≡ text_of t
+unfolding text_of
+prints_special t text special = special_pieces (shows_unknowns t) t text special

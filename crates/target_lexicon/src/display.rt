@@ -1,8 +1,9 @@
 //! The text of a triple.
-ghost use Rattle.std.specs.Prelude.{◌≡◌, ◌≤◌, ◌||◌, Some, IfOk, length, string_bytes};
+ghost use Rattle.std.specs.Prelude.{◌≡◌, ◌≤◌, ◌||◌, Some, IfOk, length, option_map, string_bytes};
 ghost use Rattle.lexicon_fields.specs.Laws.{max_name_length};
 ghost use Rattle.lexicon_fields.specs.OperatingSystem.{operating_system_name};
 ghost use Rattle.lexicon_fields.specs.VendorRef.{ref_value};
+ghost use Rattle.std.specs.Fmt.{DisplaysStyledOnOk, formatter_spec};
 ghost use Rattle.std.specs.Option.{ForSome};
 ghost use Rattle.target_lexicon.specs.Printing.{text_of, upstream_text_of, is_bare_arm, omits_unknown_vendor, shows_vendor, shows_operating_system, shows_environment, shows_binary_format, shows_implied_format, shows_unknowns, architecture_implies_format};
 ghost use Rattle.target_lexicon.specs.Pieces.{pieces_text};
@@ -29,8 +30,36 @@ impl fmt::Display for TripleRef<'_> {
     ghost styled_output = { λ it _. Some (text_of (values_of_ref it)) };
 
     fn fmt<W: fmt::Write>(&self, f: &mut fmt::Formatter<W>) -> fmt::Result {
-        self.pieces().fmt(f)
+        if let Some(text) = self.special_text() {
+            return f.write_str(text);
+        }
+        self.architecture.fmt(f)?;
+        write_part(f, self.shows_vendor(), &self.vendor)?;
+        let unknowns = self.shows_unknowns();
+        let system = either(unknowns, self.shows_operating_system());
+        write_part(f, system, &self.operating_system)?;
+        let environment = either(unknowns, self.shows_environment());
+        write_part(f, environment, &self.environment)?;
+        let binary_format = either(unknowns, self.shows_binary_format());
+        write_part(f, binary_format, &self.binary_format)
     }
+}
+
+/// Writes a dash and the part, if it is shown.
+fn write_part<W: fmt::Write, D: fmt::Display>(
+    f: &mut fmt::Formatter<W>,
+    is_shown: bool,
+    part: &D,
+) -> fmt::Result
+    ensures { DisplaysStyledOnOk W.write_str_gives f.old result
+        (option_map (part_text is_shown) (D.styled_output part.now (formatter_spec f.old)))
+        f.new }
+{
+    if !is_shown {
+        return Ok(());
+    }
+    f.write_str("-")?;
+    part.fmt(f)
 }
 
 impl fmt::Display for Triple {

@@ -52,6 +52,7 @@ impl<'a> ParseErrorRef<'a> {
     }
 
     /// The refused part.
+    #[inline(always)]
     pub fn part(&self) -> &'a str
         ensures { result.now ≡ (refusal_of_ref self.now).part }
     {
@@ -80,8 +81,9 @@ impl<'a> ParseErrorRef<'a> {
         length
     }
 
-    /// The words of the line before the part.
-    fn prefix(&self) -> &'static str
+    /// The words of the refusal's line before the part, such as `Unrecognized vendor: `.
+    #[inline(always)]
+    pub fn prefix(&self) -> &'static str
         ensures words { result.now ≡ refusal_prefix (refusal_of_ref self.now).expected }
         ensures bound { length result.now < 32 }
     {

@@ -63,7 +63,8 @@ fn push_refusal(output: &mut String, refusal: ParseErrorRef<'_>) -> Result<(), A
         ++ line_feed ∷ [])) }
 {
     output.push_str("error: ")?;
-    output.write(&refusal)?;
+    output.push_str(refusal.prefix())?;
+    output.push_str(refusal.part())?;
     output.push('\n')
 }
 
@@ -103,6 +104,9 @@ fn answers(alloc: Global, view: View, input: &str) -> Result<String, AllocError>
     ensures memory { OnErr result (0 < length input.now) }
 {
     let mut output = String::new(alloc);
+    if !input.is_empty() {
+        output.reserve(input.len())?;
+    }
     let mut rest = input;
     while !rest.is_empty() {
         let (line, others) = first_line(rest);
