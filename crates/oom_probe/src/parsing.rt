@@ -2,7 +2,7 @@
 
 use crate::report::report;
 use std::alloc::Global;
-use target_lexicon::{Triple, Vendor};
+use target_lexicon::{Triple, TripleRef, Vendor, VendorRef};
 
 /// A text with a custom vendor, refused texts, and texts that are parsed without an allocation.
 const TRIPLES: &str = "x86_64-customvendor-linux\n\
@@ -23,6 +23,13 @@ pub(crate) fn report_parsing(rt: &impl Print, alloc: Global) {
 pub(crate) fn report_parsed_triple(rt: &impl Print, alloc: Global, text: &str) {
     report(
         rt,
+        "TripleRef::from_str",
+        &text,
+        &TripleRef::from_str(text),
+    );
+    report(rt, "TripleRef::explain", &text, &TripleRef::explain(text));
+    report(
+        rt,
         "Triple::from_str",
         &text,
         &Triple::from_str(alloc, text),
@@ -30,6 +37,12 @@ pub(crate) fn report_parsed_triple(rt: &impl Print, alloc: Global, text: &str) {
 }
 
 pub(crate) fn report_parsed_vendor(rt: &impl Print, alloc: Global, text: &str) {
+    report(
+        rt,
+        "VendorRef::from_str",
+        &text,
+        &VendorRef::from_str(text),
+    );
     report(
         rt,
         "Vendor::from_str",

@@ -7,8 +7,8 @@ ghost use Rattle.uses.specs.Words.{IsExplanationOf, range_words, refusal_words, 
 use std::alloc::{AllocError, Global};
 use target_lexicon::{ExplainedError, Source, Sources, TextPart, TripleRef};
 
-/// A line for each field: its part of the text with the range, `not given`, or `implied by the other fields`. For a text
-/// that is refused, the fields that the parts before the refused one fill, and a line that names the refused part.
+/// A line for each field: its part of the text with the range, `not given`, or `implied by the other fields`. For a
+/// text that is refused, the fields that the parts before the refused one fill, and a line that names the refused part.
 pub fn explanation(alloc: Global, text: &str) -> Result<String, AllocError>
     ensures { IfOk result (λ words. IsExplanationOf text.now (string_bytes words)) }
 {
