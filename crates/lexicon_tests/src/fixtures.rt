@@ -5,7 +5,9 @@ use std::alloc::Global;
 use std::fmt::Display;
 use std::marker::PhantomData;
 use std::process::Abort;
-use target_lexicon::{CDataModel, CallingConvention, CustomVendor, ParseError, Triple, Vendor};
+use target_lexicon::{
+    CDataModel, CallingConvention, CustomVendor, ParseError, Triple, TripleRef, Vendor,
+};
 use test_support::{Question, prints};
 
 /// A question about a value that a row gives as a text.
@@ -33,12 +35,21 @@ pub(crate) fn is_found<Q: QuestionOf<T>, T: Drop, E: Drop>(
     }
 }
 
-/// The text parses as a triple for which the question holds.
+/// The triple that the text parses as without an allocator, and then owns.
+pub(crate) fn owned_reading(alloc: Global, text: &str) -> Result<Triple, ParseError> {
+    match TripleRef::from_str(text) {
+        Ok(triple) => Ok(triple.to_triple(alloc)?),
+        Err(error) => Err(error.to_error(alloc)),
+    }
+}
+
+/// The text parses as a triple for which the question holds, with an allocator and without one.
 pub(crate) struct OfTriple<Q>(PhantomData<Q>);
 
 impl<Q: QuestionOf<Triple>> Question for OfTriple<Q> {
     fn holds(alloc: Global, text: &str, expected: &str) -> bool {
         is_found::<Q, Triple, ParseError>(alloc, Triple::from_str(alloc, text), expected)
+            && is_found::<Q, Triple, ParseError>(alloc, owned_reading(alloc, text), expected)
     }
 }
 

@@ -7,6 +7,8 @@ mod callers;
 #[cfg(test)]
 mod defaults;
 #[cfg(test)]
+mod explaining;
+#[cfg(test)]
 mod fixtures;
 #[cfg(test)]
 mod hostile;

@@ -1,6 +1,6 @@
 //! Texts that parse as a triple, and texts that are refused.
 
-use crate::fixtures::{OfTriple, QuestionOf, is_read};
+use crate::fixtures::{OfTriple, QuestionOf, is_read, owned_reading};
 use std::alloc::Global;
 use std::fmt::Display;
 use std::process::Abort;
@@ -107,18 +107,24 @@ fn reports_failures_in_list(error: ParseError) -> bool {
     reports_each_failure(&ListError::Element(190, JsonError::Parse(error)))
 }
 
-/// The line says why the text is refused.
+/// The line says why the text is refused, with an allocator and without one.
 pub(crate) struct IsRefused;
 
 impl Question for IsRefused {
     fn holds(alloc: Global, text: &str, line: &str) -> bool {
-        match Triple::from_str(alloc, text) {
-            Ok(_) => false,
-            Err(error) => {
-                prints(&error, line)
-                    && is_error_cloned(alloc, &error, line)
-                    && reports_failures_in_list(error)
-            }
+        is_error(alloc, Triple::from_str(alloc, text), line)
+            && is_error(alloc, owned_reading(alloc, text), line)
+    }
+}
+
+/// The error prints this line.
+fn is_error(alloc: Global, read: Result<Triple, ParseError>, line: &str) -> bool {
+    match read {
+        Ok(_) => false,
+        Err(error) => {
+            prints(&error, line)
+                && is_error_cloned(alloc, &error, line)
+                && reports_failures_in_list(error)
         }
     }
 }

@@ -5,7 +5,8 @@ use Rattle.target_lexicon.specs.{declared.explain.Source.Source, declared.explai
 use Rattle.target_lexicon.specs.{Placement.ArePartsOf, Placement.IsLeastPlacement, Reading.IsRefusal, Refusal.Refusal, SpecialTexts.special_values}
 use Rattle.target_lexicon.specs.declared.explain.Source.TheVariants as source
 
--- where a value comes from: these bytes, from one index of the text up to another; no part of the text; or the other fields
+-- where a value comes from: these bytes, from one index of the text up to another; no part of the text; or the other
+-- fields
 pub data SourceValue : Type 0 where
   FromPart : ℕ → ℕ → List ℕ → SourceValue
   NotGiven : SourceValue
@@ -73,8 +74,8 @@ abbrev pub whole_text_sources : List ℕ → SourceValues
 whole_text_sources text =
     let whole = FromPart 0 (length text) text in source_values whole whole whole whole whole
 
--- the sources of a text that reads: the parts that the least placement assigns, and the other fields for a format without
--- a part; for a special text, the whole of it
+-- the sources of a text that reads: the parts that the least placement assigns, and the other fields for a format
+-- without a part; for a special text, the whole of it
 abbrev pub AreSourcesOf : List ℕ → SourceValues → Type 0
 AreSourcesOf text s = MatchOption (special_values text)
     ((parts : List (List ℕ)) × ArePartsOf text parts × ((fields : List Field) × IsLeastPlacement parts fields × (s ≡ sources_at Implied (texts_at parts fields))))

@@ -141,12 +141,12 @@ impl<'a> Sources<'a> {
 }
 
 impl<'a> TripleRef<'a> {
-    /// The triple that a text parses as, and where in the text each of its fields comes from; or why the text is refused,
-    /// where, and which fields the parts before the refused one filled. Nothing is allocated.
+    /// The triple that a text parses as, and where in the text each of its fields comes from; or why the text is
+    /// refused, where, and which fields the parts before the refused one filled. Nothing is allocated.
     ///
     /// A part is of the first field that it parses as, of those after the field of the part before it. So `nuttx` in
-    /// `armv7a-nuttx-eabi` is the vendor: it is the name of no field, and the vendor comes first. The parts of a special
-    /// text have no field of their own; the whole text gives all five.
+    /// `armv7a-nuttx-eabi` is the vendor, since it is the name of no field. The whole of a special text gives all five
+    /// fields; its parts have none of their own.
     pub fn explain(text: &'a str) -> Result<Explanation<'a>, ExplainedError<'a>>
         ensures triple { IfOk result (λ it. ReadsAs text.entry.now (values_of_ref it.triple)) }
         ensures sources { IfOk result (λ it. AreSourcesOf text.entry.now (sources_of it.sources)) }

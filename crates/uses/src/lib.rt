@@ -2,6 +2,7 @@
 //! and definitions.
 #![tactic(auto)]
 
+mod boot;
 mod by_macro;
 mod driver;
 mod key;
@@ -11,7 +12,9 @@ mod matrix;
 mod same_target;
 mod spelling;
 mod target_file;
+mod words;
 
+pub use boot::{ImageFacts, image_facts};
 pub use by_macro::triple_by_macro;
 pub use driver::{Linker, link_plan};
 pub use key::{CacheKey, share_key};
@@ -21,3 +24,4 @@ pub use matrix::{MatrixError, release_matrix};
 pub use same_target::names_target;
 pub use spelling::canonical_text;
 pub use target_file::{TargetFileError, llvm_target};
+pub use words::explanation;
