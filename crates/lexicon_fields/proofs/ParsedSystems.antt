@@ -56,7 +56,7 @@ version-in_range v major minor patch = (omega arith, omega arith, omega arith)
 abbrev IsVersionRead : List ℕ → DeploymentTarget → Type 0
 IsVersionRead text v = (is_dash_free text ≡ true) × IsVersionInRange v × (length (version_name v) ≤ length text + 4)
 
-length-version : (v : DeploymentTarget) → length (version_name v) ≡ length (decimal v.major) + length (decimal v.minor) + length (decimal v.patch) + 2
+pub length-version : (v : DeploymentTarget) → length (version_name v) ≡ length (decimal v.major) + length (decimal v.minor) + length (decimal v.patch) + 2
 length-version v = simp length-append (omega arith)
 
 pieces-read : (pieces : List (List ℕ)) (v : DeploymentTarget) → version_of_pieces pieces ≡ Some v → IsVersionRead (join_with_byte dot pieces) v

@@ -8,7 +8,7 @@ use Rattle.lexicon_fields.specs.Vendor.{VendorValue, Known, Custom, known_vendor
 use Rattle.lexicon_fields.specs.{Architecture.architecture_of, declared.operating_system.OperatingSystem.OperatingSystem, Environment.environment_of, BinaryFormat.binary_format_of, FixedRow.has_row}
 use Rattle.lexicon_fields.specs.OperatingSystem.{darwin_prefixes, darwin_like_system, fixed_operating_system_of, operating_system_of}
 use Rattle.lexicon_fields.proofs.LookUpLemmas.{value_of-passes, holds-if_read, option_map-holds, option_or-holds, option_or-none, none_is, test_apart, all-dash_free}
-use Rattle.lexicon_fields.proofs.{RowTexts.row_text-dash_free, RowLemmas.known_vendor_of-row}
+use Rattle.lexicon_fields.proofs.{RowTexts.row_text-dash_free, RowLemmas.known_vendor_of-row, RowLemmas.no_name_without_row}
 use Rattle.lexicon_fields.specs.declared.vendor.Vendor.TheVariants as vendor
 
 -- a text is admitted if it has no row, is no system like Darwin, and has the form of a vendor
@@ -54,6 +54,10 @@ custom_read text none admitted = rw (none, admitted) refl
 pub unknown_text-refused : (text : List ℕ) → known_vendor_of text ≡ None → is_admitted text ≡ false → vendor_of text ≡ None
 unfolding vendor_of
 unknown_text-refused text none refused = rw (none, refused) refl
+
+-- a system like Darwin that has no row
+pub darwin_like-refused : (text : List ℕ) (system : OperatingSystem) → has_row text ≡ false → darwin_like_system darwin_prefixes text ≡ Some system → vendor_of text ≡ None
+darwin_like-refused text system none like = unknown_text-refused text (no_name_without_row text none).1 (rw (admitted_is text, none, like) refl)
 
 pub formless_not_admitted : (text : List ℕ) → has_vendor_form text ≡ false → is_admitted text ≡ false
 unfolding is_admitted

@@ -25,6 +25,14 @@ TextsAreNames {V} name find = (text : List ℕ) (v : V) → find text ≡ Some v
 abbrev pub NamesGrowAtMost : ℕ → {V : Type 0} → (V → List ℕ) → (List ℕ → Option V) → Type 0
 NamesGrowAtMost bytes {V} name find = (text : List ℕ) (v : V) → find text ≡ Some v → length (name v) ≤ length text + bytes
 
+-- the length of the longest name that is no custom vendor's, for instance `visionos65535.255.255`
+abbrev pub max_name_length : ℕ
+max_name_length = 21
+
+-- no value's name is longer
+abbrev pub NamesAreShort : {V : Type 0} → (V → List ℕ) → Type 0
+NamesAreShort {V} name = (v : V) → length (name v) ≤ max_name_length
+
 -- a version whose numbers fit their fields
 abbrev pub IsVersionInRange : DeploymentTarget → Type 0
 IsVersionInRange v = (v.major < 2 ^ 16) × (v.minor < 2 ^ 8) × (v.patch < 2 ^ 8)

@@ -10,4 +10,5 @@ pub mod PointerWidth
 pub mod Private
 pub mod SubArchitecture
 pub mod Vendor
+pub mod VendorRef
 pub mod Version

@@ -216,7 +216,8 @@ impl Architecture {
         CowStr::Borrowed(self.name())
     }
 
-    fn name(self) -> &'static str
+    /// The name.
+    pub fn name(self) -> &'static str
         ensures { result.now ≡ architecture_name self }
     {
         match self {

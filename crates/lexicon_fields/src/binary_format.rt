@@ -52,7 +52,8 @@ impl BinaryFormat {
         CowStr::Borrowed(self.name())
     }
 
-    fn name(self) -> &'static str
+    /// The name.
+    pub fn name(self) -> &'static str
         ensures { result.now ≡ binary_format_name self }
     {
         match self {

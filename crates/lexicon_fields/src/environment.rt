@@ -94,7 +94,8 @@ impl Environment {
         CowStr::Borrowed(self.name())
     }
 
-    fn name(self) -> &'static str
+    /// The name.
+    pub fn name(self) -> &'static str
         ensures { result.now ≡ environment_name self }
     {
         match self {

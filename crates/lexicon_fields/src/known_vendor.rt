@@ -1,11 +1,11 @@
 //! The known vendors.
 ghost use Rattle.std.specs.Prelude.{◌≡◌};
-ghost use Rattle.lexicon_fields.specs.Vendor.{vendor_value, Known};
+ghost use Rattle.lexicon_fields.specs.Vendor.{vendor_value, Known, known_vendor_name};
 
 use crate::vendor::Vendor;
 
 /// A vendor that has a fixed name.
-#[derive(Clone, Copy, Debug, PartialEq, Eq)]
+#[derive(Clone, Copy, Debug, PartialEq, Eq, Hash)]
 pub enum KnownVendor {
     Unknown,
     Amd,
@@ -45,6 +45,29 @@ impl KnownVendor {
             KnownVendor::Sun => Vendor::Sun,
             KnownVendor::Uwp => Vendor::Uwp,
             KnownVendor::Wrs => Vendor::Wrs,
+        }
+    }
+
+    /// The name.
+    pub fn as_str(self) -> &'static str
+        ensures { result.now ≡ known_vendor_name self }
+    {
+        match self {
+            KnownVendor::Unknown => "unknown",
+            KnownVendor::Amd => "amd",
+            KnownVendor::Apple => "apple",
+            KnownVendor::Espressif => "espressif",
+            KnownVendor::Experimental => "experimental",
+            KnownVendor::Fortanix => "fortanix",
+            KnownVendor::Ibm => "ibm",
+            KnownVendor::Kmc => "kmc",
+            KnownVendor::Nintendo => "nintendo",
+            KnownVendor::Nvidia => "nvidia",
+            KnownVendor::Pc => "pc",
+            KnownVendor::Rumprun => "rumprun",
+            KnownVendor::Sun => "sun",
+            KnownVendor::Uwp => "uwp",
+            KnownVendor::Wrs => "wrs",
         }
     }
 }

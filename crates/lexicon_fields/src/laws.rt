@@ -1,9 +1,9 @@
 //! Laws of names, queries, equality and hashing. Each function's contract is a law; a call does nothing.
-ghost use Rattle.std.specs.Prelude.{◌≡◌, ◌↔◌, true, ℕ, List, Some, length, Contains, IsTrue};
+ghost use Rattle.std.specs.Prelude.{◌≡◌, ◌↔◌, ◌≤◌, true, ℕ, List, Some, length, Contains, IsTrue};
 ghost use Rattle.std.specs.Cmp.Lexicographic.{slice_cmp};
 ghost use Rattle.std.specs.List.Sorted.{IsStrictlySortedBy};
 ghost use Rattle.std.specs.Ordering.{nat_cmp};
-ghost use Rattle.lexicon_fields.specs.Laws.{HashInjectiveOn, HashInjective, CopiesEqualTheirSources, IsVersionInRange, HasVersionInRange, NamesReadBackOn, NamesReadBack, TextsAreNames, NamesGrowAtMost, ComparesByValue, version_cmp};
+ghost use Rattle.lexicon_fields.specs.Laws.{HashInjectiveOn, HashInjective, CopiesEqualTheirSources, IsVersionInRange, HasVersionInRange, NamesReadBackOn, NamesReadBack, TextsAreNames, NamesGrowAtMost, NamesAreShort, max_name_length, ComparesByValue, version_cmp};
 ghost use Rattle.lexicon_fields.specs.SubArchitecture.{arm_name, aarch64_name, x86_32_name, mips32_name, mips64_name, riscv32_name, riscv64_name, clever_name, z80_name};
 ghost use Rattle.lexicon_fields.specs.Architecture.{architecture_name, architecture_of, sub_architecture_of, as_arm, as_aarch64, as_x86_32, as_mips32, as_mips64, as_riscv32, as_riscv64, as_clever, as_z80};
 ghost use Rattle.lexicon_fields.specs.Environment.{environment_name, environment_of};
@@ -12,7 +12,9 @@ ghost use Rattle.lexicon_fields.specs.BinaryFormat.{binary_format_name, binary_f
 ghost use Rattle.lexicon_fields.specs.FixedRow.{has_row, row_count, row_texts, HaveSameValues};
 ghost use Rattle.lexicon_fields.specs.declared.vendor.CustomVendor.{CustomVendor};
 ghost use Rattle.lexicon_fields.specs.declared.vendor.Vendor.{Vendor};
-ghost use Rattle.lexicon_fields.specs.Vendor.{custom_text, vendor_value, vendor_name, vendor_of, is_plain};
+ghost use Rattle.lexicon_fields.specs.Vendor.{custom_text, known_vendor_name, vendor_value, vendor_name, vendor_of, is_plain};
+ghost use Rattle.lexicon_fields.specs.declared.vendor_ref.VendorRef.{VendorRef};
+ghost use Rattle.lexicon_fields.specs.VendorRef.{ref_value};
 
 use crate::architecture::{
     Aarch64Architecture, Architecture, ArmArchitecture, CleverArchitecture, Mips32Architecture,
@@ -28,6 +30,7 @@ use crate::operating_system::OperatingSystem;
 use crate::pointer_width::PointerWidth;
 use crate::table::FixedRow;
 use crate::vendor::{CustomVendor, Vendor, VendorError};
+use crate::vendor_ref::VendorRef;
 use std::hash::Hash;
 
 /// Each value parses back from its name, versions included, and no text that parses as a value has a dash. For
@@ -60,6 +63,18 @@ pub fn names_grow_at_most()
     ensures operating_system { NamesGrowAtMost 4 operating_system_name operating_system_of }
 {}
 
+/// No name has more than 21 bytes, except the text of a custom vendor.
+#[tactic(auto, using(crate::proofs::NameLengths::architectures_are_short, crate::proofs::NameLengths::known_vendors_are_short, crate::proofs::NameLengths::operating_systems_are_short, crate::proofs::NameLengths::environments_are_short, crate::proofs::NameLengths::binary_formats_are_short))]
+pub fn names_are_short()
+    ensures architecture { NamesAreShort architecture_name }
+    ensures vendor { NamesAreShort known_vendor_name }
+    ensures operating_system { (s : OperatingSystem) →
+        HasVersionInRange s →
+        length (operating_system_name s) ≤ max_name_length }
+    ensures environment { NamesAreShort environment_name }
+    ensures binary_format { NamesAreShort binary_format_name }
+{}
+
 /// The version of each system that a text parses as is in range.
 #[tactic(auto, using(crate::proofs::ParsedSystems::version_in_range))]
 pub fn read_versions_are_in_range()
@@ -83,6 +98,18 @@ pub fn custom_vendors_are_equal_by_text()
 pub fn vendors_are_equal_by_value()
     ensures { (x y : Vendor) →
         IsTrue (⟦<Vendor as PartialEq>⟧.eq x y) ↔ (vendor_value x ≡ vendor_value y) }
+{}
+
+/// Borrowed vendors are equal by value, as [`Vendor`]s are.
+pub fn vendor_refs_are_equal_by_value()
+    ensures { (x y : VendorRef) →
+        IsTrue (⟦<VendorRef<'static> as PartialEq>⟧.eq x y) ↔ (ref_value x ≡ ref_value y) }
+{}
+
+/// Borrowed vendors feed a hasher by value. What is fed after one can be distinguished from what it feeds.
+pub fn vendor_refs_hash_by_value()
+    ensures { HashInjectiveOn (λ (v : VendorRef). Unit {0}) ref_value
+        ⟦<VendorRef<'static> as Hash>⟧.hash_input }
 {}
 
 /// The texts of the rows are the fixed names of all fields and the alias, each once, in the order of their bytes.
@@ -146,6 +173,7 @@ pub fn values_hash_by_variant_and_fields()
     ensures binary_format { HashInjective ⟦<BinaryFormat as Hash>⟧.hash_input }
     ensures endianness { HashInjective ⟦<Endianness as Hash>⟧.hash_input }
     ensures pointer_width { HashInjective ⟦<PointerWidth as Hash>⟧.hash_input }
+    ensures known_vendor { HashInjective ⟦<KnownVendor as Hash>⟧.hash_input }
 {}
 
 /// A copy of a value is that value, and copying allocates nothing.
@@ -186,6 +214,8 @@ pub fn copies_equal_their_sources()
         ⟦<VendorError as Clone>⟧.is_infallible }
     ensures known_vendor { CopiesEqualTheirSources ⟦<KnownVendor as Clone>⟧.is_clone
         ⟦<KnownVendor as Clone>⟧.is_infallible }
+    ensures vendor_ref { CopiesEqualTheirSources ⟦<VendorRef<'static> as Clone>⟧.is_clone
+        ⟦<VendorRef<'static> as Clone>⟧.is_infallible }
     ensures fixed_row { CopiesEqualTheirSources ⟦<FixedRow as Clone>⟧.is_clone
         ⟦<FixedRow as Clone>⟧.is_infallible }
 {}

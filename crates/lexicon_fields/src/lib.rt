@@ -14,6 +14,7 @@ mod pointer_width;
 mod steps;
 mod table;
 mod vendor;
+mod vendor_ref;
 
 pub use architecture::{
     Aarch64Architecture, Architecture, ArmArchitecture, CleverArchitecture, Mips32Architecture,
@@ -31,3 +32,4 @@ pub use pointer_width::PointerWidth;
 pub use steps::Steps;
 pub use table::{FixedRow, ROW_COUNT, fixed_row, row_order};
 pub use vendor::{CustomVendor, Vendor, VendorError};
+pub use vendor_ref::VendorRef;

@@ -156,7 +156,7 @@ impl OperatingSystem {
     }
 
     /// The name without the version.
-    fn prefix(self) -> &'static str
+    pub fn prefix(self) -> &'static str
         ensures { result.now ++ version_suffix (system_version self) ≡ operating_system_name self }
     {
         match self {

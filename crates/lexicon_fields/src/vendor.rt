@@ -49,7 +49,7 @@ impl CustomVendor {
     }
 
     /// A custom vendor that owns a copy of the text.
-    fn owned_copy(alloc: Global, text: &str) -> Result<Self, AllocError>
+    pub(crate) fn owned_copy(alloc: Global, text: &str) -> Result<Self, AllocError>
         ensures text { IfOk result (λ custom. custom_text custom ≡ text.now) }
         ensures owned { IfOk result (λ custom. is_owned custom ≡ true) }
     {
@@ -235,7 +235,7 @@ pub enum VendorError {
 }
 
 /// Whether the text is admitted as a custom vendor.
-fn is_admitted(s: &str) -> bool
+pub(crate) fn is_admitted(s: &str) -> bool
     ensures { result ≡ is_admitted s.now }
 {
     if !has_vendor_form(s) {
@@ -248,7 +248,7 @@ fn is_admitted(s: &str) -> bool
 }
 
 /// Whether the text begins with a lower-case letter and has only characters of a vendor.
-fn has_vendor_form(s: &str) -> bool
+pub(crate) fn has_vendor_form(s: &str) -> bool
     ensures { result ≡ has_vendor_form s.now }
 {
     match s.as_bytes().split_first() {

@@ -2,12 +2,12 @@
 -- field, parsed as an earlier field); Greedy, Refused, Unique, Computed (from parsing as a function to the least
 -- placement); ReadValues (facts about all parsed triples). Printing: Printed, Writes, Lengths (how much longer than
 -- the text). Round trips: RoundTrips, TextRoundTrips (a printed text parsed again); StepCases, Fixed, Settled,
--- SettlesAs (families and the normal step). For callers: OnLiterals (what computes for a literal). Queries and JSON:
 -- ModelsKnown, QueriesKept; Elements. SameValues: equality of triples. FeedsTogether: what fields feed a hasher.
 pub mod ComputedReading
 pub mod PartLemmas
 pub mod DashBits
 pub mod Elements
+pub mod ExplanationLemmas
 pub mod HashInputPairs
 pub mod FixedPointLemmas
 pub mod GreedyPlacement
@@ -23,8 +23,8 @@ pub mod RefusalLemmas
 pub mod RoundTrips
 pub mod SameValues
 pub mod SettleLemmas
-pub mod SettlesAs
 pub mod StepCases
+pub mod TextRanges
 pub mod TextRoundTrips
 pub mod UniqueReading
 pub mod Upstream

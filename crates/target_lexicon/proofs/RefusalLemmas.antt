@@ -7,14 +7,14 @@ use Rattle.target_lexicon.specs.Refusal.{Expects, refusal_with}
 use Rattle.target_lexicon.proofs.GreedyPlacement.{filled, unread, after_architecture, greedy-least, greedy-finds, placement_prefix}
 
 -- the parts that fill fields, and the part at which they stop
-record Stop (fs : List Field) (ps : List (List ℕ)) (q : List ℕ) (rest : List (List ℕ)) : Type 0 where
-  prefix : List (List ℕ)
-  split : ps ≡ prefix ++ (q ∷ rest)
-  taken : unread fs prefix ≡ []
-  same : filled fs prefix ≡ filled fs ps
-  stuck : unread fs (prefix ++ (q ∷ [])) ≡ q ∷ []
+pub record Stop (fs : List Field) (ps : List (List ℕ)) (q : List ℕ) (rest : List (List ℕ)) : Type 0 where
+  pub prefix : List (List ℕ)
+  pub split : ps ≡ prefix ++ (q ∷ rest)
+  pub taken : unread fs prefix ≡ []
+  pub same : filled fs prefix ≡ filled fs ps
+  pub stuck : unread fs (prefix ++ (q ∷ [])) ≡ q ∷ []
 
-stop : (fs : List Field) (ps : List (List ℕ)) (q : List ℕ) (rest : List (List ℕ)) → unread fs ps ≡ q ∷ rest → Stop fs ps q rest
+pub stop : (fs : List Field) (ps : List (List ℕ)) (q : List ℕ) (rest : List (List ℕ)) → unread fs ps ≡ q ∷ rest → Stop fs ps q rest
 stop fs [] q rest e = cc
 stop [] (p ∷ ps) q rest e = record { prefix = []; split = e; taken = refl; same = refl; stuck = refl }
 stop (f ∷ fs) (p ∷ ps) q rest e =
@@ -56,7 +56,7 @@ stop (f ∷ fs) (p ∷ ps) q rest e =
         }
 
 -- the first part is refused if it is not an architecture
-pub refused_first : (p : List ℕ) (ps : List (List ℕ)) → parses_as Architecture p ≡ false → IsRefusal (p ∷ ps) (refusal_with (Expects Architecture) p)
+abbrev pub refused_first : (p : List ℕ) (ps : List (List ℕ)) → parses_as Architecture p ≡ false → IsRefusal (p ∷ ps) (refusal_with (Expects Architecture) p)
 refused_first p ps skips = record {
   count = 0;
   refused = refl;
@@ -69,16 +69,16 @@ refused_first p ps skips = record {
 pub left-unplaced : (p : List ℕ) (ps : List (List ℕ)) (q : List ℕ) (rest : List (List ℕ)) → unread after_architecture ps ≡ q ∷ rest → HasPlacement (p ∷ ps) → ⊥
 left-unplaced p ps q rest left h = let found = greedy-finds p ps h in let done = found.1 in cc
 
-get-at : (prefix : List (List ℕ)) (q : List ℕ) (rest : List (List ℕ)) → slice_get (prefix ++ (q ∷ rest)) (length prefix) ≡ Some q
+pub get-at : (prefix : List (List ℕ)) (q : List ℕ) (rest : List (List ℕ)) → slice_get (prefix ++ (q ∷ rest)) (length prefix) ≡ Some q
 get-at [] q rest = refl
 get-at (r ∷ prefix) q rest = get-at prefix q rest
 
-take-past : (prefix : List (List ℕ)) (q : List ℕ) (rest : List (List ℕ)) → take (suc (length prefix)) (prefix ++ (q ∷ rest)) ≡ prefix ++ (q ∷ [])
+pub take-past : (prefix : List (List ℕ)) (q : List ℕ) (rest : List (List ℕ)) → take (suc (length prefix)) (prefix ++ (q ∷ rest)) ≡ prefix ++ (q ∷ [])
 take-past [] q rest = refl
 take-past (r ∷ prefix) q rest = ap (λ k. r ∷ k) (take-past prefix q rest)
 
 -- the part after a prefix that fills fields, at which they stop, is refused
-refused-at : (p : List ℕ) (prefix : List (List ℕ)) (q : List ℕ) (rest : List (List ℕ)) → parses_as Architecture p ≡ true → unread after_architecture prefix ≡ []
+abbrev pub refused-at : (p : List ℕ) (prefix : List (List ℕ)) (q : List ℕ) (rest : List (List ℕ)) → parses_as Architecture p ≡ true → unread after_architecture prefix ≡ []
     → unread after_architecture (prefix ++ (q ∷ [])) ≡ q ∷ []
     → IsRefusal (p ∷ (prefix ++ (q ∷ rest))) (refusal_with (expected_after (last_field Architecture (filled after_architecture prefix))) q)
 refused-at p prefix q rest takes taken stuck =

@@ -60,7 +60,7 @@ same_refusal parts x y a b =
     let part : x.part ≡ y.part = cc in
     ap (λ expected. refusal_with expected x.part) (same_expected (take b.count parts) x.expected y.expected after b.expected) ∙ ap (refusal_with y.expected) part
 
-refusal_at : (text : List ℕ) (x : Refusal) → IsRefusedAs text x → IsRefusal (parts_of text) x
+pub refusal_at : (text : List ℕ) (x : Refusal) → IsRefusedAs text x → IsRefusal (parts_of text) x
 refusal_at text x (ordinary, (parts, are, h)) = subst (λ parts. IsRefusal parts x) (parts-only text parts are) h
 
 -- a text is refused in at most one way

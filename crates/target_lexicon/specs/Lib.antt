@@ -1,12 +1,16 @@
 pub mod DataModel
+pub mod Explanation
 pub mod Families
 pub mod Field
+pub mod FieldTexts
 pub mod FixedPoints
 pub mod ImpliedFormat
 pub mod Json
 pub mod Laws
 pub mod NormalStep
 pub mod RemainingParts
+pub mod Pieces
+pub mod Put
 pub mod Placement
 pub mod Printing
 pub mod Private
@@ -17,3 +21,5 @@ pub mod GreedyReading
 pub mod Refusal
 pub mod SpecialTexts
 pub mod Values
+pub mod ValuesRef
+pub mod Written

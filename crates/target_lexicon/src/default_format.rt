@@ -2,8 +2,10 @@
 ghost use Rattle.std.specs.Prelude.{◌≡◌};
 ghost use Rattle.target_lexicon.specs.ImpliedFormat.{default_binary_format, implied_format};
 ghost use Rattle.target_lexicon.specs.Values.{values_of};
+ghost use Rattle.target_lexicon.specs.ValuesRef.{values_of_ref};
 
 use crate::triple::Triple;
+use crate::triple_ref::TripleRef;
 use lexicon_fields::{Architecture, BinaryFormat, Environment, OperatingSystem};
 
 /// The binary format that the architecture, the operating system and the environment imply. The triple's own format
@@ -11,11 +13,16 @@ use lexicon_fields::{Architecture, BinaryFormat, Environment, OperatingSystem};
 pub fn default_binary_format(triple: &Triple) -> BinaryFormat
     ensures { result ≡ default_binary_format (values_of triple.now) }
 {
-    implied_format(
-        triple.architecture,
-        triple.operating_system,
-        triple.environment,
-    )
+    triple.as_triple_ref().default_binary_format()
+}
+
+impl TripleRef<'_> {
+    /// The implied binary format, as [`default_binary_format`] says.
+    pub fn default_binary_format(&self) -> BinaryFormat
+        ensures { result ≡ default_binary_format (values_of_ref self.now) }
+    {
+        implied_format(self.architecture, self.operating_system, self.environment)
+    }
 }
 
 /// The binary format that three fields imply.

@@ -4,10 +4,12 @@ ghost use Rattle.serde_json.specs.View.{view};
 ghost use Rattle.lexicon_fields.specs.Vendor.{OwnsCustomText, is_plain, vendor_value};
 ghost use Rattle.target_lexicon.specs.Json.{json_of, list_json_of, JsonReadsAs, IsJsonErrorOf, json_error_value, ListReadsAs, IsListErrorOf, list_error_value};
 ghost use Rattle.target_lexicon.specs.Values.{values_of};
+ghost use Rattle.target_lexicon.specs.ValuesRef.{values_of_ref};
 
 use crate::json_error::JsonError;
 use crate::list_error::ListError;
 use crate::triple::Triple;
+use crate::triple_ref::TripleRef;
 use serde_json::Value;
 use std::alloc::{AllocError, Global};
 
@@ -16,7 +18,7 @@ impl Triple {
     pub fn to_json(&self, alloc: Global) -> Result<Value, AllocError>
         ensures { IfOk result (λ value. view value ≡ json_of (values_of self.now)) }
     {
-        Ok(Value::from(self.to_text(alloc)?))
+        self.as_triple_ref().to_json(alloc)
     }
 
     /// The triple that the text of a JSON string parses as, by [`Triple::from_str`].
@@ -40,6 +42,15 @@ impl Triple {
             Ok(triple) => Ok(triple),
             Err(error) => Err(JsonError::Parse(error)),
         }
+    }
+}
+
+impl TripleRef<'_> {
+    /// The JSON string of the printed text. `Err` if the allocation for it fails.
+    pub fn to_json(&self, alloc: Global) -> Result<Value, AllocError>
+        ensures { IfOk result (λ value. view value ≡ json_of (values_of_ref self.now)) }
+    {
+        Ok(Value::from(self.to_text(alloc)?))
     }
 }
 

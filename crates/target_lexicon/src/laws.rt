@@ -11,11 +11,13 @@ ghost use Rattle.target_lexicon.specs.QueryLaws.{ModelWidth, IntegersGrow, Queri
 ghost use Rattle.target_lexicon.specs.Refusal.{refusal_of};
 ghost use Rattle.target_lexicon.specs.Printing.{OnlyUnknownsDifferFromUpstream};
 ghost use Rattle.target_lexicon.specs.Values.{Values, values_of};
+ghost use Rattle.target_lexicon.specs.ValuesRef.{values_of_ref};
 ghost use Rattle.target_lexicon.specs.declared.data_model.CDataModel.{CDataModel};
 ghost use Rattle.target_lexicon.specs.declared.json_error.JsonError.{JsonError};
 ghost use Rattle.target_lexicon.specs.declared.list_error.ListError.{ListError};
 ghost use Rattle.target_lexicon.specs.declared.parse_error.ParseError.{ParseError};
 ghost use Rattle.target_lexicon.specs.declared.triple.Triple.{Triple};
+ghost use Rattle.target_lexicon.specs.declared.triple_ref.TripleRef.{TripleRef};
 ghost use Rattle.target_lexicon.specs.declared.defaults.DefaultToHost.{DefaultToHost};
 ghost use Rattle.target_lexicon.specs.declared.defaults.DefaultToUnknown.{DefaultToUnknown};
 
@@ -26,6 +28,7 @@ use crate::json_error::JsonError;
 use crate::list_error::ListError;
 use crate::parse_error::ParseError;
 use crate::triple::Triple;
+use crate::triple_ref::TripleRef;
 pub use lexicon_fields::laws::names_read_back;
 use std::hash::Hash;
 
@@ -94,6 +97,15 @@ pub fn triples_are_equal_by_value()
 {
     lexicon_fields::laws::values_are_equal_by_variant_and_fields();
     lexicon_fields::laws::vendors_are_equal_by_value();
+}
+
+/// Two borrowed triples are equal exactly if their five values are.
+pub fn triple_refs_are_equal_by_value()
+    ensures { (x y : TripleRef) →
+        IsTrue (⟦<TripleRef<'static> as PartialEq>⟧.eq x y) ↔ (values_of_ref x ≡ values_of_ref y) }
+{
+    lexicon_fields::laws::values_are_equal_by_variant_and_fields();
+    lexicon_fields::laws::vendor_refs_are_equal_by_value();
 }
 
 /// Two errors are equal exactly if both are the same refusal, or both are `OutOfMemory`.
@@ -246,4 +258,14 @@ pub fn triples_hash_by_value()
         (λ t. values_of t.0) ⟦<DefaultToUnknown as Hash>⟧.hash_input }
 {
     lexicon_fields::laws::values_hash_by_variant_and_fields();
+}
+
+/// Two borrowed triples feed a hasher the same exactly if their five values are the same, as [`triples_hash_by_value`]
+/// says of triples.
+pub fn triple_refs_hash_by_value()
+    ensures { HashInjectiveOn (λ t. HasVersionInRange t.operating_system) values_of_ref
+        ⟦<TripleRef<'static> as Hash>⟧.hash_input }
+{
+    lexicon_fields::laws::values_hash_by_variant_and_fields();
+    lexicon_fields::laws::vendor_refs_hash_by_value();
 }

@@ -13,6 +13,8 @@ mod data_model;
 mod default_format;
 mod defaults;
 mod display;
+mod explain;
+mod field_parts;
 mod host;
 mod json;
 mod json_error;
@@ -20,27 +22,34 @@ pub mod laws;
 mod list_error;
 mod macros;
 mod parse_error;
+mod parse_error_ref;
 mod part;
+mod pieces;
+mod put;
 mod queries;
 mod read;
 mod settle;
 mod settles_as;
 mod special;
 mod triple;
+mod triple_ref;
 
 pub use calling_convention::CallingConvention;
 pub use data_model::{CDataModel, Size};
 pub use default_format::default_binary_format;
 pub use defaults::{DefaultToHost, DefaultToUnknown};
+pub use explain::{ExplainedError, Explanation, Source, Sources, TextPart};
 pub use json::{list_from_json, list_to_json};
 pub use json_error::JsonError;
 pub use lexicon_fields::{
     Aarch64Architecture, Architecture, ArmArchitecture, BinaryFormat, CleverArchitecture,
     CustomVendor, DeploymentTarget, Endianness, Environment, FixedRow, KnownVendor,
     Mips32Architecture, Mips64Architecture, OperatingSystem, PointerWidth, ROW_COUNT,
-    Riscv32Architecture, Riscv64Architecture, Steps, Vendor, VendorError, X86_32Architecture,
-    Z80Architecture, fixed_row, row_order,
+    Riscv32Architecture, Riscv64Architecture, Steps, Vendor, VendorError, VendorRef,
+    X86_32Architecture, Z80Architecture, fixed_row, row_order,
 };
 pub use list_error::ListError;
 pub use parse_error::ParseError;
+pub use parse_error_ref::ParseErrorRef;
 pub use triple::Triple;
+pub use triple_ref::TripleRef;

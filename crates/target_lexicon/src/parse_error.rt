@@ -1,6 +1,5 @@
 //! Why a text doesn't parse as a triple.
-ghost use Rattle.std.specs.Prelude.{◌≡◌, ◌++◌, Some, None, IfOk, IsOk};
-ghost use Rattle.std.specs.Fmt.{WritesStyledOnOk};
+ghost use Rattle.std.specs.Prelude.{◌≡◌, Some, None, IfOk, IsOk};
 
 use std::alloc::{AllocError, Global};
 use std::error::Error;
@@ -67,14 +66,6 @@ impl From<AllocError> for ParseError {
     }
 }
 
-/// Writes the kind of a refusal and the part.
-fn write_refusal<W: fmt::Write>(f: &mut fmt::Formatter<W>, what: &str, part: &str) -> fmt::Result
-    ensures { WritesStyledOnOk W.write_str_gives f.old result (what.now ++ part.now) f.new }
-{
-    f.write_str(what)?;
-    f.write_str(part)
-}
-
 impl fmt::Display for ParseError {
     ghost use Rattle.target_lexicon.specs.Refusal.{error_line};
 
@@ -83,26 +74,9 @@ impl fmt::Display for ParseError {
     ghost styled_output = { λ error _. Some (error_line error) };
 
     fn fmt<W: fmt::Write>(&self, f: &mut fmt::Formatter<W>) -> fmt::Result {
-        match self {
-            ParseError::UnrecognizedArchitecture(part) => {
-                write_refusal(f, "Unrecognized architecture: ", part.as_str())
-            }
-            ParseError::UnrecognizedVendor(part) => {
-                write_refusal(f, "Unrecognized vendor: ", part.as_str())
-            }
-            ParseError::UnrecognizedOperatingSystem(part) => {
-                write_refusal(f, "Unrecognized operating system: ", part.as_str())
-            }
-            ParseError::UnrecognizedEnvironment(part) => {
-                write_refusal(f, "Unrecognized environment: ", part.as_str())
-            }
-            ParseError::UnrecognizedBinaryFormat(part) => {
-                write_refusal(f, "Unrecognized binary format: ", part.as_str())
-            }
-            ParseError::UnrecognizedField(part) => {
-                write_refusal(f, "Unrecognized field: ", part.as_str())
-            }
-            ParseError::OutOfMemory => f.write_str("Out of memory"),
+        match self.as_parse_error_ref() {
+            Some(refusal) => refusal.fmt(f),
+            None => f.write_str("Out of memory"),
         }
     }
 }

@@ -1,35 +1,52 @@
 //! The parts of a text, each looked up once in the table of names.
 ghost use Rattle.std.specs.Prelude.{◌≡◌, ◌∷◌};
 ghost use Rattle.std.specs.Option.{ForSome};
+ghost use Rattle.lexicon_fields.specs.OperatingSystem.{operating_system_of};
 ghost use Rattle.target_lexicon.specs.Placement.{parts_of};
 ghost use Rattle.target_lexicon.specs.Private.{IsLookedUp, AreDashBits, parts_after_dash};
 
 use crate::dashes::{dash_in, dashes_at_end};
 use lexicon_fields::{
-    Architecture, BinaryFormat, Environment, FixedRow, OperatingSystem, Steps, Vendor, VendorError,
-    fixed_row,
+    Architecture, BinaryFormat, Environment, FixedRow, OperatingSystem, Steps, VendorRef, fixed_row,
 };
-use std::alloc::{AllocError, Global};
 
-/// A part of a text, its row in the table of names, what follows its dash, and the dashes of the text's end.
+/// A part of a text, its row in the table of names, the system that it parses as, what follows its dash, and the dashes
+/// of the text's end.
 #[derive(Clone, Copy)]
 pub(crate) struct Part<'a> {
     pub text: &'a str,
     row: Option<FixedRow>,
+    operating_system: Option<OperatingSystem>,
     pub after_dash: Option<&'a str>,
     dashes_at_end: u64,
     ghost looked_up: { IsLookedUp text.now row },
+    ghost system: { operating_system ≡ operating_system_of text.now },
     ghost dash_bits: { ForSome after_dash (λ rest. AreDashBits dashes_at_end rest.now) },
 }
 
 /// The row of a text in the table of names.
+#[inline(always)]
 fn row_of(text: &str) -> Option<FixedRow>
     ensures { IsLookedUp text.now result }
 {
     fixed_row(text, &mut Steps::new())
 }
 
+/// The system that a text with this row, or without one, parses as. A text without a row may be a system like Darwin
+/// with a version.
+#[inline(always)]
+fn system_of(text: &str, row: Option<FixedRow>) -> Option<OperatingSystem>
+    requires { IsLookedUp text.now row }
+    ensures { result ≡ operating_system_of text.now }
+{
+    match row {
+        Some(row) => row.operating_system,
+        None => OperatingSystem::parse_darwin_like(text),
+    }
+}
+
 /// Cuts a text at its first dash, the dashes of whose end are known.
+#[inline(always)]
 fn split_at_dash(text: &str, at_end: u64) -> (&str, Option<&str>)
     requires { AreDashBits at_end text.now }
     ensures parts { parts_of text.now ≡ result.0.now ∷ parts_after_dash result.1 }
@@ -42,10 +59,10 @@ fn split_at_dash(text: &str, at_end: u64) -> (&str, Option<&str>)
 }
 
 impl<'a> Part<'a> {
-    ghost use Rattle.std.specs.Prelude.{IfOk, IfSome, OnErr, MatchOption, option_map, true};
+    ghost use Rattle.std.specs.Prelude.{option_map};
     ghost use Rattle.lexicon_fields.specs.Architecture.{architecture_of};
-    ghost use Rattle.lexicon_fields.specs.Vendor.{OwnsCustomText, is_admitted, vendor_of, vendor_value};
-    ghost use Rattle.lexicon_fields.specs.OperatingSystem.{operating_system_of};
+    ghost use Rattle.lexicon_fields.specs.Vendor.{vendor_of};
+    ghost use Rattle.lexicon_fields.specs.VendorRef.{ref_value};
     ghost use Rattle.lexicon_fields.specs.Environment.{environment_of};
     ghost use Rattle.lexicon_fields.specs.BinaryFormat.{binary_format_of};
     ghost use Rattle.target_lexicon.specs.RemainingParts.{remaining_parts};
@@ -58,6 +75,7 @@ impl<'a> Part<'a> {
     }
 
     /// The part after the dash.
+    #[inline(always)]
     pub(crate) fn next(&self) -> Option<Self>
         ensures { remaining_parts result ≡ parts_after_dash self.now.after_dash }
     {
@@ -68,62 +86,62 @@ impl<'a> Part<'a> {
     }
 
     /// The first part of a text, the dashes of whose end are known.
+    #[inline(always)]
     fn first_of(text: &'a str, dashes_at_end: u64) -> Self
         requires { AreDashBits dashes_at_end text.now }
         ensures { parts_of text.entry.now ≡ result.text.now ∷ parts_after_dash result.after_dash }
     {
         let (first, after_dash) = split_at_dash(text, dashes_at_end);
+        let row = row_of(first);
         Part {
             text: first,
-            row: row_of(first),
+            row,
+            operating_system: system_of(first, row),
             after_dash,
             dashes_at_end,
         }
     }
 
     /// What the part reads as in each field.
+    #[inline(always)]
     pub(crate) fn architecture(&self) -> Option<Architecture>
         ensures { result ≡ architecture_of self.now.text.now }
     {
         self.row?.architecture
     }
 
-    /// A part that has no row may be a custom vendor. `Err` says that allocating its text failed.
-    pub(crate) fn vendor(&self, alloc: Global) -> Result<Option<Vendor>, AllocError>
-        ensures ok { IfOk result
-            (λ vendor. option_map vendor_value vendor ≡ vendor_of self.now.text.now) }
-        ensures owned { IfOk result (λ vendor. IfSome vendor OwnsCustomText) }
-        ensures memory { OnErr result (is_admitted self.now.text.now ≡ true) }
+    /// A part that has no row and is no system may be a custom vendor.
+    #[inline(always)]
+    pub(crate) fn vendor(&self) -> Option<VendorRef<'a>>
+        ensures { option_map ref_value result ≡ vendor_of self.now.text.now }
     {
         match self.row {
             Some(row) => match row.vendor {
-                Some(known) => Ok(Some(known.to_vendor())),
-                None => Ok(None),
+                Some(known) => Some(VendorRef::Known(known)),
+                None => None,
             },
-            None => match Vendor::custom_from_str(alloc, self.text) {
-                Ok(vendor) => Ok(Some(vendor)),
-                Err(VendorError::Unrecognized) => Ok(None),
-                Err(VendorError::OutOfMemory) => Err(AllocError),
+            None => match self.operating_system {
+                Some(_) => None,
+                None => VendorRef::custom_from_str(self.text),
             },
         }
     }
 
-    /// A part that has no row may be a system like Darwin with a version.
+    #[inline(always)]
     pub(crate) fn operating_system(&self) -> Option<OperatingSystem>
         ensures { result ≡ operating_system_of self.now.text.now }
     {
-        match self.row {
-            Some(row) => row.operating_system,
-            None => OperatingSystem::parse_darwin_like(self.text),
-        }
+        self.operating_system
     }
 
+    #[inline(always)]
     pub(crate) fn environment(&self) -> Option<Environment>
         ensures { result ≡ environment_of self.now.text.now }
     {
         self.row?.environment
     }
 
+    #[inline(always)]
     pub(crate) fn binary_format(&self) -> Option<BinaryFormat>
         ensures { result ≡ binary_format_of self.now.text.now }
     {

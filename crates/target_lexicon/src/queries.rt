@@ -3,26 +3,27 @@ ghost use Rattle.std.specs.Prelude.{◌≡◌, ◌↔◌, IsErr, false};
 ghost use Rattle.lexicon_fields.specs.Names.{MatchesLookup};
 ghost use Rattle.target_lexicon.specs.Queries.{endianness, pointer_width, calling_convention, data_model, is_ilp32, model_64, model_32};
 ghost use Rattle.target_lexicon.specs.Values.{values_of};
+ghost use Rattle.target_lexicon.specs.ValuesRef.{values_of_ref};
 
 use crate::calling_convention::CallingConvention;
 use crate::data_model::CDataModel;
 use crate::triple::Triple;
+use crate::triple_ref::TripleRef;
 use lexicon_fields::{Architecture, Endianness, Environment, OperatingSystem, PointerWidth};
 
-impl Triple {
-    /// The byte order of the architecture. `Err` for the architecture `Unknown`.
+impl TripleRef<'_> {
+    /// The byte order, as [`Triple::endianness`] says.
     pub fn endianness(&self) -> Result<Endianness, ()>
-        ensures answer { MatchesLookup (endianness (values_of self.now)) result }
+        ensures answer { MatchesLookup (endianness (values_of_ref self.now)) result }
         ensures refusal { IsErr result ↔ (self.now.architecture ≡ Architecture.Unknown) }
     {
         self.architecture.endianness()
     }
 
-    /// The width of a pointer: 32 bits in the environments `Gnux32` and `GnuIlp32`, in every other environment the
-    /// width of the architecture. `Err` for the architecture `Unknown` in these other environments.
+    /// The width of a pointer, as [`Triple::pointer_width`] says.
     #[tactic(auto, unfolding(crate::specs::Queries::pointer_width))]
     pub fn pointer_width(&self) -> Result<PointerWidth, ()>
-        ensures answer { MatchesLookup (pointer_width (values_of self.now)) result }
+        ensures answer { MatchesLookup (pointer_width (values_of_ref self.now)) result }
         ensures refusal { IsErr result
             ↔ ((self.now.architecture ≡ Architecture.Unknown)
             × (is_ilp32 self.now.environment ≡ false)) }
@@ -33,12 +34,10 @@ impl Triple {
         }
     }
 
-    /// The calling convention. It depends on the operating system, and on systems like Darwin and those that run
-    /// WebAssembly also on the architecture. `Err` if no convention is known, for instance on `WasiP1`, `WasiP2`,
-    /// `Illumos` and `Cygwin`.
+    /// The calling convention, as [`Triple::default_calling_convention`] says.
     #[tactic(auto, unfolding(crate::specs::Queries::convention_on))]
     pub fn default_calling_convention(&self) -> Result<CallingConvention, ()>
-        ensures { MatchesLookup (calling_convention (values_of self.now)) result }
+        ensures { MatchesLookup (calling_convention (values_of_ref self.now)) result }
     {
         match self.operating_system {
             OperatingSystem::Darwin(_)
@@ -90,11 +89,10 @@ impl Triple {
         }
     }
 
-    /// The data model of C. It depends on the pointer width, the operating system, the calling convention and the
-    /// architecture. `Err` if no model is known, for instance for pointers of 16 bits.
+    /// The data model of C, as [`Triple::data_model`] says.
     #[tactic(auto, unfolding(crate::specs::Queries::data_model))]
     pub fn data_model(&self) -> Result<CDataModel, ()>
-        ensures { MatchesLookup (data_model (values_of self.now)) result }
+        ensures { MatchesLookup (data_model (values_of_ref self.now)) result }
     {
         match self.pointer_width()? {
             PointerWidth::U64 => self.data_model_64(),
@@ -135,5 +133,43 @@ impl Triple {
                 },
             },
         }
+    }
+}
+
+impl Triple {
+    /// The byte order of the architecture. `Err` for the architecture `Unknown`.
+    pub fn endianness(&self) -> Result<Endianness, ()>
+        ensures answer { MatchesLookup (endianness (values_of self.now)) result }
+        ensures refusal { IsErr result ↔ (self.now.architecture ≡ Architecture.Unknown) }
+    {
+        self.as_triple_ref().endianness()
+    }
+
+    /// The width of a pointer: 32 bits in the environments `Gnux32` and `GnuIlp32`, in every other environment the
+    /// width of the architecture. `Err` for the architecture `Unknown` in these other environments.
+    pub fn pointer_width(&self) -> Result<PointerWidth, ()>
+        ensures answer { MatchesLookup (pointer_width (values_of self.now)) result }
+        ensures refusal { IsErr result
+            ↔ ((self.now.architecture ≡ Architecture.Unknown)
+            × (is_ilp32 self.now.environment ≡ false)) }
+    {
+        self.as_triple_ref().pointer_width()
+    }
+
+    /// The calling convention. It depends on the operating system, and on systems like Darwin and those that run
+    /// WebAssembly also on the architecture. `Err` if no convention is known, for instance on `WasiP1`, `WasiP2`,
+    /// `Illumos` and `Cygwin`.
+    pub fn default_calling_convention(&self) -> Result<CallingConvention, ()>
+        ensures { MatchesLookup (calling_convention (values_of self.now)) result }
+    {
+        self.as_triple_ref().default_calling_convention()
+    }
+
+    /// The data model of C. It depends on the pointer width, the operating system, the calling convention and the
+    /// architecture. `Err` if no model is known, for instance for pointers of 16 bits.
+    pub fn data_model(&self) -> Result<CDataModel, ()>
+        ensures { MatchesLookup (data_model (values_of self.now)) result }
+    {
+        self.as_triple_ref().data_model()
     }
 }

@@ -1,62 +1,32 @@
 //! Reading a triple.
-ghost use Rattle.std.specs.Prelude.{◌≡◌, Some, true, IfOk, IfErr, IfSome, OnErr, unwrap_or, string_bytes};
+ghost use Rattle.std.specs.Prelude.{◌≡◌, Some, true, IfOk, IfErr, option_map, unwrap_or};
 ghost use Rattle.lexicon_fields.specs.declared.known_vendor.KnownVendor.TheVariants.{Unknown};
-ghost use Rattle.lexicon_fields.specs.declared.vendor.Vendor.TheVariants as any_vendor;
-ghost use Rattle.lexicon_fields.specs.Vendor.{IsCustom, Known, OwnsCustomText, vendor_of, vendor_value, is_plain};
-ghost use Rattle.target_lexicon.specs.GreedyReading.{IsResultOf, field_reading, reading_of_parts};
+ghost use Rattle.lexicon_fields.specs.BinaryFormat.{binary_format_of};
+ghost use Rattle.lexicon_fields.specs.Environment.{environment_of};
+ghost use Rattle.lexicon_fields.specs.OperatingSystem.{operating_system_of};
+ghost use Rattle.lexicon_fields.specs.Vendor.{Known, OwnsCustomText, vendor_of, vendor_value, is_plain};
+ghost use Rattle.lexicon_fields.specs.VendorRef.{ref_value};
+ghost use Rattle.target_lexicon.specs.FieldTexts.{parts_left, taken_part, taken_texts};
+ghost use Rattle.target_lexicon.specs.GreedyReading.{field_reading, reading_of_parts};
 ghost use Rattle.target_lexicon.specs.Field as field;
-ghost use Rattle.target_lexicon.specs.RemainingParts.{field_of, remaining_parts, field_reading_of};
-ghost use Rattle.target_lexicon.specs.Reading.{ReadsAs, IsErrorOf, expected_after};
-ghost use Rattle.target_lexicon.specs.Refusal.{refusal_with, refusal_of};
+ghost use Rattle.target_lexicon.specs.ImpliedFormat.{implied_format};
+ghost use Rattle.target_lexicon.specs.RemainingParts.{field_of, field_reading_of, outcome_of, part_bytes, remaining_parts, texts_of};
+ghost use Rattle.target_lexicon.specs.Reading.{ReadsAs, IsErrorOf, IsRefusedAs, expected_after};
+ghost use Rattle.target_lexicon.specs.Refusal.{refusal_with};
 ghost use Rattle.target_lexicon.specs.Values.{values_of};
+ghost use Rattle.target_lexicon.specs.ValuesRef.{refusal_of_ref, values_of_ref};
 
 use crate::default_format::implied_format;
+use crate::field_parts::FieldParts;
 use crate::parse_error::ParseError;
+use crate::parse_error_ref::ParseErrorRef;
 use crate::part::Part;
 use crate::triple::Triple;
-use lexicon_fields::{BinaryFormat, Environment, OperatingSystem, Vendor};
-use std::alloc::{AllocError, Global};
-
-/// A field that reads from a part without allocating.
-trait ReadFrom: Sized {
-    ghost use Rattle.std.specs.Prelude.{ℕ, List, Option};
-
-    ghost find: { List ℕ → Option Self };
-
-    /// What the part reads as.
-    fn read_from(part: &Part<'_>) -> Option<Self>
-        ensures { result ≡ find part.now.text.now };
-}
-
-impl ReadFrom for OperatingSystem {
-    ghost use Rattle.lexicon_fields.specs.OperatingSystem.{operating_system_of};
-
-    ghost find = { operating_system_of };
-
-    fn read_from(part: &Part<'_>) -> Option<OperatingSystem> {
-        part.operating_system()
-    }
-}
-
-impl ReadFrom for Environment {
-    ghost use Rattle.lexicon_fields.specs.Environment.{environment_of};
-
-    ghost find = { environment_of };
-
-    fn read_from(part: &Part<'_>) -> Option<Environment> {
-        part.environment()
-    }
-}
-
-impl ReadFrom for BinaryFormat {
-    ghost use Rattle.lexicon_fields.specs.BinaryFormat.{binary_format_of};
-
-    ghost find = { binary_format_of };
-
-    fn read_from(part: &Part<'_>) -> Option<BinaryFormat> {
-        part.binary_format()
-    }
-}
+use crate::triple_ref::TripleRef;
+use lexicon_fields::{
+    Architecture, BinaryFormat, Environment, KnownVendor, OperatingSystem, VendorRef,
+};
+use std::alloc::Global;
 
 /// A field that may take a part.
 #[derive(Clone, Copy)]
@@ -75,58 +45,195 @@ struct PartCursor<'a> {
     next_part: Option<Part<'a>>,
 }
 
+/// What reading a text gives, and the part that each field took.
+#[derive(Clone, Copy)]
+pub(crate) struct Reading<'a> {
+    pub result: Result<TripleRef<'a>, ParseErrorRef<'a>>,
+    pub parts: FieldParts<'a>,
+}
+
 impl<'a> PartCursor<'a> {
-    /// Takes the first part that is left if it parses as a vendor. `Err` says that allocating a custom
-    /// vendor failed.
-    fn take_vendor(&mut self, alloc: Global) -> Result<Option<Vendor>, AllocError>
-        ensures ok { IfOk result
-            (λ vendor.
-            field_reading_of (vendor_value (unwrap_or vendor any_vendor.Unknown)) self.new
+    /// Takes the first part that is left, if it parses as a vendor. The part is returned beside the value.
+    #[inline(always)]
+    fn take_vendor(&mut self) -> (Option<VendorRef<'a>>, Option<&'a str>)
+        ensures value { field_reading_of (unwrap_or (option_map ref_value result.0) (Known Unknown))
+            self.new
             ≡ field_reading field.Vendor vendor_of (Known Unknown) (field_of self.old.last)
-            (remaining_parts self.old.next_part)) }
-        ensures owned { IfOk result (λ vendor. IfSome vendor OwnsCustomText) }
-        ensures memory { OnErr result
-            (IsCustom
-            (field_reading field.Vendor vendor_of (Known Unknown) (field_of self.old.last)
-            (remaining_parts self.old.next_part)).0) }
+            (remaining_parts self.old.next_part) }
+        ensures part { part_bytes result.1
+            ≡ taken_part vendor_of (remaining_parts self.old.next_part) }
+        ensures left { remaining_parts self.new.next_part
+            ≡ parts_left vendor_of (remaining_parts self.old.next_part) }
     {
-        let Some(part) = self.next_part else {
-            return Ok(None);
-        };
-        let vendor = part.vendor(alloc)?;
-        if vendor.is_some() {
-            self.last = Field::Vendor;
-            self.next_part = part.next();
+        if let Some(part) = self.next_part {
+            if let Some(vendor) = part.vendor() {
+                self.last = Field::Vendor;
+                self.next_part = part.next();
+                return (Some(vendor), Some(part.text));
+            }
         }
-        Ok(vendor)
+        (None, None)
     }
 
-    /// Takes the first part for this field, if it reads as a value of it.
-    fn take<T: ReadFrom>(&mut self, field: Field) -> Option<T>
-        ensures { (unfilled : T) →
-            field_reading_of (unwrap_or result unfilled) self.new
-            ≡ field_reading (field_of field) T.find unfilled (field_of self.old.last)
-            (remaining_parts self.old.next_part) }
+    /// Takes the first part that is left, if it parses as an operating system.
+    #[inline(always)]
+    fn take_operating_system(&mut self) -> (Option<OperatingSystem>, Option<&'a str>)
+        ensures value { (unfilled : OperatingSystem) →
+            field_reading_of (unwrap_or result.0 unfilled) self.new
+            ≡ field_reading field.OperatingSystem operating_system_of unfilled
+            (field_of self.old.last) (remaining_parts self.old.next_part) }
+        ensures part { part_bytes result.1
+            ≡ taken_part operating_system_of (remaining_parts self.old.next_part) }
+        ensures left { remaining_parts self.new.next_part
+            ≡ parts_left operating_system_of (remaining_parts self.old.next_part) }
     {
-        let part = self.next_part?;
-        let value = T::read_from(&part)?;
-        self.last = field;
-        self.next_part = part.next();
-        Some(value)
+        if let Some(part) = self.next_part {
+            if let Some(operating_system) = part.operating_system() {
+                self.last = Field::OperatingSystem;
+                self.next_part = part.next();
+                return (Some(operating_system), Some(part.text));
+            }
+        }
+        (None, None)
+    }
+
+    /// Takes the first part that is left, if it parses as an environment.
+    #[inline(always)]
+    fn take_environment(&mut self) -> (Option<Environment>, Option<&'a str>)
+        ensures value { (unfilled : Environment) →
+            field_reading_of (unwrap_or result.0 unfilled) self.new
+            ≡ field_reading field.Environment environment_of unfilled
+            (field_of self.old.last) (remaining_parts self.old.next_part) }
+        ensures part { part_bytes result.1
+            ≡ taken_part environment_of (remaining_parts self.old.next_part) }
+        ensures left { remaining_parts self.new.next_part
+            ≡ parts_left environment_of (remaining_parts self.old.next_part) }
+    {
+        if let Some(part) = self.next_part {
+            if let Some(environment) = part.environment() {
+                self.last = Field::Environment;
+                self.next_part = part.next();
+                return (Some(environment), Some(part.text));
+            }
+        }
+        (None, None)
+    }
+
+    /// Takes the first part that is left, if it parses as a binary format.
+    #[inline(always)]
+    fn take_binary_format(&mut self) -> (Option<BinaryFormat>, Option<&'a str>)
+        ensures value { (unfilled : BinaryFormat) →
+            field_reading_of (unwrap_or result.0 unfilled) self.new
+            ≡ field_reading field.BinaryFormat binary_format_of unfilled
+            (field_of self.old.last) (remaining_parts self.old.next_part) }
+        ensures part { part_bytes result.1
+            ≡ taken_part binary_format_of (remaining_parts self.old.next_part) }
+    {
+        if let Some(part) = self.next_part {
+            if let Some(binary_format) = part.binary_format() {
+                self.last = Field::BinaryFormat;
+                self.next_part = part.next();
+                return (Some(binary_format), Some(part.text));
+            }
+        }
+        (None, None)
     }
 }
 
 /// The refusal of the part that is left after this field.
-fn refusal(part: String, last: Field) -> ParseError
-    ensures { refusal_of result
-        ≡ Some (refusal_with (expected_after (field_of last)) (string_bytes part)) }
+fn refusal(part: &str, last: Field) -> ParseErrorRef<'_>
+    ensures { refusal_of_ref result ≡ refusal_with (expected_after (field_of last)) part.entry.now }
 {
     match last {
-        Field::Architecture => ParseError::UnrecognizedVendor(part),
-        Field::Vendor => ParseError::UnrecognizedOperatingSystem(part),
-        Field::OperatingSystem => ParseError::UnrecognizedEnvironment(part),
-        Field::Environment => ParseError::UnrecognizedBinaryFormat(part),
-        Field::BinaryFormat => ParseError::UnrecognizedField(part),
+        Field::Architecture => ParseErrorRef::UnrecognizedVendor(part),
+        Field::Vendor => ParseErrorRef::UnrecognizedOperatingSystem(part),
+        Field::OperatingSystem => ParseErrorRef::UnrecognizedEnvironment(part),
+        Field::Environment => ParseErrorRef::UnrecognizedBinaryFormat(part),
+        Field::BinaryFormat => ParseErrorRef::UnrecognizedField(part),
+    }
+}
+
+/// The format that was given. If none was, the one that the other fields imply.
+#[inline(always)]
+fn given_or_implied(
+    given: Option<BinaryFormat>,
+    architecture: Architecture,
+    operating_system: OperatingSystem,
+    environment: Environment,
+) -> BinaryFormat
+    ensures { result
+        ≡ unwrap_or given (implied_format architecture operating_system environment) }
+{
+    match given {
+        Some(binary_format) => binary_format,
+        None => implied_format(architecture, operating_system, environment),
+    }
+}
+
+impl<'a> Reading<'a> {
+    /// What the parts give of which this is the first.
+    #[inline(always)]
+    pub(crate) fn from_parts(first: Part<'a>) -> Reading<'a>
+        ensures result { outcome_of result.result
+            ≡ reading_of_parts (remaining_parts (Some first.entry)) }
+        ensures parts { texts_of result.parts
+            ≡ taken_texts (remaining_parts (Some first.entry)) }
+    {
+        let Some(architecture) = first.architecture() else {
+            return Reading {
+                result: Err(ParseErrorRef::UnrecognizedArchitecture(first.text)),
+                parts: FieldParts::none(),
+            };
+        };
+        let mut cursor = PartCursor {
+            last: Field::Architecture,
+            next_part: first.next(),
+        };
+        let vendor = cursor.take_vendor();
+        let operating_system = cursor.take_operating_system();
+        let environment = cursor.take_environment();
+        let binary_format = cursor.take_binary_format();
+        let parts = FieldParts {
+            architecture: Some(first.text),
+            vendor: vendor.1,
+            operating_system: operating_system.1,
+            environment: environment.1,
+            binary_format: binary_format.1,
+        };
+        if let Some(left) = cursor.next_part {
+            let result = Err(refusal(left.text, cursor.last));
+            return Reading { result, parts };
+        }
+        let operating_system = operating_system.0.unwrap_or(OperatingSystem::Unknown);
+        let environment = environment.0.unwrap_or(Environment::Unknown);
+        let result = Ok(TripleRef {
+            architecture,
+            vendor: vendor.0.unwrap_or(VendorRef::Known(KnownVendor::Unknown)),
+            operating_system,
+            environment,
+            binary_format: given_or_implied(
+                binary_format.0,
+                architecture,
+                operating_system,
+                environment,
+            ),
+        });
+        Reading { result, parts }
+    }
+}
+
+impl<'a> TripleRef<'a> {
+    /// The triple that a text parses as, or why it is refused, as [`Triple::from_str`] says. A custom vendor and a
+    /// refused part borrow the text, so nothing is allocated.
+    pub fn from_str(text: &'a str) -> Result<TripleRef<'a>, ParseErrorRef<'a>>
+        ensures ok { IfOk result (λ triple. ReadsAs text.entry.now (values_of_ref triple)) }
+        ensures plain { IfOk result (λ triple. is_plain (ref_value triple.vendor) ≡ true) }
+        ensures err { IfErr result (λ error. IsRefusedAs text.entry.now (refusal_of_ref error)) }
+    {
+        if let Some(triple) = TripleRef::from_special_text(text) {
+            return Ok(triple);
+        }
+        Reading::from_parts(Part::first(text)).result
     }
 }
 
@@ -148,42 +255,9 @@ impl Triple {
         ensures plain { IfOk result (λ triple. is_plain (vendor_value triple.vendor) ≡ true) }
         ensures err { IfErr result (λ error. IsErrorOf text.now error) }
     {
-        if let Some(triple) = Triple::from_special_text(text) {
-            return Ok(triple);
+        match TripleRef::from_str(text) {
+            Ok(triple) => Ok(triple.to_triple(alloc)?),
+            Err(error) => Err(error.to_error(alloc)),
         }
-        Triple::from_parts(alloc, Part::first(text))
-    }
-
-    /// The triple that the parts give of which this is the first, or why one of them is refused.
-    fn from_parts(alloc: Global, first: Part<'_>) -> Result<Triple, ParseError>
-        ensures answer { IsResultOf (reading_of_parts (remaining_parts (Some first.entry))) result }
-        ensures owned { IfOk result (λ triple. OwnsCustomText triple.vendor) }
-    {
-        let Some(architecture) = first.architecture() else {
-            let part = String::from_str(alloc, first.text)?;
-            return Err(ParseError::UnrecognizedArchitecture(part));
-        };
-        let mut cursor = PartCursor {
-            last: Field::Architecture,
-            next_part: first.next(),
-        };
-        let vendor = cursor.take_vendor(alloc)?;
-        let operating_system = cursor.take::<OperatingSystem>(Field::OperatingSystem);
-        let environment = cursor.take::<Environment>(Field::Environment);
-        let binary_format = cursor.take::<BinaryFormat>(Field::BinaryFormat);
-        if let Some(left) = cursor.next_part {
-            let part = String::from_str(alloc, left.text)?;
-            return Err(refusal(part, cursor.last));
-        }
-        let operating_system = operating_system.unwrap_or(OperatingSystem::Unknown);
-        let environment = environment.unwrap_or(Environment::Unknown);
-        let implied = implied_format(architecture, operating_system, environment);
-        Ok(Triple {
-            architecture,
-            vendor: vendor.unwrap_or(Vendor::Unknown),
-            operating_system,
-            environment,
-            binary_format: binary_format.unwrap_or(implied),
-        })
     }
 }

@@ -2,19 +2,24 @@
 ghost use Rattle.std.specs.Prelude.{◌≡◌, ◌↔◌, ◌⊎◌, true, IsTrue};
 ghost use Rattle.lexicon_fields.specs.Laws.{HasVersionInRange};
 ghost use Rattle.lexicon_fields.specs.Vendor.{is_plain, vendor_value};
+ghost use Rattle.lexicon_fields.specs.VendorRef.{ref_value};
+ghost use Rattle.lexicon_fields.specs.declared.known_vendor.KnownVendor.TheVariants as known_vendor;
 ghost use Rattle.lexicon_fields.specs.declared.vendor.Vendor.TheVariants.{Espressif};
+ghost use Rattle.lexicon_fields.specs.declared.vendor_ref.VendorRef.TheVariants.{Known};
 ghost use Rattle.target_lexicon.specs.FixedPoints.{settled_values};
 ghost use Rattle.target_lexicon.specs.Laws.{ComesBack};
 ghost use Rattle.target_lexicon.specs.NormalStep.{normal_step, prints_as_special, hides_newlib, prints_the_esp_idf_text, shows_only_none, elf_if_unknown, is_in_no_family};
 ghost use Rattle.target_lexicon.specs.Printing.{text_of};
 ghost use Rattle.target_lexicon.specs.Reading.{ReadsAs};
 ghost use Rattle.target_lexicon.specs.Values.{values_of};
+ghost use Rattle.target_lexicon.specs.ValuesRef.{values_of_ref};
 
 use crate::laws::{round_is_normal_step, settled_texts_are_keys};
 use crate::triple::Triple;
+use crate::triple_ref::TripleRef;
 use lexicon_fields::{
-    Architecture, ArmArchitecture, BinaryFormat, Environment, OperatingSystem, Riscv32Architecture,
-    Vendor,
+    Architecture, BinaryFormat, Environment, KnownVendor, OperatingSystem, Riscv32Architecture,
+    Vendor, VendorRef,
 };
 
 impl Triple {
@@ -31,9 +36,7 @@ impl Triple {
     pub fn comes_back(&self) -> bool
         ensures { IsTrue result ↔ ComesBack (values_of self.now) }
     {
-        round_is_normal_step();
-        version_fits(self.operating_system);
-        self.is_in_no_family()
+        self.as_triple_ref().comes_back()
     }
 
     /// The triple that this triple's printed text parses as. The vendor must be plain, as that of every parsed triple
@@ -69,14 +72,73 @@ impl Triple {
     {
         settled_texts_are_keys();
         version_fits(self.operating_system);
+        Triple::normal(self)
+    }
+
+    /// The normal step.
+    fn step(mut self) -> Triple
+        ensures step { values_of result ≡ normal_step (values_of self) }
+        ensures vendor { (result.vendor ≡ self.vendor) ⊎ (result.vendor ≡ Espressif) }
+    {
+        let step = self.as_triple_ref().step();
+        let (architecture, operating_system) = (step.architecture, step.operating_system);
+        let (environment, binary_format) = (step.environment, step.binary_format);
+        if matches!(step.vendor, VendorRef::Known(KnownVendor::Espressif)) {
+            self.vendor = Vendor::Espressif;
+        }
+        self.architecture = architecture;
+        self.operating_system = operating_system;
+        self.environment = environment;
+        self.binary_format = binary_format;
+        self
+    }
+}
+
+impl<'a> TripleRef<'a> {
+    /// Whether the triple comes back, as [`Triple::comes_back`] says.
+    pub fn comes_back(&self) -> bool
+        ensures { IsTrue result ↔ ComesBack (values_of_ref self.now) }
+    {
+        round_is_normal_step();
+        version_fits(self.operating_system);
+        self.is_in_no_family()
+    }
+
+    /// The triple that the printed text parses as, as [`Triple::normal`] says. The vendor must be plain.
+    #[tactic(auto, using(crate::proofs::TextRoundTrips::round_by_step))]
+    pub fn normal(self) -> TripleRef<'a>
+        requires { is_plain (ref_value self.vendor) ≡ true }
+        ensures step { values_of_ref result ≡ normal_step (values_of_ref self.entry) }
+        ensures round { ReadsAs (text_of (values_of_ref self.entry)) (values_of_ref result) }
+        ensures vendor { (result.vendor ≡ self.entry.vendor)
+            ⊎ (result.vendor ≡ Known known_vendor.Espressif) }
+    {
+        round_is_normal_step();
+        version_fits(self.operating_system);
+        self.step()
+    }
+
+    /// The canonical form, as [`Triple::settle`] says. The vendor must be plain.
+    pub fn settle(self) -> TripleRef<'a>
+        requires { is_plain (ref_value self.vendor) ≡ true }
+        ensures steps { values_of_ref result ≡ settled_values (values_of_ref self.entry) }
+        ensures back { ComesBack (values_of_ref result) }
+        ensures stays { ComesBack (values_of_ref self.entry) →
+            values_of_ref result ≡ values_of_ref self.entry }
+        ensures vendor { (result.vendor ≡ self.entry.vendor)
+            ⊎ (result.vendor ≡ Known known_vendor.Espressif) }
+    {
+        settled_texts_are_keys();
+        version_fits(self.operating_system);
         self.normal()
     }
 
     /// The normal step.
     #[tactic(auto, unfolding(crate::specs::NormalStep::normal_step))]
-    fn step(mut self) -> Triple
-        ensures step { values_of result ≡ normal_step (values_of self) }
-        ensures vendor { (result.vendor ≡ self.vendor) ⊎ (result.vendor ≡ Espressif) }
+    pub(crate) fn step(mut self) -> TripleRef<'a>
+        ensures step { values_of_ref result ≡ normal_step (values_of_ref self.entry) }
+        ensures vendor { (result.vendor ≡ self.entry.vendor)
+            ⊎ (result.vendor ≡ Known known_vendor.Espressif) }
     {
         if self.prints_as_special() {
             self.environment = Environment::Newlib;
@@ -85,7 +147,7 @@ impl Triple {
             self.environment = Environment::Unknown;
             self.binary_format = elf_if_unknown(self.binary_format);
         } else if self.prints_the_esp_idf_text() {
-            self.vendor = Vendor::Espressif;
+            self.vendor = VendorRef::Known(KnownVendor::Espressif);
             self.environment = Environment::Newlib;
             self.binary_format = BinaryFormat::Elf;
         } else if self.shows_only_none() {
@@ -98,7 +160,7 @@ impl Triple {
     /// Whether the triple is in none of the five families.
     #[tactic(auto, unfolding(crate::specs::NormalStep::is_in_no_family))]
     fn is_in_no_family(&self) -> bool
-        ensures { result ≡ is_in_no_family (values_of self.now) }
+        ensures { result ≡ is_in_no_family (values_of_ref self.now) }
     {
         !self.prints_as_special()
             && !self.hides_newlib()
@@ -108,8 +170,8 @@ impl Triple {
     }
 
     /// Whether a special text is printed, and environment and format aren't `Newlib` and `Elf`.
-    pub(crate) fn prints_as_special(&self) -> bool
-        ensures { result ≡ prints_as_special (values_of self.now) }
+    fn prints_as_special(&self) -> bool
+        ensures { result ≡ prints_as_special (values_of_ref self.now) }
     {
         self.special_text().is_some()
             && !matches!(
@@ -119,8 +181,8 @@ impl Triple {
     }
 
     /// Whether the environment is a `Newlib` that isn't shown, and the text isn't special.
-    pub(crate) fn hides_newlib(&self) -> bool
-        ensures { result ≡ hides_newlib (values_of self.now) }
+    fn hides_newlib(&self) -> bool
+        ensures { result ≡ hides_newlib (values_of_ref self.now) }
     {
         self.implies_newlib()
             && matches!(self.environment, Environment::Newlib)
@@ -128,31 +190,31 @@ impl Triple {
     }
 
     /// Whether the vendor is the custom `esp`, and the text is the special one.
-    pub(crate) fn prints_the_esp_idf_text(&self) -> bool
-        ensures { result ≡ prints_the_esp_idf_text (values_of self.now) }
+    fn prints_the_esp_idf_text(&self) -> bool
+        ensures { result ≡ prints_the_esp_idf_text (values_of_ref self.now) }
     {
         match (
             self.architecture,
-            &self.vendor,
+            self.vendor,
             self.operating_system,
             self.environment,
             self.binary_format,
         ) {
             (
                 Architecture::Riscv32(Riscv32Architecture::Riscv32imc),
-                Vendor::Custom(custom),
+                VendorRef::Custom(custom),
                 OperatingSystem::Espidf,
                 Environment::Unknown,
                 BinaryFormat::Elf,
-            ) => custom.as_str() == "esp",
+            ) => custom == "esp",
             _ => false,
         }
     }
 
     /// Whether the environment `none` is shown without a system, on Clever.
     #[tactic(auto, unfolding(crate::specs::Printing::shows_operating_system))]
-    pub(crate) fn shows_only_none(&self) -> bool
-        ensures { result ≡ shows_only_none (values_of self.now) }
+    fn shows_only_none(&self) -> bool
+        ensures { result ≡ shows_only_none (values_of_ref self.now) }
     {
         match self.environment {
             Environment::None => !self.shows_operating_system(),
@@ -162,7 +224,7 @@ impl Triple {
 }
 
 /// The format, with `Elf` for an unknown one.
-pub(crate) fn elf_if_unknown(binary_format: BinaryFormat) -> BinaryFormat
+fn elf_if_unknown(binary_format: BinaryFormat) -> BinaryFormat
     ensures { result ≡ elf_if_unknown binary_format }
 {
     match binary_format {
@@ -172,6 +234,6 @@ pub(crate) fn elf_if_unknown(binary_format: BinaryFormat) -> BinaryFormat
 }
 
 /// The version of a system is in range, by its types.
-fn version_fits(operating_system: OperatingSystem)
+pub(crate) fn version_fits(operating_system: OperatingSystem)
     ensures { HasVersionInRange operating_system }
 {}

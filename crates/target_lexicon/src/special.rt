@@ -1,37 +1,37 @@
 //! The two texts that have a triple of their own.
-ghost use Rattle.std.specs.Prelude.{◌≡◌, Option, option_map, IfSome, List, ℕ};
-ghost use Rattle.lexicon_fields.specs.Vendor.{OwnsCustomText, vendor_value};
+ghost use Rattle.std.specs.Prelude.{◌≡◌, ◌≤◌, length, Option, option_map, IfSome, List, ℕ};
+ghost use Rattle.lexicon_fields.specs.Laws.{max_name_length};
 ghost use Rattle.target_lexicon.specs.SpecialTexts.{special_text, special_values};
-ghost use Rattle.target_lexicon.specs.Values.{values_of};
+ghost use Rattle.target_lexicon.specs.ValuesRef.{values_of_ref};
 
-use crate::triple::Triple;
+use crate::triple_ref::TripleRef;
 use lexicon_fields::{
-    Architecture, ArmArchitecture, BinaryFormat, Environment, OperatingSystem, Riscv32Architecture,
-    Vendor,
+    Architecture, ArmArchitecture, BinaryFormat, Environment, KnownVendor, OperatingSystem,
+    Riscv32Architecture, VendorRef,
 };
 
 const NINTENDO_3DS: &str = "armv6k-nintendo-3ds";
 
 const ESP_IDF: &str = "riscv32imc-esp-espidf";
 
-impl Triple {
+impl<'a> TripleRef<'a> {
     /// The triple of a special text.
+    #[inline(always)]
     #[tactic(auto, unfolding(crate::specs::SpecialTexts::special_values))]
-    pub(crate) fn from_special_text(text: &str) -> Option<Triple>
-        ensures values { option_map values_of result ≡ special_values text.now }
-        ensures owned { IfSome result (λ triple. OwnsCustomText triple.vendor) }
+    pub(crate) fn from_special_text(text: &str) -> Option<TripleRef<'a>>
+        ensures { option_map values_of_ref result ≡ special_values text.now }
     {
         match text {
-            NINTENDO_3DS => Some(Triple {
+            NINTENDO_3DS => Some(TripleRef {
                 architecture: Architecture::Arm(ArmArchitecture::Armv6k),
-                vendor: Vendor::Nintendo,
+                vendor: VendorRef::Known(KnownVendor::Nintendo),
                 operating_system: OperatingSystem::Horizon,
                 environment: Environment::Newlib,
                 binary_format: BinaryFormat::Elf,
             }),
-            ESP_IDF => Some(Triple {
+            ESP_IDF => Some(TripleRef {
                 architecture: Architecture::Riscv32(Riscv32Architecture::Riscv32imc),
-                vendor: Vendor::Espressif,
+                vendor: VendorRef::Known(KnownVendor::Espressif),
                 operating_system: OperatingSystem::Espidf,
                 environment: Environment::Newlib,
                 binary_format: BinaryFormat::Elf,
@@ -43,18 +43,19 @@ impl Triple {
     /// The special text that the triple prints, if any. Environment and format don't matter.
     #[tactic(auto, unfolding(crate::specs::SpecialTexts::special_text))]
     pub(crate) fn special_text(&self) -> Option<&'static str>
-        ensures { option_map {U = List ℕ} (λ text. text.now) result
-            ≡ special_text (values_of self.now) }
+        ensures text { option_map {U = List ℕ} (λ text. text.now) result
+            ≡ special_text (values_of_ref self.now) }
+        ensures bound { IfSome result (λ text. length text.now ≤ max_name_length) }
     {
-        match (self.architecture, &self.vendor, self.operating_system) {
+        match (self.architecture, self.vendor, self.operating_system) {
             (
                 Architecture::Arm(ArmArchitecture::Armv6k),
-                Vendor::Nintendo,
+                VendorRef::Known(KnownVendor::Nintendo),
                 OperatingSystem::Horizon,
             ) => Some(NINTENDO_3DS),
             (
                 Architecture::Riscv32(Riscv32Architecture::Riscv32imc),
-                Vendor::Espressif,
+                VendorRef::Known(KnownVendor::Espressif),
                 OperatingSystem::Espidf,
             ) => Some(ESP_IDF),
             _ => None,

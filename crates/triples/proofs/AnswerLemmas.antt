@@ -6,8 +6,7 @@ use Rattle.std.specs.{BTreeMap.is_at, BTreeSet.BTreeSet, BTreeSet.insert_key, Or
 use Rattle.std.specs.{Cmp.Lexicographic.slice_cmp, Cmp.Lexicographic.same_text, List.list_any, Str.bytes_eq, String.string_bytes, String.string_cmp}
 use Rattle.std.specs.declared.cmp.Ordering.{Ordering}
 use Rattle.std.specs.declared.cmp.Ordering.TheVariants.{Less, Equal, Greater}
-use Rattle.target_lexicon.specs.{FixedPoints.canonical_text, Reading.ReadsAs, Reading.IsErrorOf, Refusal.error_line, Values.Values, declared.parse_error.ParseError.ParseError}
-use Rattle.target_lexicon.specs.declared.parse_error.ParseError.TheVariants.{OutOfMemory}
+use Rattle.target_lexicon.specs.{FixedPoints.canonical_text, Reading.ReadsAs, Reading.IsRefusedAs, Refusal.Refusal, Refusal.refusal_line, Values.Values}
 use Rattle.triples.specs.declared.matrix.HashedText.{HashedText}
 use Rattle.triples.specs.Words.{line_feed}
 use Rattle.triples.specs.Output.{Answer, Shown, Refused, IsAnswer, AreAnswers, IsLineOutput, IsMatrix, shows, stays_after, staying_answers, matrix_of, answer_bytes, written_lines}
@@ -119,11 +118,6 @@ matrix-more {seen_old} cut adds far = record {
 pub matrix-whole : {lines rest : List (List ℕ)} {output : List ℕ} {seen : BTreeSet HashedText} → rest ≡ [] → IsMatrixSoFar lines rest output seen → IsMatrix lines output
 matrix-whole none far = (far.before, so-far-end none far.answers, far.written_lines)
 
--- the line of an error other than an allocation failure is the line of the refusal
-refusal_is_answer : (shown : Values → List ℕ) (line : List ℕ) (error : ParseError) → error ≢ OutOfMemory → IsErrorOf line error → IsAnswer shown line (Refused (codes "error: " ++ error_line error))
-refusal_is_answer shown line OutOfMemory other fault = absurd (other refl)
-refusal_is_answer shown line _ other fault = (_, fault, refl)
-
 -- what a line that parses adds, and what a refused line adds
 
 pub read-adds : {T E : Type 0} (done : Result T E) (shown : Values → List ℕ) (line old new : List ℕ) (t : Values) → ReadsAs line t
@@ -131,14 +125,14 @@ pub read-adds : {T E : Type 0} (done : Result T E) (shown : Values → List ℕ)
 read-adds (Ok _) shown line old new t reads grown = record { answer = Shown (shown t); is = (t, reads, refl); grown = grown }
 read-adds (Err _) shown line old new t reads grown = tt
 
-pub refusal-adds : {T E : Type 0} (done : Result T E) (shown : Values → List ℕ) (line old new : List ℕ) (error : ParseError) → error ≢ OutOfMemory → IsErrorOf line error
-    → OnOk done (new ≡ old ++ ((codes "error: " ++ error_line error) ++ line_feed ∷ [])) → OnOk done (AddsAnswer shown line old new)
-refusal-adds (Ok _) shown line old new error other fault grown = record {
-  answer = Refused (codes "error: " ++ error_line error);
-  is = refusal_is_answer shown line error other fault;
+pub refusal-adds : {T E : Type 0} (done : Result T E) (shown : Values → List ℕ) (line old new : List ℕ) (refusal : Refusal) → IsRefusedAs line refusal
+    → OnOk done (new ≡ old ++ ((codes "error: " ++ refusal_line refusal) ++ line_feed ∷ [])) → OnOk done (AddsAnswer shown line old new)
+refusal-adds (Ok _) shown line old new refusal refused grown = record {
+  answer = Refused (codes "error: " ++ refusal_line refusal);
+  is = (refusal, refused, refl);
   grown = grown;
 }
-refusal-adds (Err _) shown line old new error other fault grown = tt
+refusal-adds (Err _) shown line old new refusal refused grown = tt
 
 module _ (line old new : List ℕ) (seen_old seen_new : BTreeSet HashedText) where
   unless-seen : (b : Bool) (text : List ℕ) → (if b then [] else text ++ line_feed ∷ []) ≡ written_lines (if b then [] else Shown text ∷ [])
@@ -157,16 +151,16 @@ module _ (line old new : List ℕ) (seen_old seen_new : BTreeSet HashedText) whe
   }
   read-enters (Err _) t text reads is grown seen = tt
 
-  pub refusal-enters : {T E : Type 0} (done : Result T E) (error : ParseError) → error ≢ OutOfMemory → IsErrorOf line error
-      → OnOk done (new ≡ old ++ ((codes "error: " ++ error_line error) ++ line_feed ∷ []))
+  pub refusal-enters : {T E : Type 0} (done : Result T E) (refusal : Refusal) → IsRefusedAs line refusal
+      → OnOk done (new ≡ old ++ ((codes "error: " ++ refusal_line refusal) ++ line_feed ∷ []))
       → OnOk done (AddsEntry line old new seen_old seen_old)
-  refusal-enters (Ok _) error other fault grown = record {
-    answer = Refused (codes "error: " ++ error_line error);
-    is = refusal_is_answer canonical_text line error other fault;
+  refusal-enters (Ok _) refusal refused grown = record {
+    answer = Refused (codes "error: " ++ refusal_line refusal);
+    is = (refusal, refused, refl);
     grown = grown;
     seen = λ text. sym (or-false (has_text seen_old text));
   }
-  refusal-enters (Err _) error other fault grown = tt
+  refusal-enters (Err _) refusal refused grown = tt
 
 -- by the hash, then by the text
 abbrev hashed_cmp : HashedText → HashedText → Ordering

@@ -1,17 +1,17 @@
 //! What mode `show` writes for a triple.
 ghost use Rattle.std.specs.Prelude.{◌≡◌, ◌++◌, string_bytes, OnOk};
-ghost use Rattle.target_lexicon.specs.Values.{values_of};
+ghost use Rattle.target_lexicon.specs.ValuesRef.{values_of_ref};
 ghost use Rattle.triples.specs.Facts.{endianness_word, width_word, convention_word, model_word, spaced_word, text_with_facts};
 
 use std::alloc::AllocError;
-use target_lexicon::{CDataModel, CallingConvention, Endianness, PointerWidth, Triple};
+use target_lexicon::{CDataModel, CallingConvention, Endianness, PointerWidth, TripleRef};
 
 /// Appends the printed text of a triple, and the words for its byte order, pointer width, calling convention and data
 /// model.
-pub(crate) fn push_facts(output: &mut String, triple: &Triple) -> Result<(), AllocError>
+pub(crate) fn push_facts(output: &mut String, triple: &TripleRef<'_>) -> Result<(), AllocError>
     ensures { OnOk result
         (string_bytes output.new
-        ≡ string_bytes output.old ++ text_with_facts (values_of triple.now)) }
+        ≡ string_bytes output.old ++ text_with_facts (values_of_ref triple.now)) }
 {
     output.write(triple)?;
     push_word(output, endianness_word(triple.endianness().ok()))?;

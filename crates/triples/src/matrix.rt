@@ -1,13 +1,13 @@
 //! The texts that mode `matrix` has written so far.
 ghost use Rattle.std.specs.Prelude.{◌≡◌, ◌++◌, ◌∷◌, ℕ, List, [], false, string_bytes, if◌then◌else◌, OnOk};
 ghost use Rattle.target_lexicon.specs.Printing.{text_of};
-ghost use Rattle.target_lexicon.specs.Values.{values_of};
+ghost use Rattle.target_lexicon.specs.ValuesRef.{values_of_ref};
 ghost use Rattle.triples.specs.Private.{HasOneMore, has_text, hash_of};
 ghost use Rattle.triples.specs.Words.{line_feed};
 
 use std::alloc::{AllocError, Global};
 use std::collections::BTreeSet;
-use target_lexicon::Triple;
+use target_lexicon::TripleRef;
 
 /// A text after its hash, so that most comparisons are of two numbers.
 #[derive(PartialEq, Eq, PartialOrd, Ord, Drop)]
@@ -38,8 +38,8 @@ fn hash_of(text: &str) -> u64
 }
 
 /// Replaces the text in the scratch buffer by the printed text of a triple.
-fn put_text(scratch: &mut HashedText, triple: &Triple) -> Result<(), AllocError>
-    ensures text { OnOk result (string_bytes scratch.new.text ≡ text_of (values_of triple.now)) }
+fn put_text(scratch: &mut HashedText, triple: &TripleRef<'_>) -> Result<(), AllocError>
+    ensures text { OnOk result (string_bytes scratch.new.text ≡ text_of (values_of_ref triple.now)) }
     ensures hash { OnOk result (scratch.new.hash ≡ hash_of (string_bytes scratch.new.text)) }
 {
     scratch.text.clear();
@@ -95,16 +95,16 @@ impl Seen {
         &mut self,
         alloc: Global,
         output: &mut String,
-        triple: &Triple,
+        triple: &TripleRef<'_>,
     ) -> Result<(), AllocError>
         ensures output { OnOk result
             (string_bytes output.new
             ≡ string_bytes output.old
-            ++ (if has_text self.old.texts (text_of (values_of triple.now)) then [] else
-            text_of (values_of triple.now)
+            ++ (if has_text self.old.texts (text_of (values_of_ref triple.now)) then [] else
+            text_of (values_of_ref triple.now)
             ++ line_feed ∷ [])) }
         ensures seen { OnOk result
-            (HasOneMore self.old.texts self.new.texts (text_of (values_of triple.now))) }
+            (HasOneMore self.old.texts self.new.texts (text_of (values_of_ref triple.now))) }
     {
         put_text(&mut self.scratch, triple)?;
         push_unseen(alloc, output, &mut self.texts, &self.scratch)

@@ -1,8 +1,9 @@
 //! What a mode writes for an input.
 ghost use Rattle.std.specs.Prelude.{◌≡◌, ◌<◌, ◌++◌, ◌∷◌, [], true, codes, length, string_bytes, IfOk, IfErr, OnOk, OnErr};
-ghost use Rattle.lexicon_fields.specs.Vendor.{is_plain, vendor_value};
-ghost use Rattle.target_lexicon.specs.Refusal.{error_line};
-ghost use Rattle.target_lexicon.specs.Values.{values_of};
+ghost use Rattle.lexicon_fields.specs.Vendor.{is_plain};
+ghost use Rattle.lexicon_fields.specs.VendorRef.{ref_value};
+ghost use Rattle.target_lexicon.specs.Refusal.{refusal_line};
+ghost use Rattle.target_lexicon.specs.ValuesRef.{values_of_ref, refusal_of_ref};
 ghost use Rattle.triples.specs.Output.{lines_of, IsLineOutput, IsMatrix, IsOutput, IsInputErrorOf, shown_text};
 ghost use Rattle.triples.specs.Private.{AddsAnswer, AddsEntry};
 ghost use Rattle.triples.specs.Words.{line_feed};
@@ -14,7 +15,7 @@ use crate::matrix::Seen;
 use crate::mode::Mode;
 use crate::run_error::RunError;
 use std::alloc::{AllocError, Global};
-use target_lexicon::{ParseError, Triple};
+use target_lexicon::{ParseErrorRef, TripleRef};
 
 /// What is shown of the triple of each line.
 #[derive(Clone, Copy)]
@@ -28,10 +29,11 @@ enum View {
 }
 
 /// Appends what is shown of a triple.
-fn push_text(output: &mut String, view: View, triple: Triple) -> Result<(), AllocError>
-    requires { is_plain (vendor_value triple.vendor) ≡ true }
+fn push_text(output: &mut String, view: View, triple: TripleRef<'_>) -> Result<(), AllocError>
+    requires { is_plain (ref_value triple.vendor) ≡ true }
     ensures { OnOk result
-        (string_bytes output.new ≡ string_bytes output.old ++ shown_text view (values_of triple)) }
+        (string_bytes output.new
+        ≡ string_bytes output.old ++ shown_text view (values_of_ref triple.entry)) }
 {
     match view {
         View::Printed => output.write(&triple),
@@ -41,38 +43,39 @@ fn push_text(output: &mut String, view: View, triple: Triple) -> Result<(), Allo
 }
 
 /// Appends what is shown of a triple, and a line feed.
-fn push_line(output: &mut String, view: View, triple: Triple) -> Result<(), AllocError>
-    requires { is_plain (vendor_value triple.vendor) ≡ true }
+fn push_line(output: &mut String, view: View, triple: TripleRef<'_>) -> Result<(), AllocError>
+    requires { is_plain (ref_value triple.vendor) ≡ true }
     ensures { OnOk result
         (string_bytes output.new
-        ≡ string_bytes output.old ++ (shown_text view (values_of triple) ++ line_feed ∷ [])) }
+        ≡ string_bytes output.old
+        ++ (shown_text view (values_of_ref triple.entry) ++ line_feed ∷ [])) }
 {
     push_text(output, view, triple)?;
     output.push('\n')
 }
 
-/// Appends `error: `, the line of the error, and a line feed.
-fn push_refusal(output: &mut String, error: &ParseError) -> Result<(), AllocError>
+/// Appends `error: `, the line of the refusal, and a line feed.
+fn push_refusal(output: &mut String, refusal: ParseErrorRef<'_>) -> Result<(), AllocError>
     ensures { OnOk result
         (string_bytes output.new
         ≡ string_bytes output.old
-        ++ ((codes "error: " ++ error_line error.now) ++ line_feed ∷ [])) }
+        ++ ((codes "error: " ++ refusal_line (refusal_of_ref refusal.entry))
+        ++ line_feed ∷ [])) }
 {
     output.push_str("error: ")?;
-    output.write(error)?;
+    output.write(&refusal)?;
     output.push('\n')
 }
 
 /// Appends the answer to a line, and a line feed.
-fn push_answer(alloc: Global, output: &mut String, view: View, line: &str) -> Result<(), AllocError>
+fn push_answer(output: &mut String, view: View, line: &str) -> Result<(), AllocError>
     ensures { OnOk result
         (AddsAnswer (shown_text view) line.now (string_bytes output.old)
         (string_bytes output.new)) }
 {
-    match Triple::from_str(alloc, line) {
+    match TripleRef::from_str(line) {
         Ok(triple) => push_line(output, view, triple),
-        Err(ParseError::OutOfMemory) => Err(AllocError),
-        Err(error) => push_refusal(output, &error),
+        Err(refusal) => push_refusal(output, refusal),
     }
 }
 
@@ -87,10 +90,9 @@ fn push_entry(
         (AddsEntry line.now (string_bytes output.old) (string_bytes output.new) seen.old.texts
         seen.new.texts) }
 {
-    match Triple::from_str(alloc, line) {
+    match TripleRef::from_str(line) {
         Ok(triple) => seen.push_first(alloc, output, &triple.settle()),
-        Err(ParseError::OutOfMemory) => Err(AllocError),
-        Err(error) => push_refusal(output, &error),
+        Err(refusal) => push_refusal(output, refusal),
     }
 }
 
@@ -104,7 +106,7 @@ fn answers(alloc: Global, view: View, input: &str) -> Result<String, AllocError>
     let mut rest = input;
     while !rest.is_empty() {
         let (line, others) = first_line(rest);
-        push_answer(alloc, &mut output, view, line)?;
+        push_answer(&mut output, view, line)?;
         rest = others;
     }
     Ok(output)

@@ -130,3 +130,6 @@ pub returns-clause-vendor : goal.returns-clause-vendor
 returns-clause-vendor c =
     hash_injective_on (variants_distinguish vendor.enum vendor_hash.ghosts.hash_input (omega arith) (λ x. refl) _ _ (one_field Custom custom_vendor-hash, tt))
     (λ x y same. hash_by_value x ∙ ap value_hash same ∙ sym (hash_by_value y))
+
+pub returns-clause-known_vendor : goal.returns-clause-known_vendor
+returns-clause-known_vendor c = bare_hash_injective known_vendor.enum tt (omega arith)

@@ -1,0 +1,125 @@
+//! The vendors, of which a custom one borrows its text.
+ghost use Rattle.std.specs.Prelude.{◌≡◌, false, None, Some, IfOk, OnErr, option_map};
+ghost use Rattle.lexicon_fields.specs.FixedRow.{has_row};
+ghost use Rattle.lexicon_fields.specs.OperatingSystem.{operating_system_of};
+ghost use Rattle.lexicon_fields.specs.Vendor.{IsCustom, OwnsCustomText, is_plain, vendor_name, vendor_of, vendor_value};
+ghost use Rattle.lexicon_fields.specs.VendorRef.{ref_value};
+
+use crate::known_vendor::KnownVendor;
+use crate::operating_system::OperatingSystem;
+use crate::steps::Steps;
+use crate::table::fixed_row;
+use crate::vendor::{CustomVendor, Vendor, has_vendor_form, is_admitted};
+use std::alloc::{AllocError, Global};
+use std::fmt;
+
+/// The vendor of a target, of which a custom one borrows its text. It is copied freely and never allocates.
+#[derive(Clone, Copy, Debug, PartialEq, Eq, Hash)]
+pub enum VendorRef<'a> {
+    /// A vendor that has a fixed name.
+    Known(KnownVendor),
+    /// Any other vendor, as its text.
+    Custom(&'a str),
+}
+
+impl<'a> VendorRef<'a> {
+    /// The vendor that the text parses as, as [`Vendor::from_str`] says; a custom one borrows the text. `Err` for every
+    /// other text.
+    pub fn from_str(text: &'a str) -> Result<VendorRef<'a>, ()>
+        ensures ok { IfOk result (λ vendor. vendor_of text.entry.now ≡ Some (ref_value vendor)) }
+        ensures err { OnErr result (vendor_of text.entry.now ≡ None) }
+    {
+        match fixed_row(text, &mut Steps::new()) {
+            Some(row) => match row.vendor {
+                Some(known) => Ok(VendorRef::Known(known)),
+                None => Err(()),
+            },
+            None => match OperatingSystem::parse_darwin_like(text) {
+                Some(_) => Err(()),
+                None => VendorRef::custom_from_str(text).ok_or(()),
+            },
+        }
+    }
+
+    /// The vendor that a text parses as that has no row in the table of names and parses as no operating system. Only
+    /// the form of the text is looked at.
+    pub fn custom_from_str(text: &'a str) -> Option<VendorRef<'a>>
+        requires no_row { has_row text.now ≡ false }
+        requires no_system { operating_system_of text.now ≡ None }
+        ensures { option_map ref_value result ≡ vendor_of text.entry.now }
+    {
+        if has_vendor_form(text) {
+            Some(VendorRef::Custom(text))
+        } else {
+            None
+        }
+    }
+
+    /// The name. That of a custom vendor is its text.
+    pub fn as_str(&self) -> &'a str
+        ensures { result.now ≡ vendor_name (ref_value self.now) }
+    {
+        match *self {
+            VendorRef::Known(known) => known.as_str(),
+            VendorRef::Custom(text) => text,
+        }
+    }
+
+    /// Whether parsing can produce the vendor: it is known, or custom with an admitted text.
+    pub fn is_plain(&self) -> bool
+        ensures { result ≡ is_plain (ref_value self.now) }
+    {
+        match *self {
+            VendorRef::Known(_) => true,
+            VendorRef::Custom(text) => is_admitted(text),
+        }
+    }
+
+    /// The same vendor, of which a custom one owns a copy of its text. `Err` if the allocation for that text fails.
+    pub fn to_vendor(&self, alloc: Global) -> Result<Vendor, AllocError>
+        ensures value { IfOk result (λ vendor. vendor_value vendor ≡ ref_value self.now) }
+        ensures owned { IfOk result OwnsCustomText }
+        ensures memory { OnErr result (IsCustom (ref_value self.now)) }
+    {
+        match *self {
+            VendorRef::Known(known) => Ok(known.to_vendor()),
+            VendorRef::Custom(text) => Ok(Vendor::Custom(CustomVendor::owned_copy(alloc, text)?)),
+        }
+    }
+}
+
+impl Vendor {
+    /// The same vendor, borrowed.
+    pub fn as_vendor_ref(&self) -> VendorRef<'_>
+        ensures { ref_value result ≡ vendor_value self.now }
+    {
+        match self {
+            Vendor::Unknown => VendorRef::Known(KnownVendor::Unknown),
+            Vendor::Amd => VendorRef::Known(KnownVendor::Amd),
+            Vendor::Apple => VendorRef::Known(KnownVendor::Apple),
+            Vendor::Espressif => VendorRef::Known(KnownVendor::Espressif),
+            Vendor::Experimental => VendorRef::Known(KnownVendor::Experimental),
+            Vendor::Fortanix => VendorRef::Known(KnownVendor::Fortanix),
+            Vendor::Ibm => VendorRef::Known(KnownVendor::Ibm),
+            Vendor::Kmc => VendorRef::Known(KnownVendor::Kmc),
+            Vendor::Nintendo => VendorRef::Known(KnownVendor::Nintendo),
+            Vendor::Nvidia => VendorRef::Known(KnownVendor::Nvidia),
+            Vendor::Pc => VendorRef::Known(KnownVendor::Pc),
+            Vendor::Rumprun => VendorRef::Known(KnownVendor::Rumprun),
+            Vendor::Sun => VendorRef::Known(KnownVendor::Sun),
+            Vendor::Uwp => VendorRef::Known(KnownVendor::Uwp),
+            Vendor::Wrs => VendorRef::Known(KnownVendor::Wrs),
+            Vendor::Custom(custom) => VendorRef::Custom(custom.as_str()),
+        }
+    }
+}
+
+impl<'a> fmt::Display for VendorRef<'a> {
+    ghost output = { λ it. Some (vendor_name (ref_value it)) };
+
+    ghost styled_output = { λ it _. Some (vendor_name (ref_value it)) };
+
+    fn fmt<W: fmt::Write>(&self, f: &mut fmt::Formatter<W>) -> fmt::Result {
+        f.write_str(self.as_str())
+    }
+}

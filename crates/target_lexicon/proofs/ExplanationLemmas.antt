@@ -1,0 +1,224 @@
+-- The parts that fields take one after the other are those of the least placement, and where they are in the text.
+use Rattle.std.proofs.Common.{◌≡◌, ℕ, ◌+◌, ◌<◌, ◌≤◌, List, [], ◌∷◌, ◌++◌, take, length, true, false, nat_eq, Option, Some, None, refl, sym, ◌∙◌, ap, subst, arith, inl, inr}
+use Rattle.std.specs.Prelude.{is_some}
+use Rattle.std.specs.List.{join_with_byte}
+use Rattle.std.proofs.{Math.Seq.take-append_seam, lemmas.Bool.cases_Bool}
+use Rattle.lexicon_fields.specs.Names.{dash}
+use Rattle.lexicon_fields.specs.{declared.architecture.Architecture.Architecture as AnyArchitecture, Architecture.architecture_of, Vendor.vendor_of, OperatingSystem.operating_system_of, Environment.environment_of, BinaryFormat.binary_format_of}
+use Rattle.target_lexicon.specs.Field.{Field, Architecture, Vendor, OperatingSystem, Environment, BinaryFormat, field_number, parses_as}
+use Rattle.target_lexicon.specs.FieldTexts.{texts, texts_at, no_texts, taken_part, parts_left, taken_after_architecture, taken_texts}
+use Rattle.target_lexicon.specs.{Placement.ArePartsOf, Placement.IsPlacedAfter, Placement.IsLeastPlacement, Placement.HasPlacement, Placement.parts_of, SpecialTexts.special_values, Values.Values}
+use Rattle.target_lexicon.specs.Reading.{part_at, IsRefusal, IsRefusedAs, PartsReadAs, ReadsAs, expected_after, last_field}
+use Rattle.target_lexicon.specs.Refusal.{Expects, Refusal, refusal_with}
+use Rattle.target_lexicon.specs.Explanation.{SourceValue, NotGiven, Implied, source_at, sources_at, next_start, AreSourcesOf, AreTextsOf, IsRefusalAfter, IsRefusedAfter, IsInText, AreInText}
+use Rattle.target_lexicon.proofs.GreedyPlacement.{Follows, filled, unread, after_architecture, filled-placed, greedy-finds, greedy-least, placement_prefix}
+use Rattle.target_lexicon.proofs.{PartLemmas.parts_of-are, PartLemmas.parts-only, RefusalLemmas.stop, RefusalLemmas.refused_first, RefusalLemmas.refused-at, UniqueReading.refusal_at, UniqueReading.refusal_unique}
+use Rattle.target_lexicon.proofs.TextRanges.{AreAt, first-in, left_of, left_after, all-in, next_start-bound}
+
+-- a field has no part in a greedy placement of later fields
+absent : (f l : Field) (fs : List Field) (ps : List (List ℕ)) → field_number f ≤ field_number l → Follows l fs → part_at f ps (filled fs ps) ≡ None
+absent f l fs [] h o = refl
+absent f l [] (p ∷ ps) h o = refl
+absent f l (g ∷ fs) (p ∷ ps) h o =
+    let other : nat_eq (field_number g) (field_number f) ≡ false = grind (arith, h, o.0) in
+    let after : field_number f ≤ field_number g = omega (arith, h, o.0) in
+    elim (cases_Bool (parses_as g p)) [
+      | inl takes ↦ rw (takes, other) (absent f g fs ps after o.1)
+      | inr skips ↦ rw skips (absent f g fs (p ∷ ps) after o.1)
+    ]
+
+-- the first field of a greedy placement, and the fields after it
+module _ {A : Type 0} (f : Field) (find : List ℕ → Option A) (is_read : (p : List ℕ) → parses_as f p ≡ is_some (find p)) (fs : List Field) (in_order : Follows f fs) where
+  pub at_first : (ps : List (List ℕ)) → part_at f ps (filled (f ∷ fs) ps) ≡ taken_part find ps
+  at_first [] = refl
+  at_first (p ∷ ps) =
+      let same : nat_eq (field_number f) (field_number f) ≡ true = grind arith in
+      elim (cases_Bool (parses_as f p)) [
+        | inl takes ↦ let found : is_some (find p) ≡ true = sym (is_read p) ∙ takes in rw (takes, found, same) refl
+        | inr skips ↦ let found : is_some (find p) ≡ false = sym (is_read p) ∙ skips in rw (skips, found) (absent f f fs (p ∷ ps) (omega arith) in_order)
+      ]
+
+  pub at_later : (g : Field) (ps : List (List ℕ)) → field_number f < field_number g
+      → part_at g ps (filled (f ∷ fs) ps) ≡ part_at g (parts_left find ps) (filled fs (parts_left find ps))
+  at_later g [] h = refl
+  at_later g (p ∷ ps) h =
+      let other : nat_eq (field_number f) (field_number g) ≡ false = grind (arith, h) in
+      elim (cases_Bool (parses_as f p)) [
+        | inl takes ↦ let found : is_some (find p) ≡ true = sym (is_read p) ∙ takes in rw (takes, found, other) refl
+        | inr skips ↦ let found : is_some (find p) ≡ false = sym (is_read p) ∙ skips in rw (skips, found) refl
+      ]
+
+-- the parts that the fields take are those of the greedy placement
+pub taken-placed : (p : List ℕ) (ps : List (List ℕ)) → parses_as Architecture p ≡ true
+    → taken_texts (p ∷ ps) ≡ texts_at (p ∷ ps) (Architecture ∷ filled after_architecture ps)
+unfolding parses_as
+taken-placed p ps takes = by_architecture (architecture_of p) takes
+  where
+    by_architecture : (a : Option AnyArchitecture) → is_some a ≡ true → taken_after_architecture a p ps ≡ texts_at (p ∷ ps) (Architecture ∷ filled after_architecture ps)
+    by_architecture None h = absurd cc
+    by_architecture (Some a) h =
+        let ps₁ = parts_left vendor_of ps in
+        let ps₂ = parts_left operating_system_of ps₁ in
+        let ps₃ = parts_left environment_of ps₂ in
+        let fs₁ = OperatingSystem ∷ Environment ∷ BinaryFormat ∷ [] in
+        let fs₂ = Environment ∷ BinaryFormat ∷ [] in
+        let fs₃ = BinaryFormat ∷ [] in
+        let o₁ : Follows Vendor fs₁ = (refl, (refl, (refl, refl))) in
+        let o₂ : Follows OperatingSystem fs₂ = (refl, (refl, refl)) in
+        let o₃ : Follows Environment fs₃ = (refl, refl) in
+        let o₄ : Follows BinaryFormat [] = refl in
+        let vendor = at_first Vendor vendor_of (λ p. refl) fs₁ o₁ ps in
+        let past_vendor = λ (g : Field) (h : 1 < field_number g). at_later Vendor vendor_of (λ p. refl) fs₁ o₁ g ps h in
+        let system = past_vendor OperatingSystem (omega arith) ∙ at_first OperatingSystem operating_system_of (λ p. refl) fs₂ o₂ ps₁ in
+        let past_system = λ (g : Field) (h : 2 < field_number g). at_later OperatingSystem operating_system_of (λ p. refl) fs₂ o₂ g ps₁ h in
+        let environment = past_vendor Environment (omega arith) ∙ past_system Environment (omega arith) ∙ at_first Environment environment_of (λ p. refl) fs₃ o₃ ps₂ in
+        let past_environment = at_later Environment environment_of (λ p. refl) fs₃ o₃ BinaryFormat ps₂ (omega arith) in
+        let format = past_vendor BinaryFormat (omega arith) ∙ past_system BinaryFormat (omega arith) ∙ past_environment ∙ at_first BinaryFormat binary_format_of (λ p. refl) [] o₄ ps₃ in
+        λ i. texts (Some p) (sym vendor i) (sym system i) (sym environment i) (sym format i)
+
+pub taken-none : (p : List ℕ) (ps : List (List ℕ)) → parses_as Architecture p ≡ false → taken_texts (p ∷ ps) ≡ no_texts
+unfolding parses_as
+taken-none p ps skips = by_architecture (architecture_of p) skips
+  where
+    by_architecture : (a : Option AnyArchitecture) → is_some a ≡ false → taken_after_architecture a p ps ≡ no_texts
+    by_architecture None h = refl
+    by_architecture (Some a) h = absurd cc
+
+-- parts after a placement change nothing
+pub part_at-append : (f l : Field) (ps more : List (List ℕ)) (gs : List Field) → IsPlacedAfter l ps gs → part_at f (ps ++ more) gs ≡ part_at f ps gs
+part_at-append f l [] [] [] w = refl
+part_at-append f l [] (q ∷ more) [] w = refl
+part_at-append f l (p ∷ ps) more (g ∷ gs) w =
+    elim (cases_Bool (nat_eq (field_number g) (field_number f))) [
+      | inl here ↦ rw here refl
+      | inr later ↦ rw later (part_at-append f g ps more gs w.2)
+    ]
+part_at-append f l _ more _ w = absurd w
+
+texts-append : (p : List ℕ) (ps more : List (List ℕ)) (gs : List Field) → IsPlacedAfter Architecture ps gs
+    → texts_at (p ∷ (ps ++ more)) (Architecture ∷ gs) ≡ texts_at (p ∷ ps) (Architecture ∷ gs)
+texts-append p ps more gs w =
+    let same = λ (f : Field). part_at-append f Architecture ps more gs w in
+    λ i. texts (Some p) (same Vendor i) (same OperatingSystem i) (same Environment i) (same BinaryFormat i)
+
+-- the fields after the architecture, in order
+in_order : Follows Architecture after_architecture
+in_order = (refl, (refl, (refl, (refl, refl))))
+
+-- where the parts of the text begin
+starts-at : (text p : List ℕ) (ps : List (List ℕ)) → parts_of text ≡ p ∷ ps → AreAt text 0 (p ∷ ps)
+starts-at text p ps are = ([], refl, sym (parts_of-are text).joined ∙ ap (join_with_byte dash) are)
+
+-- the parts that a greedy placement leaves are those that the fields leave
+unread-step : {A : Type 0} (f : Field) (find : List ℕ → Option A) (is_read : (p : List ℕ) → parses_as f p ≡ is_some (find p)) (fs : List Field) (ps : List (List ℕ))
+    → unread (f ∷ fs) ps ≡ unread fs (parts_left find ps)
+unread-step f find is_read fs [] = refl
+unread-step f find is_read fs (p ∷ ps) =
+    elim (cases_Bool (parses_as f p)) [
+      | inl takes ↦ let found : is_some (find p) ≡ true = sym (is_read p) ∙ takes in rw (takes, found) refl
+      | inr skips ↦ let found : is_some (find p) ≡ false = sym (is_read p) ∙ skips in rw (skips, found) refl
+    ]
+
+unread-none : (ps : List (List ℕ)) → unread [] ps ≡ ps
+unread-none [] = refl
+unread-none (p ∷ ps) = refl
+
+unread-left : (ps : List (List ℕ)) → unread after_architecture ps ≡ left_of ps
+unfolding parses_as
+unread-left ps =
+    unread-step Vendor vendor_of (λ p. refl) _ ps ∙ unread-step OperatingSystem operating_system_of (λ p. refl) _ _
+    ∙ unread-step Environment environment_of (λ p. refl) _ _ ∙ unread-step BinaryFormat binary_format_of (λ p. refl) _ _ ∙ unread-none _
+
+module _ (text p : List ℕ) (ps : List (List ℕ)) (ordinary : special_values text ≡ None) (are : parts_of text ≡ p ∷ ps) where
+  -- the next part begins at most one byte after the end of the text
+  pub start-bound : next_start (taken_texts (p ∷ ps)) ≤ length text + 1
+  start-bound =
+      let joined : join_with_byte dash (p ∷ ps) ≡ text = ap (join_with_byte dash) (sym are) ∙ (parts_of-are text).joined in
+      let bound = next_start-bound p ps in
+      omega (arith, bound, ap length joined)
+
+  -- a text that reads: the parts are those of the least placement
+  pub read-sources : (t : Values) → ReadsAs text t → AreSourcesOf text (sources_at Implied (taken_texts (p ∷ ps)))
+  read-sources t reads = rw ordinary (by_parts (rw ordinary at reads))
+    where
+      by_parts : ((parts : List (List ℕ)) × ArePartsOf text parts × PartsReadAs parts t)
+          → (parts : List (List ℕ)) × ArePartsOf text parts × ((fields : List Field) × IsLeastPlacement parts fields × (sources_at Implied (taken_texts (p ∷ ps)) ≡ sources_at Implied (texts_at parts fields)))
+      by_parts (parts, of_text, (fields, least, holds)) =
+          let same : parts ≡ p ∷ ps = parts-only text parts of_text ∙ are in
+          let found = greedy-finds p ps (subst HasPlacement same (fields, least.placed)) in
+          (p ∷ ps, subst (ArePartsOf text) same of_text, (Architecture ∷ filled after_architecture ps, greedy-least p ps found.0 found.1, ap (sources_at Implied) (taken-placed p ps found.0)))
+
+  pub read-ranges : (unfilled : SourceValue) → IsInText text unfilled → AreInText text (sources_at unfilled (taken_texts (p ∷ ps)))
+  read-ranges unfilled none = (all-in text unfilled p ps none (starts-at text p ps are)).0
+
+  abbrev refused_part : List ℕ → SourceValue
+  refused_part q = source_at NotGiven (next_start (taken_texts (p ∷ ps))) (Some q)
+
+  -- what a refusal is explained by
+  abbrev pub IsExplained : Refusal → Type 0
+  IsExplained x = IsRefusalAfter (p ∷ ps) x (sources_at NotGiven (taken_texts (p ∷ ps))) (refused_part x.part) × IsInText text (refused_part x.part)
+
+  refused_part-in : (q : List ℕ) (rest : List (List ℕ)) → left_after (architecture_of p) p ps ≡ q ∷ rest → IsInText text (refused_part q)
+  refused_part-in q rest left =
+      let at = (all-in text NotGiven p ps tt (starts-at text p ps are)).1 in
+      (first-in text _ q rest (subst (AreAt text (next_start (taken_texts (p ∷ ps)))) left at)).0
+
+  -- the first part is no architecture
+  explained-first : parses_as Architecture p ≡ false → IsExplained (refusal_with (Expects Architecture) p)
+  unfolding parses_as
+  explained-first skips =
+      let none = taken-none p ps skips in (
+        record { refusal_holds = refused_first p ps skips; filled = taken_texts (p ∷ ps); earlier = none; sources = refl; refused = refl },
+        refused_part-in p ps (by_architecture (architecture_of p) skips),
+      )
+    where
+      by_architecture : (a : Option AnyArchitecture) → is_some a ≡ false → left_after a p ps ≡ p ∷ ps
+      by_architecture None h = refl
+      by_architecture (Some a) h = absurd cc
+
+  -- a later part is left
+  explained-left : (q : List ℕ) (rest : List (List ℕ)) → parses_as Architecture p ≡ true → unread after_architecture ps ≡ q ∷ rest
+      → IsExplained (refusal_with (expected_after (last_field Architecture (filled after_architecture ps))) q)
+  unfolding parses_as
+  explained-left q rest takes left =
+      let s = stop after_architecture ps q rest left in
+      let placed = filled-placed Architecture after_architecture s.prefix in_order s.taken in
+      let least = greedy-least p s.prefix takes s.taken in
+      let texts_are : taken_texts (p ∷ ps) ≡ texts_at (p ∷ s.prefix) (Architecture ∷ filled after_architecture s.prefix) =
+      taken-placed p ps takes
+      ∙ ap (λ gs. texts_at (p ∷ ps) (Architecture ∷ gs)) (sym s.same)
+      ∙ ap (λ qs. texts_at (p ∷ qs) (Architecture ∷ filled after_architecture s.prefix)) s.split
+      ∙ texts-append p s.prefix (q ∷ rest) _ placed in
+      let earlier : AreTextsOf (p ∷ take (length s.prefix) (s.prefix ++ (q ∷ rest))) (taken_texts (p ∷ ps)) =
+      subst (λ qs. AreTextsOf (p ∷ qs) (taken_texts (p ∷ ps))) (sym (take-append_seam s.prefix (q ∷ rest))) (Architecture ∷ filled after_architecture s.prefix, least, texts_are) in
+      let here : IsRefusalAfter (p ∷ (s.prefix ++ (q ∷ rest))) (refusal_with (expected_after (last_field Architecture (filled after_architecture s.prefix))) q) (sources_at NotGiven (taken_texts (p ∷ ps))) (refused_part q) =
+      record { refusal_holds = refused-at p s.prefix q rest takes s.taken s.stuck; filled = taken_texts (p ∷ ps); earlier = earlier; sources = refl; refused = refl } in (
+        subst (λ gs. IsRefusalAfter (p ∷ ps) (refusal_with (expected_after (last_field Architecture gs)) q) (sources_at NotGiven (taken_texts (p ∷ ps))) (refused_part q)) s.same
+            (subst (λ qs. IsRefusalAfter (p ∷ qs) (refusal_with (expected_after (last_field Architecture (filled after_architecture s.prefix))) q) (sources_at NotGiven (taken_texts (p ∷ ps))) (refused_part q)) (sym s.split) here),
+        refused_part-in q rest (by_architecture (architecture_of p) takes),
+      )
+    where
+      by_architecture : (a : Option AnyArchitecture) → is_some a ≡ true → left_after a p ps ≡ q ∷ rest
+      by_architecture None h = absurd cc
+      by_architecture (Some a) h = sym (unread-left ps) ∙ left
+
+  -- the refusal of the text is the one that is explained
+  as_refused : (x y : Refusal) → IsRefusedAs text x → IsExplained y → IsExplained x
+  as_refused x y refused explained = subst IsExplained (refusal_unique text y x (ordinary, (p ∷ ps, subst (ArePartsOf text) are (parts_of-are text), explained.0.refusal_holds)) refused) explained
+
+  pub refused-explained : (x : Refusal) → IsRefusedAs text x → IsExplained x
+  refused-explained x refused =
+      elim (cases_Bool (parses_as Architecture p)) [
+        | inr skips ↦ as_refused x _ refused (explained-first skips)
+        | inl takes ↦ by_left (unread after_architecture ps) refl takes
+      ]
+    where
+      by_left : (left : List (List ℕ)) → unread after_architecture ps ≡ left → parses_as Architecture p ≡ true → IsExplained x
+      by_left [] done takes =
+          let at = subst (λ parts. IsRefusal parts x) are (refusal_at text x refused) in
+          absurd (at.unplaced (placement_prefix at.count (p ∷ ps) (Architecture ∷ filled after_architecture ps, (greedy-least p ps takes done).placed)))
+      by_left (q ∷ rest) left takes = as_refused x _ refused (explained-left q rest takes left)
+
+  -- so the text is refused after the earlier parts
+  pub refused-after : (x : Refusal) → IsRefusedAs text x → IsRefusedAfter text x (sources_at NotGiven (taken_texts (p ∷ ps))) (refused_part x.part) × IsInText text (refused_part x.part)
+  refused-after x refused = let explained = refused-explained x refused in ((p ∷ ps, subst (ArePartsOf text) are (parts_of-are text), explained.0), explained.1)

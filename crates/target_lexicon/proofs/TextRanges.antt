@@ -1,0 +1,115 @@
+-- Where the parts that fields take are in the text.
+use Rattle.std.proofs.Common.{◌≡◌, ℕ, ◌+◌, ◌-◌, ◌≤◌, List, [], ◌∷◌, ◌++◌, take, drop, length, Option, Some, None, refl, sym, ◌∙◌, ap, append_assoc, arith, inl, inr}
+use Rattle.std.specs.Prelude.{is_some}
+use Rattle.std.specs.List.{join_with_byte}
+use Rattle.std.proofs.{Math.Seq.take-append_seam, Math.Seq.drop-append_seam, lemmas.Bool.cases_Bool, lemmas.List.append-nil, lemmas.List.length-append}
+use Rattle.lexicon_fields.specs.Names.{dash}
+use Rattle.lexicon_fields.specs.{declared.architecture.Architecture.Architecture as AnyArchitecture, Architecture.architecture_of, Vendor.vendor_of, OperatingSystem.operating_system_of, Environment.environment_of, BinaryFormat.binary_format_of}
+use Rattle.target_lexicon.specs.FieldTexts.{taken_part, parts_left, taken_after_architecture, taken_texts}
+use Rattle.target_lexicon.specs.Explanation.{SourceValue, FromPart, NotGiven, source_at, start_after, sources_at, next_start, IsInText, AreInText}
+
+-- the parts, joined by dashes, are the end of the text from `start` on; there may be none
+abbrev pub AreAt : List ℕ → ℕ → List (List ℕ) → Type 0
+AreAt text start [] = Unit {0}
+AreAt text start (p ∷ ps) = (before : List ℕ) × (length before ≡ start) × (text ≡ before ++ join_with_byte dash (p ∷ ps))
+
+range-at : (before p rest : List ℕ) → take (length before + length p - length before) (drop (length before) (before ++ (p ++ rest))) ≡ p
+range-at before p rest =
+    let size : length before + length p - length before ≡ length p = omega arith in
+    ap (λ n. take n (drop (length before) (before ++ (p ++ rest)))) size ∙ ap (take (length p)) (drop-append_seam before (p ++ rest)) ∙ take-append_seam p rest
+
+-- a part that is followed by these bytes
+part-in : (text before p rest : List ℕ) (start : ℕ) → length before ≡ start → text ≡ before ++ (p ++ rest) → IsInText text (FromPart start (start + length p) p)
+part-in text before p rest start at is =
+    let whole = length-append before (p ++ rest) in
+    let inner = length-append p rest in
+    rw (← at, is) (omega (arith, whole, inner), range-at before p rest)
+
+-- the first of the parts, and those after it
+pub first-in : (text : List ℕ) (start : ℕ) (p : List ℕ) (ps : List (List ℕ)) → AreAt text start (p ∷ ps)
+    → IsInText text (FromPart start (start + length p) p) × AreAt text (start + length p + 1) ps
+first-in text start p [] (before, at, is) = (part-in text before p [] start at (is ∙ ap (λ (k : List ℕ). before ++ k) (sym (append-nil p))), tt)
+first-in text start p (q ∷ ps) (before, at, is) =
+    let rest = join_with_byte dash (q ∷ ps) in
+    let one = length-append before p in
+    let two = length-append (before ++ p) (dash ∷ []) in (
+      part-in text before p (dash ∷ rest) start at is,
+      ((before ++ p) ++ (dash ∷ []), omega (arith, one, two, at), is ∙ sym (append_assoc before p (dash ∷ rest)) ∙ sym (append_assoc (before ++ p) (dash ∷ []) rest)),
+    )
+
+-- the part that a field takes, and the parts that it leaves
+taken-in : {A : Type 0} (find : List ℕ → Option A) (unfilled : SourceValue) (text : List ℕ) (start : ℕ) (ps : List (List ℕ)) → IsInText text unfilled → AreAt text start ps
+    → IsInText text (source_at unfilled start (taken_part find ps)) × AreAt text (start_after start (taken_part find ps)) (parts_left find ps)
+taken-in find unfilled text start [] none at = (none, tt)
+taken-in find unfilled text start (p ∷ ps) none at =
+    elim (cases_Bool (is_some (find p))) [
+      | inl takes ↦ rw takes (first-in text start p ps at)
+      | inr skips ↦ rw skips (none, at)
+    ]
+
+-- the parts that are left after all fields
+abbrev pub left_of : List (List ℕ) → List (List ℕ)
+left_of ps = parts_left binary_format_of (parts_left environment_of (parts_left operating_system_of (parts_left vendor_of ps)))
+
+abbrev pub left_after : Option AnyArchitecture → List ℕ → List (List ℕ) → List (List ℕ)
+left_after None p ps = p ∷ ps
+left_after (Some a) p ps = left_of ps
+
+-- the parts that the fields take are in the text, and so are those that they leave
+pub all-in : (text : List ℕ) (unfilled : SourceValue) (p : List ℕ) (ps : List (List ℕ)) → IsInText text unfilled → AreAt text 0 (p ∷ ps)
+    → AreInText text (sources_at unfilled (taken_texts (p ∷ ps))) × AreAt text (next_start (taken_texts (p ∷ ps))) (left_after (architecture_of p) p ps)
+all-in text unfilled p ps none at = by_architecture (architecture_of p)
+  where
+    by_architecture : (a : Option AnyArchitecture)
+        → AreInText text (sources_at unfilled (taken_after_architecture a p ps)) × AreAt text (next_start (taken_after_architecture a p ps)) (left_after a p ps)
+    by_architecture None = (record { architecture = tt; vendor = tt; operating_system = tt; environment = tt; binary_format = none }, at)
+    by_architecture (Some a) =
+        let first = first-in text 0 p ps at in
+        let v = taken-in vendor_of NotGiven text _ ps tt first.1 in
+        let s = taken-in operating_system_of NotGiven text _ (parts_left vendor_of ps) tt v.1 in
+        let e = taken-in environment_of NotGiven text _ (parts_left operating_system_of (parts_left vendor_of ps)) tt s.1 in
+        let f = taken-in binary_format_of unfilled text _ (parts_left environment_of (parts_left operating_system_of (parts_left vendor_of ps))) none e.1 in
+        (record { architecture = first.0; vendor = v.0; operating_system = s.0; environment = e.0; binary_format = f.0 }, f.1)
+
+-- the next part begins at most one byte after the end of the text
+
+abbrev pub total : List (List ℕ) → ℕ
+total [] = 0
+total (p ∷ ps) = length p + 1 + total ps
+
+total-joined : (p : List ℕ) (ps : List (List ℕ)) → total (p ∷ ps) ≡ length (join_with_byte dash (p ∷ ps)) + 1
+total-joined p [] = omega arith
+total-joined p (q ∷ ps) =
+    let rest = total-joined q ps in
+    let whole = length-append p (dash ∷ join_with_byte dash (q ∷ ps)) in
+    omega (arith, rest, whole)
+
+taken-total : {A : Type 0} (find : List ℕ → Option A) (start : ℕ) (ps : List (List ℕ)) → start_after start (taken_part find ps) + total (parts_left find ps) ≡ start + total ps
+taken-total find start [] = refl
+taken-total find start (p ∷ ps) =
+    elim (cases_Bool (is_some (find p))) [
+      | inl takes ↦ rw takes (omega arith)
+      | inr skips ↦ rw skips refl
+    ]
+
+pub next_start-bound : (p : List ℕ) (ps : List (List ℕ)) → next_start (taken_texts (p ∷ ps)) ≤ length (join_with_byte dash (p ∷ ps)) + 1
+next_start-bound p ps = by_architecture (architecture_of p)
+  where
+    by_architecture : (a : Option AnyArchitecture) → next_start (taken_after_architecture a p ps) ≤ length (join_with_byte dash (p ∷ ps)) + 1
+    by_architecture None = omega arith
+    by_architecture (Some a) =
+        let ps₁ = parts_left vendor_of ps in
+        let ps₂ = parts_left operating_system_of ps₁ in
+        let ps₃ = parts_left environment_of ps₂ in
+        let n₁ = start_after 0 (Some p) in
+        let n₂ = start_after n₁ (taken_part vendor_of ps) in
+        let n₃ = start_after n₂ (taken_part operating_system_of ps₁) in
+        let n₄ = start_after n₃ (taken_part environment_of ps₂) in
+        omega (
+          arith,
+          total-joined p ps,
+          taken-total vendor_of n₁ ps,
+          taken-total operating_system_of n₂ ps₁,
+          taken-total environment_of n₃ ps₂,
+          taken-total binary_format_of n₄ ps₃,
+        )

@@ -1,5 +1,0 @@
-use Rattle.std.proofs.Common.{rules}
-use Rattle.target_lexicon.proofs.triple.Triple.shows_unknowns.Goals as goal
-
-pub returns-then-matches : goal.returns-then-matches
-returns-then-matches c = search rules

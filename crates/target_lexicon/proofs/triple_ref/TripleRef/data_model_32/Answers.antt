@@ -1,0 +1,6 @@
+use Rattle.target_lexicon.proofs.ModelsKnown.{no_model_32}
+use Rattle.target_lexicon.proofs.triple_ref.TripleRef.data_model_32.Goals as goal
+
+pub returns-in_default-2 : goal.returns-in_default-2
+returns-in_default-2 c =
+    no_model_32 _ _ _ c.in_ok-default_calling_convention-in_default-architecture.ensures c.in_default.not-Windows c.in_default-architecture.not-Wasm32 c.in_default-2.not-SystemV

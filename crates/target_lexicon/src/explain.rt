@@ -1,0 +1,185 @@
+//! Where the fields of a triple come from in its text.
+ghost use Rattle.std.specs.Prelude.{◌≡◌, ◌+◌, ◌<◌, ◌^◌, IfOk, IfErr, length};
+ghost use Rattle.target_lexicon.specs.Explanation.{AreInText, AreSourcesOf, IsInText, IsRefusedAfter, next_start, part_value, source_at, source_value, sources_at, sources_of, start_after, whole_text_sources};
+ghost use Rattle.target_lexicon.specs.Reading.{ReadsAs, IsRefusedAs};
+ghost use Rattle.target_lexicon.specs.RemainingParts.{part_bytes, texts_of};
+ghost use Rattle.target_lexicon.specs.ValuesRef.{refusal_of_ref, values_of_ref};
+
+use crate::field_parts::FieldParts;
+use crate::parse_error_ref::ParseErrorRef;
+use crate::part::Part;
+use crate::read::Reading;
+use crate::triple_ref::TripleRef;
+
+/// A part of a text, and its range: the indices of its first byte and of the byte after its last.
+#[derive(Clone, Copy, Debug, PartialEq, Eq)]
+pub struct TextPart<'a> {
+    pub text: &'a str,
+    pub start: usize,
+    pub end: usize,
+}
+
+/// Where the value of a field comes from.
+#[derive(Clone, Copy, Debug, PartialEq, Eq)]
+pub enum Source<'a> {
+    /// From this part of the text. A special text is one part, which gives all five fields.
+    Part(TextPart<'a>),
+    /// No part of the text is of this field, which is `Unknown`.
+    NotGiven,
+    /// No part of the text is of this field, the binary format; it is the one that the other fields imply.
+    Implied,
+}
+
+/// Where the value of each field comes from.
+#[derive(Clone, Copy, Debug, PartialEq, Eq)]
+pub struct Sources<'a> {
+    pub architecture: Source<'a>,
+    pub vendor: Source<'a>,
+    pub operating_system: Source<'a>,
+    pub environment: Source<'a>,
+    pub binary_format: Source<'a>,
+}
+
+/// A triple, and where each of its fields comes from.
+#[derive(Clone, Copy, Debug, PartialEq, Eq)]
+pub struct Explanation<'a> {
+    pub triple: TripleRef<'a>,
+    pub sources: Sources<'a>,
+}
+
+/// Why a text is refused.
+#[derive(Clone, Copy, Debug, PartialEq, Eq)]
+pub struct ExplainedError<'a> {
+    /// The refusal. Its kind says what was expected.
+    pub error: ParseErrorRef<'a>,
+    /// The refused part.
+    pub part: TextPart<'a>,
+    /// Which parts before the refused one are of which field. Every other field is `NotGiven`.
+    pub sources: Sources<'a>,
+}
+
+impl<'a> TextPart<'a> {
+    ghost use Rattle.std.specs.Prelude.{Some};
+    ghost use Rattle.target_lexicon.specs.Explanation.{NotGiven, part_value, source_at};
+
+    /// The part that begins at this index.
+    fn starting_at(text: &'a str, start: usize) -> TextPart<'a>
+        requires { start + length text.now < 2 ^ 64 }
+        ensures { part_value result ≡ source_at NotGiven start (Some text.entry.now) }
+    {
+        TextPart {
+            text,
+            start,
+            end: start + text.len(),
+        }
+    }
+}
+
+/// A text has fewer than 2^63 bytes.
+fn length_fits(text: &str)
+    ensures { length text.now < 2 ^ 63 }
+{
+    let _length = text.len();
+}
+
+/// The source of a field with this part, or without one, and where the next part begins.
+fn next_source<'a>(part: Option<&'a str>, start: usize, unfilled: Source<'a>) -> (Source<'a>, usize)
+    requires { start_after start (part_bytes part) < 2 ^ 64 }
+    ensures source { source_value result.0
+        ≡ source_at (source_value unfilled.entry) start (part_bytes part.entry) }
+    ensures start { result.1 ≡ start_after start (part_bytes part.entry) }
+{
+    match part {
+        Some(text) => {
+            let part = TextPart::starting_at(text, start);
+            (Source::Part(part), part.end + 1)
+        }
+        None => (unfilled, start),
+    }
+}
+
+impl<'a> Sources<'a> {
+    /// The sources of fields that these parts of one text fill, and where the part after them begins.
+    fn of_parts(parts: FieldParts<'a>, unfilled_format: Source<'a>) -> (Sources<'a>, usize)
+        requires { next_start (texts_of parts) < 2 ^ 64 }
+        ensures sources { sources_of result.0
+            ≡ sources_at (source_value unfilled_format.entry) (texts_of parts.entry) }
+        ensures start { result.1 ≡ next_start (texts_of parts.entry) }
+    {
+        let (architecture, start) = next_source(parts.architecture, 0, Source::NotGiven);
+        let (vendor, start) = next_source(parts.vendor, start, Source::NotGiven);
+        let (operating_system, start) = next_source(
+            parts.operating_system,
+            start,
+            Source::NotGiven,
+        );
+        let (environment, start) = next_source(parts.environment, start, Source::NotGiven);
+        let (binary_format, start) = next_source(parts.binary_format, start, unfilled_format);
+        let sources = Sources {
+            architecture,
+            vendor,
+            operating_system,
+            environment,
+            binary_format,
+        };
+        (sources, start)
+    }
+
+    /// The sources of the fields of a special text.
+    fn of_special_text(text: &'a str) -> Sources<'a>
+        ensures { sources_of result ≡ whole_text_sources text.entry.now }
+    {
+        let whole = Source::Part(TextPart::starting_at(text, 0));
+        Sources {
+            architecture: whole,
+            vendor: whole,
+            operating_system: whole,
+            environment: whole,
+            binary_format: whole,
+        }
+    }
+}
+
+impl<'a> TripleRef<'a> {
+    /// The triple that a text parses as, and where in the text each of its fields comes from; or why the text is refused,
+    /// where, and which fields the parts before the refused one filled. Nothing is allocated.
+    ///
+    /// A part is of the first field that it parses as, of those after the field of the part before it. So `nuttx` in
+    /// `armv7a-nuttx-eabi` is the vendor: it is the name of no field, and the vendor comes first. The parts of a special
+    /// text have no field of their own; the whole text gives all five.
+    pub fn explain(text: &'a str) -> Result<Explanation<'a>, ExplainedError<'a>>
+        ensures triple { IfOk result (λ it. ReadsAs text.entry.now (values_of_ref it.triple)) }
+        ensures sources { IfOk result (λ it. AreSourcesOf text.entry.now (sources_of it.sources)) }
+        ensures ranges { IfOk result (λ it. AreInText text.entry.now (sources_of it.sources)) }
+        ensures error { IfErr result
+            (λ it. IsRefusedAs text.entry.now (refusal_of_ref it.error)) }
+        ensures refused { IfErr result
+            (λ it. IsRefusedAfter text.entry.now (refusal_of_ref it.error)
+            (sources_of it.sources) (part_value it.part)) }
+        ensures refused_ranges { IfErr result
+            (λ it. AreInText text.entry.now (sources_of it.sources)
+            × IsInText text.entry.now (part_value it.part)) }
+    {
+        if let Some(triple) = TripleRef::from_special_text(text) {
+            let sources = Sources::of_special_text(text);
+            return Ok(Explanation { triple, sources });
+        }
+        length_fits(text);
+        let reading = Reading::from_parts(Part::first(text));
+        match reading.result {
+            Ok(triple) => {
+                let (sources, _) = Sources::of_parts(reading.parts, Source::Implied);
+                Ok(Explanation { triple, sources })
+            }
+            Err(error) => {
+                let (sources, start) = Sources::of_parts(reading.parts, Source::NotGiven);
+                let part = TextPart::starting_at(error.part(), start);
+                Err(ExplainedError {
+                    error,
+                    part,
+                    sources,
+                })
+            }
+        }
+    }
+}

@@ -1,0 +1,138 @@
+//! Why a text doesn't parse as a triple, with the refused part borrowed.
+ghost use Rattle.std.specs.Prelude.{◌≡◌, ◌<◌, Some, IfSome, length, option_map};
+ghost use Rattle.target_lexicon.specs.Refusal.{refusal_of, refusal_line, refusal_prefix};
+ghost use Rattle.target_lexicon.specs.ValuesRef.{refusal_of_ref};
+ghost use Rattle.target_lexicon.specs.Written.{IsWritten};
+
+use crate::parse_error::ParseError;
+use crate::put::put;
+use std::alloc::Global;
+use std::fmt;
+
+/// Why a text doesn't parse as a triple: the first part that has no place, and the field that was expected there. The
+/// part is borrowed from the text, so that nothing is allocated; the kinds are those of [`ParseError`].
+#[derive(Clone, Copy, Debug, PartialEq, Eq, Hash)]
+pub enum ParseErrorRef<'a> {
+    /// The first part is not an architecture.
+    UnrecognizedArchitecture(&'a str),
+    /// After the architecture, the part is no vendor and no later field.
+    UnrecognizedVendor(&'a str),
+    /// After the vendor, the part is no operating system and no later field.
+    UnrecognizedOperatingSystem(&'a str),
+    /// After the operating system, the part is no environment and no later field.
+    UnrecognizedEnvironment(&'a str),
+    /// After the environment, the part is no binary format.
+    UnrecognizedBinaryFormat(&'a str),
+    /// A part follows the binary format.
+    UnrecognizedField(&'a str),
+}
+
+impl<'a> ParseErrorRef<'a> {
+    /// The same refusal with a copy of the part, or `OutOfMemory` if the allocation for that copy fails.
+    pub fn to_error(&self, alloc: Global) -> ParseError
+        ensures { IfSome (refusal_of result) (λ refusal. refusal ≡ refusal_of_ref self.now) }
+    {
+        let Ok(part) = String::from_str(alloc, self.part()) else {
+            return ParseError::OutOfMemory;
+        };
+        match *self {
+            ParseErrorRef::UnrecognizedArchitecture(_) => {
+                ParseError::UnrecognizedArchitecture(part)
+            }
+            ParseErrorRef::UnrecognizedVendor(_) => ParseError::UnrecognizedVendor(part),
+            ParseErrorRef::UnrecognizedOperatingSystem(_) => {
+                ParseError::UnrecognizedOperatingSystem(part)
+            }
+            ParseErrorRef::UnrecognizedEnvironment(_) => ParseError::UnrecognizedEnvironment(part),
+            ParseErrorRef::UnrecognizedBinaryFormat(_) => {
+                ParseError::UnrecognizedBinaryFormat(part)
+            }
+            ParseErrorRef::UnrecognizedField(_) => ParseError::UnrecognizedField(part),
+        }
+    }
+
+    /// The refused part.
+    pub fn part(&self) -> &'a str
+        ensures { result.now ≡ (refusal_of_ref self.now).part }
+    {
+        match *self {
+            ParseErrorRef::UnrecognizedArchitecture(part)
+            | ParseErrorRef::UnrecognizedVendor(part)
+            | ParseErrorRef::UnrecognizedOperatingSystem(part)
+            | ParseErrorRef::UnrecognizedEnvironment(part)
+            | ParseErrorRef::UnrecognizedBinaryFormat(part)
+            | ParseErrorRef::UnrecognizedField(part) => part,
+        }
+    }
+
+    /// Writes the line of the refusal, without a line feed, at the front of the buffer if it fits there, and returns
+    /// its length. If it doesn't fit, the buffer is unchanged. Nothing is allocated.
+    pub fn write_to(&self, out: &mut [u8]) -> usize
+        ensures { IsWritten (refusal_line (refusal_of_ref self.now)) out.old out.new result }
+    {
+        let prefix = self.prefix();
+        let part = self.part();
+        let length = prefix.len() + part.len();
+        if length <= out.len() {
+            let at = put(out, 0, prefix.as_bytes());
+            put(out, at, part.as_bytes());
+        }
+        length
+    }
+
+    /// The words of the line before the part.
+    fn prefix(&self) -> &'static str
+        ensures words { result.now ≡ refusal_prefix (refusal_of_ref self.now).expected }
+        ensures bound { length result.now < 32 }
+    {
+        match *self {
+            ParseErrorRef::UnrecognizedArchitecture(_) => "Unrecognized architecture: ",
+            ParseErrorRef::UnrecognizedVendor(_) => "Unrecognized vendor: ",
+            ParseErrorRef::UnrecognizedOperatingSystem(_) => "Unrecognized operating system: ",
+            ParseErrorRef::UnrecognizedEnvironment(_) => "Unrecognized environment: ",
+            ParseErrorRef::UnrecognizedBinaryFormat(_) => "Unrecognized binary format: ",
+            ParseErrorRef::UnrecognizedField(_) => "Unrecognized field: ",
+        }
+    }
+}
+
+impl ParseError {
+    /// The refusal, with the part borrowed. `None` for `OutOfMemory`.
+    pub fn as_parse_error_ref(&self) -> Option<ParseErrorRef<'_>>
+        ensures { option_map refusal_of_ref result ≡ refusal_of self.now }
+    {
+        match self {
+            ParseError::UnrecognizedArchitecture(part) => {
+                Some(ParseErrorRef::UnrecognizedArchitecture(part.as_str()))
+            }
+            ParseError::UnrecognizedVendor(part) => {
+                Some(ParseErrorRef::UnrecognizedVendor(part.as_str()))
+            }
+            ParseError::UnrecognizedOperatingSystem(part) => {
+                Some(ParseErrorRef::UnrecognizedOperatingSystem(part.as_str()))
+            }
+            ParseError::UnrecognizedEnvironment(part) => {
+                Some(ParseErrorRef::UnrecognizedEnvironment(part.as_str()))
+            }
+            ParseError::UnrecognizedBinaryFormat(part) => {
+                Some(ParseErrorRef::UnrecognizedBinaryFormat(part.as_str()))
+            }
+            ParseError::UnrecognizedField(part) => {
+                Some(ParseErrorRef::UnrecognizedField(part.as_str()))
+            }
+            ParseError::OutOfMemory => None,
+        }
+    }
+}
+
+impl fmt::Display for ParseErrorRef<'_> {
+    ghost output = { λ error. Some (refusal_line (refusal_of_ref error)) };
+
+    ghost styled_output = { λ error _. Some (refusal_line (refusal_of_ref error)) };
+
+    #[inline(always)]
+    fn fmt<W: fmt::Write>(&self, f: &mut fmt::Formatter<W>) -> fmt::Result {
+        f.write_str(self.prefix())?;
+        f.write_str(self.part())
+    }
+}
