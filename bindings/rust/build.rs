@@ -32,7 +32,7 @@ fn main() {
         for path in texts_below(&source) {
             erase_file(name, &source, &path, &erased, &examples, &mut used, &mut changes);
         }
-        writeln!(root, "#[path = \"{name}/lib.rs\"]\n#[allow(unused, clippy::all)]\nmod {name};").unwrap();
+        writeln!(root, "#[path = \"{name}/lib.rs\"]\n#[allow(unused, irrefutable_let_patterns, clippy::all)]\nmod {name};").unwrap();
     }
     write(&erased.join("root.rs"), &root);
     if let Some((item, _)) = examples.iter().find(|(item, _)| !used.contains(item)) {

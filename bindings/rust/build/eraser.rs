@@ -391,7 +391,7 @@ impl<'a> Eraser<'a> {
                 self.hide(name - 2, name - 1);
             }
         } else if before != "fn" && self.rules.renamed.contains(&text) {
-            if before != "." && self.text(name.saturating_sub(2)) != ":" {
+            if before != "." && before != ":" {
                 return Err(format!("{text} is called in an unknown form"));
             }
             self.put(name, name, format!("{text}{}", self.rules.renamed_suffix));

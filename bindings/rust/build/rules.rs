@@ -49,6 +49,11 @@ pub const INLINED: [(&str, &str, &str); 8] = [
 /// feature, printing goes by upstream's rule.
 pub const REPLACED: [(&str, &str, &str); 7] = [
     (
+        "lexicon_fields/table/prefix_key.rt",
+        "#[inline(never)] fn prefix_key_of_few",
+        "#[inline] fn prefix_key_of_few",
+    ),
+    (
         "target_lexicon/parse_error.rt",
         "UnrecognizedField(String), OutOfMemory,",
         "UnrecognizedField(String),",
@@ -56,16 +61,15 @@ pub const REPLACED: [(&str, &str, &str); 7] = [
     ("target_lexicon/parse_error.rt", "ParseError::OutOfMemory => ParseError::OutOfMemory,", ""),
     (
         "target_lexicon/parse_error.rt",
-        "-> ParseError { ParseError::OutOfMemory }",
-        "-> ParseError { crate::shim::abort() }",
+        "(_error: AllocError) -> ParseError { ParseError::OutOfMemory }",
+        "(error: AllocError) -> ParseError { match error {} }",
+    ),
+    (
+        "target_lexicon/parse_error_ref.rt",
+        "else { return ParseError::OutOfMemory; };",
+        "else { crate::shim::abort() };",
     ),
     ("target_lexicon/parse_error_ref.rt", "ParseError::OutOfMemory => None,", ""),
-    ("target_lexicon/parse_error_ref.rt", "return ParseError::OutOfMemory;", "crate::shim::abort()"),
-    (
-        "target_lexicon/display.rt",
-        "let unknowns = self.shows_unknowns();",
-        "let unknowns = !cfg!(feature = \"upstream_printing\") && self.shows_unknowns();",
-    ),
     (
         "target_lexicon/display.rt",
         "self.pieces_with(self.shows_unknowns())",

@@ -24,18 +24,19 @@ mod shim;
 
 include!(concat!(env!("OUT_DIR"), "/erased/root.rs"));
 
-use alloc::borrow::Cow;
+use alloc::{borrow::Cow, string::String};
 use core::{fmt, str::FromStr};
 use shim::allocated;
 use shim::std::alloc::Global;
 
 pub use crate::lexicon_fields::{
     Aarch64Architecture, Architecture, ArmArchitecture, BinaryFormat, CleverArchitecture, CustomVendor, DeploymentTarget,
-    Endianness, Environment, Mips32Architecture, Mips64Architecture, OperatingSystem, PointerWidth, Riscv32Architecture,
-    Riscv64Architecture, Vendor, X86_32Architecture, Z80Architecture,
+    Endianness, Environment, KnownVendor, Mips32Architecture, Mips64Architecture, OperatingSystem, PointerWidth,
+    Riscv32Architecture, Riscv64Architecture, Vendor, VendorRef, X86_32Architecture, Z80Architecture,
 };
 pub use crate::target_lexicon::{
-    CDataModel, CallingConvention, DefaultToHost, DefaultToUnknown, ParseError, Size, Triple, default_binary_format,
+    CDataModel, CallingConvention, DefaultToHost, DefaultToUnknown, ExplainedError, Explanation, ParseError, ParseErrorRef, Size,
+    Source, Sources, TextPart, Triple, TripleRef, default_binary_format,
 };
 
 /// The examples of the page are tested.
@@ -179,6 +180,112 @@ impl Triple {
     pub fn settle(self) -> Result<Triple, NotPlain> {
         if self.vendor.is_plain() { Ok(self.settle_unchecked()) } else { Err(NotPlain(self)) }
     }
+}
+
+impl<'a> TripleRef<'a> {
+    /// The triple that this triple's printed text parses as; `None` if no text parses as the vendor (see
+    /// [`VendorRef::is_plain`]). A triple that [`comes_back`](TripleRef::comes_back) is unchanged.
+    ///
+    /// # Examples
+    ///
+    /// ```
+    /// use target_lexicon::{Environment, TripleRef};
+    ///
+    /// let triple = TripleRef::from_str("armv7-nintendo-horizon-newlib").unwrap();
+    /// assert_eq!(triple.normal().map(|it| it.environment), Some(Environment::Unknown));
+    /// ```
+    pub fn normal(self) -> Option<TripleRef<'a>> {
+        self.vendor.is_plain().then(|| self.normal_unchecked())
+    }
+
+    /// The canonical form of the triple, as [`Triple::settle`] says; `None` if no text parses as the vendor (see
+    /// [`VendorRef::is_plain`]).
+    ///
+    /// # Examples
+    ///
+    /// ```
+    /// use target_lexicon::{TripleRef, VendorRef};
+    ///
+    /// let mut triple = TripleRef::from_str("riscv32imc-esp-espidf-elf").unwrap();
+    /// assert_eq!(triple.settle().unwrap().to_string(), "riscv32imc-esp-espidf");
+    /// triple.vendor = VendorRef::Custom("PC");
+    /// assert_eq!(triple.settle(), None);
+    /// ```
+    pub fn settle(self) -> Option<TripleRef<'a>> {
+        self.vendor.is_plain().then(|| self.settle_unchecked())
+    }
+
+    /// The same triple, of which a custom vendor owns a copy of its text.
+    ///
+    /// # Examples
+    ///
+    /// ```
+    /// use target_lexicon::TripleRef;
+    ///
+    /// let triple = TripleRef::from_str("x86_64-acme-linux").unwrap();
+    /// assert_eq!("x86_64-acme-linux".parse(), Ok(triple.to_triple()));
+    /// ```
+    pub fn to_triple(&self) -> Triple {
+        allocated(self.to_triple_alloc(Global))
+    }
+}
+
+impl VendorRef<'_> {
+    /// The same vendor, of which a custom one owns a copy of its text.
+    ///
+    /// # Examples
+    ///
+    /// ```
+    /// use target_lexicon::{Vendor, VendorRef};
+    ///
+    /// assert_eq!(VendorRef::from_str("apple").map(|it| it.to_vendor()), Ok(Vendor::Apple));
+    /// ```
+    pub fn to_vendor(&self) -> Vendor {
+        allocated(self.to_vendor_alloc(Global))
+    }
+}
+
+impl ParseErrorRef<'_> {
+    /// The same refusal with a copy of the part.
+    ///
+    /// # Examples
+    ///
+    /// ```
+    /// use target_lexicon::{Triple, TripleRef};
+    ///
+    /// let error = TripleRef::from_str("x86_64-foo-bar").unwrap_err();
+    /// assert_eq!("x86_64-foo-bar".parse::<Triple>(), Err(error.to_error()));
+    /// ```
+    pub fn to_error(&self) -> ParseError {
+        self.to_error_alloc(Global)
+    }
+}
+
+impl core::error::Error for ParseErrorRef<'_> {}
+
+/// The text that upstream prints for a triple, whatever the features are.
+macro_rules! upstream_text {
+    ($($name:ty, $make:literal;)*) => {
+        $(impl $name {
+            /// The text that upstream prints for the triple. It differs from the printed text only if environment and
+            /// format are both unknown and another format is implied.
+            ///
+            /// # Examples
+            ///
+            /// ```
+            #[doc = $make]
+            /// assert_eq!(triple.to_upstream_text(), "x86_64-unknown-linux-unknown");
+            /// ```
+            pub fn to_upstream_text(&self) -> String {
+                allocated(self.to_upstream_text_alloc(Global))
+            }
+        })*
+    };
+}
+
+upstream_text! {
+    Triple, "let triple = target_lexicon::triple!(\"x86_64-unknown-linux-unknown-unknown\");";
+    TripleRef<'_>, "let triple = target_lexicon::TripleRef::from_str(\"x86_64-unknown-linux-unknown-unknown\").unwrap();";
 }
 
 /// The triple of the target that the crate is built for.

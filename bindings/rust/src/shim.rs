@@ -5,6 +5,9 @@ pub(crate) mod prelude {
     pub(crate) use super::{BoxAlloc as _, StringAlloc as _, ToStringAlloc as _, prove, std};
     pub(crate) use crate::lexicon_fields;
     pub(crate) use alloc::{boxed::Box, string::String};
+    // Links in comments need it.
+    #[allow(unused_imports)]
+    pub(crate) use core::str::FromStr as _;
 }
 
 /// A fact that was proved, in the value of a constant.
@@ -23,8 +26,9 @@ pub(crate) mod std {
         #[derive(Clone, Copy)]
         pub struct Global;
 
-        /// An allocation failed. Nothing here makes such a value.
-        pub struct AllocError;
+        /// An allocation failed. There is no such value: the process has ended before.
+        #[derive(Clone, Copy)]
+        pub enum AllocError {}
     }
 
     pub mod borrow {
@@ -155,7 +159,7 @@ pub(crate) fn abort() -> ! {
 pub(crate) fn allocated<T>(answer: Result<T, AllocError>) -> T {
     match answer {
         Ok(value) => value,
-        Err(_) => abort(),
+        Err(error) => match error {},
     }
 }
 
@@ -179,7 +183,10 @@ impl StringAlloc for String {
 
     #[inline]
     fn write<D: Display>(&mut self, value: &D) -> Result<(), AllocError> {
-        value.fmt(&mut Formatter(self)).map_err(|_| AllocError)
+        match value.fmt(&mut Formatter(self)) {
+            Ok(()) => Ok(()),
+            Err(_) => abort(),
+        }
     }
 }
 
@@ -249,7 +256,7 @@ impl core::fmt::Write for Collected<'_, '_> {
     }
 }
 
-impl core::fmt::Display for crate::target_lexicon::Triple {
+impl core::fmt::Display for crate::target_lexicon::TripleRef<'_> {
     fn fmt(&self, f: &mut core::fmt::Formatter<'_>) -> core::fmt::Result {
         let mut pieces = Formatter(Collected { f, bytes: [0; 64], length: 0 });
         Display::fmt(self, &mut pieces)?;
@@ -257,10 +264,16 @@ impl core::fmt::Display for crate::target_lexicon::Triple {
     }
 }
 
+impl core::fmt::Display for crate::target_lexicon::Triple {
+    fn fmt(&self, f: &mut core::fmt::Formatter<'_>) -> core::fmt::Result {
+        core::fmt::Display::fmt(&self.as_triple_ref(), f)
+    }
+}
+
 /// Rust's `Display` by the proved one.
 macro_rules! display {
-    ($($krate:ident: $($name:ident)*;)*) => {
-        $($(impl core::fmt::Display for crate::$krate::$name {
+    ($($krate:ident: $($name:ident $(<$lifetime:lifetime>)?)*;)*) => {
+        $($(impl core::fmt::Display for crate::$krate::$name $(<$lifetime>)? {
             fn fmt(&self, f: &mut core::fmt::Formatter<'_>) -> core::fmt::Result {
                 Display::fmt(self, &mut Formatter(f))
             }
@@ -270,6 +283,7 @@ macro_rules! display {
 
 display! {
     lexicon_fields: Architecture ArmArchitecture Aarch64Architecture X86_32Architecture Mips32Architecture Mips64Architecture
-        Riscv32Architecture Riscv64Architecture CleverArchitecture Z80Architecture Vendor OperatingSystem Environment BinaryFormat;
-    target_lexicon: ParseError;
+        Riscv32Architecture Riscv64Architecture CleverArchitecture Z80Architecture Vendor VendorRef<'_> OperatingSystem Environment
+        BinaryFormat;
+    target_lexicon: ParseError ParseErrorRef<'_>;
 }
