@@ -57,6 +57,7 @@ impl KnownVendor {
         ensures { result.now ≡ known_vendor_name self }
     {
         match self {
+            // written by tools/names/write: the names of KnownVendor
             KnownVendor::Unknown => "unknown",
             KnownVendor::Amd => "amd",
             KnownVendor::Apple => "apple",
@@ -72,6 +73,7 @@ impl KnownVendor {
             KnownVendor::Sun => "sun",
             KnownVendor::Uwp => "uwp",
             KnownVendor::Wrs => "wrs",
+            // end of what is written
         }
     }
 }

@@ -94,6 +94,7 @@ impl Vendor {
         ensures { ref_value result ≡ vendor_value self.now }
     {
         match self {
+            // written by tools/names/write: each Vendor as a VendorRef
             Vendor::Unknown => VendorRef::Known(KnownVendor::Unknown),
             Vendor::Amd => VendorRef::Known(KnownVendor::Amd),
             Vendor::Apple => VendorRef::Known(KnownVendor::Apple),
@@ -109,6 +110,7 @@ impl Vendor {
             Vendor::Sun => VendorRef::Known(KnownVendor::Sun),
             Vendor::Uwp => VendorRef::Known(KnownVendor::Uwp),
             Vendor::Wrs => VendorRef::Known(KnownVendor::Wrs),
+            // end of what is written
             Vendor::Custom(custom) => VendorRef::Custom(custom.as_str()),
         }
     }
