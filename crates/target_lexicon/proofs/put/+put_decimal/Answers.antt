@@ -1,4 +1,4 @@
-use Rattle.std.proofs.Common.{rules, arith, ◌++◌, List, ℕ, sym, subst, ap, ◌∙◌, append_assoc}
+use Rattle.std.proofs.Common.{arith, ◌++◌, List, ℕ, sym, subst, ap, ◌∙◌, append_assoc}
 use Rattle.std.proofs.lemmas.Fmt.{decimal_step, decimal_digit}
 use Rattle.target_lexicon.specs.Put.{IsPut}
 use Rattle.target_lexicon.proofs.put.+put_decimal.Goals as goal
