@@ -91,18 +91,19 @@ pub(crate) fn is_printed(alloc: Global, triple: &Triple, text: &str) -> bool {
                 && prints(triple, text)
                 && prints(&triple.as_triple_ref(), text)
                 && is_written(triple.write_to(&mut out), &out, text)
-                && triple.write_to(&mut too_small) == text.len()
-                && too_small == [b'?'; 1]
+                && is_written(triple.write_to(&mut too_small), &too_small, text)
         }
         Err(_) => false,
     }
 }
 
-/// A buffer of question marks begins with this text, whose length was returned, and no other byte has changed.
+/// The length of this text was returned. A buffer of question marks begins with the text if it fits, and no other byte
+/// has changed.
 pub(crate) fn is_written(size: usize, out: &[u8], text: &str) -> bool {
+    let written = if out.len() < text.len() { "" } else { text };
     size == text.len()
-        && out.starts_with(text.as_bytes())
-        && out.iter().skip(size).all(|byte| *byte == b'?')
+        && out.starts_with(written.as_bytes())
+        && out.iter().skip(written.len()).all(|byte| *byte == b'?')
 }
 
 pub(crate) fn convention_word(answer: Result<CallingConvention, ()>) -> &'static str {
