@@ -1,4 +1,4 @@
-"""Drivers with the line modes of the program `triples`: over upstream's crate, and over the Rust crate of this repository."""
+"""Programs with the line modes of `triples`: over upstream's crate, and over the Rust crate of this repository."""
 import os
 import re
 import shutil
