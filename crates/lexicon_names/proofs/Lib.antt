@@ -1,0 +1,2 @@
+mod DistanceLemmas
+mod NearestLemmas

@@ -1,0 +1,16 @@
+//! The known names of each field of a target triple, and the name that is nearest to a text.
+#![tactic(auto)]
+
+mod distance;
+mod field;
+mod known_names;
+mod laws;
+mod nearest;
+#[cfg(test)]
+mod tests;
+
+pub use distance::distance_up_to;
+pub use field::Field;
+pub use known_names::names;
+pub use laws::edit_distance_is_least;
+pub use nearest::nearest_name;

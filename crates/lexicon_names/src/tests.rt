@@ -1,0 +1,37 @@
+//! Suggestions, and texts that have none.
+
+use crate::distance::distance_up_to;
+use crate::field::Field;
+use crate::known_names::names;
+use crate::nearest::nearest_name;
+
+/// Fields, texts, and the names that should be suggested for them.
+const ROWS: [(Field, &str, Option<&str>); 12] = [
+    (Field::OperatingSystem, "linx", Some("linux")),
+    (Field::OperatingSystem, "darwim", Some("darwin")),
+    (Field::OperatingSystem, "widows", Some("windows")),
+    (Field::OperatingSystem, "plan9", None),
+    (Field::Architecture, "x86-64", Some("x86_64")),
+    (Field::Architecture, "", None),
+    (Field::Architecture, "amd64", None),
+    (Field::Vendor, "aple", Some("apple")),
+    (Field::Environment, "gnuabi", Some("gnueabi")),
+    (Field::Environment, "musl", Some("musl")),
+    (Field::BinaryFormat, "mach0", Some("macho")),
+    (Field::BinaryFormat, "nothing of the kind", None),
+];
+
+#[test]
+fn suggestions(rt: HostRuntime) {
+    for (field, text, name) in ROWS.iter() {
+        assert!(rt; nearest_name(*field, text) == *name);
+    }
+}
+
+#[test]
+fn distances(rt: HostRuntime) {
+    assert!(rt; distance_up_to(b"kitten", b"sitting", 9) == 3);
+    assert!(rt; distance_up_to(b"sitting", b"kitten", 2) == 2);
+    assert!(rt; distance_up_to(b"", b"four", 5) == 4);
+    assert!(rt; names(Field::Vendor).len() == 15);
+}
