@@ -2,8 +2,8 @@
 -- and a row has the values that the lists of names give. LookUps: what a look-up in a list gives, and how to show
 -- that names parse back. NamesReadBack, VersionsReadBack, OperatingSystemsReadBack, SystemsRead, VendorsReadBack: the
 -- names of each type parse back and have no dash, and a parsed version is in range. Variants: facts about values of
--- one variant. NameLengths: no name is long. Feeds: different values feed a hasher differently. EqualByValue: `==` is true exactly for the same
--- values.
+-- one variant. NameLengths: no name is long. Feeds: different values feed a hasher differently. EqualByValue: `==` is
+-- true exactly for the same values.
 pub mod EqualByValue
 pub mod HashInputs
 pub mod PrefixKeyLemmas

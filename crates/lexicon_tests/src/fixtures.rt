@@ -78,12 +78,32 @@ pub(crate) fn with_vendor(alloc: Global, text: &str, name: &'static str) -> Opti
     }
 }
 
-/// The triple displays this text, and `to_text` returns it.
+/// The size of a buffer with room for the texts of the rows.
+pub(crate) const ROOM: usize = 400;
+
+/// The triple and the borrowed one display this text, `to_text` returns it, and `write_to` writes it if it fits.
 pub(crate) fn is_printed(alloc: Global, triple: &Triple, text: &str) -> bool {
+    let mut out = [b'?'; ROOM];
+    let mut too_small = [b'?'; 1];
     match triple.to_text(alloc) {
-        Ok(printed) => printed.as_str() == text && prints(triple, text),
+        Ok(printed) => {
+            printed.as_str() == text
+                && prints(triple, text)
+                && prints(&triple.as_triple_ref(), text)
+                && is_written(triple.write_to(&mut out), &out, text)
+                && is_written(triple.write_to(&mut too_small), &too_small, text)
+        }
         Err(_) => false,
     }
+}
+
+/// The length of this text was returned. A buffer of question marks begins with the text if it fits, and no other byte
+/// has changed.
+pub(crate) fn is_written(size: usize, out: &[u8], text: &str) -> bool {
+    let written = if out.len() < text.len() { "" } else { text };
+    size == text.len()
+        && out.starts_with(written.as_bytes())
+        && out.iter().skip(written.len()).all(|byte| *byte == b'?')
 }
 
 pub(crate) fn convention_word(answer: Result<CallingConvention, ()>) -> &'static str {

@@ -1,6 +1,6 @@
 //! The printed texts of triples, parsed and built, and the lines of errors.
 
-use crate::fixtures::{OfTriple, QuestionOf, is_printed, with_vendor};
+use crate::fixtures::{OfTriple, QuestionOf, ROOM, is_printed, is_written, with_vendor};
 use crate::reading::is_answer;
 use std::alloc::Global;
 use std::process::Abort;
@@ -123,4 +123,35 @@ fn no_triple_comes_back_whose_vendor_is_not_plain(rt: HostRuntime) {
         let (names, rest) = row.split_once('=').expect(&rt, row);
         assert!(rt; is_not_plain(rt.alloc(), names, rest), "{row}");
     }
+}
+
+/// This is the text that upstream prints for the triple.
+struct PrintsUpstream;
+
+impl QuestionOf<Triple> for PrintsUpstream {
+    fn holds(alloc: Global, triple: &Triple, print: &str) -> bool {
+        let mut out = [b'?'; ROOM];
+        match triple.to_upstream_text(alloc) {
+            Ok(printed) => {
+                let size = triple.as_triple_ref().write_upstream_to(&mut out);
+                printed.as_str() == print && is_written(size, &out, print)
+            }
+            Err(_) => false,
+        }
+    }
+}
+
+/// A text, and after `=` the text that upstream prints for its triple.
+const UPSTREAM: &str = "\
+x86_64-unknown-linux-unknown-unknown=x86_64-unknown-linux-unknown
+wasm32-wasi-unknown-unknown=wasm32-wasi-unknown
+clever-unknown-unknown-unknown-unknown=clever-unknown-unknown
+armv6k-nintendo-horizon-unknown-unknown=armv6k-nintendo-3ds
+x86_64-unknown-none-unknown-unknown=x86_64-unknown-none
+x86_64-apple-darwin+023.6=x86_64-apple-darwin23.6.0
+x86_64-customvendor-linux=x86_64-customvendor-linux";
+
+#[test]
+fn upstream_prints_other_texts(rt: HostRuntime) -> Result<(), &'static str> {
+    check_rows::<OfTriple<PrintsUpstream>>(rt.alloc(), UPSTREAM)
 }

@@ -1,10 +1,10 @@
 //! Texts that parse as a triple, and texts that are refused.
 
-use crate::fixtures::{OfTriple, QuestionOf, is_read, owned_reading};
+use crate::fixtures::{OfTriple, QuestionOf, ROOM, is_read, is_written, owned_reading};
 use std::alloc::Global;
 use std::fmt::Display;
 use std::process::Abort;
-use target_lexicon::{JsonError, ListError, ParseError, Triple, triple};
+use target_lexicon::{JsonError, ListError, ParseError, Triple, TripleRef, triple};
 use test_support::{Question, check_rows, lengthened_rows, prints, reports_each_failure, writes};
 
 /// The five values of the triple are these, each in the form of `{:?}`.
@@ -114,6 +114,21 @@ impl Question for IsRefused {
     fn holds(alloc: Global, text: &str, line: &str) -> bool {
         is_error(alloc, Triple::from_str(alloc, text), line)
             && is_error(alloc, owned_reading(alloc, text), line)
+            && is_line(text, line)
+    }
+}
+
+/// The refusal that borrows its part prints this line, and writes it if it fits.
+fn is_line(text: &str, line: &str) -> bool {
+    let mut out = [b'?'; ROOM];
+    let mut too_small = [b'?'; 1];
+    match TripleRef::from_str(text) {
+        Ok(_) => false,
+        Err(error) => {
+            prints(&error, line)
+                && is_written(error.write_to(&mut out), &out, line)
+                && is_written(error.write_to(&mut too_small), &too_small, line)
+        }
     }
 }
 

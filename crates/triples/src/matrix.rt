@@ -39,7 +39,8 @@ fn hash_of(text: &str) -> u64
 
 /// Replaces the text in the scratch buffer by the printed text of a triple.
 fn put_text(scratch: &mut HashedText, triple: &TripleRef<'_>) -> Result<(), AllocError>
-    ensures text { OnOk result (string_bytes scratch.new.text ≡ text_of (values_of_ref triple.now)) }
+    ensures text { OnOk result
+        (string_bytes scratch.new.text ≡ text_of (values_of_ref triple.now)) }
     ensures hash { OnOk result (scratch.new.hash ≡ hash_of (string_bytes scratch.new.text)) }
 {
     scratch.text.clear();
