@@ -4,8 +4,8 @@ use Rattle.std.specs.Str.{IsUtf8}
 use Rattle.lexicon_fields.specs.{Architecture.architecture_name, Architecture.architecture_of, BinaryFormat.binary_format_name, BinaryFormat.binary_format_of}
 use Rattle.lexicon_fields.specs.{Environment.environment_name, Environment.environment_of, OperatingSystem.operating_system_name, OperatingSystem.operating_system_of, OperatingSystem.system_version}
 use Rattle.lexicon_fields.specs.{Vendor.vendor_name, Vendor.vendor_of, Vendor.is_admitted}
-use Rattle.lexicon_c.specs.{Outcome.Outcome, Outcome.NoSuchField, Outcome.Ends, Output.IsWritten, Outcome.field_at, Outcome.field_of, declared.field.Field.Field}
-use Rattle.target_lexicon.specs.{Reading.ReadsAs, Reading.MayAllocate, Refusal.Expects, Refusal.refusal_with, Values.Values}
+use Rattle.lexicon_c.specs.{Outcome.Outcome, Outcome.NoSuchField, Outcome.Ends, Outcome.field_at, Outcome.field_of, declared.field.Field.Field}
+use Rattle.target_lexicon.specs.{Reading.ReadsAs, Reading.MayAllocate, Refusal.Expects, Refusal.refusal_with, Values.Values, Written.IsWritten}
 use Rattle.lexicon_c.specs.declared.field.Field.TheVariants as field
 
 -- the name of a triple's value in a field

@@ -1,15 +1,8 @@
 -- How a text and its length are written for the caller.
-use Rattle.std.specs.Prelude.{◌≡◌, ℕ, ◌+◌, ◌≤◌, ◌<◌, List, [], ◌++◌, length, drop}
+use Rattle.std.specs.Prelude.{ℕ, ◌+◌, ◌≤◌, List, [], length}
 use Rattle.std.specs.Str.{IsUtf8}
-use Rattle.target_lexicon.specs.{FixedPoints.max_growth, Reading.ReadsAs, Reading.IsRefusedAs, Refusal.Refusal, Values.Values}
+use Rattle.target_lexicon.specs.{FixedPoints.max_growth, Reading.ReadsAs, Reading.IsRefusedAs, Refusal.Refusal, Values.Values, Written.IsWritten}
 use Rattle.lexicon_c.specs.Outcome.{Outcome, Ends}
-
--- the length of the text is written. If the text fits into the buffer, its bytes are at the start of the buffer, and
--- the bytes after them are unchanged; otherwise the buffer is unchanged
-pub record IsWritten (text old new : List ℕ) (size : ℕ) : Type 0 where
-  pub counted : size ≡ length text
-  pub fits : length text ≤ length old → new ≡ text ++ drop (length text) old
-  pub overflows : length old < length text → new ≡ old
 
 -- a buffer that is `max_growth` bytes longer than the text has room for what is written
 abbrev pub GrowsAtMost : List ℕ → ℕ → Type 0

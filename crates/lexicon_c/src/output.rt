@@ -4,7 +4,8 @@ ghost use Rattle.std.specs.Option.{option_map_or};
 ghost use Rattle.target_lexicon.specs.Refusal.{refusal_of, refusal_line};
 ghost use Rattle.target_lexicon.specs.Reading.{MayAllocate};
 ghost use Rattle.lexicon_c.specs.Outcome.{status_of, outcome_of, error_outcome, HasOutcome};
-ghost use Rattle.lexicon_c.specs.Output.{IsWritten, Writes, refused_part};
+ghost use Rattle.lexicon_c.specs.Output.{Writes, refused_part};
+ghost use Rattle.target_lexicon.specs.Written.{IsWritten};
 
 use crate::status::{Status, error_number};
 use std::alloc::Global;
