@@ -55,6 +55,7 @@ fn push_line(output: &mut String, view: View, triple: TripleRef<'_>) -> Result<(
 }
 
 /// Appends `error: `, the line of the refusal, and a line feed.
+#[inline(always)]
 fn push_refusal(output: &mut String, refusal: ParseErrorRef<'_>) -> Result<(), AllocError>
     ensures { OnOk result
         (string_bytes output.new
