@@ -34,7 +34,9 @@ pub const RENAMED: [&str; 2] = ["normal", "settle"];
 
 /// Small functions that rustc otherwise calls instead of inlining. Written in the proved text, the attribute would make
 /// the proved program slower, which another compiler builds.
-pub const INLINED: [(&str, &str, &str); 8] = [
+pub const INLINED: [(&str, &str, &str); 10] = [
+    ("target_lexicon/display.rt", "", "write_part"),
+    ("target_lexicon/display.rt", "TripleRef", "shows_binary_format"),
     ("target_lexicon/part.rt", "", "row_of"),
     ("target_lexicon/part.rt", "", "split_at_dash"),
     ("target_lexicon/part.rt", "Part", "first"),
