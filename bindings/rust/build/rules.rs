@@ -49,7 +49,7 @@ pub const INLINED: [(&str, &str, &str); 10] = [
 
 /// An allocation that fails ends the process in Rust, so that `ParseError` has upstream's six variants only. With the
 /// feature, printing goes by upstream's rule.
-pub const REPLACED: [(&str, &str, &str); 7] = [
+pub const REPLACED: [(&str, &str, &str); 8] = [
     (
         "lexicon_fields/table/prefix_key.rt",
         "#[inline(never)] fn prefix_key_of_few",
@@ -72,6 +72,11 @@ pub const REPLACED: [(&str, &str, &str); 7] = [
         "else { crate::shim::abort() };",
     ),
     ("target_lexicon/parse_error_ref.rt", "ParseError::OutOfMemory => None,", ""),
+    (
+        "target_lexicon/display.rt",
+        "let unknowns = self.shows_unknowns();",
+        "let unknowns = !cfg!(feature = \"upstream_printing\") && self.shows_unknowns();",
+    ),
     (
         "target_lexicon/display.rt",
         "self.pieces_with(self.shows_unknowns())",
