@@ -78,6 +78,13 @@ static bool are_equal(const struct lexicon_triple *first, const struct lexicon_t
   return answer;
 }
 
+/* Whether every field that is not read is 0. */
+static bool has_zeros(const struct lexicon_triple *it) {
+  bool no_vendor = it->custom_vendor == NULL && it->custom_vendor_size == 0;
+  bool no_version = it->major == 0 && it->minor == 0 && it->patch == 0;
+  return (it->vendor == LEXICON_VENDOR_CUSTOM || no_vendor) && (it->has_version || no_version);
+}
+
 /* What holds of each triple that is well. */
 static void try_triple(const struct lexicon_triple *triple) {
   struct lexicon_triple settled = *triple, again;
@@ -85,7 +92,7 @@ static void try_triple(const struct lexicon_triple *triple) {
   struct lexicon_facts facts, same_facts;
   bool comes_back = false, same = false;
   char *text, *settled_text;
-  CHECK(lexicon_settle(&settled) == LEXICON_OK);
+  CHECK(lexicon_settle(&settled) == LEXICON_OK && has_zeros(&settled));
   CHECK(lexicon_comes_back(triple, &comes_back) == LEXICON_OK);
   CHECK(lexicon_same_target(triple, &settled, &same) == LEXICON_OK && same);
   size_t length = printed(triple, 2, &text);
@@ -205,9 +212,9 @@ static void try_source(const struct lexicon_source *it, size_t size) {
 /* Of a text that is parsed, both calls write the same triple, which is well and points into the text. */
 static void try_parsed(const char *text, size_t size, const struct lexicon_triple *triple, const struct lexicon_triple *explained) {
   CHECK(are_equal(triple, explained) && expected_status(triple) == LEXICON_OK);
-  if (triple->vendor == LEXICON_VENDOR_CUSTOM) CHECK(triple->custom_vendor >= text && triple->custom_vendor + triple->custom_vendor_size <= text + size);
-  else CHECK(triple->custom_vendor == NULL && triple->custom_vendor_size == 0);
-  CHECK(triple->has_version || (triple->major == 0 && triple->minor == 0 && triple->patch == 0));
+  bool is_custom = triple->vendor == LEXICON_VENDOR_CUSTOM;
+  CHECK(!is_custom || (triple->custom_vendor >= text && triple->custom_vendor + triple->custom_vendor_size <= text + size));
+  CHECK(has_zeros(triple) && has_zeros(explained));
   char *out;
   CHECK(printed(triple, 2, &out) <= size + LEXICON_MAX_GROWTH);
   try_triple(triple);
