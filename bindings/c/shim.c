@@ -15,7 +15,8 @@ uint32_t lexicon_proved_explain(const char *, size_t, struct lexicon_triple *, s
 uint32_t lexicon_proved_write(const struct lexicon_triple *, const char *, size_t, char *, size_t, size_t *);
 uint32_t lexicon_proved_settle(struct lexicon_triple *, const char *, size_t);
 uint32_t lexicon_proved_comes_back(const struct lexicon_triple *, const char *, size_t, bool *);
-uint32_t lexicon_proved_equal(const struct lexicon_triple *, const char *, size_t, const struct lexicon_triple *, const char *, size_t, bool *);
+uint32_t lexicon_proved_equal(const struct lexicon_triple *, const char *, size_t, const struct lexicon_triple *, const char *,
+                              size_t, bool *);
 uint32_t lexicon_proved_same_target(const struct lexicon_triple *, const char *, size_t, const struct lexicon_triple *, const char *,
                                     size_t, bool *);
 uint32_t lexicon_proved_facts(const struct lexicon_triple *, const char *, size_t, struct lexicon_facts *);
