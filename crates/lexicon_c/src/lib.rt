@@ -51,13 +51,14 @@ pub extern "C" fn lexicon_parse<'a>(
         (λ refusal. ExplainsRefusal text.entry.now refusal (λ _. ⊤) error.new
         × (triple.new ≡ triple.old) × (vendor.new ≡ vendor.old))) }
 {
+    read_vendors_are_plain();
     let Ok(text) = from_utf8(text) else {
         return Status::NotUtf8.number();
     };
-    match TripleRef::from_str_explained(text) {
-        Ok(parsed) => {
-            *triple = numbers_of(&parsed);
-            *vendor = vendor_text(parsed.vendor);
+    match TripleRef::explain(text) {
+        Ok(explained) => {
+            *triple = numbers_of(&explained.triple);
+            *vendor = vendor_text(explained.triple.vendor);
             Status::Done.number()
         }
         Err(refused) => {

@@ -1,14 +1,8 @@
 //! Where the fields of a triple come from in its text.
-ghost use Rattle.std.specs.Prelude.{◌≡◌, ◌+◌, ◌<◌, ◌^◌, ◌∷◌, None, Some, true, IfOk, IfErr, length};
-ghost use Rattle.lexicon_fields.specs.Vendor.{is_plain};
-ghost use Rattle.lexicon_fields.specs.VendorRef.{ref_value};
+ghost use Rattle.std.specs.Prelude.{◌≡◌, ◌+◌, ◌<◌, ◌^◌, IfOk, IfErr, length};
 ghost use Rattle.target_lexicon.specs.Explanation.{AreInText, AreSourcesOf, IsInText, IsRefusedAfter, next_start, part_value, source_at, source_value, sources_at, sources_of, start_after, whole_text_sources};
-ghost use Rattle.target_lexicon.specs.FieldTexts.{taken_texts};
-ghost use Rattle.target_lexicon.specs.Placement.{parts_of};
-ghost use Rattle.target_lexicon.specs.Private.{parts_after_dash};
 ghost use Rattle.target_lexicon.specs.Reading.{ReadsAs, IsRefusedAs};
-ghost use Rattle.target_lexicon.specs.RemainingParts.{part_bytes, remaining_parts, texts_of};
-ghost use Rattle.target_lexicon.specs.SpecialTexts.{special_values};
+ghost use Rattle.target_lexicon.specs.RemainingParts.{part_bytes, texts_of};
 ghost use Rattle.target_lexicon.specs.ValuesRef.{refusal_of_ref, values_of_ref};
 
 use crate::field_parts::FieldParts;
@@ -75,6 +69,7 @@ pub struct ExplainedError<'a> {
 }
 
 impl<'a> TextPart<'a> {
+    ghost use Rattle.std.specs.Prelude.{Some};
     ghost use Rattle.target_lexicon.specs.Explanation.{NotGiven, part_value, source_at};
 
     /// The part that begins at this index.
@@ -159,33 +154,6 @@ impl<'a> Sources<'a> {
     }
 }
 
-/// The error of a text that isn't special, with the refused part and the sources of the fields that these parts fill.
-fn explained_error<'a>(
-    text: &'a str,
-    first: Part<'a>,
-    parts: FieldParts<'a>,
-    error: ParseErrorRef<'a>,
-) -> ExplainedError<'a>
-    requires ordinary { special_values text.now ≡ None }
-    requires first { parts_of text.now ≡ first.text.now ∷ parts_after_dash first.after_dash }
-    requires parts { texts_of parts ≡ taken_texts (remaining_parts (Some first)) }
-    requires refused { IsRefusedAs text.now (refusal_of_ref error) }
-    ensures error { refusal_of_ref result.error ≡ refusal_of_ref error.entry }
-    ensures refused { IsRefusedAfter text.entry.now (refusal_of_ref error.entry)
-        (sources_of result.sources) (part_value result.part) }
-    ensures ranges { AreInText text.entry.now (sources_of result.sources)
-        × IsInText text.entry.now (part_value result.part) }
-{
-    length_fits(text);
-    let (sources, start) = Sources::of_parts(parts, Source::NotGiven);
-    let part = TextPart::starting_at(error.part(), start);
-    ExplainedError {
-        error,
-        part,
-        sources,
-    }
-}
-
 impl<'a> TripleRef<'a> {
     /// The triple that a text parses as, and where in the text each of its fields comes from; or why the text is
     /// refused, where, and which fields the parts before the refused one filled. Nothing is allocated.
@@ -211,41 +179,22 @@ impl<'a> TripleRef<'a> {
             let sources = Sources::of_special_text(text);
             return Ok(Explanation { triple, sources });
         }
-        let first = Part::first(text);
-        let reading = Reading::from_parts(first);
+        length_fits(text);
+        let reading = Reading::from_parts(Part::first(text));
         match reading.result {
             Ok(triple) => {
-                length_fits(text);
                 let (sources, _) = Sources::of_parts(reading.parts, Source::Implied);
                 Ok(Explanation { triple, sources })
             }
-            Err(error) => Err(explained_error(text, first, reading.parts, error)),
-        }
-    }
-
-    /// The triple that a text parses as; or why the text is refused, where, and which fields the parts before the refused
-    /// one filled, as [`TripleRef::explain`] says. Nothing is allocated. For a text that parses this takes no longer than
-    /// [`TripleRef::from_str`].
-    pub fn from_str_explained(text: &'a str) -> Result<TripleRef<'a>, ExplainedError<'a>>
-        ensures ok { IfOk result (λ triple. ReadsAs text.entry.now (values_of_ref triple)) }
-        ensures plain { IfOk result (λ triple. is_plain (ref_value triple.vendor) ≡ true) }
-        ensures error { IfErr result
-            (λ it. IsRefusedAs text.entry.now (refusal_of_ref it.error)) }
-        ensures refused { IfErr result
-            (λ it. IsRefusedAfter text.entry.now (refusal_of_ref it.error)
-            (sources_of it.sources) (part_value it.part)) }
-        ensures refused_ranges { IfErr result
-            (λ it. AreInText text.entry.now (sources_of it.sources)
-            × IsInText text.entry.now (part_value it.part)) }
-    {
-        if let Some(triple) = TripleRef::from_special_text(text) {
-            return Ok(triple);
-        }
-        let first = Part::first(text);
-        let reading = Reading::from_parts(first);
-        match reading.result {
-            Ok(triple) => Ok(triple),
-            Err(error) => Err(explained_error(text, first, reading.parts, error)),
+            Err(error) => {
+                let (sources, start) = Sources::of_parts(reading.parts, Source::NotGiven);
+                let part = TextPart::starting_at(error.part(), start);
+                Err(ExplainedError {
+                    error,
+                    part,
+                    sources,
+                })
+            }
         }
     }
 }

@@ -1,30 +1,64 @@
-use Rattle.std.proofs.Common.{sym, ap, ◌∙◌, subst, arith}
-use Rattle.target_lexicon.specs.{RemainingParts.outcome_of}
-use Rattle.target_lexicon.specs.Explanation.{AreSourcesOf, AreInText, Implied, next_start, sources_at}
-use Rattle.target_lexicon.proofs.{ComputedReading.Holds, ComputedReading.parts-hold, ExplanationLemmas.start-bound, ExplanationLemmas.read-sources, ExplanationLemmas.read-ranges}
+use Rattle.std.proofs.Common.{Some, length, sym, ap, ◌∙◌, subst, arith}
+use Rattle.target_lexicon.specs.{RemainingParts.outcome_of, ValuesRef.refusal_of_ref}
+use Rattle.target_lexicon.specs.Explanation.{AreSourcesOf, AreInText, IsInText, IsRefusedAfter, NotGiven, Implied, next_start, part_value, source_at, sources_at}
+use Rattle.target_lexicon.proofs.{ComputedReading.Holds, ComputedReading.parts-hold, ExplanationLemmas.start-bound, ExplanationLemmas.read-sources, ExplanationLemmas.read-ranges, ExplanationLemmas.refused-after}
 use Rattle.target_lexicon.proofs.triple_ref.TripleRef.explain.Goals as goal
 
 pub of_parts-requires : goal.of_parts-requires
 of_parts-requires c =
-    let bound = start-bound c.args.text.now _ _ (sym c.in_default.ensures) c.first-first.ensures in
+    let bound = start-bound c.args.text.now _ _ (sym c.in_default.ensures) c.first.ensures in
+    omega (arith, c.length_fits.ensures, bound, ap next_start c.from_parts-reading.ensures.parts)
+
+pub of_parts-start-requires : goal.of_parts-start-requires
+of_parts-start-requires c =
+    let bound = start-bound c.args.text.now _ _ (sym c.in_default.ensures) c.first.ensures in
     omega (arith, c.length_fits.ensures, bound, ap next_start c.from_parts-reading.ensures.parts)
 
 pub returns-in-Ok-clause-triple : goal.returns-in-Ok-clause-triple
 returns-in-Ok-clause-triple c =
     let outcome = sym c.from_parts-reading.ensures.result ∙ ap outcome_of c.in-Ok.is in
-    subst (Holds c.args.text.now) outcome (parts-hold c.args.text.now _ _ (sym c.in_default.ensures) c.first-first.ensures)
+    subst (Holds c.args.text.now) outcome (parts-hold c.args.text.now _ _ (sym c.in_default.ensures) c.first.ensures)
 
 pub returns-in-Ok-clause-sources : goal.returns-in-Ok-clause-sources
 returns-in-Ok-clause-sources c =
     let given = c.of_parts.ensures.sources ∙ ap (sources_at Implied) c.from_parts-reading.ensures.parts in
-    subst (AreSourcesOf c.args.text.now) (sym given) (read-sources c.args.text.now _ _ (sym c.in_default.ensures) c.first-first.ensures _ (returns-in-Ok-clause-triple c))
+    subst (AreSourcesOf c.args.text.now) (sym given) (read-sources c.args.text.now _ _ (sym c.in_default.ensures) c.first.ensures _ (returns-in-Ok-clause-triple c))
 
 pub returns-in-Ok-clause-ranges : goal.returns-in-Ok-clause-ranges
 returns-in-Ok-clause-ranges c =
     let given = c.of_parts.ensures.sources ∙ ap (sources_at Implied) c.from_parts-reading.ensures.parts in
-    subst (AreInText c.args.text.now) (sym given) (read-ranges c.args.text.now _ _ (sym c.in_default.ensures) c.first-first.ensures Implied tt)
+    subst (AreInText c.args.text.now) (sym given) (read-ranges c.args.text.now _ _ (sym c.in_default.ensures) c.first.ensures Implied tt)
 
-pub explained_error-requires-clause-refused : goal.explained_error-requires-clause-refused
-explained_error-requires-clause-refused c =
+pub returns-in-Err-clause-error : goal.returns-in-Err-clause-error
+returns-in-Err-clause-error c =
     let outcome = sym c.from_parts-reading.ensures.result ∙ ap outcome_of c.in-Err.is in
-    subst (Holds c.args.text.now) outcome (parts-hold c.args.text.now _ _ (sym c.in_default.ensures) c.first-first.ensures)
+    subst (Holds c.args.text.now) outcome (parts-hold c.args.text.now _ _ (sym c.in_default.ensures) c.first.ensures)
+
+pub starting_at-part-requires : goal.starting_at-part-requires
+starting_at-part-requires c =
+    let text = c.args.text.now in
+    let outcome = sym c.from_parts-reading.ensures.result ∙ ap outcome_of c.in-Err.is in
+    let refused = subst (Holds text) outcome (parts-hold text _ _ (sym c.in_default.ensures) c.first.ensures) in
+    let within = (refused-after text _ _ (sym c.in_default.ensures) c.first.ensures _ refused).1.0 in
+    omega (arith, within, c.length_fits.ensures, c.of_parts-start.ensures.start, ap next_start c.from_parts-reading.ensures.parts, ap length c.part.ensures)
+
+pub returns-in-Err-clause-refused : goal.returns-in-Err-clause-refused
+returns-in-Err-clause-refused c =
+    let text = c.args.text.now in
+    let given = c.of_parts-start.ensures.sources ∙ ap (sources_at NotGiven) c.from_parts-reading.ensures.parts in
+    let start = c.of_parts-start.ensures.start ∙ ap next_start c.from_parts-reading.ensures.parts in
+    let part = c.starting_at-part.ensures ∙ (λ i. source_at NotGiven (start i) (Some (c.part.ensures i))) in
+    let after = (refused-after text _ _ (sym c.in_default.ensures) c.first.ensures _ (returns-in-Err-clause-error c)).0 in
+    subst (λ s. IsRefusedAfter text (refusal_of_ref c.in-Err.error) s (part_value c.starting_at-part.result)) (sym given)
+    (subst (IsRefusedAfter text (refusal_of_ref c.in-Err.error) _) (sym part) after)
+
+pub returns-in-Err-clause-refused_ranges : goal.returns-in-Err-clause-refused_ranges
+returns-in-Err-clause-refused_ranges c =
+    let text = c.args.text.now in
+    let given = c.of_parts-start.ensures.sources ∙ ap (sources_at NotGiven) c.from_parts-reading.ensures.parts in
+    let start = c.of_parts-start.ensures.start ∙ ap next_start c.from_parts-reading.ensures.parts in
+    let part = c.starting_at-part.ensures ∙ (λ i. source_at NotGiven (start i) (Some (c.part.ensures i))) in
+    let within = (refused-after text _ _ (sym c.in_default.ensures) c.first.ensures _ (returns-in-Err-clause-error c)).1 in (
+      subst (AreInText text) (sym given) (read-ranges text _ _ (sym c.in_default.ensures) c.first.ensures NotGiven tt),
+      subst (IsInText text) (sym part) within,
+    )
