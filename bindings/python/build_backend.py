@@ -17,7 +17,7 @@ import zipfile
 HERE = os.path.dirname(os.path.abspath(__file__))
 NAME = "target_lexicon"
 FIRST_TIME = 315532800  # The first one that a zip file can have.
-LIBRARY = "lexicon/liblexicon.so"
+LIBRARY = "lexicon/liblexicon.so.0"
 
 NEEDED = """LEXICON_LIBRARY isn't set. A wheel of target-lexicon has a shared library in it, which this source hasn't.
 Build it with LEXICON_LIBRARY=PATH/liblexicon.so, from an installation of the library for C (liblexicon 0.2)."""
@@ -44,6 +44,14 @@ def get_requires_for_build_wheel(config_settings=None):
 
 def get_requires_for_build_sdist(config_settings=None):
     return []
+
+
+def prepare_metadata_for_build_wheel(metadata_directory, config_settings=None):
+    info = f"{NAME}-{version()}.dist-info"
+    os.mkdir(os.path.join(metadata_directory, info))
+    with open(os.path.join(metadata_directory, info, "METADATA"), "wb") as it:
+        it.write(metadata(""))
+    return info
 
 
 def build_wheel(wheel_directory, config_settings=None, metadata_directory=None):

@@ -99,7 +99,7 @@ def encoded(text: object, what: str) -> bytes:
     if not isinstance(text, str):
         raise TypeError(f"{what} must be a str, not {type(text).__name__}")
     try:
-        return text.encode()
+        return str.encode(text)
     except UnicodeEncodeError as error:
         raise ParseError(text, ErrorKind.UNICODE, error.start, text[error.start: error.end]) from None
 

@@ -15,7 +15,7 @@ from typing import Callable, Iterator, List, Optional, Sequence, Tuple
 #: The first two numbers of the version of the calls, and the name of the shared library that has them.
 CALLS_VERSION = "0.2"
 LOADER_NAME = "liblexicon.so.0"
-PACKAGE_FILE = os.path.join(os.path.dirname(os.path.abspath(__file__)), "liblexicon.so")
+PACKAGE_FILE = os.path.join(os.path.dirname(os.path.abspath(__file__)), LOADER_NAME)
 
 CUSTOM_VENDOR = 255
 
@@ -78,13 +78,14 @@ def _declare(name: str, *arguments: type, result: type = c_uint32) -> Callable[.
     return call
 
 
-parse = _declare("lexicon_parse", c_char_p, c_size_t, c_void_p, c_void_p)
-explain = _declare("lexicon_explain", c_char_p, c_size_t, c_void_p, c_void_p, c_void_p)
-settle = _declare("lexicon_settle", c_void_p)
+# A buffer that is an argument of its own type is passed in less time than one for a `c_void_p`.
+parse = _declare("lexicon_parse", c_char_p, c_size_t, TripleBuffer, ErrorBuffer)
+explain = _declare("lexicon_explain", c_char_p, c_size_t, TripleBuffer, SourcesBuffer, ErrorBuffer)
+settle = _declare("lexicon_settle", TripleBuffer)
 comes_back = _declare("lexicon_comes_back", c_char_p, POINTER(c_bool))
 equal = _declare("lexicon_equal", c_char_p, c_char_p, POINTER(c_bool))
 same_target = _declare("lexicon_same_target", c_char_p, c_char_p, POINTER(c_bool))
-facts = _declare("lexicon_facts", c_char_p, c_void_p)
+facts = _declare("lexicon_facts", c_char_p, FactsBuffer)
 _number = _declare("lexicon_number", c_uint32, c_char_p, c_size_t, POINTER(c_uint32))
 _write = _declare("lexicon_write", c_char_p, c_void_p, c_size_t, POINTER(c_size_t))
 _error_line = _declare("lexicon_error_line", c_uint32, c_char_p, c_size_t, c_void_p, c_size_t, POINTER(c_size_t))
