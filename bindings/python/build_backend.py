@@ -1,7 +1,8 @@
 """Builds the wheel and the sdist of the package `lexicon`: the backend, by PEP 517, that pyproject.toml names.
 
 The wheel has the shared library that the variable LEXICON_LIBRARY names. The same files give the same wheel and sdist,
-to the byte: names are sorted, and times are that of SOURCE_DATE_EPOCH, or else the first of January 1980.
+to the byte: names are sorted, and times are that of SOURCE_DATE_EPOCH, or else the first of January 1980. The
+wheel isn't compressed, so that its bytes don't depend on the version of zlib.
 """
 import base64
 import gzip

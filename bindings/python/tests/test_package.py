@@ -175,6 +175,8 @@ class Types(unittest.TestCase):
     def test_mypy(self):
         with tempfile.TemporaryDirectory() as cache:
             command = ["mypy", "--strict", "--no-error-summary", "--cache-dir", cache, "--python-executable", sys.executable]
+            if run(*command, "-c", "x = 1").returncode != 0:
+                self.skipTest("this mypy can't ask this Python for its folders")
             for checked in ["-p", "lexicon"], [os.path.join(os.path.dirname(os.path.abspath(__file__)), "typed_sample.py")]:
                 ran = run(*command, "--python-version", "3.9", *checked)
                 self.assertEqual((ran.stdout + ran.stderr, ran.returncode), ("", 0))

@@ -6,7 +6,7 @@ import unittest
 
 import lexicon
 from lexicon import (Architecture, BinaryFormat, CustomVendor, Environment, ErrorKind, OperatingSystem, ParseError, Triple,
-                     Vendor)
+                     Vendor, _triple)
 
 TEXTS = ["unknown", "x86_64-unknown-linux-gnu", "arm64-apple-macosx13.2", "arm64-apple-macosx", "arm64-apple-macosx0",
          "x86_64-acme-linux", "x86_64-acmf-linux", "armv6k-nintendo-horizon-gnu", "armv6k-nintendo-3ds", "wasm32-wasi",
@@ -55,6 +55,10 @@ class Equality(unittest.TestCase):
             self.assertEqual(eval(repr(triple.vendor), vars(lexicon)), triple.vendor)  # pylint: disable=eval-used
         self.assertEqual(repr(Triple("arm64-linux")), "Triple('aarch64-unknown-linux')")
 
+    def test_formats(self):
+        triple = Triple("x86_64-acme-linux")
+        self.assertEqual(f"{triple}|{triple:20}|{triple.vendor:>6}|{triple.architecture:8}|", "x86_64-acme-linux|x86_64-acme-linux   |  acme|x86_64  |")
+
     def test_immutable(self):
         triple, vendor = Triple("x86_64-acme-linux"), CustomVendor("acme")
         for name in "architecture", "vendor", "version", "endianness", "other":
@@ -79,6 +83,10 @@ class Fields(unittest.TestCase):
             self.assertRaises(ParseError, CustomVendor, text)
         for value in None, b"acme", 3:
             self.assertRaises(TypeError, CustomVendor, value)
+
+    def test_structs_are_aligned(self):
+        triples = [Triple(text) for text in TEXTS * 100]
+        self.assertEqual({_triple._address(it._struct) % 8 for it in triples}, {0})
 
     def test_custom_vendor_outlives_its_text(self):
         vendors = [Triple(f"x86_64-vendor{number}-linux").replace(environment=Environment.GNU).settled() for number in range(10000)]

@@ -120,6 +120,9 @@ class CustomVendor:
     def __str__(self) -> str:
         return self.value
 
+    def __format__(self, form: str) -> str:
+        return format(self.value, form)
+
     def __repr__(self) -> str:
         return f"CustomVendor({self.value!r})"
 

@@ -23,6 +23,7 @@ CUSTOM_VENDOR = 255
 OK = 0
 TOO_SMALL = 8
 
+# A struct goes into a call as `bytes`, the data of which CPython aligns to 8 bytes. A call writes into a buffer.
 # `struct lexicon_triple`, and the numbers in it: without the padding, and without the pointer and size of a vendor.
 TRIPLE = Struct("@HBBBBBBBHPN")
 NUMBERS = Struct("@HBBBBBBBxH")

@@ -226,8 +226,8 @@ class Triple:
         """
         out = _library.TripleBuffer.from_buffer_copy(self._struct)
         _library.check(_library.settle(out))
-        settled = _triple_of(out.raw, self._owner)
-        return self if settled == self else settled
+        settled = out.raw
+        return self if settled == self._struct else _triple_of(settled, self._owner)
 
     def comes_back(self) -> bool:
         """Whether the printed text parses as this triple.
@@ -314,6 +314,9 @@ class Triple:
             self._text = text = _library.printed(self._struct)
         return text
 
+    def __format__(self, form: str) -> str:
+        return format(str(self), form)
+
     def __repr__(self) -> str:
         if self.comes_back():
             return f"Triple({str(self)!r})"
@@ -323,6 +326,8 @@ class Triple:
     def __eq__(self, other: object) -> bool:
         if not isinstance(other, Triple):
             return NotImplemented
+        if self._struct == other._struct and self._owner is other._owner:
+            return True
         return self._values() == other._values()
 
     def __hash__(self) -> int:
