@@ -83,12 +83,14 @@ def build_sdist(sdist_directory, config_settings=None):
     files = {f"src/{path}": content for path, content in package().items()}
     files |= {name: read(os.path.join(HERE, name)) for name in ("README.md", "build_backend.py", "pyproject.toml")}
     files |= {"LICENSE": licence(), "PKG-INFO": metadata("Requires-External: liblexicon (0.2)\n")}
-    with open(os.path.join(sdist_directory, f"{folder}.tar.gz"), "wb") as out:
-        with gzip.GzipFile("", "wb", 9, out, epoch()) as packed, tarfile.open(fileobj=packed, mode="w", format=tarfile.USTAR_FORMAT) as archive:
-            for path in sorted(files):
-                entry = tarfile.TarInfo(f"{folder}/{path}")
-                entry.size, entry.mtime, entry.mode = len(files[path]), epoch(), 0o644
-                archive.addfile(entry, io.BytesIO(files[path]))
+    unpacked = io.BytesIO()
+    with tarfile.open(fileobj=unpacked, mode="w", format=tarfile.USTAR_FORMAT) as archive:
+        for path in sorted(files):
+            entry = tarfile.TarInfo(f"{folder}/{path}")
+            entry.size, entry.mtime, entry.mode = len(files[path]), epoch(), 0o644
+            archive.addfile(entry, io.BytesIO(files[path]))
+    with open(os.path.join(sdist_directory, f"{folder}.tar.gz"), "wb") as out, gzip.GzipFile("", "wb", 9, out, epoch()) as it:
+        it.write(unpacked.getvalue())
     return f"{folder}.tar.gz"
 
 

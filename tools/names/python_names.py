@@ -10,7 +10,7 @@ from ._fields import FieldValue, NamedValue, VendorValue
 # A field or `family`, its class and what that derives from, and what the class says.
 CLASSES = {
     "architecture": ("Architecture", "FieldValue", "The architecture, in some families with a sub-architecture."),
-    "family": ("Family", "NamedValue", "The family of an architecture: one for all of Arm's, one for each architecture that has no family."),
+    "family": ("Family", "NamedValue", "The family of an architecture: one for all of Arm's, one for each without a family."),
     "vendor": ("Vendor", "VendorValue", "A known vendor. Any other one is a `CustomVendor`."),
     "operating_system": ("OperatingSystem", "FieldValue", "The operating system. The version of one is `Triple.version`."),
     "environment": ("Environment", "FieldValue", "The environment on top of the operating system: the ABI, or the C library."),

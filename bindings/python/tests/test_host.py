@@ -7,7 +7,7 @@ import unittest
 from lexicon import Triple, _host
 
 MACHINES = {
-    "x86_64-unknown-linux-gnu": _host.Machine("Linux", "x86_64", 64, "little", "x86_64-linux-gnu x86_64-pc-linux-gnu linux-x86_64", "glibc"),
+    "x86_64-unknown-linux-gnu": _host.Machine("Linux", "x86_64", 64, "little", "x86_64-linux-gnu x86_64-pc-linux-gnu", "glibc"),
     "x86_64-unknown-linux-musl": _host.Machine("Linux", "x86_64", 64, "little", "x86_64-linux-gnu x86_64-alpine-linux-musl linux-x86_64"),
     "i686-unknown-linux-gnu": _host.Machine("Linux", "x86_64", 32, "little", "i386-linux-gnu linux-i686", "glibc"),
     "x86_64-unknown-linux-gnux32": _host.Machine("Linux", "x86_64", 32, "little", "x86_64-linux-gnux32"),

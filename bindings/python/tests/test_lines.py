@@ -39,6 +39,14 @@ def resident():
         return int(it.read().split()[1]) * 4096
 
 
+def print_it(text):
+    """What the program writes for a line in the mode `print`."""
+    try:
+        return str(Triple(text))
+    except ParseError as error:
+        return f"error: {error.line}"
+
+
 class Lines(unittest.TestCase):
     @classmethod
     def setUpClass(cls):
@@ -54,7 +62,7 @@ class Lines(unittest.TestCase):
 
     @unittest.skipUnless(lists.PROGRAM, "no program")
     def test_beside_the_program(self):
-        for mode, call in ("show", show), ("settle", settle), ("print", lambda it: show(it) if show(it).startswith("error: ") else str(Triple(it))):
+        for mode, call in ("show", show), ("settle", settle), ("print", print_it):
             given = "".join(f"{it}\n" for it in self.lines).encode()
             ran = subprocess.run([lists.PROGRAM, mode], input=given, capture_output=True, check=True)
             expected = ran.stdout.decode().split("\n")[:-1]

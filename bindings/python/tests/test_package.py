@@ -116,10 +116,12 @@ class FindsTheLibrary(Folder):
 
     def test_nowhere(self):
         for variables in {}, {"LEXICON_LIBRARY": "/nowhere/liblexicon.so"}:
-            self.assertRegex(self.prints(**variables).stderr, r"ImportError: lexicon needs the shared library liblexicon 0\.2: .*LEXICON_LIBRARY")
+            expected = r"ImportError: lexicon needs the shared library liblexicon 0\.2: .*LEXICON_LIBRARY"
+            self.assertRegex(self.prints(**variables).stderr, expected)
 
     def test_another_library(self):
-        self.assertRegex(self.prints(LEXICON_LIBRARY="libc.so.6").stderr, r"ImportError: libc.so.6 isn't liblexicon 0\.2: it hasn't lexicon_parse")
+        expected = r"ImportError: libc.so.6 isn't liblexicon 0\.2: it hasn't lexicon_parse"
+        self.assertRegex(self.prints(LEXICON_LIBRARY="libc.so.6").stderr, expected)
 
     def test_other_names(self):
         path = os.path.join(self.folder, "lexicon", "_values.py")

@@ -57,7 +57,8 @@ class Equality(unittest.TestCase):
 
     def test_formats(self):
         triple = Triple("x86_64-acme-linux")
-        self.assertEqual(f"{triple}|{triple:20}|{triple.vendor:>6}|{triple.architecture:8}|", "x86_64-acme-linux|x86_64-acme-linux   |  acme|x86_64  |")
+        self.assertEqual(f"{triple}|{triple:20}|", "x86_64-acme-linux|x86_64-acme-linux   |")
+        self.assertEqual(f"{triple.vendor:>6}|{triple.architecture:8}|", "  acme|x86_64  |")
 
     def test_immutable(self):
         triple, vendor = Triple("x86_64-acme-linux"), CustomVendor("acme")
@@ -126,7 +127,8 @@ class Fields(unittest.TestCase):
         for version in "13", b"13", 13, (1.5,), ("13",), (None,):
             self.assertRaises(TypeError, darwin.replace, version=version)
         self.assertEqual(darwin.replace(version=(65535, 255, 255)).version, (65535, 255, 255))
-        for call in (lambda: Triple(), lambda: Triple("x86_64", "linux"), lambda: triple.replace(cpu=1), lambda: triple.same_target("x86_64")):
+        for call in (lambda: Triple(), lambda: Triple("x86_64", "linux"), lambda: triple.replace(cpu=1),
+                     lambda: triple.same_target("x86_64")):
             self.assertRaises(TypeError, call)
 
     def test_explain_of_a_triple(self):

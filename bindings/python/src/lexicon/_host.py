@@ -44,8 +44,8 @@ _ENVIRONMENTS = {str(it): it for it in members(Environment)}
 # Names of machines that aren't architectures of the library, and of 64-bit ones with a 32-bit interpreter.
 _MACHINES = {
     "amd64": "x86_64", "x64": "x86_64", "i86pc": "x86_64", "x86": "i686", "armv7l": "armv7", "armv6l": "armv6", "armv8l": "armv7",
-    "ppc": "powerpc", "ppc64": "powerpc64", "ppc64le": "powerpc64le", "power macintosh": "powerpc", "arm64": "aarch64", "riscv64": "riscv64gc",
-    "riscv32": "riscv32gc", "sun4u": "sparc64", "sun4v": "sparc64",
+    "ppc": "powerpc", "ppc64": "powerpc64", "ppc64le": "powerpc64le", "power macintosh": "powerpc", "arm64": "aarch64",
+    "riscv64": "riscv64gc", "riscv32": "riscv32gc", "sun4u": "sparc64", "sun4v": "sparc64",
 }
 _OF_32_BITS = {
     "x86_64": "i686", "aarch64": "armv7", "powerpc64": "powerpc", "sparc64": "sparc", "riscv64gc": "riscv32gc",

@@ -167,7 +167,7 @@ class Architecture(FieldValue):
 
 
 class Family(NamedValue):
-    """The family of an architecture: one for all of Arm's, one for each architecture that has no family."""
+    """The family of an architecture: one for all of Arm's, one for each without a family."""
 
     UNKNOWN = "unknown"
     ARM = "arm"
