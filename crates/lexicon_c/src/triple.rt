@@ -39,6 +39,7 @@ pub struct LexiconTriple {
 }
 
 /// The triple of these numbers, where a custom vendor has this text, or why there is none.
+#[inline(always)]
 pub(crate) fn triple_in<'a>(
     numbers: &LexiconTriple,
     text: &'a [u8],
@@ -176,6 +177,7 @@ pub(crate) fn vendor_text<'a>(vendor: VendorRef<'a>) -> LexiconText<'a>
 }
 
 /// Whether two triples are equal: all five fields are the same.
+#[inline(always)]
 pub(crate) fn are_equal(first: &TripleRef<'_>, second: &TripleRef<'_>) -> bool
     ensures { IsTrue result ↔ (values_of_ref first.now ≡ values_of_ref second.now) }
 {
