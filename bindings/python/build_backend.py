@@ -1,0 +1,180 @@
+"""Builds the wheel and the sdist of the package `lexicon`: the backend, by PEP 517, that pyproject.toml names.
+
+The wheel has the shared library that the variable LEXICON_LIBRARY names. The same files give the same wheel and sdist,
+to the byte: names are sorted, and times are that of SOURCE_DATE_EPOCH, or else the first of January 1980. The
+wheel isn't compressed, so that its bytes don't depend on the version of zlib.
+"""
+import base64
+import gzip
+import hashlib
+import io
+import os
+import re
+import struct
+import tarfile
+import time
+import zipfile
+
+HERE = os.path.dirname(os.path.abspath(__file__))
+NAME = "target_lexicon"
+FIRST_TIME = 315532800  # The first one that a zip file can have.
+LIBRARY = "lexicon/liblexicon.so.0"
+
+NEEDED = """LEXICON_LIBRARY isn't set. A wheel of target-lexicon has a shared library in it, which this source hasn't.
+Build it with LEXICON_LIBRARY=PATH/liblexicon.so, from an installation of the library for C (liblexicon 0.2)."""
+
+METADATA = """\
+Metadata-Version: 2.1
+Name: target-lexicon
+Version: {version}
+Summary: Target triples such as x86_64-unknown-linux-gnu, by a verified library
+License: Apache-2.0 WITH LLVM-exception
+Requires-Python: >=3.9
+{needs}Classifier: Operating System :: POSIX :: Linux
+Classifier: Programming Language :: Python :: 3 :: Only
+Classifier: Programming Language :: Python :: Implementation :: CPython
+Classifier: Typing :: Typed
+Description-Content-Type: text/markdown
+
+{readme}"""
+
+
+def get_requires_for_build_wheel(config_settings=None):
+    return []
+
+
+def get_requires_for_build_sdist(config_settings=None):
+    return []
+
+
+def prepare_metadata_for_build_wheel(metadata_directory, config_settings=None):
+    info = f"{NAME}-{version()}.dist-info"
+    os.mkdir(os.path.join(metadata_directory, info))
+    with open(os.path.join(metadata_directory, info, "METADATA"), "wb") as it:
+        it.write(metadata(""))
+    return info
+
+
+def build_wheel(wheel_directory, config_settings=None, metadata_directory=None):
+    library = os.environ.get("LEXICON_LIBRARY")
+    if not library:
+        raise SystemExit(NEEDED)
+    content = read(library)
+    tag = f"py3-none-{platform_of(content)}"
+    info = f"{NAME}-{version()}.dist-info"
+    files = {**package(), LIBRARY: content}
+    files[f"{info}/METADATA"] = metadata("")
+    files[f"{info}/WHEEL"] = f"Wheel-Version: 1.0\nGenerator: build_backend\nRoot-Is-Purelib: false\nTag: {tag}\n".encode()
+    files[f"{info}/LICENSE"] = licence()
+    record = "".join(f"{name},sha256={digest(files[name])},{len(files[name])}\n" for name in sorted(files))
+    files[f"{info}/RECORD"] = f"{record}{info}/RECORD,,\n".encode()
+    name = f"{NAME}-{version()}-{tag}.whl"
+    with zipfile.ZipFile(os.path.join(wheel_directory, name), "w") as archive:
+        for path in sorted(files, key=lambda it: (".dist-info/" in it, it)):
+            entry = zipfile.ZipInfo(path, time.gmtime(epoch())[:6])
+            entry.create_system = 3
+            entry.external_attr = (0o100755 if path == LIBRARY else 0o100644) << 16
+            archive.writestr(entry, files[path])
+    return name
+
+
+def build_sdist(sdist_directory, config_settings=None):
+    folder = f"{NAME}-{version()}"
+    files = {f"src/{path}": content for path, content in package().items()}
+    files |= {name: read(os.path.join(HERE, name)) for name in ("README.md", "build_backend.py", "pyproject.toml")}
+    files |= {"LICENSE": licence(), "PKG-INFO": metadata("Requires-External: liblexicon (0.2)\n")}
+    unpacked = io.BytesIO()
+    with tarfile.open(fileobj=unpacked, mode="w", format=tarfile.USTAR_FORMAT) as archive:
+        for path in sorted(files):
+            entry = tarfile.TarInfo(f"{folder}/{path}")
+            entry.size, entry.mtime, entry.mode = len(files[path]), epoch(), 0o644
+            archive.addfile(entry, io.BytesIO(files[path]))
+    with open(os.path.join(sdist_directory, f"{folder}.tar.gz"), "wb") as out, gzip.GzipFile("", "wb", 9, out, epoch()) as it:
+        it.write(unpacked.getvalue())
+    return f"{folder}.tar.gz"
+
+
+def read(path):
+    with open(path, "rb") as it:
+        return it.read()
+
+
+def package():
+    """The files of the package, without a library that lies there."""
+    folder = os.path.join(HERE, "src", "lexicon")
+    names = [it for it in os.listdir(folder) if it.endswith(".py") or it == "py.typed"]
+    return {f"lexicon/{name}": read(os.path.join(folder, name)) for name in names}
+
+
+def version():
+    text = read(os.path.join(HERE, "pyproject.toml")).decode()
+    return re.search(r'^version = "(.*)"$', text, re.M)[1]
+
+
+def metadata(needs):
+    return METADATA.format(version=version(), needs=needs, readme=read(os.path.join(HERE, "README.md")).decode()).encode()
+
+
+def licence():
+    """The licence, which lies at the top of the repository, or beside this file in an sdist."""
+    found = [it for it in (os.path.join(HERE, "LICENSE"), os.path.join(HERE, "..", "..", "LICENSE")) if os.path.exists(it)]
+    return read(found[0])
+
+
+def epoch():
+    return max(int(os.environ.get("SOURCE_DATE_EPOCH") or FIRST_TIME), FIRST_TIME)
+
+
+def digest(content):
+    return base64.urlsafe_b64encode(hashlib.sha256(content).digest()).rstrip(b"=").decode()
+
+
+# ---- the platform that a library is for
+
+X86_64 = 62
+DYNAMIC, DYNAMIC_SYMBOLS, NEEDED_VERSIONS = 6, 11, 0x6FFFFFFE
+DT_NEEDED, DT_SONAME = 1, 14
+MANYLINUX_LIBRARIES = {"libc.so.6", "libgcc_s.so.1", "libm.so.6", "libpthread.so.0", "libdl.so.2", "librt.so.1",
+                       "ld-linux-x86-64.so.2"}
+
+
+def platform_of(content):
+    """The tag of the platforms that a shared library is for, by what it needs of the C library.
+
+    A library that needs other ones than the C library is for `linux_x86_64`, for which nothing is promised.
+    """
+    if content[:6] != b"\x7fELF\x02\x01" or struct.unpack_from("<H", content, 18)[0] != X86_64:
+        raise SystemExit("LEXICON_LIBRARY isn't a shared library for x86-64 Linux")
+    libraries, versions = needs_of(content)
+    glibc = [tuple(map(int, it[6:].split(".")[:2])) for it in versions if re.fullmatch(r"GLIBC_[\d.]+", it)]
+    if not libraries <= MANYLINUX_LIBRARIES or "GLIBC_PRIVATE" in versions:
+        return "linux_x86_64"
+    return "manylinux_%d_%d_x86_64" % max([*glibc, (2, 17)])
+
+
+def needs_of(content):
+    """The names of the libraries that an ELF file needs, and those of the versions of their symbols."""
+    start, = struct.unpack_from("<Q", content, 40)
+    size, count = struct.unpack_from("<HH", content, 58)
+    sections = [struct.unpack_from("<IIQQQQIIQQ", content, start + i * size) for i in range(count)]
+
+    def text(section, at):
+        begin = sections[section[6]][4] + at
+        return content[begin:content.index(b"\0", begin)].decode()
+
+    libraries, versions = set(), set()
+    for section in sections:
+        if section[1] == DYNAMIC:
+            entries = struct.iter_unpack("<QQ", content[section[4]:section[4] + section[5]])
+            libraries |= {text(section, value) for kind, value in entries if kind == DT_NEEDED}
+        elif section[1] == NEEDED_VERSIONS:
+            at = section[4]
+            for _ in range(section[7]):
+                _, entries, _, first, following = struct.unpack_from("<HHIII", content, at)
+                entry = at + first
+                for _ in range(entries):
+                    _, _, _, name, next_entry = struct.unpack_from("<IHHII", content, entry)
+                    versions.add(text(section, name))
+                    entry += next_entry
+                at += following
+    return libraries, versions

@@ -1,0 +1,53 @@
+"""The lists of this repository that the tests go by, and what the test program was given."""
+import collections
+import os
+import re
+import sys
+
+#: The repository, the shared library, and the folder with the wheel and the sdist; and the program `triples`, or None.
+ROOT, LIBRARY, BUILT = (os.environ[f"LEXICON_TEST_{it}"] for it in ("ROOT", "LIBRARY", "BUILT"))
+PROGRAM = os.environ.get("LEXICON_TEST_PROGRAM")
+
+FIELDS = ("architecture", "vendor", "operating_system", "environment", "binary_format")
+Names = collections.namedtuple("Names", "architectures vendors systems environments formats versioned each foreign known")
+Row = collections.namedtuple("Row", "field variant name family")
+
+
+def read(path):
+    with open(os.path.join(ROOT, path), encoding="utf-8") as it:
+        return it.read()
+
+
+def table():
+    """The lines of the table of names."""
+    rows = [line.split("\t") for line in read("tools/names/names.tsv").splitlines() if not line.startswith("#")]
+    return [Row(*row[:3], row[3] if len(row) > 3 else "") for row in rows]
+
+
+def rows(file, name):
+    """The rows of a list in the tests of the crates: a text, and what follows `=`."""
+    text = re.search(rf'const {name}: &str = "\\\n(.*?)";', read(f"crates/lexicon_tests/src/{file}.rt"), re.S)[1]
+    text = re.sub(r"\\u\{(\w+)\}", lambda it: chr(int(it[1], 16)), text).replace('\\"', '"')
+    return [line.partition("=")[::2] for line in text.split("\n")]
+
+
+def known_triples():
+    return read("checks/known_triples").split()
+
+
+def header_numbers(prefix):
+    """The enumerators of the header that begin so: for each the number."""
+    return {name: int(number) for name, number in re.findall(rf"LEXICON_{prefix}_(\w+) = (\d+)", read("bindings/c/lexicon.h"))}
+
+
+def generated_lines(count):
+    """The lines that checks/target_lines.py makes."""
+    sys.path.append(os.path.join(ROOT, "checks"))
+    import target_lines
+
+    named = {field: [it.name for it in table() if it.field == field] for field in (*FIELDS, "alias")}
+    named["architecture"] += named.pop("alias")
+    versioned = [it.name for it in table() if it.family == "Darwin"]
+    each = [name for names in named.values() for name in names]
+    names = Names(*named.values(), versioned, each, ["zilog", "bar", "gnux", "win7"], known_triples())
+    return target_lines.lines(names, count, 1)

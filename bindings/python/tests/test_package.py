@@ -1,0 +1,184 @@
+"""What was built and installed: the files, how the library is found, the samples of the pages, and the types."""
+import doctest
+import email
+import filecmp
+import importlib
+import os
+import pkgutil
+import re
+import shutil
+import subprocess
+import sys
+import tarfile
+import tempfile
+import unittest
+import zipfile
+
+import lexicon
+import lists
+
+SOURCE = os.path.join(lists.ROOT, "bindings", "python")
+PRINTS = "from lexicon import Triple; print(Triple('arm64-linux'))"
+
+
+def built(suffix):
+    found = [os.path.join(lists.BUILT, it) for it in os.listdir(lists.BUILT) if it.endswith(suffix)]
+    assert len(found) == 1, found
+    return found[0]
+
+
+def run(*command, **variables):
+    """Runs a command with only these variables, besides the path of programs."""
+    environment = {"PATH": os.environ["PATH"], "PYTHONDONTWRITEBYTECODE": "1", **variables}
+    return subprocess.run(command, capture_output=True, text=True, env=environment, check=False)
+
+
+class Folder(unittest.TestCase):
+    def setUp(self):
+        folder = tempfile.TemporaryDirectory(prefix="lexicon-")
+        self.addCleanup(folder.cleanup)
+        self.folder = folder.name
+
+
+class Built(Folder):
+    def test_installed_and_nothing_else(self):
+        package = os.path.dirname(lexicon.__file__)
+        self.assertTrue(package.startswith(sys.prefix) and sys.prefix != sys.base_prefix)
+        self.assertEqual(lexicon.LIBRARY_PATH, os.path.join(package, "liblexicon.so.0"))
+        self.assertTrue(filecmp.cmp(lexicon.LIBRARY_PATH, lists.LIBRARY, shallow=False))
+        self.assertNotIn("LEXICON_LIBRARY", os.environ)
+        with zipfile.ZipFile(built(".whl")) as wheel:
+            names = [it for it in wheel.namelist() if it.startswith("lexicon/")]
+        self.assertIn("lexicon/py.typed", names)
+        self.assertEqual(sorted(it for it in os.listdir(package) if it != "__pycache__"), sorted(os.path.basename(it) for it in names))
+
+    def test_wheel_says_what_it_is(self):
+        name = os.path.basename(built(".whl"))
+        self.assertRegex(name, rf"^target_lexicon-{lexicon.__version__}-py3-none-(linux|manylinux_2_\d+)_x86_64\.whl$")
+        with zipfile.ZipFile(built(".whl")) as wheel:
+            self.assertIsNone(wheel.testzip())
+            info = f"target_lexicon-{lexicon.__version__}.dist-info"
+            said = email.message_from_bytes(wheel.read(f"{info}/WHEEL"))
+            metadata = email.message_from_bytes(wheel.read(f"{info}/METADATA"))
+            self.assertIn(b"Apache-2.0", wheel.read(f"{info}/LICENSE"))
+        self.assertEqual((said["Root-Is-Purelib"], said["Tag"]), ("false", name[:-4].split("-", 2)[2]))
+        self.assertEqual((metadata["Version"], metadata["Requires-Dist"]), (lexicon.__version__, None))
+
+    def test_built_again_it_is_the_same(self):
+        ran = run(os.path.join(SOURCE, "build"), lists.LIBRARY, self.folder, PYTHON=sys.executable)
+        self.assertEqual(ran.returncode, 0, ran.stderr)
+        names = sorted(os.listdir(lists.BUILT))
+        self.assertEqual(sorted(os.listdir(self.folder)), names)
+        self.assertEqual(filecmp.cmpfiles(self.folder, lists.BUILT, names, shallow=False), (names, [], []))
+
+    def test_another_time_is_in_it(self):
+        run(os.path.join(SOURCE, "build"), lists.LIBRARY, self.folder, PYTHON=sys.executable, SOURCE_DATE_EPOCH="1700000000")
+        with zipfile.ZipFile(os.path.join(self.folder, os.path.basename(built(".whl")))) as wheel:
+            self.assertEqual({it.date_time for it in wheel.infolist()}, {(2023, 11, 14, 22, 13, 20)})
+
+    def test_sdist_gives_the_same_wheel(self):
+        with tarfile.open(built(".tar.gz")) as archive:
+            for member in archive.getmembers():
+                self.assertTrue(member.isfile() and ".." not in member.name and not member.name.startswith("/"))
+            archive.extractall(self.folder)
+        source, = (os.path.join(self.folder, it) for it in os.listdir(self.folder))
+        self.assertIn("Requires-External: liblexicon", open(os.path.join(source, "PKG-INFO"), encoding="utf-8").read())
+        command = [sys.executable, "-m", "pip", "wheel", "--no-deps", "--no-build-isolation", "--no-index", "-w", self.folder, source]
+        ran = run(*command)
+        self.assertNotEqual(ran.returncode, 0)
+        self.assertIn("LEXICON_LIBRARY isn't set", ran.stdout + ran.stderr)
+        ran = run(*command, LEXICON_LIBRARY=os.path.join(SOURCE, "README.md"))
+        self.assertIn("isn't a shared library for x86-64 Linux", ran.stdout + ran.stderr)
+        ran = run(*command, LEXICON_LIBRARY=lists.LIBRARY)
+        self.assertEqual(ran.returncode, 0, ran.stderr)
+        self.assertTrue(filecmp.cmp(os.path.join(self.folder, os.path.basename(built(".whl"))), built(".whl"), shallow=False))
+
+
+class FindsTheLibrary(Folder):
+    def setUp(self):
+        super().setUp()
+        ignored = shutil.ignore_patterns("liblexicon.so.0", "__pycache__")
+        shutil.copytree(os.path.dirname(lexicon.__file__), os.path.join(self.folder, "lexicon"), ignore=ignored)
+
+    def prints(self, **variables):
+        return run(sys.executable, "-c", PRINTS, PYTHONPATH=self.folder, **variables)
+
+    def test_by_the_variable(self):
+        self.assertEqual(self.prints(LEXICON_LIBRARY=lists.LIBRARY).stdout, "aarch64-unknown-linux\n")
+
+    def test_by_the_loader(self):
+        shutil.copy(lists.LIBRARY, os.path.join(self.folder, "liblexicon.so.0"))
+        self.assertEqual(self.prints(LD_LIBRARY_PATH=self.folder).stdout, "aarch64-unknown-linux\n")
+
+    def test_the_package_comes_first(self):
+        shutil.copy(lists.LIBRARY, os.path.join(self.folder, "lexicon", "liblexicon.so.0"))
+        self.assertEqual(self.prints(LEXICON_LIBRARY="/nowhere").stdout, "aarch64-unknown-linux\n")
+
+    def test_nowhere(self):
+        for variables in {}, {"LEXICON_LIBRARY": "/nowhere/liblexicon.so"}:
+            expected = r"ImportError: lexicon needs the shared library liblexicon 0\.2: .*LEXICON_LIBRARY"
+            self.assertRegex(self.prints(**variables).stderr, expected)
+
+    def test_another_library(self):
+        expected = r"ImportError: libc.so.6 isn't liblexicon 0\.2: it hasn't lexicon_parse"
+        self.assertRegex(self.prints(LEXICON_LIBRARY="libc.so.6").stderr, expected)
+
+    def test_other_names(self):
+        path = os.path.join(self.folder, "lexicon", "_values.py")
+        with open(path, "a", encoding="utf-8") as it:
+            it.write("    ELF2 = 'elf2'\n")
+        self.assertRegex(self.prints(LEXICON_LIBRARY=lists.LIBRARY).stderr, "ImportError: .* has other names than this package")
+
+
+class Samples(unittest.TestCase):
+    def examples(self, name, text):
+        """Runs the examples of a text; the fences of a page aren't part of what is printed."""
+        text = "\n".join("" if line.lstrip().startswith("```") else line for line in text.split("\n"))
+        test = doctest.DocTestParser().get_doctest(text, vars(lexicon).copy(), name, name, 0)
+        results = doctest.DocTestRunner(optionflags=doctest.IGNORE_EXCEPTION_DETAIL).run(test)
+        self.assertEqual(results.failed, 0)
+        return results.attempted
+
+    def test_page(self):
+        self.assertGreater(self.examples("README.md", lists.read("bindings/python/README.md")), 20)
+
+    def test_recipe(self):
+        """The script of the page, run on the input that the page shows, writes what the page shows."""
+        page = lists.read("bindings/python/README.md")
+        script = re.search(r"<!-- recipe -->\n```python\n(.*?)```", page, re.S)[1]
+        self.assertLess(len(script.splitlines()), 14)
+        command, output = re.search(r"```console\n\$ (printf .*?) \| python3 matrix\.py\n(.*?)```", page, re.S).groups()
+        given = run("bash", "-c", command).stdout
+        ran = subprocess.run([sys.executable, "-I", "-c", script], input=given, capture_output=True, text=True, check=False)
+        self.assertEqual((ran.stdout, ran.stderr), (output, ""))
+        ran = subprocess.run([sys.executable, "-I", "-c", script], input="x86_64-foo-bar", capture_output=True, text=True, check=False)
+        self.assertEqual((ran.returncode, ran.stdout), (1, ""))
+        self.assertIn("Unrecognized operating system: bar\n  x86_64-foo-bar\n             ^^^\n", ran.stderr)
+
+    def test_doc_strings(self):
+        count = 0
+        for module in [lexicon, *(importlib.import_module(f"lexicon.{it.name}") for it in pkgutil.iter_modules(lexicon.__path__))]:
+            for test in doctest.DocTestFinder(exclude_empty=True).find(module, globs=vars(lexicon)):
+                count += self.examples(test.name, test.docstring or "")
+        self.assertGreater(count, 15)
+
+    def test_everything_public_has_a_doc_string(self):
+        for name in lexicon.__all__:
+            value = getattr(lexicon, name)
+            if isinstance(value, type):
+                self.assertTrue(value.__doc__, name)
+                for word, member in vars(value).items():
+                    if not word.startswith("_") and (callable(member) or isinstance(member, (property, classmethod))):
+                        self.assertTrue(getattr(member, "__doc__", None), f"{name}.{word}")
+
+
+class Types(unittest.TestCase):
+    @unittest.skipUnless(shutil.which("mypy"), "no mypy")
+    def test_mypy(self):
+        with tempfile.TemporaryDirectory() as cache:
+            command = ["mypy", "--strict", "--no-error-summary", "--cache-dir", cache, "--python-executable", sys.executable]
+            if run(*command, "-c", "x = 1").returncode != 0:
+                self.skipTest("this mypy can't ask this Python for its folders")
+            for checked in ["-p", "lexicon"], [os.path.join(os.path.dirname(os.path.abspath(__file__)), "typed_sample.py")]:
+                ran = run(*command, "--python-version", "3.9", *checked)
+                self.assertEqual((ran.stdout + ran.stderr, ran.returncode), ("", 0))

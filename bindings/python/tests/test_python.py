@@ -1,0 +1,203 @@
+"""What Python asks of a value: equality, hashes, order, copies, pickles, `repr`, and wrong arguments."""
+import copy
+import itertools
+import pickle
+import unittest
+
+import lexicon
+from lexicon import (Architecture, BinaryFormat, CustomVendor, Environment, ErrorKind, OperatingSystem, ParseError, Triple,
+                     Vendor, _triple)
+
+TEXTS = ["unknown", "x86_64-unknown-linux-gnu", "arm64-apple-macosx13.2", "arm64-apple-macosx", "arm64-apple-macosx0",
+         "x86_64-acme-linux", "x86_64-acmf-linux", "armv6k-nintendo-horizon-gnu", "armv6k-nintendo-3ds", "wasm32-wasi",
+         "riscv32imc-esp-espidf-elf", "clever-unknown-unknown-none", "x86_64-darwin65535.255.255", f"x86_64-{'a' * 500}-linux"]
+
+
+class Equality(unittest.TestCase):
+    def test_equal_by_value(self):
+        for first, second in itertools.product(TEXTS, TEXTS):
+            one, other = Triple(first), Triple(second)
+            self.assertEqual(one == other, first == second)
+            self.assertEqual(one != other, first != second)
+            self.assertEqual(hash(one) == hash(other), first == second)
+        self.assertEqual(Triple("x86_64-linux"), Triple("x86_64-unknown-linux-unknown-elf"))
+        self.assertEqual(hash(Triple("x86_64-acme-linux")), hash(Triple("x86_64-acme-linux-unknown-elf")))
+        self.assertNotEqual(Triple("x86_64-linux"), "x86_64-unknown-linux")
+        self.assertEqual(len({Triple(it): 1 for it in TEXTS * 2}), len(TEXTS))
+
+    def test_ordered_by_text(self):
+        triples = sorted(map(Triple, TEXTS))
+        self.assertEqual([str(it) for it in triples], sorted(str(Triple(it)) for it in TEXTS))
+        for one, other in itertools.product(triples, triples):
+            self.assertEqual([one < other, one == other, one > other].count(True), 1)
+            self.assertEqual(one <= other, one < other or one == other)
+            self.assertEqual(one >= other, not one < other)
+        with self.assertRaises(TypeError):
+            Triple("x86_64") < "x86_64"  # pylint: disable=expression-not-assigned
+
+    def test_copies(self):
+        for triple in map(Triple, TEXTS):
+            self.assertIs(copy.copy(triple), triple)
+            self.assertIs(copy.deepcopy([triple])[0], triple)
+            for protocol in range(pickle.HIGHEST_PROTOCOL + 1):
+                again = pickle.loads(pickle.dumps(triple, protocol))
+                self.assertEqual((again, str(again), again.vendor, again.version), (triple, str(triple), triple.vendor, triple.version))
+
+    def test_pickles_of_other_values(self):
+        for value in (CustomVendor("acme"), Environment.GNU, lexicon.DataModel.LP64, lexicon.explain("x86_64-linux"),
+                      Triple("x86_64-linux").sizes):
+            self.assertEqual(pickle.loads(pickle.dumps(value)), value)
+            self.assertEqual(copy.deepcopy(value), value)
+
+    def test_repr_evaluates(self):
+        for triple in map(Triple, TEXTS):
+            self.assertEqual(eval(repr(triple), vars(lexicon)), triple)  # pylint: disable=eval-used
+            self.assertEqual(eval(repr(triple.vendor), vars(lexicon)), triple.vendor)  # pylint: disable=eval-used
+        self.assertEqual(repr(Triple("arm64-linux")), "Triple('aarch64-unknown-linux')")
+
+    def test_formats(self):
+        triple = Triple("x86_64-acme-linux")
+        self.assertEqual(f"{triple}|{triple:20}|", "x86_64-acme-linux|x86_64-acme-linux   |")
+        self.assertEqual(f"{triple.vendor:>6}|{triple.architecture:8}|", "  acme|x86_64  |")
+
+    def test_immutable(self):
+        triple, vendor = Triple("x86_64-acme-linux"), CustomVendor("acme")
+        for name in "architecture", "vendor", "version", "endianness", "other":
+            with self.assertRaises(AttributeError):
+                setattr(triple, name, None)
+        for value, name in (triple, "architecture"), (vendor, "value"), (vendor, "other"):
+            self.assertRaises(AttributeError, setattr, value, name, None)
+        triple.__init__("arm-linux")
+        self.assertEqual(str(triple), "x86_64-acme-linux")
+
+
+class Fields(unittest.TestCase):
+    def test_custom_vendors(self):
+        vendor = Triple("x86_64-acme-linux").vendor
+        self.assertEqual((vendor, str(vendor), vendor.value, vendor.number), (CustomVendor("acme"), "acme", "acme", 255))
+        self.assertEqual(hash(vendor), hash(CustomVendor("acme")))
+        self.assertNotEqual(vendor, "acme")
+        self.assertNotIsInstance(vendor, Vendor)
+        with self.assertRaisesRegex(ValueError, r"pc is a known vendor: Vendor\.PC"):
+            CustomVendor("pc")
+        for text in "", "PC", "linux", "x86_64", "a-b", "\u0430cme", "a\0":
+            self.assertRaises(ParseError, CustomVendor, text)
+        for value in None, b"acme", 3:
+            self.assertRaises(TypeError, CustomVendor, value)
+
+    def test_structs_are_aligned(self):
+        triples = [Triple(text) for text in TEXTS * 100]
+        self.assertEqual({_triple._address(it._struct) % 8 for it in triples}, {0})
+
+    def test_custom_vendor_outlives_its_text(self):
+        vendors = [Triple(f"x86_64-vendor{number}-linux").replace(environment=Environment.GNU).settled() for number in range(10000)]
+        self.assertEqual([str(it) for it in vendors], [f"x86_64-vendor{number}-linux-gnu" for number in range(10000)])
+        self.assertEqual([str(it.vendor) for it in vendors], [f"vendor{number}" for number in range(10000)])
+
+    def test_replace(self):
+        triple = Triple("arm64-apple-macosx13.2")
+        self.assertEqual(triple.replace(), triple)
+        self.assertEqual(str(triple.replace(version=[14])), "aarch64-apple-macosx14.0.0")
+        self.assertIsNone(triple.replace(version=None).version)
+        self.assertIsNone(triple.replace(operating_system=OperatingSystem.IOS).version)
+        self.assertEqual(triple.replace(operating_system=OperatingSystem.IOS, version=(17, 1, 2)).version, (17, 1, 2))
+        self.assertEqual(triple.replace(architecture=Architecture.X86_64).version, (13, 2, 0))
+        self.assertEqual(str(triple.replace(vendor=CustomVendor("acme"))), "aarch64-acme-macosx13.2.0")
+        linux = triple.replace(operating_system=OperatingSystem.LINUX, vendor=Vendor.UNKNOWN)
+        self.assertEqual((linux.binary_format, linux.implied_format), (BinaryFormat.MACHO, BinaryFormat.ELF))
+        self.assertEqual(str(linux.replace(binary_format=None)), "aarch64-unknown-linux")
+
+    def test_all_unknown(self):
+        unknown = Triple.from_fields()
+        self.assertEqual(unknown, Triple("unknown"))
+        self.assertEqual((unknown.endianness, unknown.pointer_width, unknown.calling_convention, unknown.data_model, unknown.sizes),
+                         (None,) * 5)
+
+    def test_wrong_fields(self):
+        triple = Triple("x86_64-unknown-linux-gnu")
+        for name, value in [("architecture", "x86_64"), ("architecture", Vendor.UNKNOWN), ("vendor", "acme"), ("vendor", None),
+                            ("operating_system", None), ("environment", 3), ("environment", Environment), ("binary_format", "elf")]:
+            with self.assertRaisesRegex(TypeError, f"{name} must be of type"):
+                triple.replace(**{name: value})
+        with self.assertRaisesRegex(ValueError, "the operating system linux has no version"):
+            triple.replace(version=(1,))
+        darwin = Triple("x86_64-apple-darwin")
+        for version in (), (1, 2, 3, 4), (-1,), (65536,), (1, 256), (1, 2, 256), (2 ** 70,):
+            self.assertRaises(ValueError, darwin.replace, version=version)
+        for version in "13", b"13", 13, (1.5,), ("13",), (None,):
+            self.assertRaises(TypeError, darwin.replace, version=version)
+        self.assertEqual(darwin.replace(version=(65535, 255, 255)).version, (65535, 255, 255))
+        for call in (lambda: Triple(), lambda: Triple("x86_64", "linux"), lambda: triple.replace(cpu=1),
+                     lambda: triple.same_target("x86_64")):
+            self.assertRaises(TypeError, call)
+
+    def test_explain_of_a_triple(self):
+        self.assertEqual(Triple("arm64-linux").explain(), lexicon.explain("aarch64-unknown-linux"))
+
+
+class Texts(unittest.TestCase):
+    def test_wrong_types(self):
+        for value in None, 3, b"x86_64", bytearray(b"x86_64"), ["x86_64"], Triple("x86_64"), object():
+            for call in Triple, Triple.parse, lexicon.explain:
+                with self.assertRaisesRegex(TypeError, f"must be a str, not {type(value).__name__}"):
+                    call(value)
+
+    def test_subclass_of_str(self):
+        class Text(str):
+            def encode(self, *arguments):
+                raise AssertionError("the text of a subclass was asked")
+        self.assertEqual(Triple(Text("x86_64-linux")), Triple("x86_64-linux"))
+        self.assertRaises(ParseError, Triple, Text("x86_64-\u00e9"))
+
+    def test_lone_surrogates(self):
+        for call in Triple, lexicon.explain, CustomVendor, Architecture.parse:
+            with self.assertRaises(ParseError) as caught:
+                call("x86_64-\udcff\ud800-linux")
+            error = caught.exception
+            self.assertEqual((error.kind, error.start, error.part), (ErrorKind.UNICODE, 7, "\udcff\ud800"))
+            self.assertIn("x86_64-\\udcff\\ud800-linux", str(error))
+            str(error).encode()
+
+    def test_zero_bytes(self):
+        with self.assertRaises(ParseError) as caught:
+            Triple("x86_64-unknown-linux\0-gnu")
+        self.assertEqual((caught.exception.part, caught.exception.start), ("linux\0", 15))
+        self.assertRaises(ParseError, Triple, "x86_64\0")
+
+    def test_start_is_an_index_of_the_text(self):
+        with self.assertRaises(ParseError) as caught:
+            Triple("x86_64-pc-linux-gn\u00fc\U0001f600-x")
+        error = caught.exception
+        self.assertEqual((error.start, error.end, error.part), (16, 20, "gn\u00fc\U0001f600"))
+        self.assertEqual(error.text[error.start:error.end], error.part)
+
+    def test_messages(self):
+        for text, message in {
+            "x86_64-foo-bar": "Unrecognized operating system: bar\n  x86_64-foo-bar\n             ^^^",
+            "": "Unrecognized architecture: \n  \n  ^",
+            "x86_64-": "Unrecognized vendor: \n  x86_64-\n         ^",
+            "x86_64-pc-l\u00e9\tx": "Unrecognized operating system: l\\xe9\\tx\n  x86_64-pc-l\\xe9\\tx\n            ^^^^^^^^",
+        }.items():
+            with self.assertRaises(ParseError) as caught:
+                Triple(text)
+            self.assertEqual(str(caught.exception), message)
+
+    def test_errors_are_values(self):
+        with self.assertRaises(ValueError) as caught:
+            Triple("x86_64-foo-bar")
+        error = caught.exception
+        for again in pickle.loads(pickle.dumps(error)), copy.deepcopy(error), eval(repr(error), vars(lexicon)):
+            self.assertEqual((again.text, again.kind, again.start, again.part, str(again)),
+                             ("x86_64-foo-bar", ErrorKind.OPERATING_SYSTEM, 11, "bar", str(error)))
+
+    def test_huge_texts(self):
+        size = 20_000_000
+        for text in "a" * size, "-" * size, "x86_64-" + "\u00e9" * size, "x86_64-pc-linux-" + "x-" * (size // 2):
+            with self.assertRaises(ParseError) as caught:
+                Triple(text)
+            self.assertLess(len(str(caught.exception)), 1000)
+            self.assertEqual(text[caught.exception.start:caught.exception.end], caught.exception.part)
+        triple = Triple(f"x86_64-{'a' * size}-linux")
+        self.assertEqual(str(triple), f"x86_64-{'a' * size}-linux")
+        self.assertEqual(len(str(triple.settled().vendor)), size)
+        self.assertEqual(len(lexicon.explain(str(triple)).vendor.part), size)

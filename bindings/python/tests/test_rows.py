@@ -1,0 +1,103 @@
+"""The worked rows of the crates' tests, and the known triples."""
+import re
+import unittest
+
+import lexicon
+import lists
+from lexicon import Architecture, BinaryFormat, Environment, ErrorKind, OperatingSystem, SourceKind, Triple, Vendor
+
+
+def shown(value):
+    return "-" if value is None else str(value)
+
+
+def source(it):
+    if it.kind is SourceKind.GIVEN:
+        return f"{it.start}..{it.end}"
+    return "-" if it.kind is SourceKind.NOT_GIVEN else "implied"
+
+
+class Rows(unittest.TestCase):
+    def value(self, field, debug):
+        """The member that a value is, as `{:?}` shows it."""
+        if debug.startswith("Custom("):
+            return lexicon.CustomVendor(debug.split('"')[1])
+        family, _, variant = debug.rstrip(")").rpartition("(") if field == "architecture" else ("", "", debug.partition("(")[0])
+        found = [it.name for it in lists.table() if (it.field, it.variant) == (field, variant) and family in ("", it.family)]
+        return {"architecture": Architecture, "vendor": Vendor, "operating_system": OperatingSystem, "environment": Environment,
+                "binary_format": BinaryFormat}[field](found[0])
+
+    def test_known_triples(self):
+        self.assertGreater(len(lists.known_triples()), 200)
+        for text in lists.known_triples():
+            triple = Triple(text)
+            self.assertEqual(str(triple), text)
+            self.assertTrue(triple.comes_back())
+            self.assertIsNot(triple.architecture, Architecture.UNKNOWN)
+
+    def test_texts_parse_as_values(self):
+        for text, expected in lists.rows("reading", "READ"):
+            triple = Triple(text)
+            version = re.search(r"major: (\d+), minor: (\d+), patch: (\d+)", expected)
+            words = re.sub(r"\(Some\(.*?\}\)\)", "()", expected).split(" ")
+            fields = (triple.architecture, triple.vendor, triple.operating_system, triple.environment, triple.binary_format)
+            self.assertEqual(fields, tuple(map(self.value, lists.FIELDS, words)), text)
+            self.assertEqual(triple.version, version and tuple(map(int, version.groups())), text)
+            self.assertEqual(Triple.from_fields(*fields, triple.version), triple)
+
+    def test_texts_are_refused(self):
+        for text, line in lists.rows("reading", "REFUSED"):
+            with self.assertRaises(lexicon.ParseError) as caught:
+                Triple(text)
+            error = caught.exception
+            self.assertEqual(error.line, line)
+            self.assertEqual(error.text[error.start:error.end], error.part)
+            self.assertEqual(line, f"Unrecognized {error.kind}: {error.part}")
+            self.assertIsInstance(error.kind, ErrorKind)
+
+    def test_printed(self):
+        for text, printed in lists.rows("printing", "READ"):
+            self.assertEqual(str(Triple(text)), printed)
+
+    def test_facts(self):
+        for text, expected in lists.rows("queries", "ANSWERS"):
+            it = Triple(text)
+            self.assertEqual(" ".join(map(shown, (it.endianness, it.pointer_width, it.calling_convention, it.data_model))), expected)
+            self.assertEqual(it.sizes is None, it.data_model is None)
+
+    def test_sizes(self):
+        sizes = {"x86_64-linux": (8, 16, 32, 64, 64, 32, 64, 64), "x86_64-windows": (8, 16, 32, 32, 64, 32, 64, 64),
+                 "i686-linux": (8, 16, 32, 32, 64, 32, 64, 32)}
+        for text, expected in sizes.items():
+            self.assertEqual(Triple(text).sizes, expected)
+
+    def test_round_trips(self):
+        for text, expected in lists.rows("round_trips", "ROUND_TRIPS"):
+            printed, _, last = expected.partition(" ")
+            triple = Triple(text)
+            self.assertEqual(str(triple), printed)
+            self.assertEqual(triple.settled(), Triple(last or printed))
+            self.assertEqual(triple.comes_back(), Triple(printed) == triple)
+            self.assertTrue(triple.settled().comes_back())
+
+    def test_same_targets(self):
+        for name, is_same in ("SAME", True), ("OTHER", False):
+            for first, second in lists.rows("same_targets", name):
+                one, other = Triple(first), Triple(second)
+                self.assertIs(one.same_target(other), is_same)
+                self.assertIs(other.same_target(one), is_same)
+                self.assertIs(str(one.settled()) == str(other.settled()), is_same)
+
+    def test_explained(self):
+        for text, expected in lists.rows("explaining", "EXPLAINED"):
+            it = lexicon.explain(text)
+            self.assertEqual(" ".join(source(value) for _, value in it.sources), expected)
+            self.assertEqual((it.triple, it.error), (Triple(text), None))
+
+    def test_refused_texts_are_explained(self):
+        for text, expected in lists.rows("explaining", "REFUSED"):
+            it = lexicon.explain(text)
+            part = f"{it.error.start}..{it.error.end}"
+            self.assertEqual(" ".join([part, *(source(value) for _, value in it.sources)]), expected)
+            self.assertIsNone(it.triple)
+            self.assertRaises(lexicon.ParseError, Triple, text)
