@@ -11,11 +11,14 @@ use crate::part::Part;
 use crate::read::Reading;
 use crate::triple_ref::TripleRef;
 
-/// A part of a text, and its range: the indices of its first byte and of the byte after its last.
+/// A part of a text, and its range in bytes.
 #[derive(Clone, Copy, Debug, PartialEq, Eq)]
 pub struct TextPart<'a> {
+    /// The bytes from `start` up to `end`.
     pub text: &'a str,
+    /// The index of the first byte.
     pub start: usize,
+    /// The index of the byte after the last.
     pub end: usize,
 }
 
@@ -33,17 +36,24 @@ pub enum Source<'a> {
 /// Where the value of each field comes from.
 #[derive(Clone, Copy, Debug, PartialEq, Eq)]
 pub struct Sources<'a> {
+    /// Never `NotGiven` if the text parses: each text has an architecture.
     pub architecture: Source<'a>,
+    /// A part, or `NotGiven`.
     pub vendor: Source<'a>,
+    /// A part, or `NotGiven`.
     pub operating_system: Source<'a>,
+    /// A part, or `NotGiven`.
     pub environment: Source<'a>,
+    /// A part, or, if the text parses, `Implied`.
     pub binary_format: Source<'a>,
 }
 
 /// A triple, and where each of its fields comes from.
 #[derive(Clone, Copy, Debug, PartialEq, Eq)]
 pub struct Explanation<'a> {
+    /// The triple that the text parses as.
     pub triple: TripleRef<'a>,
+    /// The source of each field.
     pub sources: Sources<'a>,
 }
 

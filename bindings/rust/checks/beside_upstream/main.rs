@@ -4,6 +4,8 @@
 //!                                       `Display` text but for the one rule that differs; so have the names of the fields
 //!        beside_upstream NAMES          for every architecture, vendor, system, environment and format that the names in
 //!                                       the file NAMES parse as: the printed text and the four queries
+//!        beside_upstream NAMES unread   the same with custom vendors that no text parses as: also, that no such triple
+//!                                       comes back
 use std::collections::hash_map::DefaultHasher;
 use std::fmt::{Debug, Display, Write};
 use std::hash::{Hash, Hasher};
@@ -15,6 +17,13 @@ const DARWIN_LIKE: [&str; 11] = [
     "darwin", "ios", "macosx", "tvos", "visionos", "watchos", "xros", "darwin23.6.0", "ios1", "macosx10.7", "xros65535.255.255",
 ];
 const CUSTOM_VENDORS: [&str; 6] = ["esp", "foo", "", "a-b", "X", "linux"];
+
+/// Custom vendors that no text parses as: empty, with a dash, a capital, another character or at the beginning a digit; and
+/// names of each field, with versions too.
+const UNREAD_VENDORS: [&str; 20] = [
+    "", "-", "a-b", "esp-", "-esp", "X", "acMe", "7up", "_esp", "\u{e9}", "a b", "esp\n", "gnu!", "pc", "x86_64", "arm64",
+    "linux", "ios17.1", "gnueabihf", "elf",
+];
 
 fn hash(value: &impl Hash) -> u64 {
     let mut hasher = DefaultHasher::new();
@@ -91,15 +100,27 @@ fn compare_queries(ours: &ours::Triple, theirs: &upstream::Triple) {
     same(ours.data_model(), theirs.data_model(), ours);
 }
 
-fn compare_tables(names: &str) {
+fn custom_vendor(text: &'static str) -> (ours::Vendor, upstream::Vendor) {
+    let ours = ours::Vendor::Custom(ours::CustomVendor::Static(text));
+    (ours, upstream::Vendor::Custom(upstream::CustomVendor::Static(text)))
+}
+
+/// No triple with such a vendor comes back, by this crate's answer and by parsing what upstream prints.
+fn comes_not_back(ours: &ours::Triple, theirs: &upstream::Triple, their_text: &str) {
+    assert!(!ours.comes_back(), "{ours:?}");
+    assert!(their_text.parse::<upstream::Triple>().as_ref() != Ok(theirs), "{theirs:?}");
+}
+
+fn compare_tables(names: &str, unread: bool) {
     let mut names: Vec<&str> = names.split_whitespace().collect();
     names.extend(DARWIN_LIKE);
     let architectures = values::<ours::Architecture, upstream::Architecture>(&names);
     let mut vendors = values::<ours::Vendor, upstream::Vendor>(&names);
-    vendors.retain(|(it, _)| !matches!(it, ours::Vendor::Custom(_)));
-    for text in CUSTOM_VENDORS {
-        let ours = ours::Vendor::Custom(ours::CustomVendor::Static(text));
-        vendors.push((ours, upstream::Vendor::Custom(upstream::CustomVendor::Static(text))));
+    if unread {
+        vendors = UNREAD_VENDORS.map(custom_vendor).to_vec();
+    } else {
+        vendors.retain(|(it, _)| !matches!(it, ours::Vendor::Custom(_)));
+        vendors.extend(CUSTOM_VENDORS.map(custom_vendor));
     }
     let systems = values::<ours::OperatingSystem, upstream::OperatingSystem>(&names);
     let environments = values::<ours::Environment, upstream::Environment>(&names);
@@ -123,9 +144,12 @@ fn compare_tables(names: &str) {
                         write!(our_text, "{ours}").expect("memory");
                         write!(their_text, "{theirs}").expect("memory");
                         by_the_rule += u64::from(differ_by_the_rule(&ours, &our_text, &their_text));
+                        if unread {
+                            comes_not_back(&ours, &theirs, &their_text);
+                        }
                         count += 1;
                     }
-                    if i == 0 {
+                    if i == 0 || unread {
                         compare_queries(&ours, &theirs);
                     }
                 }
@@ -136,9 +160,12 @@ fn compare_tables(names: &str) {
 }
 
 fn main() {
-    match std::env::args().nth(1).as_deref() {
-        Some("lines") => compare_lines(),
-        Some(file) => compare_tables(&std::fs::read_to_string(file).expect("a file of names")),
-        None => panic!("usage: beside_upstream lines | NAMES"),
+    let words: Vec<String> = std::env::args().skip(1).collect();
+    match &words.iter().map(String::as_str).collect::<Vec<_>>()[..] {
+        ["lines"] => compare_lines(),
+        [file, unread @ ..] if matches!(unread, [] | ["unread"]) => {
+            compare_tables(&std::fs::read_to_string(file).expect("a file of names"), !unread.is_empty());
+        }
+        _ => panic!("usage: beside_upstream lines | NAMES [unread]"),
     }
 }
