@@ -9,7 +9,7 @@ from urllib.parse import urldefrag
 from layout import word_link
 from markdown import Markdown, slug
 
-PAGES = ("docs/SPEC.md", "docs/PROVED.md")
+PAGE = "docs/SPEC.md"
 NAME = re.compile(r"[A-Za-z_]\w*(?:::\w+)*(?:\(\))?$")
 LAW = re.compile(r"\blaws?\s+((?:`\w+`(?:,\s+|\s+and\s+)?)+)")
 CARRIERS = ("function", "law", "struct", "enum", "trait", "macro", "constant", "impl", "definition", "record", "data")

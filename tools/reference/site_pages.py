@@ -13,7 +13,7 @@ from crate_pages import CratePage
 from definition_pages import DefinitionPage
 from layout import STYLE_PAGE, Frame, counted
 from project import definitions_page
-from promises import PAGES, PromisesPage
+from promises import PAGE, PromisesPage
 from references import References, is_definition, owner_of
 from trials import Trials
 from words import GLOSSARY_PAGE, Word
@@ -134,12 +134,12 @@ class Site:
         self.check_links()
 
     def write_promises(self):
-        path = next((self.project.root / page for page in PAGES if (self.project.root / page).is_file()), None)
-        if path is None:
-            self.project.problems.add("docs", f"none of the pages of promises is there: {', '.join(PAGES)}")
-            self.add("promises.html", "Promises", "<p>There is no page of promises.</p>")
-        else:
+        path = self.project.root / PAGE
+        if path.is_file():
             PromisesPage(self, path).write()
+        else:
+            self.project.problems.add("docs", f"there is no {PAGE}")
+            self.add("promises.html", "Promises", "<p>There is no page of promises.</p>")
 
     def check_definitions(self):
         """Each definition that a plain look over the files finds has its place on a page."""
