@@ -155,7 +155,8 @@ pub(crate) fn numbers_of(triple: &TripleRef<'_>) -> LexiconTriple
 #[inline(always)]
 pub(crate) fn vendor_number(vendor: VendorRef<'_>) -> u8
     requires { is_plain (ref_value vendor) ≡ true }
-    ensures { vendor_with result (vendor_text (ref_value vendor.entry)) ≡ Ok (ref_value vendor.entry) }
+    ensures { vendor_with result (vendor_text (ref_value vendor.entry))
+        ≡ Ok (ref_value vendor.entry) }
 {
     match vendor {
         VendorRef::Known(known) => known_vendor_number(known),
