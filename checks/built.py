@@ -16,8 +16,8 @@ def newest_source():
     return newest
 
 
-def program(check, crate, status=1):
-    """The path of a crate's program, which is built if it is missing or older than a source.
+def program(check, crate, status=1, words=()):
+    """The path of a crate's program, which is built if it is missing or older than a source, by a run with these words.
 
     If the build fails, the check ends with the status.
     """
@@ -25,7 +25,7 @@ def program(check, crate, status=1):
     if not os.path.exists(path) or os.path.getmtime(path) < newest_source():
         print(f"{check}: building {crate}", flush=True)
         folder = f"{ROOT}/crates/{crate}"
-        ran = subprocess.run(["rt", "run"], cwd=folder, stdin=subprocess.DEVNULL, stdout=subprocess.DEVNULL)
+        ran = subprocess.run(["rt", "run", "--", *words], cwd=folder, stdin=subprocess.DEVNULL, stdout=subprocess.DEVNULL)
         if ran.returncode or not os.path.exists(path):
             print(f"{check}: building crates/{crate} failed")
             sys.exit(status)

@@ -1,5 +1,5 @@
 -- The answers to the lines of an input, one after another.
-use Rattle.std.proofs.Common.{◌≡◌, ◌≢◌, ℕ, Bool, true, false, ◌||◌, not, List, [], ◌∷◌, ◌++◌, codes, if◌then◌else◌, Result, Ok, Err, OnOk, refl, sym, ap, ◌∙◌, append_assoc}
+use Rattle.std.proofs.Common.{◌≡◌, ℕ, Bool, true, false, ◌||◌, not, List, [], ◌∷◌, ◌++◌, codes, if◌then◌else◌, Result, Ok, Err, OnOk, refl, sym, ap, ◌∙◌, append_assoc}
 use Rattle.std.proofs.{lemmas.List.append-nil, lemmas.Map.Text.is_eq-slice_cmp, Math.Bool.or-false, Math.Bool.or_comm, Math.Bool.or_assoc}
 use Rattle.std.proofs.{lemmas.List.Folds.list_any-append, lemmas.Cmp.nat_cmp_total, lemmas.Cmp.tied_itself}
 use Rattle.std.specs.{BTreeMap.is_at, BTreeSet.BTreeSet, BTreeSet.insert_key, Ordering.nat_cmp, Ordering.is_eq, Ordering.ordering_then, Ordering.match_ordering}

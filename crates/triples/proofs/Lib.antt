@@ -1,7 +1,5 @@
--- LineLemmas: the lines of an input. AnswerLemmas, JsonAnswers: the answers to them. MatrixLawLemmas: the laws of the
--- matrix. KnownBytes: bytes that are read and written.
+-- AnswerLemmas, JsonAnswers: the answers to them. MatrixLawLemmas: the laws of the
+-- matrix.
 pub mod AnswerLemmas
 pub mod JsonAnswers
-pub mod KnownBytes
-pub mod LineLemmas
 pub mod MatrixLawLemmas

@@ -1,24 +1,14 @@
 -- What a mode writes for an input.
-use Rattle.std.specs.Prelude.{ℕ, ◌≡◌, ◌<◌, ◌==◌, Bool, true, false, not, if◌then◌else◌, List, length, [], ◌∷◌, ◌++◌, codes}
-use Rattle.std.specs.List.{AllZip, list_any, slice_split}
+use Rattle.std.specs.Prelude.{ℕ, ◌≡◌, ◌<◌, Bool, true, false, not, if◌then◌else◌, List, length, [], ◌∷◌, ◌++◌, codes}
+use Rattle.std.specs.List.{AllZip, list_any}
 use Rattle.std.specs.Str.{bytes_eq}
 use Rattle.target_lexicon.specs.{FixedPoints.canonical_text, Printing.text_of, Reading.ReadsAs, Reading.IsRefusedAs, Refusal.Refusal, Refusal.refusal_line, Values.Values}
 use Rattle.triples.specs.{declared.mode.Mode.Mode, declared.run_error.RunError.RunError, declared.run_error.RunError.TheVariants.OutOfMemory, Facts.text_with_facts}
 use Rattle.triples.specs.declared.mode.Mode.TheVariants.{Print, Show, Settle, Json, Matrix}
 use Rattle.triples.specs.{declared.output.View.View, declared.output.View.TheVariants.Printed, declared.output.View.TheVariants.WithFacts, declared.output.View.TheVariants.Canonical}
+pub use Rattle.lexicon_programs.specs.Lines.{lines_of}
 use Rattle.triples.specs.Words.{line_feed}
 use Rattle.triples.specs.JsonOutput.{IsJsonOutput, IsJsonInputErrorOf}
-
--- the parts without an empty last one
-abbrev pub parts_without_empty_last : List (List ℕ) → List (List ℕ)
-parts_without_empty_last [] = []
-parts_without_empty_last ([] ∷ []) = []
-parts_without_empty_last ((b ∷ bs) ∷ []) = (b ∷ bs) ∷ []
-parts_without_empty_last (part ∷ next ∷ parts) = part ∷ parts_without_empty_last (next ∷ parts)
-
--- the lines of an input: it is cut at its line feeds, nothing is trimmed, and no line follows a last line feed
-abbrev pub lines_of : List ℕ → List (List ℕ)
-lines_of input = parts_without_empty_last (slice_split (λ b. b == line_feed) input)
 
 -- what is shown of a triple
 abbrev pub shown_text : View → Values → List ℕ

@@ -1,18 +1,23 @@
 -- The words of the modes, the lines of the errors, and the end of the program.
 use Rattle.std.specs.Prelude.{ℕ, List, [], ◌∷◌, ◌++◌, Option, Some, None, codes, Result, Ok, Err}
 use Rattle.lexicon_fields.specs.Names.{value_named}
+pub use Rattle.lexicon_programs.specs.Lines.{line_feed}
+use Rattle.lexicon_programs.specs.declared.stream_error.StreamError.{StreamError}
+use Rattle.lexicon_programs.specs.declared.stream_error.StreamError.TheVariants as stream_error
 use Rattle.triples.specs.{declared.mode.Mode.Mode, declared.run_error.RunError.RunError}
 use Rattle.triples.specs.declared.mode.Mode.TheVariants.{Print, Show, Settle, Json, Matrix}
 use Rattle.triples.specs.declared.run_error.RunError.TheVariants.{Read, Write, NotUtf8, NotJson, NotList, OutOfMemory}
-
--- the byte that ends a line
-abbrev pub line_feed : ℕ
-line_feed = 10
 
 -- the mode that a word names
 unfoldable pub mode_from_word : List ℕ → Option Mode
 mode_from_word word =
     value_named ((codes "print", Print) ∷ (codes "show", Show) ∷ (codes "settle", Settle) ∷ (codes "json", Json) ∷ (codes "matrix", Matrix) ∷ []) word
+
+-- the error of a run for an error of a stream
+abbrev pub stream_run_error : StreamError → RunError
+stream_run_error stream_error.Read = Read
+stream_run_error stream_error.Write = Write
+stream_run_error stream_error.OutOfMemory = OutOfMemory
 
 -- the line for an error
 abbrev pub line_of : RunError → List ℕ

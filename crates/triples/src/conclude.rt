@@ -4,9 +4,8 @@ ghost use Rattle.std.specs.Io.KnownBytes.{Appends};
 ghost use Rattle.triples.specs.Run.{inner, failures, AppendsBeginning};
 ghost use Rattle.triples.specs.Words.{status_of, closing_words};
 
-use crate::counted::Counted;
-use crate::input::{write_all, write_and_flush};
 use crate::run_error::RunError;
+use lexicon_programs::{Counted, write_all, write_and_flush};
 use std::io::Write;
 
 /// Writes the closing line of the program, and returns the exit status:
@@ -47,5 +46,5 @@ fn say<W: Write>(w: &mut Counted<W>, head: &str, tail: &str) -> Result<(), RunEr
 {
     write_all(w, head.as_bytes())?;
     write_all(w, tail.as_bytes())?;
-    write_and_flush(w, b"\n")
+    Ok(write_and_flush(w, b"\n")?)
 }

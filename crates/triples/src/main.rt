@@ -2,12 +2,9 @@
 #![tactic(auto)]
 
 mod conclude;
-mod counted;
 mod facts;
-mod input;
 mod json;
 mod laws;
-mod lines;
 mod matrix;
 mod mode;
 mod output;
@@ -17,7 +14,7 @@ mod run_error;
 mod tests;
 
 use conclude::conclude;
-use counted::Counted;
+use lexicon_programs::Counted;
 use mode::Mode;
 use run::run;
 use std::env;

@@ -10,10 +10,10 @@ ghost use Rattle.triples.specs.Words.{line_feed};
 
 use crate::facts::push_facts;
 use crate::json::json_output;
-use crate::lines::first_line;
 use crate::matrix::Seen;
 use crate::mode::Mode;
 use crate::run_error::RunError;
+use lexicon_programs::first_line;
 use std::alloc::{AllocError, Global};
 use target_lexicon::{ParseErrorRef, TripleRef};
 

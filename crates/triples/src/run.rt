@@ -5,11 +5,10 @@ ghost use Rattle.std.specs.Io.KnownBytes.{Appends, Keeps, IsAtEnd};
 ghost use Rattle.triples.specs.Run.{inner, failures, AppendsBeginning, ConsumesSome, WritesOutput};
 ghost use Rattle.triples.specs.JsonOutput.{IsOfJson, IsJsonInputErrorOf};
 
-use crate::counted::Counted;
-use crate::input::{read_all, write_and_flush};
 use crate::mode::Mode;
 use crate::output::output;
 use crate::run_error::RunError;
+use lexicon_programs::{Counted, read_all, write_and_flush};
 use std::alloc::Global;
 use std::io::{Read, Write};
 
@@ -75,5 +74,5 @@ pub fn run<R: Read, W: Write>(
         return Err(RunError::NotUtf8);
     };
     let output = output(alloc, mode, input)?;
-    write_and_flush(w, output.as_bytes())
+    Ok(write_and_flush(w, output.as_bytes())?)
 }

@@ -1,6 +1,7 @@
 //! Why a run fails.
 ghost use Rattle.std.specs.Prelude.{◌≡◌, Some};
 
+use lexicon_programs::StreamError;
 use std::alloc::AllocError;
 use std::fmt;
 
@@ -46,6 +47,20 @@ impl From<AllocError> for RunError {
 
     fn from(_error: AllocError) -> RunError {
         RunError::OutOfMemory
+    }
+}
+
+impl From<StreamError> for RunError {
+    ghost use Rattle.triples.specs.Words.{stream_run_error};
+
+    ghost from_gives = { λ error result. result ≡ stream_run_error error };
+
+    fn from(error: StreamError) -> RunError {
+        match error {
+            StreamError::Read => RunError::Read,
+            StreamError::Write => RunError::Write,
+            StreamError::OutOfMemory => RunError::OutOfMemory,
+        }
     }
 }
 

@@ -6,7 +6,7 @@ mod faulty;
 mod rows;
 mod runs;
 
-use crate::counted::Counted;
+use lexicon_programs::Counted;
 use std::io::ErrorKind;
 use std::mem::size_of;
 

@@ -3,10 +3,10 @@
 use super::SPECIAL_KINDS;
 use super::faulty::{Fault, FaultyReader, FaultyWriter, WriterCalls};
 use super::rows::{REFUSED_ROWS, ROWS, Row};
-use crate::counted::Counted;
 use crate::mode::Mode;
 use crate::run::run;
 use crate::run_error::RunError;
+use lexicon_programs::Counted;
 use std::alloc::Global;
 use std::io::ErrorKind;
 

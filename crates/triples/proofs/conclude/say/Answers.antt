@@ -1,7 +1,7 @@
 -- What was written before an error is a beginning of the line.
 use Rattle.std.proofs.Common.{arith}
 use Rattle.std.proofs.lemmas.Grind.{common_steps}
-use Rattle.triples.proofs.KnownBytes.{AppendsBeginning-more, AppendsBeginning-then}
+use Rattle.lexicon_programs.proofs.KnownBytes.{AppendsBeginning-more, AppendsBeginning-then}
 use Rattle.triples.proofs.conclude.say.Goals as goal
 
 pub returns-in_err-write_all-clause-begun : goal.returns-in_err-write_all-clause-begun
@@ -19,3 +19,8 @@ pub returns-clause-begun : goal.returns-clause-begun
 returns-clause-begun g c =
     let earlier = rw c.as_bytes.ensures.value at c.in_ok-write_all.ensures.ok in
     search (AppendsBeginning-then, earlier, rw c.as_bytes-2.ensures.value at c.in_ok-write_all-2.ensures.ok, c.write_and_flush.ensures.begun)
+
+pub returns-in_err-write_and_flush-clause-begun : goal.returns-in_err-write_and_flush-clause-begun
+returns-in_err-write_and_flush-clause-begun g c =
+    let earlier = rw c.as_bytes.ensures.value at c.in_ok-write_all.ensures.ok in
+    search (AppendsBeginning-then, earlier, rw c.as_bytes-2.ensures.value at c.in_ok-write_all-2.ensures.ok, c.in_err-write_and_flush.ensures.begun)

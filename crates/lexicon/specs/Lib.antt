@@ -1,0 +1,6 @@
+pub mod Layout
+pub mod Outcome
+pub mod Problem
+pub mod Reports
+pub mod Request
+pub mod TargetAnswers

@@ -1,0 +1,129 @@
+-- What the program writes to both of its outputs, and its status.
+use Rattle.std.specs.Prelude.{◌≡◌, ◌==◌, ◌&&◌, ℕ, Bool, true, false, List, [], ◌∷◌, ◌++◌, length, codes, Option, Some, None, option_and_then, IfSome, MatchOption, MatchBool, Result, Ok, Err, if◌then◌else◌, string_bytes}
+use Rattle.std.specs.Str.{IsUtf8}
+use Rattle.lexicon_names.specs.{declared.field.Field.Field, KnownNames.known_names}
+use Rattle.lexicon_names.specs.declared.field.Field.TheVariants as field
+use Rattle.lexicon_programs.specs.{Lines.lines_of, Streams.AppendsBeginning}
+use Rattle.lexicon.specs.{declared.command.Command.Command, declared.outcome.Outcome.Outcome, TargetAnswers.AreTextsFor, TargetAnswers.Texts, Request.RequestValue, Request.argument_request}
+use Rattle.lexicon.specs.declared.command.Command.TheVariants as command
+use Rattle.lexicon.specs.declared.run_error.RunError.{RunError}
+use Rattle.lexicon.specs.declared.run_error.RunError.TheVariants as run_error
+use Rattle.lexicon_programs.specs.declared.stream_error.StreamError.{StreamError}
+use Rattle.lexicon_programs.specs.declared.stream_error.StreamError.TheVariants as stream_error
+
+-- what is written to the output and to the error output, and the status
+pub record OutcomeValue : Type 0 where
+  pub output : List ℕ
+  pub errors : List ℕ
+  pub status : ℕ
+
+abbrev pub outcome : List ℕ → List ℕ → ℕ → OutcomeValue
+outcome output errors status = record { output = output; errors = errors; status = status }
+
+abbrev pub outcome_value : Outcome → OutcomeValue
+outcome_value o = outcome (string_bytes o.output) (string_bytes o.errors) o.status
+
+-- what the arguments may be
+unfoldable pub usage_text : List ℕ
+usage_text = codes "usage: lexicon explain TARGET...            each field: its value, and how it came\n       lexicon facts TARGET...              the fields, and what follows from them\n       lexicon settle [--strict] TARGET...  the canonical text of each target\n       lexicon check [--strict] TARGET...   nothing but the errors and the status\n       lexicon names [FIELD]                the known names\n       lexicon --help | --version\nWithout a TARGET the lines of standard input are the targets. With --strict a custom vendor is an error.\nA TARGET that begins with a dash follows --.\n"
+
+unfoldable pub version_text : List ℕ
+version_text = codes "lexicon 0.13.5\n"
+
+-- names, each on a line after the same prefix
+abbrev pub names_after : List ℕ → List (List ℕ) → List ℕ
+names_after prefix [] = []
+names_after prefix (name ∷ names) = (prefix ++ (name ++ codes "\n")) ++ names_after prefix names
+
+-- a title, and the names of a field below it
+unfoldable pub titled_names : List ℕ → Field → List ℕ
+titled_names title field = title ++ names_after (codes "  ") (known_names field)
+
+-- the names of each field below its title
+abbrev pub all_names_text : List ℕ
+all_names_text =
+    titled_names (codes "architecture\n") field.Architecture ++ (titled_names (codes "vendor\n") field.Vendor
+    ++ (titled_names (codes "operating_system\n") field.OperatingSystem
+    ++ (titled_names (codes "environment\n") field.Environment ++ titled_names (codes "binary_format\n") field.BinaryFormat)))
+
+-- the names of a field, or of each field
+abbrev pub names_text : Option Field → List ℕ
+names_text (Some field) = names_after [] (known_names field)
+names_text None = all_names_text
+
+-- 1 if a target is refused, otherwise 0
+abbrev pub status_for : Bool → ℕ
+status_for has_refusal = if has_refusal then 1 else 0
+
+-- what is shown goes to the output, what is refused to the error output
+abbrev pub texts_outcome : Texts → OutcomeValue
+texts_outcome texts = outcome texts.shown texts.refused (status_for texts.has_refusal)
+
+-- what a command writes for these targets
+abbrev pub IsOutcome : Command → List (List ℕ) → OutcomeValue → Type 0
+IsOutcome command.Help targets o = o ≡ outcome usage_text [] 0
+IsOutcome command.Version targets o = o ≡ outcome version_text [] 0
+IsOutcome (command.Names field) targets o = o ≡ outcome (names_text field) [] 0
+IsOutcome (command.Targets view vendors) targets o = (texts : Texts) × AreTextsFor view vendors targets texts × (o ≡ texts_outcome texts)
+
+-- wrong arguments
+abbrev pub usage_outcome : OutcomeValue
+usage_outcome = outcome [] usage_text 2
+
+abbrev pub takes_targets : Command → Bool
+takes_targets (command.Targets view vendors) = true
+takes_targets _ = false
+
+-- whether the targets are the lines of the input
+abbrev pub reads_input : RequestValue → Bool
+reads_input request = takes_targets request.command && (length request.targets == 0)
+
+-- the targets of a request: those that the arguments give, or the lines of the input, which are known if its bytes are
+abbrev pub AreTargets : RequestValue → Option (List ℕ) → List (List ℕ) → Type 0
+AreTargets request input targets =
+    MatchBool (reads_input request) (IfSome input (λ bytes. IsUtf8 bytes × (targets ≡ lines_of bytes))) (targets ≡ request.targets)
+
+-- what a request writes for this input
+abbrev pub IsRequestOutcome : RequestValue → Option (List ℕ) → OutcomeValue → Type 0
+IsRequestOutcome request input o = (targets : List (List ℕ)) × AreTargets request input targets × IsOutcome request.command targets o
+
+-- what the program writes for these arguments, which may be unavailable, and this input
+abbrev pub IsRunOutcome : Option (List (List ℕ)) → Option (List ℕ) → OutcomeValue → Type 0
+IsRunOutcome words input o = MatchOption (option_and_then argument_request words) (o ≡ usage_outcome) (λ request. IsRequestOutcome request input o)
+
+-- the outputs grew, in the way that `GrewBy` says, by what the program writes for these arguments and this input, and
+-- this is its status
+pub record WritesOutcome (GrewBy : Option (List ℕ) → Option (List ℕ) → List ℕ → Type 0) (words : Option (List (List ℕ))) (input : Option (List ℕ)) (old_output new_output old_errors new_errors : Option (List ℕ)) (status : ℕ) : Type 0 where
+  pub of : OutcomeValue
+  pub is : IsRunOutcome words input of
+  pub output : GrewBy old_output new_output of.output
+  pub errors : GrewBy old_errors new_errors of.errors
+  pub status_is : status ≡ of.status
+
+-- the outputs grew by beginnings of what the program writes for these arguments and this input
+abbrev pub BeginsOutcome : Option (List (List ℕ)) → Option (List ℕ) → Option (List ℕ) → Option (List ℕ) → Option (List ℕ) → Option (List ℕ) → Type 0
+BeginsOutcome words input old_output new_output old_errors new_errors =
+    (status : ℕ) × WritesOutcome AppendsBeginning words input old_output new_output old_errors new_errors status
+
+-- why a run fails
+abbrev pub fault_text : RunError → List ℕ
+fault_text run_error.Read = codes "fault: Read failed\n"
+fault_text run_error.Write = codes "fault: Write failed\n"
+fault_text run_error.NotUtf8 = codes "fault: Input is not UTF-8\n"
+fault_text run_error.OutOfMemory = codes "fault: Out of memory\n"
+
+-- the error of a run for an error of a stream
+abbrev pub stream_run_error : StreamError → RunError
+stream_run_error stream_error.Read = run_error.Read
+stream_run_error stream_error.Write = run_error.Write
+stream_run_error stream_error.OutOfMemory = run_error.OutOfMemory
+
+-- the status of the program: that of its run, or 3
+abbrev pub status_of : Result ℕ RunError → ℕ
+status_of (Ok status) = status
+status_of (Err _) = 3
+
+-- what the program says at its end
+abbrev pub closing_text : Result ℕ RunError → List ℕ
+closing_text (Ok status) = []
+closing_text (Err error) = fault_text error

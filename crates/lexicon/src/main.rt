@@ -1,0 +1,53 @@
+//! Explains target triples to people: where each field comes from, what follows from it, and what is wrong.
+#![tactic(auto)]
+
+mod answers;
+mod command;
+mod conclude;
+mod layout;
+mod outcome;
+mod problem;
+mod reports;
+mod request;
+mod run;
+mod run_error;
+mod sizes;
+
+use conclude::conclude;
+use lexicon_programs::Counted;
+use run::run;
+use run_error::RunError;
+use std::alloc::{AllocError, Global};
+use std::env;
+use std::io::ErrorKind;
+use std::process::ExitCode;
+use std::rt::Env;
+
+/// The arguments without the name of the program; `None` if one isn't UTF-8.
+fn arguments(rt: &(impl Env + Alloc<A = Global>)) -> Result<Option<Vec<String>>, AllocError> {
+    match env::args(rt) {
+        Ok(mut words) => {
+            let _name = words.next();
+            Ok(Some(words.collect(rt.alloc())?))
+        }
+        Err(error) => match error.kind() {
+            ErrorKind::InvalidData => Ok(None),
+            _ => Err(AllocError),
+        },
+    }
+}
+
+fn main(rt: HostRuntime) -> ExitCode {
+    let mut reader = Counted::new(rt.stdin());
+    let mut writer = Counted::new(rt.stdout());
+    let mut errors = Counted::new(rt.stderr());
+    let end = match arguments(&rt) {
+        Ok(Some(words)) => {
+            let words = Some(words.as_slice());
+            run(rt.alloc(), words, &mut reader, &mut writer, &mut errors)
+        }
+        Ok(None) => run(rt.alloc(), None, &mut reader, &mut writer, &mut errors),
+        Err(_) => Err(RunError::OutOfMemory),
+    };
+    ExitCode::from(conclude(end, &mut errors))
+}

@@ -1,0 +1,195 @@
+//! What is wrong with a target, and the lines that say so.
+ghost use Rattle.std.specs.Prelude.{◌≡◌, ◌++◌, Some, take, option_map, OnOk, string_bytes};
+ghost use Rattle.lexicon_fields.specs.VendorRef.{ref_value};
+ghost use Rattle.target_lexicon.specs.Explanation.{source_value};
+ghost use Rattle.target_lexicon.specs.ValuesRef.{refusal_of_ref};
+ghost use Rattle.lexicon.specs.Layout.{columns, spaces};
+ghost use Rattle.lexicon.specs.Problem.{AddsRefusal, IsSuggested, caret_line, problem_line, problem_value, refusal_problem, source_start, suggestion_words, target_line, vendor_problem};
+
+use crate::command::Vendors;
+use crate::layout::{columns, push_copies, push_three};
+use lexicon_names::{Field, nearest_name};
+use std::alloc::AllocError;
+use target_lexicon::{ExplainedError, Explanation, ParseErrorRef, Source, VendorRef};
+
+/// What is wrong with a part of a target.
+#[derive(Clone, Copy)]
+pub(crate) struct Problem<'a> {
+    /// What is wrong.
+    words: &'static str,
+    /// The field whose name was expected, if any.
+    field: Option<Field>,
+    /// The part, and the index at which it begins.
+    part: &'a str,
+    start: usize,
+}
+
+impl<'a> Problem<'a> {
+    ghost use Rattle.lexicon.specs.Problem.{problem_value, refusal_problem};
+
+    /// The problem of a refused target.
+    pub(crate) fn of_refusal(refused: &ExplainedError<'a>) -> Self
+        ensures { problem_value result
+            ≡ refusal_problem (refusal_of_ref refused.entry.now.error)
+            refused.entry.now.part.start }
+    {
+        let (words, field) = match refused.error {
+            ParseErrorRef::UnrecognizedArchitecture(_) => {
+                ("unrecognized architecture", Some(Field::Architecture))
+            }
+            ParseErrorRef::UnrecognizedVendor(_) => ("unrecognized vendor", Some(Field::Vendor)),
+            ParseErrorRef::UnrecognizedOperatingSystem(_) => {
+                (
+                    "unrecognized operating system",
+                    Some(Field::OperatingSystem),
+                )
+            }
+            ParseErrorRef::UnrecognizedEnvironment(_) => {
+                ("unrecognized environment", Some(Field::Environment))
+            }
+            ParseErrorRef::UnrecognizedBinaryFormat(_) => {
+                ("unrecognized binary format", Some(Field::BinaryFormat))
+            }
+            ParseErrorRef::UnrecognizedField(_) => ("unrecognized field", None),
+        };
+        Problem {
+            words,
+            field,
+            part: refused.error.part(),
+            start: refused.part.start,
+        }
+    }
+}
+
+/// The index at which the part of a source begins; 0 without a part.
+fn source_start(source: &Source<'_>) -> usize
+    ensures { result ≡ source_start (source_value source.now) }
+{
+    match source {
+        Source::Part(part) => part.start,
+        Source::NotGiven | Source::Implied => 0,
+    }
+}
+
+/// A custom vendor, if only known ones are read.
+pub(crate) fn vendor_problem<'a>(
+    vendors: Vendors,
+    explanation: &Explanation<'a>,
+) -> Option<Problem<'a>>
+    ensures { option_map problem_value result
+        ≡ vendor_problem vendors (ref_value explanation.entry.now.triple.vendor)
+        (source_value explanation.entry.now.sources.vendor) }
+{
+    match (vendors, explanation.triple.vendor) {
+        (Vendors::Known, VendorRef::Custom(part)) => Some(Problem {
+            words: "custom vendor",
+            field: Some(Field::Vendor),
+            part,
+            start: source_start(&explanation.sources.vendor),
+        }),
+        _ => None,
+    }
+}
+
+/// The nearest known name of the field, if one is near.
+fn suggestion(field: Option<Field>, part: &str) -> Option<&'static str>
+    ensures { IsSuggested field part.now (option_map (λ name. name.now) result) }
+{
+    match field {
+        Some(field) => nearest_name(field, part),
+        None => None,
+    }
+}
+
+/// Appends the words of a suggestion.
+fn push_name(out: &mut String, name: &str) -> Result<(), AllocError>
+    ensures { OnOk result
+        (string_bytes out.new ≡ string_bytes out.old ++ suggestion_words (Some name.now)) }
+{
+    push_three(out, " did you mean `", name, "`?")
+}
+
+/// Appends the words of a suggestion, if there is one.
+fn push_suggestion(out: &mut String, suggestion: Option<&str>) -> Result<(), AllocError>
+    ensures { OnOk result
+        (string_bytes out.new
+        ≡ string_bytes out.old
+        ++ suggestion_words (option_map (λ name. name.now) suggestion.entry)) }
+{
+    match suggestion {
+        Some(name) => push_name(out, name),
+        None => Ok(()),
+    }
+}
+
+/// Appends the line that says what is wrong.
+fn push_problem_line(out: &mut String, problem: &Problem<'_>) -> Result<(), AllocError>
+    ensures { OnOk result
+        (string_bytes out.new
+        ≡ string_bytes out.old ++ problem_line (problem_value problem.now)) }
+{
+    out.push_str("error: ")?;
+    out.push_str(problem.words)?;
+    out.push_str(" `")?;
+    out.push_str(problem.part)?;
+    out.push_str("`\n")
+}
+
+/// Appends a line with the target.
+fn push_target_line(out: &mut String, text: &str) -> Result<(), AllocError>
+    ensures { OnOk result
+        (string_bytes out.new ≡ string_bytes out.old ++ target_line text.now) }
+{
+    out.push_str("  ")?;
+    out.push_str(text)?;
+    out.push_str("\n")
+}
+
+/// The number of characters before an index of a text.
+fn columns_before(text: &str, start: usize) -> usize
+    ensures { result ≡ columns (take start text.now) }
+{
+    let bytes = text.as_bytes();
+    if start < bytes.len() {
+        columns(&bytes[..start])
+    } else {
+        columns(bytes)
+    }
+}
+
+/// Appends the line with the carets and the suggestion.
+#[tactic(auto, unfolding(crate::specs::Layout::spaces))]
+fn push_caret_line(
+    out: &mut String,
+    text: &str,
+    problem: &Problem<'_>,
+    suggestion: Option<&str>,
+) -> Result<(), AllocError>
+    ensures { OnOk result
+        (string_bytes out.new
+        ≡ string_bytes out.old
+        ++ caret_line text.now (problem_value problem.now)
+        (option_map (λ name. name.now) suggestion.entry)) }
+{
+    out.push_str("  ")?;
+    push_copies(out, " ", columns_before(text, problem.start))?;
+    push_copies(out, "^", columns(problem.part.as_bytes()).max(1))?;
+    push_suggestion(out, suggestion)?;
+    out.push_str("\n")
+}
+
+/// Appends the three lines for a target.
+pub(crate) fn push_refusal(
+    out: &mut String,
+    text: &str,
+    problem: &Problem<'_>,
+) -> Result<(), AllocError>
+    ensures { OnOk result
+        (AddsRefusal text.now (problem_value problem.now) (string_bytes out.old)
+        (string_bytes out.new)) }
+{
+    let suggestion = suggestion(problem.field, problem.part);
+    push_problem_line(out, problem)?;
+    push_target_line(out, text)?;
+    push_caret_line(out, text, problem, suggestion)
+}

@@ -1,0 +1,84 @@
+//! Reading a whole input and writing a whole output.
+ghost use Rattle.std.specs.Prelude.{◌≡◌, ◌<◌, ◌≤◌, ◌↔◌, ◌⊎◌, IsErrOf, IfOk, OnOk, IfErr, OnErr, IfSome};
+ghost use Rattle.std.specs.Io.KnownBytes.{Appends, Consumes, IsAtEnd};
+ghost use Rattle.lexicon_programs.specs.Streams.{inner, failures, AppendsBeginning, ConsumesSome};
+
+use crate::counted::Counted;
+use crate::stream_error::StreamError;
+use std::alloc::Global;
+use std::io::{Read, Write};
+
+/// Reads to the end of the reader.
+pub fn read_all<R: Read>(alloc: Global, reader: &mut Counted<R>) -> Result<Vec<u8>, StreamError>
+    ensures taken { IfOk result
+        (λ bytes.
+        Consumes (R.remaining (inner reader.old)) (R.remaining (inner reader.new))
+        bytes.items) }
+    ensures end { OnOk result (IsAtEnd (R.remaining (inner reader.new))) }
+    ensures bytes { IfOk result
+        (λ bytes. IfSome (R.remaining (inner reader.old)) (λ input. bytes.items ≡ input)) }
+    ensures unfailed { OnOk result (failures reader.new ≡ failures reader.old) }
+    ensures counted { failures reader.old ≤ failures reader.new }
+    ensures read { IsErrOf result StreamError.Read ↔ (failures reader.old < failures reader.new) }
+    ensures memory { IsErrOf result StreamError.OutOfMemory →
+        ConsumesSome (R.remaining (inner reader.old)) (R.remaining (inner reader.new)) }
+    ensures only { IfErr result (λ e. (e ≡ StreamError.Read) ⊎ (e ≡ StreamError.OutOfMemory)) }
+{
+    let mut bytes = Vec::new(alloc);
+    let mut piece = [0u8; 8192];
+    loop {
+        let Ok(taken) = reader.read(&mut piece) else {
+            return Err(StreamError::Read);
+        };
+        if taken == 0 {
+            return Ok(bytes);
+        }
+        if bytes.extend_from_slice(&piece[..taken]).is_err() {
+            return Err(StreamError::OutOfMemory);
+        }
+    }
+}
+
+/// Writes all bytes.
+pub fn write_all<W: Write>(writer: &mut Counted<W>, bytes: &[u8]) -> Result<(), StreamError>
+    ensures ok { OnOk result
+        (Appends (W.contents (inner writer.old)) (W.contents (inner writer.new)) bytes.now) }
+    ensures unfailed { OnOk result (failures writer.new ≡ failures writer.old) }
+    ensures counted { failures writer.old ≤ failures writer.new }
+    ensures write { IsErrOf result StreamError.Write ↔ (failures writer.old < failures writer.new) }
+    ensures begun { AppendsBeginning (W.contents (inner writer.old)) (W.contents (inner writer.new))
+        bytes.now }
+    ensures only { IfErr result (λ e. e ≡ StreamError.Write) }
+{
+    let mut rest = bytes;
+    while !rest.is_empty() {
+        match writer.write(rest) {
+            Ok(taken) => {
+                if taken == 0 {
+                    return Err(StreamError::Write);
+                }
+                rest = &rest[taken..];
+            }
+            Err(_) => return Err(StreamError::Write),
+        }
+    }
+    Ok(())
+}
+
+/// Writes all bytes and flushes.
+pub fn write_and_flush<W: Write>(writer: &mut Counted<W>, bytes: &[u8]) -> Result<(), StreamError>
+    ensures ok { OnOk result
+        (Appends (W.contents (inner writer.old)) (W.contents (inner writer.new)) bytes.now) }
+    ensures unfailed { OnOk result (failures writer.new ≡ failures writer.old) }
+    ensures counted { failures writer.old ≤ failures writer.new }
+    ensures write { IsErrOf result StreamError.Write ↔ (failures writer.old < failures writer.new) }
+    ensures begun { AppendsBeginning (W.contents (inner writer.old)) (W.contents (inner writer.new))
+        bytes.now }
+    ensures only { IfErr result (λ e. e ≡ StreamError.Write) }
+{
+    write_all(writer, bytes)?;
+    match writer.flush() {
+        Ok(()) => Ok(()),
+        Err(_) => Err(StreamError::Write),
+    }
+}
