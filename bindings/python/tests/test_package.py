@@ -187,7 +187,7 @@ class Samples(unittest.TestCase):
         """What `help` says of arguments that may be left out, of an error, and of an enumeration."""
         shown = {value: pydoc.plain(pydoc.render_doc(value))
                  for value in (lexicon.Triple.replace, lexicon.ParseError, lexicon.Architecture, lexicon.Vendor)}
-        self.assertIn("binary_format: 'Union[BinaryFormat, _Keep, None]' = ..., ", shown[lexicon.Triple.replace])
+        self.assertEqual(shown[lexicon.Triple.replace].count(" = ..."), 6)
         for word in "kind", "part", "start", "end", "text", "line":
             self.assertIn(f"`{word}`", lexicon.ParseError.__doc__)
         self.assertIn("class ParseError in module lexicon\n", shown[lexicon.ParseError])
