@@ -1,3 +1,6 @@
--- Ascii: bytes that two loads show to be text. Errors: what an error says of memory and of room.
+-- Ascii: bytes that two loads show to be text. Lines: the line of a refusal. Names: numbers past the end of a field.
+-- Triples: triples as numbers.
 pub mod Ascii
-pub mod Errors
+pub mod Lines
+pub mod Names
+pub mod Triples

@@ -1,16 +1,18 @@
--- What C asks of a triple, as numbers, and the answers of a call.
-use Rattle.std.specs.Prelude.{◌≡◌, ◌↔◌, ◌⊎◌, ℕ, List, Bool, true, Option, Some, None, IsTrue}
-use Rattle.std.specs.Str.{IsUtf8}
-use Rattle.lexicon_c.specs.Outcome.{Outcome, Ends}
-use Rattle.target_lexicon.specs.{ImpliedFormat.default_binary_format, Queries.endianness, Queries.pointer_width, Queries.calling_convention, Queries.data_model, Reading.ReadsAs, Reading.IsRead, Reading.IsRefusedAs, Reading.MayAllocate, Values.Values}
+-- What C asks of a triple, as numbers.
+use Rattle.std.specs.Prelude.{◌≡◌, ℕ, Bool, true, false, Option, Some, None, if◌then◌else◌, slice_get}
+use Rattle.std.specs.Option.{option_map_or}
+use Rattle.target_lexicon.specs.{DataModel.size_bits, DataModel.sizes_of, ImpliedFormat.default_binary_format, Values.Values}
 use Rattle.target_lexicon.specs.{declared.calling_convention.CallingConvention.CallingConvention, declared.data_model.CDataModel.CDataModel}
 use Rattle.target_lexicon.specs.declared.calling_convention.CallingConvention.TheVariants.{SystemV, WasmBasicCAbi, WindowsFastcall, AppleAarch64}
 use Rattle.target_lexicon.specs.declared.data_model.CDataModel.TheVariants.{LP32, ILP32, LLP64, LP64, ILP64}
-use Rattle.std.specs.Option.{option_map_or}
-use Rattle.lexicon_fields.specs.{OperatingSystem.system_version, PointerWidth.width_bits, declared.binary_format.BinaryFormat.BinaryFormat}
+use Rattle.target_lexicon.specs.Values.{Architecture, VendorValue, Known, Custom}
+use Rattle.target_lexicon.specs.Values.architecture
+use Rattle.lexicon_fields.specs.{ArchitectureQueries.is_thumb, BinaryFormat.binary_format_values, PointerWidth.width_bits}
 use Rattle.lexicon_fields.specs.{declared.endianness.Endianness.Endianness, declared.endianness.Endianness.TheVariants.Little, declared.endianness.Endianness.TheVariants.Big}
-use Rattle.lexicon_c.specs.declared.facts.LexiconFacts.{LexiconFacts}
-use Rattle.lexicon_fields.specs.declared.binary_format.BinaryFormat.TheVariants as binary_format
+use Rattle.lexicon_numbers.specs.Numbers.{family_number}
+use Rattle.lexicon_c.specs.{declared.facts.LexiconFacts.LexiconFacts, declared.facts.LexiconTypeBits.LexiconTypeBits}
+use Rattle.lexicon_fields.specs.OperatingSystem as system
+use Rattle.target_lexicon.specs.Queries as query
 
 -- the number of each answer; 0 where there is none
 abbrev pub endianness_number : Option Endianness → ℕ
@@ -33,40 +35,44 @@ model_number (Some LLP64) = 3
 model_number (Some LP64) = 4
 model_number (Some ILP64) = 5
 
-abbrev pub format_number : BinaryFormat → ℕ
-format_number binary_format.Unknown = 0
-format_number binary_format.Elf = 1
-format_number binary_format.Coff = 2
-format_number binary_format.Macho = 3
-format_number binary_format.Wasm = 4
-format_number binary_format.Xcoff = 5
-
--- the facts of a triple. Without a version the last four are 0
-abbrev pub facts_of : Values → LexiconFacts
-facts_of t =
-    let version = system_version t.operating_system in
+-- the bits of C's types in a data model; 0 where there is none
+abbrev pub type_bits : Option CDataModel → LexiconTypeBits
+type_bits None = record { char = 0; short = 0; int = 0; long = 0; long_long = 0; float = 0; double = 0; pointer = 0 }
+type_bits (Some model) =
+    let sizes = sizes_of model in
     record {
-      endianness = endianness_number (endianness t);
-      pointer_bits = option_map_or width_bits (pointer_width t) 0;
-      calling_convention = convention_number (calling_convention t);
-      data_model = model_number (data_model t);
-      binary_format = format_number t.binary_format;
-      implied_format = format_number (default_binary_format t);
-      has_version = option_map_or (λ _. 1) version 0;
-      major = option_map_or (λ v. v.major) version 0;
-      minor = option_map_or (λ v. v.minor) version 0;
-      patch = option_map_or (λ v. v.patch) version 0;
+      char = 8;
+      short = size_bits sizes.short;
+      int = size_bits sizes.int;
+      long = size_bits sizes.long;
+      long_long = size_bits sizes.long_long;
+      float = size_bits sizes.float;
+      double = size_bits sizes.double;
+      pointer = size_bits sizes.pointer;
     }
 
--- what holds at each outcome of a call that answers for the triple that the text reads as, and else changes nothing
-abbrev pub IsAnswered : (Values → Type 0) → Type 0 → List ℕ → Outcome → Type 0
-IsAnswered holds unchanged text =
-    Ends (IsUtf8 text) (MayAllocate text) unchanged ((t : Values) × ReadsAs text t × holds t)
-    (λ refusal. unchanged × IsRefusedAs text refusal)
+-- whether an architecture is an Arm one that is Thumb
+abbrev pub is_thumb_architecture : Architecture → Bool
+is_thumb_architecture (architecture.Arm sub) = is_thumb sub
+is_thumb_architecture _ = false
 
--- likewise for two texts and whether their triples are equal; a refusal is the first text's, or else the second's
-abbrev pub Compares : Bool → Type 0 → List ℕ → List ℕ → Outcome → Type 0
-Compares answer unchanged first second =
-    Ends (IsUtf8 first × IsUtf8 second) (MayAllocate first ⊎ MayAllocate second) unchanged
-    ((t : Values) × ((u : Values) × ReadsAs first t × ReadsAs second u × (IsTrue answer ↔ (t ≡ u))))
-    (λ refusal. unchanged × (IsRefusedAs first refusal ⊎ (IsRead first × IsRefusedAs second refusal)))
+-- whether a vendor is a custom one
+abbrev pub is_custom : VendorValue → Bool
+is_custom (Known known) = false
+is_custom (Custom text) = true
+
+abbrev pub bit : Bool → ℕ
+bit b = if b then 1 else 0
+
+-- these are the facts of the triple
+pub record AreFactsOf (t : Values) (facts : LexiconFacts) : Type 0 where
+  pub endianness : facts.endianness ≡ endianness_number (query.endianness t)
+  pub pointer_bits : facts.pointer_bits ≡ option_map_or width_bits (query.pointer_width t) 0
+  pub calling_convention : facts.calling_convention ≡ convention_number (query.calling_convention t)
+  pub data_model : facts.data_model ≡ model_number (query.data_model t)
+  pub implied_format : slice_get binary_format_values facts.implied_format ≡ Some (default_binary_format t)
+  pub family : facts.family ≡ family_number t.architecture
+  pub is_thumb : facts.is_thumb ≡ bit (is_thumb_architecture t.architecture)
+  pub is_like_darwin : facts.is_like_darwin ≡ bit (system.is_like_darwin t.operating_system)
+  pub has_custom_vendor : facts.has_custom_vendor ≡ bit (is_custom t.vendor)
+  pub types : facts.types ≡ type_bits (query.data_model t)

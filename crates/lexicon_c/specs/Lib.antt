@@ -1,4 +1,6 @@
 pub mod Facts
-pub mod Names
+pub mod Numbers
 pub mod Outcome
 pub mod Output
+pub mod Parsing
+pub mod Triple

@@ -1,20 +1,20 @@
 -- What becomes of a call, and the status that it returns.
-use Rattle.std.specs.Prelude.{◌≡◌, ℕ, suc, List, [], ◌∷◌, Option, slice_get}
-use Rattle.std.specs.Option.{option_map_or}
-use Rattle.target_lexicon.specs.{declared.parse_error.ParseError.ParseError, Field.field_number}
-use Rattle.target_lexicon.specs.{Refusal.Expected, Refusal.Expects, Refusal.ExpectsNone, Refusal.Refusal, Refusal.refusal_of, Refusal.refusal_with}
+use Rattle.std.specs.Prelude.{◌≡◌, ℕ, suc, List, [], ◌∷◌, Option, slice_get, MatchOption}
+use Rattle.target_lexicon.specs.{Field.field_number, Refusal.Expected, Refusal.Expects, Refusal.ExpectsNone, Refusal.Refusal, Refusal.refusal_with}
 use Rattle.lexicon_c.specs.{declared.field.Field.Field, declared.status.Status.Status}
 use Rattle.lexicon_c.specs.declared.field.Field.TheVariants as field
 use Rattle.target_lexicon.specs.Field as expected
 use Rattle.lexicon_c.specs.declared.status.Status.TheVariants as status
 
--- what becomes of a call: it is done, a text is refused, or it has no answer
+-- what becomes of a call: it is done, a text is refused, or an argument is wrong
 pub data Outcome : Type 0 where
   Done : Outcome
   Refused : Refusal → Outcome
   NotUtf8 : Outcome
-  OutOfMemory : Outcome
+  TooSmall : Outcome
   NoSuchField : Outcome
+  NoSuchValue : Outcome
+  NoSuchVendor : Outcome
 
 -- the status of a refusal, by what was expected
 abbrev pub refusal_status : Expected → ℕ
@@ -26,8 +26,10 @@ unfoldable pub status_of : Outcome → ℕ
 status_of Done = 0
 status_of (Refused refusal) = refusal_status refusal.expected
 status_of NotUtf8 = 7
-status_of OutOfMemory = 8
+status_of TooSmall = 8
 status_of NoSuchField = 9
+status_of NoSuchValue = 10
+status_of NoSuchVendor = 11
 
 -- the field of a number, counted from 0 in their order
 abbrev pub field_at : ℕ → Option Field
@@ -45,24 +47,20 @@ field_of field.BinaryFormat = expected.BinaryFormat
 abbrev pub outcome_of : Status → List ℕ → Outcome
 outcome_of status.Done part = Done
 outcome_of (status.Refused f) part = Refused (refusal_with (Expects (field_of f)) part)
-outcome_of status.NoField part = Refused (refusal_with ExpectsNone part)
 outcome_of status.NotUtf8 part = NotUtf8
-outcome_of status.OutOfMemory part = OutOfMemory
+outcome_of status.TooSmall part = TooSmall
 outcome_of status.NoSuchField part = NoSuchField
-
--- the outcome of an error
-abbrev pub error_outcome : ParseError → Outcome
-error_outcome error = option_map_or Refused (refusal_of error) OutOfMemory
+outcome_of status.NoSuchValue part = NoSuchValue
+outcome_of status.NoSuchVendor part = NoSuchVendor
 
 -- a number is the status of an outcome for which this holds
 abbrev pub HasOutcome : ℕ → (Outcome → Type 0) → Type 0
 HasOutcome number holds = (outcome : Outcome) × (number ≡ status_of outcome) × holds outcome
 
--- what holds of each outcome of a call on texts that are to be UTF-8: what is done, what is done at a refusal, and else
--- that nothing is changed; out of memory is possible only if `memory` holds
-abbrev pub Ends : Type 0 → Type 0 → Type 0 → Type 0 → (Refusal → Type 0) → Outcome → Type 0
-Ends utf8 memory unchanged done refused Done = utf8 × done
-Ends utf8 memory unchanged done refused (Refused refusal) = utf8 × refused refusal
-Ends utf8 memory unchanged done refused NotUtf8 = unchanged × ¬ utf8
-Ends utf8 memory unchanged done refused OutOfMemory = unchanged × utf8 × memory
-Ends utf8 memory unchanged done refused NoSuchField = ⊥
+-- the call is done, and this holds
+abbrev pub IsDone : Type 0 → Outcome → Type 0
+IsDone holds outcome = (outcome ≡ Done) × holds
+
+-- what holds at each outcome of a call on the field of this number; if there is none, nothing is changed
+abbrev pub InField : ℕ → Type 0 → (Field → Outcome → Type 0) → Outcome → Type 0
+InField number unchanged holds outcome = MatchOption (field_at number) ((outcome ≡ NoSuchField) × unchanged) (λ f. holds f outcome)

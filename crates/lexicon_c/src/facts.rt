@@ -1,66 +1,80 @@
-//! The facts of a triple, as numbers, and whether two triples are equal.
-ghost use Rattle.std.specs.Prelude.{◌≡◌, ◌↔◌, IsTrue};
+//! The facts of a triple, as numbers.
+ghost use Rattle.std.specs.Prelude.{◌≡◌, Option};
 ghost use Rattle.std.specs.Option.{option_map_or};
-ghost use Rattle.lexicon_fields.specs.OperatingSystem.{system_version};
 ghost use Rattle.lexicon_fields.specs.PointerWidth.{width_bits};
+ghost use Rattle.lexicon_fields.specs.VendorRef.{ref_value};
 ghost use Rattle.target_lexicon.specs.Queries.{endianness, pointer_width, calling_convention, data_model};
-ghost use Rattle.target_lexicon.specs.Values.{values_of};
-ghost use Rattle.lexicon_c.specs.Facts.{facts_of, endianness_number, convention_number, model_number, format_number};
+ghost use Rattle.target_lexicon.specs.ValuesRef.{values_of_ref};
+ghost use Rattle.lexicon_c.specs.Facts.{AreFactsOf, convention_number, endianness_number, is_custom, is_thumb_architecture, model_number, type_bits};
 
-use target_lexicon::laws::triples_are_equal_by_value;
+use lexicon_numbers::{binary_format_number, family_number};
 use target_lexicon::{
-    BinaryFormat, CDataModel, CallingConvention, Endianness, OperatingSystem, Triple,
-    default_binary_format,
+    Architecture, CDataModel, CallingConvention, Endianness, TripleRef, VendorRef,
 };
+
+/// The bits of C's types by the data model; all 0 if there is none.
+#[repr(C)]
+#[derive(Clone, Copy)]
+pub struct LexiconTypeBits {
+    pub char: u8,
+    pub short: u8,
+    pub int: u8,
+    pub long: u8,
+    pub long_long: u8,
+    pub float: u8,
+    pub double: u8,
+    pub pointer: u8,
+}
 
 /// What C asks of a triple. Each number is 0 where there is no answer.
 #[repr(C)]
 #[derive(Clone, Copy)]
 pub struct LexiconFacts {
     /// The byte order: 1 is little, 2 big.
-    pub endianness: u32,
+    pub endianness: u8,
     /// The width of a pointer: 16, 32 or 64.
-    pub pointer_bits: u32,
+    pub pointer_bits: u8,
     /// The calling convention: 1 is System V, 2 the C ABI of WebAssembly, 3 Windows Fastcall, 4 Apple's on 64-bit Arm.
-    pub calling_convention: u32,
+    pub calling_convention: u8,
     /// The data model of C: 1 is LP32, 2 ILP32, 3 LLP64, 4 LP64, 5 ILP64.
-    pub data_model: u32,
-    /// The binary format: 1 is ELF, 2 COFF, 3 Mach-O, 4 WebAssembly, 5 XCOFF.
-    pub binary_format: u32,
-    /// The binary format that the other fields imply, numbered as `binary_format`.
-    pub implied_format: u32,
-    /// Whether the operating system holds a version: 1 or 0. Without one the next three are 0.
-    pub has_version: u32,
-    /// The first number of the version.
-    pub major: u32,
-    /// The second number.
-    pub minor: u32,
-    /// The third number.
-    pub patch: u32,
+    pub data_model: u8,
+    /// The number of the binary format that the other fields imply.
+    pub implied_format: u8,
+    /// The number of the architecture's family.
+    pub family: u8,
+    /// Whether the architecture is an Arm one that is Thumb: 1 or 0.
+    pub is_thumb: u8,
+    /// Whether the operating system is like Darwin: 1 or 0.
+    pub is_like_darwin: u8,
+    /// Whether the vendor is a custom one: 1 or 0.
+    pub has_custom_vendor: u8,
+    /// The bits of C's types.
+    pub types: LexiconTypeBits,
 }
 
 /// The facts of a triple.
-pub(crate) fn lexicon_facts_of(triple: &Triple) -> LexiconFacts
-    ensures { result ≡ facts_of (values_of triple.now) }
+pub(crate) fn facts_of(triple: &TripleRef<'_>) -> LexiconFacts
+    ensures { AreFactsOf (values_of_ref triple.now) result }
 {
-    let (has_version, major, minor, patch) = version_numbers(triple.operating_system);
+    let model = model_of(triple);
     LexiconFacts {
         endianness: endianness_number(triple),
         pointer_bits: pointer_bits(triple),
         calling_convention: convention_number(triple),
-        data_model: model_number(triple),
-        binary_format: format_number(triple.binary_format),
-        implied_format: format_number(default_binary_format(triple)),
-        has_version,
-        major,
-        minor,
-        patch,
+        data_model: model_number(model),
+        implied_format: binary_format_number(triple.default_binary_format()),
+        family: family_number(triple.architecture),
+        is_thumb: u8::from(is_thumb(triple.architecture)),
+        is_like_darwin: u8::from(triple.operating_system.is_like_darwin()),
+        has_custom_vendor: u8::from(is_custom(triple.vendor)),
+        types: type_bits(model),
     }
 }
 
 /// 1 if the triple is little-endian, 2 if it is big-endian, and 0 if the query has no answer.
-fn endianness_number(triple: &Triple) -> u32
-    ensures { result ≡ endianness_number (endianness (values_of triple.now)) }
+#[inline(always)]
+fn endianness_number(triple: &TripleRef<'_>) -> u8
+    ensures { result ≡ endianness_number (endianness (values_of_ref triple.now)) }
 {
     match triple.endianness() {
         Ok(Endianness::Little) => 1,
@@ -70,18 +84,20 @@ fn endianness_number(triple: &Triple) -> u32
 }
 
 /// The width of a pointer in bits, or 0 if the query has no answer.
-fn pointer_bits(triple: &Triple) -> u32
-    ensures { result ≡ option_map_or width_bits (pointer_width (values_of triple.now)) 0 }
+#[inline(always)]
+fn pointer_bits(triple: &TripleRef<'_>) -> u8
+    ensures { result ≡ option_map_or width_bits (pointer_width (values_of_ref triple.now)) 0 }
 {
     match triple.pointer_width() {
-        Ok(width) => u32::from(width.bits()),
+        Ok(width) => width.bits(),
         Err(()) => 0,
     }
 }
 
-/// The number of the calling convention, as in the header, or 0 if the query has no answer.
-fn convention_number(triple: &Triple) -> u32
-    ensures { result ≡ convention_number (calling_convention (values_of triple.now)) }
+/// The number of the calling convention, or 0 if the query has no answer.
+#[inline(always)]
+fn convention_number(triple: &TripleRef<'_>) -> u8
+    ensures { result ≡ convention_number (calling_convention (values_of_ref triple.now)) }
 {
     match triple.default_calling_convention() {
         Ok(CallingConvention::SystemV) => 1,
@@ -92,56 +108,76 @@ fn convention_number(triple: &Triple) -> u32
     }
 }
 
-/// The number of the data model of C, as in the header, or 0 if the query has no answer.
-fn model_number(triple: &Triple) -> u32
-    ensures { result ≡ model_number (data_model (values_of triple.now)) }
+/// The data model of C, if there is one.
+#[inline(always)]
+fn model_of(triple: &TripleRef<'_>) -> Option<CDataModel>
+    ensures { result ≡ data_model (values_of_ref triple.now) }
 {
     match triple.data_model() {
-        Ok(CDataModel::LP32) => 1,
-        Ok(CDataModel::ILP32) => 2,
-        Ok(CDataModel::LLP64) => 3,
-        Ok(CDataModel::LP64) => 4,
-        Ok(CDataModel::ILP64) => 5,
-        Err(()) => 0,
+        Ok(model) => Some(model),
+        Err(()) => None,
     }
 }
 
-/// The number of a binary format, as in the header; 0 is `Unknown`.
-fn format_number(format: BinaryFormat) -> u32
-    ensures { result ≡ format_number format }
+/// The number of the data model of C, or 0 if there is none.
+#[inline(always)]
+fn model_number(model: Option<CDataModel>) -> u8
+    ensures { result ≡ model_number model }
 {
-    match format {
-        BinaryFormat::Unknown => 0,
-        BinaryFormat::Elf => 1,
-        BinaryFormat::Coff => 2,
-        BinaryFormat::Macho => 3,
-        BinaryFormat::Wasm => 4,
-        BinaryFormat::Xcoff => 5,
+    match model {
+        Some(CDataModel::LP32) => 1,
+        Some(CDataModel::ILP32) => 2,
+        Some(CDataModel::LLP64) => 3,
+        Some(CDataModel::LP64) => 4,
+        Some(CDataModel::ILP64) => 5,
+        None => 0,
     }
 }
 
-/// The version that an operating system holds: 1 and its three numbers; four times 0 where it holds none.
-fn version_numbers(system: OperatingSystem) -> (u32, u32, u32, u32)
-    ensures held { result.0 ≡ option_map_or (λ _. 1) (system_version system) 0 }
-    ensures major { result.1 ≡ option_map_or (λ v. v.major) (system_version system) 0 }
-    ensures minor { result.2 ≡ option_map_or (λ v. v.minor) (system_version system) 0 }
-    ensures patch { result.3 ≡ option_map_or (λ v. v.patch) (system_version system) 0 }
+/// The bits of C's types in a data model.
+#[inline(always)]
+fn type_bits(model: Option<CDataModel>) -> LexiconTypeBits
+    ensures { result ≡ type_bits model }
 {
-    match system.version() {
-        Some(version) => (
-            1,
-            u32::from(version.major),
-            u32::from(version.minor),
-            u32::from(version.patch),
-        ),
-        None => (0, 0, 0, 0),
+    match model {
+        Some(model) => LexiconTypeBits {
+            char: 8,
+            short: model.short_size().bits(),
+            int: model.int_size().bits(),
+            long: model.long_size().bits(),
+            long_long: model.long_long_size().bits(),
+            float: model.float_size().bits(),
+            double: model.double_size().bits(),
+            pointer: model.pointer_width().bits(),
+        },
+        None => LexiconTypeBits {
+            char: 0,
+            short: 0,
+            int: 0,
+            long: 0,
+            long_long: 0,
+            float: 0,
+            double: 0,
+            pointer: 0,
+        },
     }
 }
 
-/// Whether two triples are equal: all five fields are the same.
-pub(crate) fn are_equal(first: &Triple, second: &Triple) -> bool
-    ensures { IsTrue result ↔ (values_of first.now ≡ values_of second.now) }
+/// Whether an architecture is an Arm one that is Thumb.
+#[inline(always)]
+fn is_thumb(architecture: Architecture) -> bool
+    ensures { result ≡ is_thumb_architecture architecture }
 {
-    triples_are_equal_by_value();
-    first == second
+    match architecture {
+        Architecture::Arm(sub) => sub.is_thumb(),
+        _ => false,
+    }
+}
+
+/// Whether a vendor is a custom one.
+#[inline(always)]
+fn is_custom(vendor: VendorRef<'_>) -> bool
+    ensures { result ≡ is_custom (ref_value vendor.entry) }
+{
+    matches!(vendor, VendorRef::Custom(_))
 }

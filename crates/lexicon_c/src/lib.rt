@@ -1,218 +1,297 @@
-//! The calls of `target_lexicon` for C: a text of a triple goes in, texts and numbers come out.
+//! The calls of `target_lexicon` for C: a triple is a struct of numbers beside the text of a custom vendor.
 #![tactic(auto)]
 
 mod facts;
 mod field;
-mod names;
+mod numbers;
 mod output;
+mod sources;
 mod status;
+mod triple;
 mod utf8;
 
-ghost use Rattle.std.specs.Prelude.{◌≡◌, ◌↔◌, IsTrue, ⊤, []};
-ghost use Rattle.std.specs.Str.{IsUtf8};
-ghost use Rattle.lexicon_c.specs.Facts.{facts_of, Compares, IsAnswered};
-ghost use Rattle.lexicon_c.specs.Names.{name_in, InField, MayAllocateName, WritesName};
-ghost use Rattle.lexicon_c.specs.Outcome.{HasOutcome};
-ghost use Rattle.lexicon_c.specs.Output.{GrowsAtMost, Writes, refused_part};
-ghost use Rattle.target_lexicon.specs.Written.{IsWritten};
-ghost use Rattle.target_lexicon.specs.FixedPoints.{canonical_text};
+ghost use Rattle.std.specs.Prelude.{◌≡◌, ◌↔◌, ℕ, ⊤, Some, IsTrue, MatchOption, slice_get};
+ghost use Rattle.target_lexicon.specs.FixedPoints.{settled_values};
 ghost use Rattle.target_lexicon.specs.Laws.{ComesBack};
 ghost use Rattle.target_lexicon.specs.Printing.{text_of};
-ghost use Rattle.target_lexicon.specs.Reading.{MayAllocate};
-ghost use Rattle.target_lexicon.specs.Refusal.{refusal_line};
+ghost use Rattle.lexicon_c.specs.Facts.{AreFactsOf};
+ghost use Rattle.lexicon_c.specs.Numbers.{WritesNumber, name_at};
+ghost use Rattle.lexicon_c.specs.Outcome.{HasOutcome, InField, IsDone, NoSuchValue};
+ghost use Rattle.lexicon_c.specs.Output.{Writes, WritesLine};
+ghost use Rattle.lexicon_c.specs.Parsing.{ExplainsRefusal, ExplainsTriple, Parses, sources_numbers};
+ghost use Rattle.lexicon_c.specs.Triple.{AreNumbersOf, OnTriple, vendor_text};
 
 pub use facts::LexiconFacts;
-use facts::{are_equal, lexicon_facts_of};
+use facts::facts_of;
 use field::Field;
-use names::{write_canonical_name, write_name};
-use output::{write_error_line, write_nothing, write_refused_part, write_text};
-use status::{Status, error_number};
-use std::alloc::Global;
-use target_lexicon::Triple;
-use target_lexicon::laws::printed_texts_grow_at_most;
+use numbers::{name_at, number_in};
+pub use output::LexiconText;
+use output::report_length;
+pub use sources::{LexiconError, LexiconSources};
+use sources::{error_numbers, sources_numbers};
+use status::{Status, error_number, error_with};
+use target_lexicon::TripleRef;
+use target_lexicon::laws::read_vendors_are_plain;
+pub use triple::LexiconTriple;
+use triple::{are_equal, numbers_of, triple_in, vendor_text};
 use utf8::from_utf8;
 
-/// Reads a text as a triple, and writes its printed text, or the refused part. A buffer that is `max_growth` bytes
-/// longer than the text has room for either.
+/// Parses a text, and writes the numbers of its triple and the text of a custom vendor, or why it is refused.
 #[unsafe(no_mangle)]
-#[tactic(auto, using(crate::proofs::Errors::error_part_fits))]
-pub extern "C" fn lexicon_print(
-    alloc: Global,
-    text: &[u8],
-    out: &mut [u8],
-    length: &mut usize,
+pub extern "C" fn lexicon_parse<'a>(
+    text: &'a [u8],
+    triple: &mut LexiconTriple,
+    vendor: &mut LexiconText<'a>,
+    error: &mut LexiconError,
 ) -> u32
-    ensures outcome { HasOutcome result
-        (Writes text_of refused_part ⊤ text.now out.old out.new length.new) }
-    ensures room { GrowsAtMost text.now length.new }
+    ensures { HasOutcome result (Parses text.entry.now
+        ((triple.new ≡ triple.old) × (vendor.new ≡ vendor.old) × (error.new ≡ error.old))
+        (λ t. AreNumbersOf t triple.new × (vendor.new.text.now ≡ vendor_text t.vendor)
+        × (error.new ≡ error.old))
+        (λ refusal. ExplainsRefusal text.entry.now refusal (λ _. ⊤) error.new
+        × (triple.new ≡ triple.old) × (vendor.new ≡ vendor.old))) }
 {
-    printed_texts_grow_at_most();
-    let Ok(text) = from_utf8(text) else {
-        return write_nothing(Status::NotUtf8, out, length);
-    };
-    match Triple::from_str(alloc, text) {
-        Ok(triple) => match triple.to_text(alloc) {
-            Ok(printed) => write_text(Status::Done, printed.as_str(), out, length),
-            Err(_) => write_nothing(Status::OutOfMemory, out, length),
-        },
-        Err(error) => write_refused_part(&error, out, length),
-    }
-}
-
-/// Reads a text as a triple, settles it, and writes its printed text, or the refused part. The settled text is the
-/// key of a target: it reads and settles as itself, and no other target has it. A buffer has room as for
-/// [`lexicon_print`].
-#[unsafe(no_mangle)]
-#[tactic(auto, using(crate::proofs::Errors::error_part_fits))]
-pub extern "C" fn lexicon_settle(
-    alloc: Global,
-    text: &[u8],
-    out: &mut [u8],
-    length: &mut usize,
-) -> u32
-    ensures outcome { HasOutcome result
-        (Writes canonical_text refused_part ⊤ text.now out.old out.new length.new) }
-    ensures room { GrowsAtMost text.now length.new }
-{
-    printed_texts_grow_at_most();
-    let Ok(text) = from_utf8(text) else {
-        return write_nothing(Status::NotUtf8, out, length);
-    };
-    match Triple::from_str(alloc, text) {
-        Ok(triple) => match triple.settle().to_text(alloc) {
-            Ok(printed) => write_text(Status::Done, printed.as_str(), out, length),
-            Err(_) => write_nothing(Status::OutOfMemory, out, length),
-        },
-        Err(error) => write_refused_part(&error, out, length),
-    }
-}
-
-/// Reads a text as a triple, and writes the name of one of its fields, or the refused part. The fields are numbered
-/// from 0 in their order: architecture, vendor, operating system, environment, binary format.
-#[unsafe(no_mangle)]
-pub extern "C" fn lexicon_field(
-    alloc: Global,
-    text: &[u8],
-    field: u32,
-    out: &mut [u8],
-    length: &mut usize,
-) -> u32
-    ensures { HasOutcome result (InField field (IsWritten [] out.old out.new length.new) (λ f.
-        Writes (name_in f) refused_part (MayAllocateName f text.now)
-        text.now out.old out.new length.new)) }
-{
-    let Some(field) = Field::at(field) else {
-        return write_nothing(Status::NoSuchField, out, length);
-    };
-    let Ok(text) = from_utf8(text) else {
-        return write_nothing(Status::NotUtf8, out, length);
-    };
-    write_name(alloc, text, field, out, length)
-}
-
-/// Reads a text as a triple, and writes its facts.
-#[unsafe(no_mangle)]
-pub extern "C" fn lexicon_facts(alloc: Global, text: &[u8], facts: &mut LexiconFacts) -> u32
-    ensures { HasOutcome result
-        (IsAnswered (λ t. facts.new ≡ facts_of t) (facts.new ≡ facts.old) text.now) }
-{
+    read_vendors_are_plain();
     let Ok(text) = from_utf8(text) else {
         return Status::NotUtf8.number();
     };
-    match Triple::from_str(alloc, text) {
-        Ok(triple) => {
-            *facts = lexicon_facts_of(&triple);
+    match TripleRef::explain(text) {
+        Ok(explained) => {
+            *triple = numbers_of(&explained.triple);
+            *vendor = vendor_text(explained.triple.vendor);
             Status::Done.number()
         }
-        Err(error) => error_number(&error),
+        Err(refused) => {
+            *error = error_numbers(&refused);
+            error_number(&refused.error)
+        }
     }
 }
 
-/// Reads a text as a triple, and reports whether it comes back: printed and read again, it is itself.
+/// Parses a text as [`lexicon_parse`] does, and writes where each field comes from too.
 #[unsafe(no_mangle)]
-pub extern "C" fn lexicon_comes_back(alloc: Global, text: &[u8], answer: &mut bool) -> u32
-    ensures { HasOutcome result
-        (IsAnswered (λ t. IsTrue answer.new ↔ ComesBack t) (answer.new ≡ answer.old) text.now) }
+pub extern "C" fn lexicon_explain<'a>(
+    text: &'a [u8],
+    triple: &mut LexiconTriple,
+    vendor: &mut LexiconText<'a>,
+    sources: &mut LexiconSources,
+    error: &mut LexiconError,
+) -> u32
+    ensures { HasOutcome result (Parses text.entry.now
+        ((triple.new ≡ triple.old) × (vendor.new ≡ vendor.old) × (sources.new ≡ sources.old)
+        × (error.new ≡ error.old))
+        (λ t. AreNumbersOf t triple.new × (vendor.new.text.now ≡ vendor_text t.vendor)
+        × ExplainsTriple text.entry.now sources.new × (error.new ≡ error.old))
+        (λ refusal. ExplainsRefusal text.entry.now refusal
+        (λ s. sources.new ≡ sources_numbers s) error.new
+        × (triple.new ≡ triple.old) × (vendor.new ≡ vendor.old))) }
 {
+    read_vendors_are_plain();
     let Ok(text) = from_utf8(text) else {
         return Status::NotUtf8.number();
     };
-    match Triple::from_str(alloc, text) {
+    match TripleRef::explain(text) {
+        Ok(explained) => {
+            *triple = numbers_of(&explained.triple);
+            *vendor = vendor_text(explained.triple.vendor);
+            *sources = sources_numbers(&explained.sources);
+            Status::Done.number()
+        }
+        Err(refused) => {
+            *sources = sources_numbers(&refused.sources);
+            *error = error_numbers(&refused);
+            error_number(&refused.error)
+        }
+    }
+}
+
+/// Writes the printed text of a triple.
+#[unsafe(no_mangle)]
+pub extern "C" fn lexicon_write(
+    triple: &LexiconTriple,
+    vendor: &[u8],
+    out: &mut [u8],
+    length: &mut usize,
+) -> u32
+    ensures { HasOutcome result (OnTriple triple.now vendor.now
+        ((out.new ≡ out.old) × (length.new ≡ length.old))
+        (λ t. Writes (text_of t) out.old out.new length.new)) }
+{
+    match triple_in(triple, vendor) {
+        Ok(triple) => {
+            let size = triple.write_to(out);
+            report_length(size, out.len(), length)
+        }
+        Err(status) => status.number(),
+    }
+}
+
+/// Replaces a triple by its canonical form. The text of its vendor stays, if the vendor is still a custom one.
+#[unsafe(no_mangle)]
+pub extern "C" fn lexicon_settle(triple: &mut LexiconTriple, vendor: &[u8]) -> u32
+    ensures { HasOutcome result (OnTriple triple.old vendor.now (triple.new ≡ triple.old)
+        (λ t. IsDone (AreNumbersOf (settled_values t) triple.new))) }
+{
+    match triple_in(triple, vendor) {
+        Ok(settling) => {
+            *triple = numbers_of(&settling.settle());
+            Status::Done.number()
+        }
+        Err(status) => status.number(),
+    }
+}
+
+/// Whether a triple comes back: its printed text parses as it.
+#[unsafe(no_mangle)]
+pub extern "C" fn lexicon_comes_back(
+    triple: &LexiconTriple,
+    vendor: &[u8],
+    answer: &mut bool,
+) -> u32
+    ensures { HasOutcome result (OnTriple triple.now vendor.now (answer.new ≡ answer.old)
+        (λ t. IsDone (IsTrue answer.new ↔ ComesBack t))) }
+{
+    match triple_in(triple, vendor) {
         Ok(triple) => {
             *answer = triple.comes_back();
             Status::Done.number()
         }
-        Err(error) => error_number(&error),
+        Err(status) => status.number(),
     }
 }
 
-/// Reads two texts as triples, and reports whether these are equal. The status of a refusal is that of the first text,
-/// or that of the second if the first is read.
+/// Whether two triples are equal.
 #[unsafe(no_mangle)]
 pub extern "C" fn lexicon_equal(
-    alloc: Global,
-    first: &[u8],
-    second: &[u8],
+    first: &LexiconTriple,
+    first_vendor: &[u8],
+    second: &LexiconTriple,
+    second_vendor: &[u8],
     answer: &mut bool,
 ) -> u32
     ensures { HasOutcome result
-        (Compares answer.new (answer.new ≡ answer.old) first.now second.now) }
+        (OnTriple first.now first_vendor.now (answer.new ≡ answer.old) (λ t.
+        OnTriple second.now second_vendor.now (answer.new ≡ answer.old) (λ u.
+        IsDone (IsTrue answer.new ↔ (t ≡ u))))) }
 {
-    let Ok(first) = from_utf8(first) else {
-        return Status::NotUtf8.number();
+    let first = match triple_in(first, first_vendor) {
+        Ok(first) => first,
+        Err(status) => return status.number(),
     };
-    let Ok(second) = from_utf8(second) else {
-        return Status::NotUtf8.number();
-    };
-    let one = match Triple::from_str(alloc, first) {
-        Ok(triple) => triple,
-        Err(error) => return error_number(&error),
-    };
-    match Triple::from_str(alloc, second) {
-        Ok(other) => {
-            *answer = are_equal(&one, &other);
+    match triple_in(second, second_vendor) {
+        Ok(second) => {
+            *answer = are_equal(&first, &second);
             Status::Done.number()
         }
-        Err(error) => error_number(&error),
+        Err(status) => status.number(),
     }
 }
 
-/// Writes the line of a text's refusal, such as `Unrecognized operating system: bar`. A text that reads as a triple has
-/// none, and status 0.
+/// Whether two triples have the same canonical form.
 #[unsafe(no_mangle)]
-pub extern "C" fn lexicon_error_line(
-    alloc: Global,
-    text: &[u8],
-    out: &mut [u8],
-    length: &mut usize,
+pub extern "C" fn lexicon_same_target(
+    first: &LexiconTriple,
+    first_vendor: &[u8],
+    second: &LexiconTriple,
+    second_vendor: &[u8],
+    answer: &mut bool,
 ) -> u32
-    ensures { HasOutcome result (Writes (λ _. []) refusal_line (MayAllocate text.now)
-        text.now out.old out.new length.new) }
+    ensures { HasOutcome result
+        (OnTriple first.now first_vendor.now (answer.new ≡ answer.old) (λ t.
+        OnTriple second.now second_vendor.now (answer.new ≡ answer.old) (λ u.
+        IsDone (IsTrue answer.new ↔ (settled_values t ≡ settled_values u))))) }
 {
-    let Ok(text) = from_utf8(text) else {
-        return write_nothing(Status::NotUtf8, out, length);
+    let first = match triple_in(first, first_vendor) {
+        Ok(first) => first,
+        Err(status) => return status.number(),
     };
-    write_error_line(alloc, text, out, length)
+    match triple_in(second, second_vendor) {
+        Ok(second) => {
+            *answer = are_equal(&first.settle(), &second.settle());
+            Status::Done.number()
+        }
+        Err(status) => status.number(),
+    }
 }
 
-/// Reads a text as a value of one field, and writes the name of the value. If the text doesn't read, the text itself is
-/// written, and the status is the field's. Fields are numbered as for [`lexicon_field`].
+/// Writes the facts of a triple.
 #[unsafe(no_mangle)]
-pub extern "C" fn lexicon_canonical_name(
-    alloc: Global,
-    text: &[u8],
-    field: u32,
+pub extern "C" fn lexicon_facts(
+    triple: &LexiconTriple,
+    vendor: &[u8],
+    facts: &mut LexiconFacts,
+) -> u32
+    ensures { HasOutcome result (OnTriple triple.now vendor.now (facts.new ≡ facts.old)
+        (λ t. IsDone (AreFactsOf t facts.new))) }
+{
+    match triple_in(triple, vendor) {
+        Ok(triple) => {
+            *facts = facts_of(&triple);
+            Status::Done.number()
+        }
+        Err(status) => status.number(),
+    }
+}
+
+/// Writes the line of a refusal with this status and part, such as `Unrecognized operating system: bar`.
+#[unsafe(no_mangle)]
+pub extern "C" fn lexicon_error_line(
+    expected: u32,
+    part: &[u8],
     out: &mut [u8],
     length: &mut usize,
 ) -> u32
-    ensures { HasOutcome result (InField field (IsWritten [] out.old out.new length.new) (λ f.
-        WritesName f text.now out.old out.new length.new)) }
+    ensures { HasOutcome result (WritesLine expected part.now
+        ((out.new ≡ out.old) × (length.new ≡ length.old)) out.old out.new length.new) }
+{
+    if expected < 1 || 6 < expected {
+        return Status::NoSuchValue.number();
+    }
+    let Ok(part) = from_utf8(part) else {
+        return Status::NotUtf8.number();
+    };
+    let size = error_with(expected, part).write_to(out);
+    report_length(size, out.len(), length)
+}
+
+/// The number of the value that a text is in one field, outside any triple.
+#[unsafe(no_mangle)]
+pub extern "C" fn lexicon_number(field: u32, text: &[u8], number: &mut u32) -> u32
+    ensures { HasOutcome result (InField field (number.new ≡ number.old)
+        (λ f. WritesNumber f text.now number.old number.new)) }
 {
     let Some(field) = Field::at(field) else {
-        return write_nothing(Status::NoSuchField, out, length);
+        return Status::NoSuchField.number();
     };
     let Ok(text) = from_utf8(text) else {
-        return write_nothing(Status::NotUtf8, out, length);
+        return Status::NotUtf8.number();
     };
-    write_canonical_name(alloc, text, field, out, length)
+    match number_in(field, text) {
+        Some(found) => {
+            *number = found;
+            Status::Done.number()
+        }
+        None => Status::Refused(field).number(),
+    }
+}
+
+/// The name of a field's value by its number.
+#[unsafe(no_mangle)]
+pub extern "C" fn lexicon_name(field: u32, number: u32, name: &mut LexiconText<'static>) -> u32
+    ensures { HasOutcome result (InField field (name.new ≡ name.old) (λ f outcome.
+        MatchOption (name_at f number) ((outcome ≡ NoSuchValue) × (name.new ≡ name.old))
+        (λ bytes. IsDone (name.new.text.now ≡ bytes) outcome))) }
+{
+    let Some(field) = Field::at(field) else {
+        return Status::NoSuchField.number();
+    };
+    match name_at(field, number) {
+        Some(found) => {
+            *name = LexiconText {
+                text: found.as_bytes(),
+            };
+            Status::Done.number()
+        }
+        None => Status::NoSuchValue.number(),
+    }
 }

@@ -1,9 +1,10 @@
 //! The statuses that a call returns.
-ghost use Rattle.std.specs.Prelude.{◌≡◌, ℕ, List, []};
-ghost use Rattle.lexicon_c.specs.Outcome.{status_of, outcome_of, error_outcome};
+ghost use Rattle.std.specs.Prelude.{◌≡◌, ◌≤◌, ℕ, List, []};
+ghost use Rattle.target_lexicon.specs.ValuesRef.{refusal_of_ref};
+ghost use Rattle.lexicon_c.specs.Outcome.{Refused, refusal_status, status_of, outcome_of};
 
 use crate::field::Field;
-use target_lexicon::ParseError;
+use target_lexicon::ParseErrorRef;
 
 /// What a call returns, as a number.
 #[derive(Clone, Copy)]
@@ -11,11 +12,11 @@ pub(crate) enum Status {
     Done,
     /// A text is refused where a value of this field was expected.
     Refused(Field),
-    /// A part follows the binary format.
-    NoField,
     NotUtf8,
-    OutOfMemory,
+    TooSmall,
     NoSuchField,
+    NoSuchValue,
+    NoSuchVendor,
 }
 
 impl Status {
@@ -32,27 +33,42 @@ impl Status {
             Status::Refused(Field::OperatingSystem) => 3,
             Status::Refused(Field::Environment) => 4,
             Status::Refused(Field::BinaryFormat) => 5,
-            Status::NoField => 6,
             Status::NotUtf8 => 7,
-            Status::OutOfMemory => 8,
+            Status::TooSmall => 8,
             Status::NoSuchField => 9,
+            Status::NoSuchValue => 10,
+            Status::NoSuchVendor => 11,
         }
     }
 }
 
-/// The number of the status of an error.
+/// The number of the status of a refusal.
 #[tactic(auto, unfolding(crate::specs::Outcome::status_of))]
-pub(crate) fn error_number(error: &ParseError) -> u32
-    ensures { result ≡ status_of (error_outcome error.now) }
+pub(crate) fn error_number(error: &ParseErrorRef<'_>) -> u32
+    ensures { result ≡ status_of (Refused (refusal_of_ref error.now)) }
 {
-    let status = match error {
-        ParseError::UnrecognizedArchitecture(_) => Status::Refused(Field::Architecture),
-        ParseError::UnrecognizedVendor(_) => Status::Refused(Field::Vendor),
-        ParseError::UnrecognizedOperatingSystem(_) => Status::Refused(Field::OperatingSystem),
-        ParseError::UnrecognizedEnvironment(_) => Status::Refused(Field::Environment),
-        ParseError::UnrecognizedBinaryFormat(_) => Status::Refused(Field::BinaryFormat),
-        ParseError::UnrecognizedField(_) => Status::NoField,
-        ParseError::OutOfMemory => Status::OutOfMemory,
-    };
-    status.number()
+    match error {
+        ParseErrorRef::UnrecognizedArchitecture(_) => 1,
+        ParseErrorRef::UnrecognizedVendor(_) => 2,
+        ParseErrorRef::UnrecognizedOperatingSystem(_) => 3,
+        ParseErrorRef::UnrecognizedEnvironment(_) => 4,
+        ParseErrorRef::UnrecognizedBinaryFormat(_) => 5,
+        ParseErrorRef::UnrecognizedField(_) => 6,
+    }
+}
+
+/// The refusal of this part with this status.
+pub(crate) fn error_with(status: u32, part: &str) -> ParseErrorRef<'_>
+    requires { (1 ≤ status) × (status ≤ 6) }
+    ensures status { refusal_status (refusal_of_ref result).expected ≡ status }
+    ensures part { (refusal_of_ref result).part ≡ part.entry.now }
+{
+    match status {
+        1 => ParseErrorRef::UnrecognizedArchitecture(part),
+        2 => ParseErrorRef::UnrecognizedVendor(part),
+        3 => ParseErrorRef::UnrecognizedOperatingSystem(part),
+        4 => ParseErrorRef::UnrecognizedEnvironment(part),
+        5 => ParseErrorRef::UnrecognizedBinaryFormat(part),
+        _ => ParseErrorRef::UnrecognizedField(part),
+    }
 }

@@ -1,0 +1,184 @@
+//! Triples as numbers.
+ghost use Rattle.std.specs.Prelude.{◌≡◌, ◌↔◌, true, Ok, Err, [], IfOk, IsTrue, MatchResult};
+ghost use Rattle.lexicon_fields.specs.Vendor.{is_plain};
+ghost use Rattle.lexicon_fields.specs.VendorRef.{ref_value};
+ghost use Rattle.target_lexicon.specs.ValuesRef.{values_of_ref};
+ghost use Rattle.lexicon_c.specs.Outcome.{outcome_of};
+ghost use Rattle.lexicon_c.specs.Triple.{AreNumbersOf, custom_vendor_number, triple_in, operating_system_in, vendor_text, vendor_with, version_in};
+
+use crate::output::LexiconText;
+use crate::status::Status;
+use crate::utf8::from_utf8;
+use lexicon_numbers::{
+    architecture_at, architecture_number, binary_format_at, binary_format_number, environment_at,
+    environment_number, known_vendor_at, known_vendor_number, operating_system_at,
+    operating_system_number,
+};
+use target_lexicon::laws::triple_refs_are_equal_by_value;
+use target_lexicon::{DeploymentTarget, OperatingSystem, TripleRef, VendorRef};
+
+/// The number that says that a vendor is a custom one.
+pub(crate) const CUSTOM_VENDOR: u8 = 255;
+
+/// A triple by the numbers of its values. The text of a custom vendor is beside it.
+#[repr(C)]
+#[derive(Clone, Copy)]
+pub struct LexiconTriple {
+    pub architecture: u16,
+    /// 255 for a custom vendor.
+    pub vendor: u8,
+    /// The number of the system without its version.
+    pub operating_system: u8,
+    pub environment: u8,
+    pub binary_format: u8,
+    /// Whether the system has a version: 1 or 0. Without one the next three are 0, and aren't read.
+    pub has_version: u8,
+    pub minor: u8,
+    pub patch: u8,
+    pub major: u16,
+}
+
+/// The triple of these numbers, where a custom vendor has this text, or why there is none.
+pub(crate) fn triple_in<'a>(
+    numbers: &LexiconTriple,
+    text: &'a [u8],
+) -> Result<TripleRef<'a>, Status>
+    ensures triple { MatchResult result
+        (λ t. triple_in numbers.now text.entry.now ≡ Ok (values_of_ref t))
+        (λ s. triple_in numbers.now text.entry.now ≡ Err (outcome_of s [])) }
+    ensures plain { IfOk result (λ t. is_plain (ref_value t.vendor) ≡ true) }
+{
+    let Some(architecture) = architecture_at(numbers.architecture) else {
+        return Err(Status::NoSuchValue);
+    };
+    let vendor = match vendor_with(numbers.vendor, text) {
+        Ok(vendor) => vendor,
+        Err(status) => return Err(status),
+    };
+    let Some(operating_system) = operating_system_in(numbers) else {
+        return Err(Status::NoSuchValue);
+    };
+    let Some(environment) = environment_at(numbers.environment) else {
+        return Err(Status::NoSuchValue);
+    };
+    let Some(binary_format) = binary_format_at(numbers.binary_format) else {
+        return Err(Status::NoSuchValue);
+    };
+    Ok(TripleRef {
+        architecture,
+        vendor,
+        operating_system,
+        environment,
+        binary_format,
+    })
+}
+
+/// The vendor of a number, where a custom one has this text.
+#[inline(always)]
+fn vendor_with<'a>(number: u8, text: &'a [u8]) -> Result<VendorRef<'a>, Status>
+    ensures vendor { MatchResult result
+        (λ v. vendor_with number text.entry.now ≡ Ok (ref_value v))
+        (λ s. vendor_with number text.entry.now ≡ Err (outcome_of s [])) }
+    ensures plain { IfOk result (λ v. is_plain (ref_value v) ≡ true) }
+{
+    if number == CUSTOM_VENDOR {
+        custom_vendor(text)
+    } else {
+        match known_vendor_at(number) {
+            Some(known) => Ok(VendorRef::Known(known)),
+            None => Err(Status::NoSuchValue),
+        }
+    }
+}
+
+/// The custom vendor with this text, if the text parses as one.
+#[inline(never)]
+fn custom_vendor<'a>(text: &'a [u8]) -> Result<VendorRef<'a>, Status>
+    ensures vendor { MatchResult result
+        (λ v. vendor_with custom_vendor_number text.entry.now ≡ Ok (ref_value v))
+        (λ s. vendor_with custom_vendor_number text.entry.now ≡ Err (outcome_of s [])) }
+    ensures plain { IfOk result (λ v. is_plain (ref_value v) ≡ true) }
+{
+    let Ok(text) = from_utf8(text) else {
+        return Err(Status::NoSuchVendor);
+    };
+    let vendor = VendorRef::Custom(text);
+    if vendor.is_plain() {
+        Ok(vendor)
+    } else {
+        Err(Status::NoSuchVendor)
+    }
+}
+
+/// The system of these numbers, with its version, if there is one.
+#[inline(always)]
+fn operating_system_in(numbers: &LexiconTriple) -> Option<OperatingSystem>
+    ensures { result ≡ operating_system_in numbers.now }
+{
+    let version = match numbers.has_version {
+        0 => None,
+        1 => Some(DeploymentTarget {
+            major: numbers.major,
+            minor: numbers.minor,
+            patch: numbers.patch,
+        }),
+        _ => return None,
+    };
+    operating_system_at(numbers.operating_system, version)
+}
+
+/// The numbers of a triple.
+#[inline(always)]
+pub(crate) fn numbers_of(triple: &TripleRef<'_>) -> LexiconTriple
+    requires { is_plain (ref_value triple.now.vendor) ≡ true }
+    ensures { AreNumbersOf (values_of_ref triple.now) result }
+{
+    let (has_version, major, minor, patch) = match triple.operating_system.version() {
+        Some(version) => (1, version.major, version.minor, version.patch),
+        None => (0, 0, 0, 0),
+    };
+    LexiconTriple {
+        architecture: architecture_number(triple.architecture),
+        vendor: vendor_number(triple.vendor),
+        operating_system: operating_system_number(triple.operating_system),
+        environment: environment_number(triple.environment),
+        binary_format: binary_format_number(triple.binary_format),
+        has_version,
+        minor,
+        patch,
+        major,
+    }
+}
+
+/// The number of a vendor.
+#[inline(always)]
+pub(crate) fn vendor_number(vendor: VendorRef<'_>) -> u8
+    requires { is_plain (ref_value vendor) ≡ true }
+    ensures { vendor_with result (vendor_text (ref_value vendor.entry)) ≡ Ok (ref_value vendor.entry) }
+{
+    match vendor {
+        VendorRef::Known(known) => known_vendor_number(known),
+        VendorRef::Custom(_) => CUSTOM_VENDOR,
+    }
+}
+
+/// The text of a custom vendor; no text for a known one.
+#[inline(always)]
+pub(crate) fn vendor_text<'a>(vendor: VendorRef<'a>) -> LexiconText<'a>
+    ensures { result.text.now ≡ vendor_text (ref_value vendor.entry) }
+{
+    match vendor {
+        VendorRef::Known(_) => LexiconText { text: b"" },
+        VendorRef::Custom(text) => LexiconText {
+            text: text.as_bytes(),
+        },
+    }
+}
+
+/// Whether two triples are equal: all five fields are the same.
+pub(crate) fn are_equal(first: &TripleRef<'_>, second: &TripleRef<'_>) -> bool
+    ensures { IsTrue result ↔ (values_of_ref first.now ≡ values_of_ref second.now) }
+{
+    triple_refs_are_equal_by_value();
+    first == second
+}
