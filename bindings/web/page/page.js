@@ -3,11 +3,11 @@ import { FIELDS, Triple, hasMemory64, load, namesOf } from "../lexicon.js";
 
 const LABELS = { architecture: "Architecture", vendor: "Vendor", operatingSystem: "System", environment: "Environment", binaryFormat: "Format" };
 const LONGEST_LINK = 32000;
-const SLICE = 8; // milliseconds of work between two chances for input
+const SLICE = 12; // milliseconds of work between two chances for input
 const MOST_SUGGESTED = 3;
 
 const byId = (id) => document.getElementById(id);
-const field = byId("targets"), rows = byId("rows"), table = byId("table");
+const field = byId("targets"), table = byId("table");
 
 const element = (name, attributes = {}, ...inside) => {
   const made = document.createElement(name);
@@ -79,7 +79,7 @@ function fieldCell(triple, name, source) {
 
 function printedCell(triple) {
   const printed = `${triple}`, settled = `${triple.settled()}`;
-  if (printed === settled) return cell("Printed", code(printed), triple.comesBack() ? small("canonical") : small("not canonical"));
+  if (printed === settled) return cell("Printed", code(printed), small(triple.comesBack() ? "canonical" : "parses as another triple"));
   return cell("Printed", code(printed), element("small", { class: "canonical" }, "canonical: ", code(settled)));
 }
 
@@ -129,54 +129,53 @@ async function replaceTarget(text, fixed) {
   lines[at] = lines[at].replace(text, () => fixed);
   field.value = lines.join("\n");
   await show();
-  const head = [...rows.children].find((row) => row.target === fixed)?.firstChild;
+  const head = [...table.tBodies].flatMap((body) => [...body.rows]).find((row) => row.target === fixed)?.firstChild;
   head?.setAttribute("tabindex", "-1");
   head?.focus();
 }
 
 // ---- showing, in slices
 
+// The rows are in groups, so that the browser lays out only the groups that are near the screen.
+const GROUP = 100;
+
 let runs = 0;
 
 const pause = () => new Promise((resolve) => setTimeout(resolve));
 
-/** The rows that are there, by their targets. */
-function rowPool() {
-  const pool = new Map();
-  for (const row of rows.children) {
-    if (!pool.has(row.target)) pool.set(row.target, new Set());
-    pool.get(row.target).add(row);
+/** The row that is there for each line, or undefined. All other rows are removed. */
+function rowsFor(lines) {
+  const there = new Map();
+  for (const row of table.querySelectorAll("tbody > tr")) {
+    if (!there.has(row.target)) there.set(row.target, []);
+    there.get(row.target).push(row);
   }
-  return {
-    take(target, row = pool.get(target)?.values().next().value) {
-      pool.get(target)?.delete(row);
-      return row;
-    },
-  };
+  for (const rows of there.values()) rows.reverse();
+  const found = lines.map((line) => there.get(line)?.pop());
+  for (const rows of there.values()) for (const row of rows) row.remove();
+  return found;
+}
+
+function group(index) {
+  while (table.tBodies.length <= index) table.append(element("tbody", { role: "rowgroup" }));
+  return table.tBodies[index];
 }
 
 /** Makes the rows those of the lines, and keeps each row that is there. A later call ends an earlier one. */
 async function show() {
-  const run = ++runs, lines = linesOf(field.value), pool = rowPool(), progress = byId("progress"), begin = performance.now();
-  let row = rows.firstElementChild, refused = 0, until = begin + SLICE;
+  const run = ++runs, lines = linesOf(field.value), progress = byId("progress"), begin = performance.now();
+  const found = rowsFor(lines);
+  let body, next, refused = 0, until = performance.now() + SLICE;
   table.setAttribute("aria-busy", "true");
   for (const [index, line] of lines.entries()) {
-    if (row && row.target !== line && row.nextElementSibling?.target === line) {
-      const next = row.nextElementSibling;
-      pool.take(row.target, row);
-      row.remove();
-      row = next;
+    if (index % GROUP === 0) {
+      body = group(index / GROUP);
+      next = body.firstElementChild;
     }
-    let shown = row;
-    if (row?.target === line) {
-      pool.take(line, row);
-      row = row.nextElementSibling;
-    } else {
-      shown = pool.take(line) ?? rowOf(line);
-      if (shown === row) row = row.nextElementSibling;
-      rows.insertBefore(shown, row);
-    }
-    if (shown.isRefused) refused++;
+    const row = found[index] ?? rowOf(line);
+    if (row === next) next = next.nextElementSibling;
+    else body.insertBefore(row, next);
+    if (row.isRefused) refused++;
     if (performance.now() < until) continue;
     if (performance.now() - begin > 300) {
       progress.hidden = false;
@@ -187,11 +186,7 @@ async function show() {
     if (run !== runs) return;
     until = performance.now() + SLICE;
   }
-  while (row) {
-    const next = row.nextElementSibling;
-    row.remove();
-    row = next;
-  }
+  while (table.tBodies.length > 1 && !table.tBodies[table.tBodies.length - 1].firstChild) table.tBodies[table.tBodies.length - 1].remove();
   progress.hidden = true;
   table.removeAttribute("aria-busy");
   byId("status").textContent = `${countOf(lines.length, "target")}: ${countOf(lines.length - refused)} parsed, ${countOf(refused)} refused.`;
@@ -215,7 +210,7 @@ function linesOfHash() {
 function showLink(lines) {
   let hash = "#";
   try {
-    hash = hashOf(lines);
+    if (field.value.length <= LONGEST_LINK) hash = hashOf(lines);
   } catch {} // an engine that has no toWellFormed, and a lone surrogate: no link
   const fits = hash.length <= LONGEST_LINK && (hash !== "#" || !lines.length);
   byId("link").hidden = !fits;

@@ -112,7 +112,11 @@ class Page:
                 self.press(character, 0, character)
 
     def paste(self, text):
-        self.call("Input.insertText", text=text)
+        """Pastes at the focus, over the clipboard."""
+        self.call("Browser.grantPermissions", permissions=["clipboardReadWrite", "clipboardSanitizedWrite"])
+        self.run(f"navigator.clipboard.writeText({json.dumps(text)})")
+        self.call("Input.dispatchKeyEvent", type="rawKeyDown", key="v", windowsVirtualKeyCode=86, modifiers=2, commands=["paste"])
+        self.call("Input.dispatchKeyEvent", type="keyUp", key="v", windowsVirtualKeyCode=86, modifiers=2)
 
     def roles(self):
         """The role and the name of each node of the accessibility tree."""
