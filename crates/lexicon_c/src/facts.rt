@@ -53,6 +53,7 @@ pub struct LexiconFacts {
 }
 
 /// The facts of a triple.
+#[inline(always)]
 pub(crate) fn facts_of(triple: &TripleRef<'_>) -> LexiconFacts
     ensures { AreFactsOf (values_of_ref triple.now) result }
 {

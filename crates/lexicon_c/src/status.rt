@@ -44,6 +44,7 @@ impl Status {
 
 /// The number of the status of a refusal.
 #[tactic(auto, unfolding(crate::specs::Outcome::status_of))]
+#[inline(always)]
 pub(crate) fn error_number(error: &ParseErrorRef<'_>) -> u32
     ensures { result ≡ status_of (Refused (refusal_of_ref error.now)) }
 {
@@ -58,6 +59,7 @@ pub(crate) fn error_number(error: &ParseErrorRef<'_>) -> u32
 }
 
 /// The refusal of this part with this status.
+#[inline(always)]
 pub(crate) fn error_with(status: u32, part: &str) -> ParseErrorRef<'_>
     requires { (1 ≤ status) × (status ≤ 6) }
     ensures status { refusal_status (refusal_of_ref result).expected ≡ status }

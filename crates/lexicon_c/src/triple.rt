@@ -39,6 +39,7 @@ pub struct LexiconTriple {
 }
 
 /// The triple of these numbers, where a custom vendor has this text, or why there is none.
+#[inline(always)]
 pub(crate) fn triple_in<'a>(
     numbers: &LexiconTriple,
     text: &'a [u8],
@@ -154,7 +155,8 @@ pub(crate) fn numbers_of(triple: &TripleRef<'_>) -> LexiconTriple
 #[inline(always)]
 pub(crate) fn vendor_number(vendor: VendorRef<'_>) -> u8
     requires { is_plain (ref_value vendor) ≡ true }
-    ensures { vendor_with result (vendor_text (ref_value vendor.entry)) ≡ Ok (ref_value vendor.entry) }
+    ensures { vendor_with result (vendor_text (ref_value vendor.entry))
+        ≡ Ok (ref_value vendor.entry) }
 {
     match vendor {
         VendorRef::Known(known) => known_vendor_number(known),
@@ -176,6 +178,7 @@ pub(crate) fn vendor_text<'a>(vendor: VendorRef<'a>) -> LexiconText<'a>
 }
 
 /// Whether two triples are equal: all five fields are the same.
+#[inline(always)]
 pub(crate) fn are_equal(first: &TripleRef<'_>, second: &TripleRef<'_>) -> bool
     ensures { IsTrue result ↔ (values_of_ref first.now ≡ values_of_ref second.now) }
 {

@@ -60,8 +60,10 @@ pub fn operating_system_number(system: OperatingSystem) -> u8
 pub fn operating_system_at(number: u8, version: Option<DeploymentTarget>) -> Option<OperatingSystem>
     ensures { result ≡ operating_system_at number version }
 {
-    let system = value_at(&VALUES, usize::from(number))?;
-    system_with(version, system)
+    match value_at(&VALUES, usize::from(number)) {
+        Some(system) => system_with(version, system),
+        None => None,
+    }
 }
 
 /// The system with this version, if it can have one.
