@@ -1,6 +1,7 @@
 """The tests of the page: each opens it in Chromium, and types, presses and reads as a user does."""
 import functools
 import json
+import time
 import urllib.parse
 
 from devtools import Page
@@ -19,7 +20,12 @@ CONTROL = 2
 WATCH = """(() => {
   window.longest = 0;
   let last = performance.now();
-  const look = () => { const now = performance.now(); longest = Math.max(longest, now - last); last = now; setTimeout(look); };
+  const look = () => {
+    const now = performance.now();
+    longest = Math.max(longest, now - last);
+    last = now;
+    setTimeout(look);
+  };
   look();
 })()"""
 
@@ -121,11 +127,21 @@ def is_a_card(page):
     same(page.run("getComputedStyle(document.querySelectorAll('tbody td')[0], '::before').content"), '"Architecture" / ""')
 
 
+def complete_roles(page):
+    """The accessibility tree, which Chromium completes a little after the page."""
+    for _ in range(100):
+        roles = page.roles()
+        if [role for role, _ in roles].count("cell") == 11 and ("StaticText", "?") in roles:
+            return roles
+        time.sleep(0.1)
+    raise WrongAnswer(f"the accessibility tree is not complete: {roles}")
+
+
 def is_accessible(page):
     for width in 400, 1280:
         page.size(width, 900)
         typed(page, "x86_64-unknown-linux-gnu\nx86_64-pc-windws-msvc")
-        roles = page.roles()
+        roles = complete_roles(page)
         for wanted in [("heading", "Target triples"), ("textbox", "Targets"), ("button", "Copy as JSON"), ("link", "Link to these targets"),
                        ("table", "What each target is"), ("columnheader", "Byte order"), ("rowheader", "x86_64-unknown-linux-gnu"),
                        ("button", "windows: replace x86_64-pc-windws-msvc by x86_64-pc-windows-msvc")]:
