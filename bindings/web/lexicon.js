@@ -23,7 +23,8 @@ const SOURCES = ["not given", "given", "implied"];
 const BYTE_ORDERS = [null, "little", "big"];
 const CONVENTIONS = [null, "SystemV", "WasmBasicCAbi", "WindowsFastcall", "AppleAarch64"];
 const MODELS = [null, "LP32", "ILP32", "LLP64", "LP64", "ILP64"];
-const C_TYPES = ["char", "short", "int", "long", "longLong", "float", "double", "pointer"];
+
+const cBitsOf = ([char, short, int, long, longLong, float, double, pointer]) => ({ char, short, int, long, longLong, float, double, pointer });
 
 // Where the structs are, after the module's own data. Texts and buffers follow them. In a triple the numbers are at 0 (16
 // bits), 2, 3, 4, 5, 6, 7, 8 (8 bits each) and 10 (16 bits).
@@ -44,7 +45,7 @@ class Module {
     const { memory, __heap_base: base, ...calls } = instance.exports;
     this.compiled = compiled;
     this.isSpent = false; // an instance is replaced after an exception in a call, and when its memory is large
-    this.calls = calls;
+    this.calls = Object.fromEntries(Object.entries(calls).map(([name, call]) => [name.replace("lexicon_", ""), call]));
     this.memory = memory;
     this.base = (Number(base.value) + 15) & ~15;
     this.at = new Map(); // the places of the structs as the calls take them
@@ -78,7 +79,7 @@ class Module {
 
   call(name, ...values) {
     try {
-      return this.calls[`lexicon_${name}`](...values);
+      return this.calls[name](...values);
     } catch (error) {
       this.isSpent = true; // JavaScript's stack may be full; the module takes no call after one that was cut off
       throw error;
@@ -146,29 +147,39 @@ class Module {
   }
 
   /** Writes a triple; its numbers and its custom vendor as the calls take them, and the bytes of texts that this used. */
-  triple(it, place = FIRST, at = 0) {
-    const { view } = this, start = this.base + place, { version } = it;
-    view.setUint16(start, it.numbers.architecture, true);
-    FIELDS.slice(1).forEach((field, index) => view.setUint8(start + 2 + index, it.numbers[field]));
-    view.setUint8(start + 6, version ? 1 : 0);
-    view.setUint8(start + 7, version?.minor ?? 0);
-    view.setUint8(start + 8, version?.patch ?? 0);
-    view.setUint8(start + 9, 0);
-    view.setUint16(start + 10, version?.major ?? 0, true);
-    const vendor = this.text(it.hasCustomVendor ? it.vendor : "", at);
-    return { values: [this.at.get(place), ...vendor], used: at + Number(vendor[1]) };
+  triple({ numbers, version, vendor, hasCustomVendor }, place = FIRST, at = 0) {
+    const { bytes, view } = this, start = this.base + place;
+    view.setUint16(start, numbers.architecture, true);
+    bytes[start + 2] = numbers.vendor;
+    bytes[start + 3] = numbers.operatingSystem;
+    bytes[start + 4] = numbers.environment;
+    bytes[start + 5] = numbers.binaryFormat;
+    bytes[start + 6] = version === null ? 0 : 1;
+    bytes[start + 7] = version === null ? 0 : version.minor;
+    bytes[start + 8] = version === null ? 0 : version.patch;
+    view.setUint16(start + 10, version === null ? 0 : version.major, true);
+    const text = this.text(hasCustomVendor ? vendor : "", at);
+    return { values: [this.at.get(place), ...text], used: at + Number(text[1]) };
   }
 
   /** The triple in the first struct, with this custom vendor if it has one. */
-  tripleAt(vendor) {
-    const { view, names } = this, start = this.base + FIRST;
-    const numbers = { architecture: view.getUint16(start, true) };
-    FIELDS.slice(1).forEach((field, index) => (numbers[field] = view.getUint8(start + 2 + index)));
-    const values = Object.fromEntries(FIELDS.map((field, index) => [field, names[index][numbers[field]]]));
-    if (numbers.vendor === CUSTOM) values.vendor = vendor;
-    const version = view.getUint8(start + 6)
-      ? { major: view.getUint16(start + 10, true), minor: view.getUint8(start + 7), patch: view.getUint8(start + 8) }
-      : null;
+  tripleAt(customVendor) {
+    const { bytes, names, view } = this, start = this.base + FIRST;
+    const numbers = {
+      architecture: view.getUint16(start, true),
+      vendor: bytes[start + 2],
+      operatingSystem: bytes[start + 3],
+      environment: bytes[start + 4],
+      binaryFormat: bytes[start + 5],
+    };
+    const values = {
+      architecture: names[0][numbers.architecture],
+      vendor: numbers.vendor === CUSTOM ? customVendor : names[1][numbers.vendor],
+      operatingSystem: names[2][numbers.operatingSystem],
+      environment: names[3][numbers.environment],
+      binaryFormat: names[4][numbers.binaryFormat],
+    };
+    const version = bytes[start + 6] ? { major: view.getUint16(start + 10, true), minor: bytes[start + 7], patch: bytes[start + 8] } : null;
     return make(values, version, numbers);
   }
 
@@ -270,7 +281,11 @@ const make = (values, version, numbers) => new Triple(SECRET, values, version, n
 export class Triple {
   constructor(secret, values, version, numbers) {
     if (secret !== SECRET) throw new TypeError("use Triple.parse or Triple.of");
-    for (const field of FIELDS) this[field] = values[field];
+    this.architecture = values.architecture;
+    this.vendor = values.vendor;
+    this.operatingSystem = values.operatingSystem;
+    this.environment = values.environment;
+    this.binaryFormat = values.binaryFormat;
     this.version = version && Object.freeze(version);
     this.hasCustomVendor = numbers.vendor === CUSTOM;
     this.numbers = Object.freeze(numbers);
@@ -359,13 +374,13 @@ export class Triple {
   facts() {
     const it = module(), { values } = it.triple(this), status = it.call("facts", ...values, it.at.get(FACTS));
     if (status !== OK) throw failure(status);
-    const at = it.base + FACTS, n = it.bytes.subarray(at, at + 17), bits = [...n.subarray(9)];
+    const at = it.base + FACTS, n = it.bytes.subarray(at, at + 17);
     return {
       byteOrder: BYTE_ORDERS[n[0]],
       pointerBits: n[1] || null,
       callingConvention: CONVENTIONS[n[2]],
       dataModel: MODELS[n[3]],
-      cBits: n[3] ? Object.fromEntries(C_TYPES.map((type, index) => [type, bits[index]])) : null,
+      cBits: n[3] ? cBitsOf(n.subarray(9)) : null,
       impliedFormat: it.names[4][n[4]],
       family: FAMILIES[n[5]] ?? String(n[5]),
       isThumb: n[6] === 1,

@@ -4,7 +4,8 @@ import { readFileSync } from "node:fs";
 import { pathToFileURL } from "node:url";
 
 const [script, file] = process.argv.slice(2);
-const { FAMILIES, FIELDS, ParseError, Triple, load, namesOf, numberOf } = await import(pathToFileURL(script));
+const all = await import(pathToFileURL(script));
+const { FAMILIES, FIELDS, ParseError, Triple, load, namesOf, numberOf } = all;
 const fields = (it) => FIELDS.map((field) => it[field]).join(" ");
 const refusal = (text) => {
   try {
@@ -30,6 +31,15 @@ const tests = {
     assert.equal(it.hasCustomVendor, false);
     assert.throws(() => (it.vendor = "pc"), TypeError);
     assert.throws(() => new Triple(), TypeError);
+  },
+  "each export and each member has a type": () => {
+    const types = readFileSync(script.replace(/js$/, "d.ts"), "utf8");
+    assert.deepEqual([...types.matchAll(/^export (?:class|const|function) (\w+)/gm)].map((it) => it[1]).sort(), Object.keys(all).sort());
+    const members = [...Object.getOwnPropertyNames(Triple.prototype), ...Object.keys(Triple.parse("x86_64")), "parse", "explain", "of"];
+    const declared = types.match(/export class Triple \{(.*?)^\}/ms)[1];
+    for (const it of members) assert.match(declared, new RegExp(`^  (?:private |static |readonly )*${it}[(:]`, "m"));
+    for (const it of Object.keys(Triple.parse("x86_64-linux").facts())) assert.match(types, new RegExp(`^  ${it}: `, "m"));
+    for (const it of ["kind", "text", "part", "start", "end", "report"]) assert.match(types, new RegExp(`^  readonly ${it}: `, "m"));
   },
   "a version": () => {
     const it = Triple.parse("aarch64-apple-darwin23.6");
