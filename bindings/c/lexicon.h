@@ -363,7 +363,7 @@ struct lexicon_triple {
   size_t custom_vendor_size;
 };
 /* Zeros are the unknown triple. What the library writes has 0 in every field that is not read, and its custom_vendor
-   points into the text that was parsed. */
+   points into the text that was parsed. Compare two by lexicon_equal; memcmp would see their padding. */
 
 /* Why a text is refused: the status 1 to 6, and where in the text the refused part is. */
 struct lexicon_error {

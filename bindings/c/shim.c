@@ -1,6 +1,6 @@
 /* The calls of lexicon.h, each over the proved call of the same name. A proved call takes a custom vendor as a text of its
-   own, beside the numbers, which are the front of struct lexicon_triple; and it takes no null. So all that this adds is: the
-   vendor goes from the struct into arguments and back, and a text or a buffer of size 0 is passed on with some valid
+   own, beside the numbers, which are the first 12 bytes of struct lexicon_triple; and it takes no null. So all that this adds
+   is: the vendor goes from the struct into arguments and back, and a text or a buffer of size 0 is passed on with some valid
    address. Not proved itself. `install` gives the proved calls the names below.
 
    SPDX-License-Identifier: Apache-2.0 WITH LLVM-exception */
@@ -15,7 +15,8 @@ uint32_t lexicon_proved_explain(const char *, size_t, struct lexicon_triple *, s
 uint32_t lexicon_proved_write(const struct lexicon_triple *, const char *, size_t, char *, size_t, size_t *);
 uint32_t lexicon_proved_settle(struct lexicon_triple *, const char *, size_t);
 uint32_t lexicon_proved_comes_back(const struct lexicon_triple *, const char *, size_t, bool *);
-uint32_t lexicon_proved_equal(const struct lexicon_triple *, const char *, size_t, const struct lexicon_triple *, const char *, size_t, bool *);
+uint32_t lexicon_proved_equal(const struct lexicon_triple *, const char *, size_t, const struct lexicon_triple *, const char *,
+                              size_t, bool *);
 uint32_t lexicon_proved_same_target(const struct lexicon_triple *, const char *, size_t, const struct lexicon_triple *, const char *,
                                     size_t, bool *);
 uint32_t lexicon_proved_facts(const struct lexicon_triple *, const char *, size_t, struct lexicon_facts *);
@@ -23,7 +24,7 @@ uint32_t lexicon_proved_error_line(uint32_t, const char *, size_t, char *, size_
 uint32_t lexicon_proved_number(uint32_t, const char *, size_t, uint32_t *);
 uint32_t lexicon_proved_name(uint32_t, uint32_t, struct lexicon_proved_text *);
 
-/* The proved calls know the front of the struct by these places, and the other structs whole. */
+/* The proved calls know the numbers by these places, and the other structs whole. */
 #define IS_AT(field, place) _Static_assert(offsetof(struct lexicon_triple, field) == (place), #field)
 IS_AT(architecture, 0);
 IS_AT(vendor, 2);

@@ -245,6 +245,10 @@ static void try_numbers(void) {
   triple.major = 7;
   expect(lexicon_settle(&triple) == LEXICON_OK && triple.custom_vendor == NULL && triple.custom_vendor_size == 0, "settle", "unread");
   expect(triple.major == 0, "settle", "an unread version");
+  triple = triple_of("riscv32imc-esp-espidf-elf");
+  expect(triple.vendor == LEXICON_VENDOR_CUSTOM && lexicon_settle(&triple) == LEXICON_OK, "settle", "esp");
+  expect(triple.vendor == LEXICON_VENDOR_ESPRESSIF, "settle", "espressif");
+  expect(triple.custom_vendor == NULL && triple.custom_vendor_size == 0, "settle", "no custom vendor");
 }
 
 static void try_number(uint32_t field, const char *text, uint32_t status, uint32_t expected) {

@@ -79,7 +79,7 @@ function fieldCell(triple, name, source) {
 
 function printedCell(triple) {
   const printed = `${triple}`, settled = `${triple.settled()}`;
-  if (printed === settled) return cell("Printed", code(printed), small(triple.comesBack() ? "canonical" : "parses as another triple"));
+  if (printed === settled) return cell("Printed", code(printed), small(triple.comesBack() ? "canonical" : "canonical text of another triple"));
   return cell("Printed", code(printed), element("small", { class: "canonical" }, "canonical: ", code(settled)));
 }
 

@@ -85,7 +85,7 @@ def shows_fields(page):
                    "aarch64-unknown-linux-gnu canonical", "little", "64 bits", "SystemV", "LP64"])
     same(rows[1][2:4], ["nuttx custom, given", "unknown not given"])
     same(rows[1][9:], ["none", "none"])
-    same(rows[2][6], "clever-unknown-none-elf parses as another triple")
+    same(rows[2][6], "clever-unknown-none-elf canonical text of another triple")
     same(rows[3][3], "ios17.1.0 from ios17.1")
     same(rows[3][6], "aarch64-apple-ios17.1.0 canonical")
 

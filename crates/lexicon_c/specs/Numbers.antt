@@ -17,7 +17,8 @@ IsNumberBy {V} find has_number text number = (value : V) × (find text ≡ Some 
 abbrev pub IsNumberIn : Field → List ℕ → ℕ → Type 0
 IsNumberIn field.Architecture text number = IsNumberBy architecture_of (λ n a. slice_get architecture_values n ≡ Some a) text number
 IsNumberIn field.Vendor text number = IsNumberBy vendor_of (λ n v. vendor_with n (vendor_text v) ≡ Ok v) text number
-IsNumberIn field.OperatingSystem text number = IsNumberBy operating_system_of (λ n s. operating_system_at n (system_version s) ≡ Some s) text number
+IsNumberIn field.OperatingSystem text number =
+    IsNumberBy operating_system_of (λ n s. operating_system_at n (system_version s) ≡ Some s) text number
 IsNumberIn field.Environment text number = IsNumberBy environment_of (λ n e. slice_get environment_values n ≡ Some e) text number
 IsNumberIn field.BinaryFormat text number = IsNumberBy binary_format_of (λ n f. slice_get binary_format_values n ≡ Some f) text number
 

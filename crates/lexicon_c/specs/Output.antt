@@ -12,7 +12,10 @@ Writes text old new size _ = ⊥
 
 -- what holds at each outcome of a call for the line of a refusal with this status and part
 abbrev pub WritesLine : ℕ → List ℕ → Type 0 → List ℕ → List ℕ → ℕ → Outcome → Type 0
-WritesLine status part unchanged old new size NoSuchValue = ((expected : Expected) → refusal_status expected ≢ status) × unchanged
-WritesLine status part unchanged old new size NotUtf8 = (expected : Expected) × (refusal_status expected ≡ status) × ¬ (IsUtf8 part) × unchanged
+WritesLine status part unchanged old new size NoSuchValue =
+    ((expected : Expected) → refusal_status expected ≢ status) × unchanged
+WritesLine status part unchanged old new size NotUtf8 =
+    (expected : Expected) × (refusal_status expected ≡ status) × ¬ (IsUtf8 part) × unchanged
 WritesLine status part unchanged old new size outcome =
-    (expected : Expected) × (refusal_status expected ≡ status) × IsUtf8 part × Writes (refusal_line (refusal_with expected part)) old new size outcome
+    (expected : Expected) × (refusal_status expected ≡ status) × IsUtf8 part
+    × Writes (refusal_line (refusal_with expected part)) old new size outcome

@@ -55,4 +55,5 @@ pub record AreNumbersOf (t : Values) (numbers : LexiconTriple) : Type 0 where
 
 -- what holds at each outcome of a call on the triple of these numbers; if there is none, nothing is changed
 abbrev pub OnTriple : LexiconTriple → List ℕ → Type 0 → (Values → Outcome → Type 0) → Outcome → Type 0
-OnTriple numbers text unchanged holds outcome = MatchResult (triple_in numbers text) (λ t. holds t outcome) (λ fault. (outcome ≡ fault) × unchanged)
+OnTriple numbers text unchanged holds outcome =
+    MatchResult (triple_in numbers text) (λ t. holds t outcome) (λ fault. (outcome ≡ fault) × unchanged)

@@ -91,5 +91,5 @@ NumbersAreUnique {V} values = (m n : ℕ) (v : V) → slice_get values m ≡ Som
 -- each system is at one number and one version only, its own
 abbrev pub SystemNumbersAreUnique : Type 0
 SystemNumbersAreUnique =
-    (m n : ℕ) (v w : Option DeploymentTarget) (system : OperatingSystem) → operating_system_at m v ≡ Some system → operating_system_at n w ≡ Some system
-    → (m ≡ n) × (v ≡ system_version system)
+    (m n : ℕ) (v w : Option DeploymentTarget) (system : OperatingSystem) → operating_system_at m v ≡ Some system
+    → operating_system_at n w ≡ Some system → (m ≡ n) × (v ≡ system_version system)

@@ -1,0 +1,9 @@
+/* The header, twice, as C and as C++. */
+#include "lexicon.h"
+#include "lexicon.h"
+
+int main(void) {
+  struct lexicon_triple triple = {LEXICON_ARCHITECTURE_X86_64, LEXICON_VENDOR_PC, LEXICON_OPERATING_SYSTEM_LINUX, LEXICON_ENVIRONMENT_GNU,
+      LEXICON_BINARY_FORMAT_ELF, 0, 0, 0, 0, NULL, 0};
+  return sizeof LEXICON_VERSION == 6 && triple.vendor == LEXICON_VENDOR_PC ? 0 : 1;
+}
