@@ -24,7 +24,9 @@ const BYTE_ORDERS = [null, "little", "big"];
 const CONVENTIONS = [null, "SystemV", "WasmBasicCAbi", "WindowsFastcall", "AppleAarch64"];
 const MODELS = [null, "LP32", "ILP32", "LLP64", "LP64", "ILP64"];
 
-const cBitsOf = ([char, short, int, long, longLong, float, double, pointer]) => ({ char, short, int, long, longLong, float, double, pointer });
+const cBitsOf = ([char, short, int, long, longLong, float, double, pointer]) => ({
+  char, short, int, long, longLong, float, double, pointer,
+});
 
 // Where the structs are, after the module's own data. Texts and buffers follow them. In a triple the numbers are at 0 (16
 // bits), 2, 3, 4, 5, 6, 7, 8 (8 bits each) and 10 (16 bits).

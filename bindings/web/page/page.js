@@ -1,7 +1,9 @@
 // The page: shows the targets of the text field in the table. `build` puts lexicon.js and this file into one.
 import { FIELDS, Triple, hasMemory64, load, namesOf } from "../lexicon.js";
 
-const LABELS = { architecture: "Architecture", vendor: "Vendor", operatingSystem: "System", environment: "Environment", binaryFormat: "Format" };
+const LABELS = {
+  architecture: "Architecture", vendor: "Vendor", operatingSystem: "System", environment: "Environment", binaryFormat: "Format",
+};
 const LONGEST_LINK = 32000;
 const SLICE = 12; // milliseconds of work between two chances for input
 const MOST_SUGGESTED = 3;
@@ -79,8 +81,8 @@ function fieldCell(triple, name, source) {
 
 function printedCell(triple) {
   const printed = `${triple}`, settled = `${triple.settled()}`;
-  if (printed === settled) return cell("Printed", code(printed), small(triple.comesBack() ? "canonical" : "canonical text of another triple"));
-  return cell("Printed", code(printed), element("small", { class: "canonical" }, "canonical: ", code(settled)));
+  if (printed !== settled) return cell("Printed", code(printed), element("small", { class: "canonical" }, "canonical: ", code(settled)));
+  return cell("Printed", code(printed), small(triple.comesBack() ? "canonical" : "canonical text of another triple"));
 }
 
 const answerCell = (label, answer) => cell(label, answer === null ? element("span", { class: "dim" }, "none") : `${answer}`);
@@ -111,7 +113,8 @@ function refusedRow({ text, error, sources }) {
   const head = element("th", { role: "rowheader", scope: "row" }, text.slice(0, error.start), part, text.slice(error.end));
   const inside = [element("p", { class: "message" }, error.message), ...soFar(sources)];
   if (offers.length) inside.push(element("p", {}, "Did you mean ", ...offers.map((it) => suggestionButton(it, text)), "?"));
-  const row = element("tr", { role: "row", class: "refused" }, head, element("td", { role: "cell", class: "refused", colspan: 10, "aria-colspan": 10 }, ...inside));
+  const answer = element("td", { role: "cell", class: "refused", colspan: 10, "aria-colspan": 10 }, ...inside);
+  const row = element("tr", { role: "row", class: "refused" }, head, answer);
   row.isRefused = true;
   return row;
 }
@@ -189,7 +192,8 @@ async function show() {
   while (table.tBodies.length > 1 && !table.tBodies[table.tBodies.length - 1].firstChild) table.tBodies[table.tBodies.length - 1].remove();
   progress.hidden = true;
   table.removeAttribute("aria-busy");
-  byId("status").textContent = `${countOf(lines.length, "target")}: ${countOf(lines.length - refused)} parsed, ${countOf(refused)} refused.`;
+  const parsed = lines.length - refused;
+  byId("status").textContent = `${countOf(lines.length, "target")}: ${countOf(parsed)} parsed, ${countOf(refused)} refused.`;
   showLink(lines);
 }
 

@@ -48,7 +48,9 @@ export function differences(lexicon, lines, expected) {
       if (shown !== expected[mode][at]) found.push(`${mode} of ${JSON.stringify(line)}: ${shown}, and not ${expected[mode][at]}`);
     });
   }
-  for (const line of lines) [...agreeing(lexicon, line)].forEach((agrees, at) => agrees || found.push(`agreement ${at} of ${JSON.stringify(line)}`));
+  for (const line of lines) {
+    [...agreeing(lexicon, line)].forEach((agrees, at) => agrees || found.push(`agreement ${at} of ${JSON.stringify(line)}`));
+  }
   return found;
 }
 
