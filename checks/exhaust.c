@@ -31,7 +31,7 @@ static char *input(size_t *size) {
 }
 
 static void show_facts(const struct lexicon_triple *triple) {
-  struct lexicon_facts facts;
+  struct lexicon_triple_facts facts;
   if (lexicon_facts(triple, &facts) != LEXICON_OK) stop("a parsed triple has no facts");
   printf(" %s %s %s %s", byte_orders[facts.endianness], widths[facts.pointer_bits < 64 ? facts.pointer_bits / 16 : 3],
          conventions[facts.calling_convention], models[facts.data_model]);

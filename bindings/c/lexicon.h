@@ -3,6 +3,9 @@
    A triple is a struct of numbers, which you may `switch` over, copy and keep. Only a custom vendor is a text: the struct
    has a pointer to it, so that the text that was parsed must stay as long as the struct is used.
 
+   Names are case-sensitive. They, the rules and the tables are those of the Rust crate target-lexicon 0.13.5, also where
+   toolchains differ: UEFI and Cygwin imply ELF.
+
    A text goes in as a pointer and a size. It need not end with a zero byte, and it need not be UTF-8. A text comes out
    into the caller's buffer, which is a pointer and a size, with no zero byte after it. *length is the length of the text,
    also if the buffer is too small for it; then the buffer is unchanged.
@@ -15,6 +18,10 @@
    0. A struct with a number that names no value gives LEXICON_NO_SUCH_VALUE, and one with a custom vendor that no text
    parses as gives LEXICON_NO_SUCH_VENDOR. If several fields are wrong, the status is that of the first one, in the order
    of the struct. Of two structs that are wrong, the status is the first one's.
+
+   The fields of the structs are integers. Cast one to its enum, so that -Wswitch reports the values that a switch leaves
+   out. In C++ cast a status to lexicon_status, and a uint8_t to unsigned before it goes to a stream, which would print it
+   as a character.
 
    The library is machine code for x86-64 Linux, level x86-64-v2 (SSE4.2 and POPCNT, as in processors since 2009).
 
@@ -49,7 +56,7 @@ enum lexicon_status {
   LEXICON_NOT_UTF8 = 7,
   LEXICON_TOO_SMALL = 8,           /* *length is the length that is needed; the buffer is unchanged */
   LEXICON_NO_SUCH_FIELD = 9,       /* the number of a field is above 4 */
-  LEXICON_NO_SUCH_VALUE = 10,      /* a number in a struct or argument names no value */
+  LEXICON_NO_SUCH_VALUE = 10,      /* a number names no value; also a version of a system that has none */
   LEXICON_NO_SUCH_VENDOR = 11      /* a custom vendor that no text parses as */
 };
 
@@ -334,7 +341,7 @@ enum lexicon_family {
   /* end of what is written */
 };
 
-/* The numbers in struct lexicon_facts; 0 where there is no answer. */
+/* The numbers in struct lexicon_triple_facts; 0 where there is no answer. */
 enum lexicon_endianness { LEXICON_LITTLE = 1, LEXICON_BIG = 2 };
 enum lexicon_calling_convention {
   LEXICON_SYSTEM_V = 1,
@@ -363,15 +370,19 @@ struct lexicon_triple {
   size_t custom_vendor_size;
 };
 /* Zeros are the unknown triple. What the library writes has 0 in every field that is not read, and its custom_vendor
-   points into the text that was parsed. Compare two by lexicon_equal; memcmp would see their padding. */
+   points into the text that was parsed. Compare two by lexicon_equal; memcmp would see their padding.
 
-/* Why a text is refused: the status 1 to 6, and where in the text the refused part is. */
+   LEXICON_BINARY_FORMAT_UNKNOWN is a format of its own, which parsing gives only if no other is implied. If you fill in a
+   struct yourself, call lexicon_facts and set binary_format to facts.implied_format. */
+
+/* Why a text is refused: the status 1 to 6, and where the refused part is. Here and below, start and size are numbers of
+   bytes. The size is 0 for an empty part, which may be at the end of the text. */
 struct lexicon_error {
   uint32_t expected;
   size_t start, size;
 };
 
-/* Where the value of a field comes from. start and size are 0 but for LEXICON_GIVEN. */
+/* Where the value of a field comes from. start and size are 0 unless kind is LEXICON_GIVEN. */
 enum lexicon_source_kind {
   LEXICON_NOT_GIVEN = 0, /* no part of the text is of this field, which is unknown */
   LEXICON_GIVEN = 1,     /* this part of the text; a special text such as armv6k-nintendo-3ds is one part, of all fields */
@@ -385,15 +396,17 @@ struct lexicon_sources {
   struct lexicon_source architecture, vendor, operating_system, environment, binary_format;
 };
 
-/* What a compiler asks of a triple. */
-struct lexicon_facts {
+/* What a compiler asks of a triple. pointer_bits may be known where there is no data model. */
+struct lexicon_triple_facts {
   uint8_t endianness;         /* enum lexicon_endianness */
-  uint8_t pointer_bits;       /* 16, 32 or 64 */
+  uint8_t pointer_bits;       /* 0, 16, 32 or 64 */
   uint8_t calling_convention; /* enum lexicon_calling_convention */
   uint8_t data_model;         /* enum lexicon_data_model */
   uint8_t implied_format;     /* enum lexicon_binary_format: what the other fields imply */
   uint8_t family;             /* enum lexicon_family */
-  uint8_t is_thumb, is_like_darwin, has_custom_vendor; /* 1 or 0 */
+  uint8_t is_thumb;           /* 1 if the architecture's name begins with thumb, otherwise 0 */
+  uint8_t is_like_darwin;     /* 1 for darwin, ios, macosx, tvos, visionos, watchos and xros, otherwise 0 */
+  uint8_t has_custom_vendor;  /* 1 or 0 */
   /* the bits of the types of C by the data model; all 0 if there is none */
   uint8_t c_char_bits, c_short_bits, c_int_bits, c_long_bits, c_long_long_bits, c_float_bits, c_double_bits, c_pointer_bits;
 };
@@ -402,20 +415,24 @@ struct lexicon_facts {
    parses as, settled or not. arm64 prints aarch64-unknown-unknown-elf, and no text grows by more. */
 #define LEXICON_MAX_GROWTH 22
 
+/* A buffer of part_size + LEXICON_MAX_LINE_GROWTH always has room for what lexicon_error_line writes of a part. The longest
+   line begins with "Unrecognized operating system: ", which has this size. */
+#define LEXICON_MAX_LINE_GROWTH 31
+
 /* Parses a text. 0: the triple is written, the error unchanged. 1 to 6: the error is written, the triple unchanged. 7: both
    are unchanged. */
 uint32_t lexicon_parse(const char *text, size_t text_size, struct lexicon_triple *triple, struct lexicon_error *error);
 
-/* Parses a text and says where each field comes from. Like lexicon_parse; the sources are written at 0, and at 1 to 6
-   those of the fields before the refused part. */
+/* Parses a text and says where each field comes from. Like lexicon_parse; at 0 all sources are written. At 1 to 6 all are
+   written too; those from the refused part on are LEXICON_NOT_GIVEN. At 7 they are unchanged. */
 uint32_t lexicon_explain(const char *text, size_t text_size, struct lexicon_triple *triple, struct lexicon_sources *sources,
                          struct lexicon_error *error);
 
 /* The printed text of a triple: that of wasm32-unknown-wasi is wasm32-wasi. */
 uint32_t lexicon_write(const struct lexicon_triple *triple, char *out, size_t out_size, size_t *length);
 
-/* Replaces a triple by its canonical form. Two canonical triples with the same printed text are equal, so the text is a
-   key. */
+/* Replaces a triple by its canonical form, which is what its printed text parses as. It round-trips. Two canonical triples
+   with the same printed text are equal, so the text is a key. */
 uint32_t lexicon_settle(struct lexicon_triple *triple);
 
 /* Whether the triple round-trips: printing and parsing it give it again. */
@@ -426,14 +443,16 @@ uint32_t lexicon_equal(const struct lexicon_triple *first, const struct lexicon_
 uint32_t lexicon_same_target(const struct lexicon_triple *first, const struct lexicon_triple *second, bool *answer);
 
 /* What a compiler asks of a triple. */
-uint32_t lexicon_facts(const struct lexicon_triple *triple, struct lexicon_facts *facts);
+uint32_t lexicon_facts(const struct lexicon_triple *triple, struct lexicon_triple_facts *facts);
 
 /* The line of an error, such as "Unrecognized operating system: bar", of what was expected and the refused part.
-   LEXICON_NO_SUCH_VALUE unless expected is 1 to 6. */
+   The status is 0, 7, 8 or 10: LEXICON_NO_SUCH_VALUE unless expected is 1 to 6, and LEXICON_NOT_UTF8 if the part is not
+   UTF-8. */
 uint32_t lexicon_error_line(uint32_t expected, const char *part, size_t part_size, char *out, size_t out_size, size_t *length);
 
 /* The number of the value that a text is in one field, outside any triple. An alias gives the number of its value, a custom
-   vendor LEXICON_VENDOR_CUSTOM, and a version is parsed and dropped. 1 to 5, by the field, if the text is no value of it. */
+   vendor LEXICON_VENDOR_CUSTOM, and a version is parsed and dropped. The status is 0; the number of the field plus 1 if the
+   text is no value of it; 7; or 9. */
 uint32_t lexicon_number(uint32_t field, const char *text, size_t text_size, uint32_t *number);
 
 /* The name of a value, which stays for as long as the library is loaded, with no zero byte after it. Null, and *size 0, if

@@ -19,7 +19,7 @@ uint32_t lexicon_proved_equal(const struct lexicon_triple *, const char *, size_
                               size_t, bool *);
 uint32_t lexicon_proved_same_target(const struct lexicon_triple *, const char *, size_t, const struct lexicon_triple *, const char *,
                                     size_t, bool *);
-uint32_t lexicon_proved_facts(const struct lexicon_triple *, const char *, size_t, struct lexicon_facts *);
+uint32_t lexicon_proved_facts(const struct lexicon_triple *, const char *, size_t, struct lexicon_triple_facts *);
 uint32_t lexicon_proved_error_line(uint32_t, const char *, size_t, char *, size_t, size_t *);
 uint32_t lexicon_proved_number(uint32_t, const char *, size_t, uint32_t *);
 uint32_t lexicon_proved_name(uint32_t, uint32_t, struct lexicon_proved_text *);
@@ -37,7 +37,7 @@ IS_AT(patch, 8);
 IS_AT(major, 10);
 IS_AT(custom_vendor, 16);
 _Static_assert(sizeof(struct lexicon_triple) == 32 && sizeof(struct lexicon_error) == 24, "triple, error");
-_Static_assert(sizeof(struct lexicon_sources) == 120 && sizeof(struct lexicon_facts) == 17, "sources, facts");
+_Static_assert(sizeof(struct lexicon_sources) == 120 && sizeof(struct lexicon_triple_facts) == 17, "sources, facts");
 
 static const char *text_at(const char *text, size_t size) { return size ? text : ""; }
 
@@ -100,7 +100,7 @@ uint32_t lexicon_same_target(const struct lexicon_triple *first, const struct le
   return lexicon_proved_same_target(first, vendor.text, vendor.size, second, other.text, other.size, answer);
 }
 
-uint32_t lexicon_facts(const struct lexicon_triple *triple, struct lexicon_facts *facts) {
+uint32_t lexicon_facts(const struct lexicon_triple *triple, struct lexicon_triple_facts *facts) {
   struct lexicon_proved_text vendor = vendor_of(triple);
   return lexicon_proved_facts(triple, vendor.text, vendor.size, facts);
 }

@@ -2,16 +2,18 @@
    is refused is shown with a caret under the refused part; so is one with a vendor that the library doesn't know, since an
    unknown system is taken for such a vendor.
 
-   cc driver.c $(pkg-config --cflags --libs lexicon) -o driver
+   With P the folder where the library is installed, and PKG_CONFIG_PATH=$P/lib/pkgconfig:
+   cc driver.c $(pkg-config --cflags --libs lexicon) -Wl,-rpath,$P/lib -o driver
 
    SPDX-License-Identifier: Apache-2.0 WITH LLVM-exception */
 #include <stdio.h>
+#include <stdlib.h>
 #include <string.h>
 
 #include "lexicon.h"
 
 /* The emulation of GNU ld, its option -m; null if the sample knows none. */
-static const char *elf_emulation(const struct lexicon_triple *triple, const struct lexicon_facts *facts) {
+static const char *elf_emulation(const struct lexicon_triple *triple, const struct lexicon_triple_facts *facts) {
   bool little = facts->endianness == LEXICON_LITTLE, hosted = triple->operating_system != LEXICON_OPERATING_SYSTEM_NONE;
   switch (facts->family) {
     case LEXICON_FAMILY_X86_64: return facts->pointer_bits == 32 ? "elf32_x86_64" : "elf_x86_64";
@@ -34,7 +36,7 @@ static const char *elf_emulation(const struct lexicon_triple *triple, const stru
   }
 }
 
-static const char *coff_emulation(const struct lexicon_facts *facts) {
+static const char *coff_emulation(const struct lexicon_triple_facts *facts) {
   switch (facts->family) {
     case LEXICON_FAMILY_X86_64: return "i386pep";
     case LEXICON_FAMILY_X86_32: return "i386pe";
@@ -44,7 +46,7 @@ static const char *coff_emulation(const struct lexicon_facts *facts) {
   }
 }
 
-static const char *emulation(const struct lexicon_triple *triple, const struct lexicon_facts *facts) {
+static const char *emulation(const struct lexicon_triple *triple, const struct lexicon_triple_facts *facts) {
   switch (triple->binary_format) {
     case LEXICON_BINARY_FORMAT_ELF: return elf_emulation(triple, facts);
     case LEXICON_BINARY_FORMAT_COFF: return coff_emulation(facts);
@@ -53,7 +55,7 @@ static const char *emulation(const struct lexicon_triple *triple, const struct l
 }
 
 /* The loader of programs for Linux with the GNU C library. */
-static const char *gnu_loader(const struct lexicon_triple *triple, const struct lexicon_facts *facts) {
+static const char *gnu_loader(const struct lexicon_triple *triple, const struct lexicon_triple_facts *facts) {
   switch (facts->family) {
     case LEXICON_FAMILY_X86_64: return facts->pointer_bits == 32 ? "/libx32/ld-linux-x32.so.2" : "/lib64/ld-linux-x86-64.so.2";
     case LEXICON_FAMILY_X86_32: return "/lib/ld-linux.so.2";
@@ -68,7 +70,7 @@ static const char *gnu_loader(const struct lexicon_triple *triple, const struct 
   }
 }
 
-static const char *linux_loader(const struct lexicon_triple *triple, const struct lexicon_facts *facts) {
+static const char *linux_loader(const struct lexicon_triple *triple, const struct lexicon_triple_facts *facts) {
   switch (triple->environment) {
     case LEXICON_ENVIRONMENT_GNU:
     case LEXICON_ENVIRONMENT_GNUX32:
@@ -87,7 +89,7 @@ static const char *linux_loader(const struct lexicon_triple *triple, const struc
 }
 
 /* The program that loads a program; null if there is none, or the sample knows none. */
-static const char *loader(const struct lexicon_triple *triple, const struct lexicon_facts *facts) {
+static const char *loader(const struct lexicon_triple *triple, const struct lexicon_triple_facts *facts) {
   if (facts->is_like_darwin) return "/usr/lib/dyld";
   switch (triple->operating_system) {
     case LEXICON_OPERATING_SYSTEM_LINUX: return linux_loader(triple, facts);
@@ -101,8 +103,8 @@ static const char *loader(const struct lexicon_triple *triple, const struct lexi
 static void show_line(const char *what, const char *text) { printf("  %-10s %s\n", what, text ? text : "-"); }
 
 static void show(const struct lexicon_triple *triple) {
-  struct lexicon_facts facts;
-  char out[256];
+  struct lexicon_triple_facts facts;
+  char out[256]; /* has room for every triple that has no custom vendor */
   size_t length, size;
   if (lexicon_write(triple, out, sizeof out, &length) != LEXICON_OK || lexicon_facts(triple, &facts) != LEXICON_OK) return;
   printf("%.*s\n", (int)length, out);
@@ -116,11 +118,24 @@ static void show(const struct lexicon_triple *triple) {
            facts.c_long_long_bits, facts.c_pointer_bits);
 }
 
-/* The text, and a caret under the first byte of a part of it. */
+/* The text, and a caret under the first byte of a part of it. After a tab, or a character of several bytes, it is off. */
 static void point_at(const char *text, size_t start, size_t size) {
   printf("  %s\n  %*s", text, (int)start, "");
   for (size_t i = 0; i < (size ? size : 1); i++) putchar(i ? '~' : '^');
   putchar('\n');
+}
+
+/* Why a text is refused, by a buffer that always has room for the line. */
+static void show_refusal(const char *text, const struct lexicon_error *error) {
+  size_t room = error->size + LEXICON_MAX_LINE_GROWTH, length;
+  char *line = malloc(room);
+  if (line != NULL && lexicon_error_line(error->expected, text + error->start, error->size, line, room, &length) == LEXICON_OK) {
+    printf("error: ");
+    fwrite(line, 1, length, stdout);
+    putchar('\n');
+  }
+  free(line);
+  point_at(text, error->start, error->size);
 }
 
 /* Shows a target; whether it is one that the driver takes. */
@@ -128,8 +143,6 @@ static bool drive(const char *text) {
   struct lexicon_triple triple;
   struct lexicon_sources sources;
   struct lexicon_error error;
-  char line[256];
-  size_t length;
   uint32_t status = lexicon_explain(text, strlen(text), &triple, &sources, &error);
   if (status == LEXICON_OK && triple.vendor != LEXICON_VENDOR_CUSTOM) {
     show(&triple);
@@ -141,16 +154,17 @@ static bool drive(const char *text) {
   } else if (status == LEXICON_NOT_UTF8) {
     printf("error: Not UTF-8\n");
   } else {
-    const char *part = text + error.start;
-    if (lexicon_error_line(error.expected, part, error.size, line, sizeof line, &length) == LEXICON_OK)
-      printf("error: %.*s\n", (int)length, line);
-    point_at(text, error.start, error.size);
+    show_refusal(text, &error);
   }
   return false;
 }
 
 int main(int count, char **words) {
   bool all = true;
+  if (count < 2) {
+    fprintf(stderr, "usage: %s TARGET..\n", count ? words[0] : "driver");
+    return 2;
+  }
   for (int i = 1; i < count; i++) all = drive(words[i]) && all;
   return all ? 0 : 1;
 }

@@ -1,7 +1,8 @@
 // The cross driver of driver.c in C++17: for each target that its arguments name, how to link for it, and the sizes of C's
 // types. A refused target, or one with an unknown vendor, is shown with a caret under the part.
 //
-// c++ -std=c++17 driver.cpp $(pkg-config --cflags --libs lexicon) -o driver
+// With P the folder where the library is installed, and PKG_CONFIG_PATH=$P/lib/pkgconfig:
+// c++ -std=c++17 driver.cpp $(pkg-config --cflags --libs lexicon) -Wl,-rpath,$P/lib -o driver
 //
 // SPDX-License-Identifier: Apache-2.0 WITH LLVM-exception
 #include <iomanip>
@@ -19,7 +20,7 @@ using Text = std::string_view;
 // A target whose vendor the library knows, so that it holds no pointer; and what a compiler asks of it.
 struct Target {
   lexicon_triple triple;
-  struct lexicon_facts facts;
+  lexicon_triple_facts facts;
 };
 
 // Why the driver doesn't take a text, and the part of the text that is at fault, if it is one.
@@ -29,12 +30,11 @@ struct Fault {
   size_t start, size;
 };
 
-std::string error_line(const struct lexicon_error& error, Text text) {
+std::string error_line(const lexicon_error& error, Text text) {
   size_t length = 0;
-  const char* part = text.data() + error.start;
-  lexicon_error_line(error.expected, part, error.size, nullptr, 0, &length);
-  std::string line(length, ' ');
-  lexicon_error_line(error.expected, part, error.size, line.data(), line.size(), &length);
+  std::string line(error.size + LEXICON_MAX_LINE_GROWTH, ' ');
+  lexicon_error_line(error.expected, text.data() + error.start, error.size, line.data(), line.size(), &length);
+  line.resize(length);
   return line;
 }
 
@@ -42,10 +42,10 @@ std::string error_line(const struct lexicon_error& error, Text text) {
 std::optional<Target> parse(Text text, Fault& fault) {
   Target target{};
   lexicon_sources sources;
-  struct lexicon_error error;
+  lexicon_error error;
   uint32_t status = lexicon_explain(text.data(), text.size(), &target.triple, &sources, &error);
   if (status == LEXICON_OK && target.triple.vendor != LEXICON_VENDOR_CUSTOM) {
-    ::lexicon_facts(&target.triple, &target.facts);
+    lexicon_facts(&target.triple, &target.facts);
     return target;
   }
   if (status == LEXICON_OK) {
@@ -156,7 +156,7 @@ Text loader(const Target& target) {
   }
 }
 
-std::string c_types(const struct lexicon_facts& facts) {
+std::string c_types(const lexicon_triple_facts& facts) {
   if (facts.data_model == 0) return {};
   return "int " + std::to_string(facts.c_int_bits) + ", long " + std::to_string(facts.c_long_bits) + ", long long " +
          std::to_string(facts.c_long_long_bits) + ", pointer " + std::to_string(facts.c_pointer_bits);
@@ -174,6 +174,7 @@ void show(const Target& target) {
   show_line("C types", c_types(target.facts));
 }
 
+// After a tab, or a character of several bytes, the caret is off.
 void show(const Fault& fault, Text text) {
   std::cout << "error: " << fault.line << '\n';
   if (!fault.has_part) return;
@@ -185,6 +186,10 @@ void show(const Fault& fault, Text text) {
 
 int main(int count, char** words) {
   bool all = true;
+  if (count < 2) {
+    std::cerr << "usage: " << (count ? words[0] : "driver") << " TARGET..\n";
+    return 2;
+  }
   for (int i = 1; i < count; i++) {
     Fault fault;
     if (auto target = parse(words[i], fault)) {

@@ -102,6 +102,18 @@ static void try_row(const struct row *row) {
   expect(lexicon_same_target(&explained, &triple, &answer) == LEXICON_OK && answer, "same_target", row->text);
 }
 
+/* LEXICON_MAX_LINE_GROWTH is reached, and no line grows by more. */
+static void try_line_growth(void) {
+  static const char part[] = "bar";
+  size_t size = strlen(part), longest = 0, length = 0;
+  char out[64];
+  for (uint32_t status = LEXICON_NO_ARCHITECTURE; status <= LEXICON_NO_FIELD; status++) {
+    expect(lexicon_error_line(status, part, size, out, size + LEXICON_MAX_LINE_GROWTH, &length) == LEXICON_OK, "room for a line", part);
+    if (length - size > longest) longest = length - size;
+  }
+  expect(longest == LEXICON_MAX_LINE_GROWTH, "the bound of a line", part);
+}
+
 static struct lexicon_triple triple_of(const char *text) {
   struct lexicon_triple triple;
   struct lexicon_error error;
@@ -113,7 +125,7 @@ static struct lexicon_triple triple_of(const char *text) {
 /* Every call with the triple gives the status, and changes nothing. */
 static void try_bad(const struct lexicon_triple *bad, uint32_t status, const char *what) {
   struct lexicon_triple good = triple_of("x86_64-linux"), copy = *bad;
-  struct lexicon_facts facts;
+  struct lexicon_triple_facts facts;
   char out[64], answer_bytes[sizeof(bool)];
   size_t length = 77;
   bool answer = true;
@@ -201,22 +213,23 @@ static void try_pairs(void) {
   }
 }
 
-static void try_facts(const char *text, struct lexicon_facts expected) {
+static void try_facts(const char *text, struct lexicon_triple_facts expected) {
   struct lexicon_triple triple = triple_of(text);
-  struct lexicon_facts facts;
+  struct lexicon_triple_facts facts;
   fill(&facts, sizeof facts);
   expect(lexicon_facts(&triple, &facts) == LEXICON_OK && memcmp(&facts, &expected, sizeof facts) == 0, "facts", text);
 }
 
 static void try_all_facts(void) {
-  struct lexicon_facts ios = {LEXICON_LITTLE, 64, LEXICON_APPLE_AARCH64, LEXICON_LP64, LEXICON_BINARY_FORMAT_MACHO,
+  struct lexicon_triple_facts ios = {LEXICON_LITTLE, 64, LEXICON_APPLE_AARCH64, LEXICON_LP64, LEXICON_BINARY_FORMAT_MACHO,
       LEXICON_FAMILY_AARCH64, 0, 1, 0, 8, 16, 32, 64, 64, 32, 64, 64};
-  struct lexicon_facts thumb = {LEXICON_LITTLE, 32, LEXICON_WINDOWS_FASTCALL, LEXICON_ILP32, LEXICON_BINARY_FORMAT_COFF,
+  struct lexicon_triple_facts thumb = {LEXICON_LITTLE, 32, LEXICON_WINDOWS_FASTCALL, LEXICON_ILP32, LEXICON_BINARY_FORMAT_COFF,
       LEXICON_FAMILY_ARM, 1, 0, 1, 8, 16, 32, 32, 64, 32, 64, 32};
-  struct lexicon_facts avr = {LEXICON_LITTLE, 16, 0, 0, LEXICON_BINARY_FORMAT_UNKNOWN, LEXICON_FAMILY_AVR, 0, 0, 0, 0, 0, 0, 0, 0, 0, 0, 0};
-  struct lexicon_facts windows = {LEXICON_LITTLE, 64, LEXICON_WINDOWS_FASTCALL, LEXICON_LLP64, LEXICON_BINARY_FORMAT_COFF,
+  struct lexicon_triple_facts avr = {LEXICON_LITTLE, 16, 0, 0, LEXICON_BINARY_FORMAT_UNKNOWN, LEXICON_FAMILY_AVR,
+      0, 0, 0, 0, 0, 0, 0, 0, 0, 0, 0};
+  struct lexicon_triple_facts windows = {LEXICON_LITTLE, 64, LEXICON_WINDOWS_FASTCALL, LEXICON_LLP64, LEXICON_BINARY_FORMAT_COFF,
       LEXICON_FAMILY_X86_64, 0, 0, 0, 8, 16, 32, 32, 64, 32, 64, 64};
-  struct lexicon_facts unknown;
+  struct lexicon_triple_facts unknown;
   memset(&unknown, 0, sizeof unknown);
   try_facts("arm64-apple-ios17.2.1-elf", ios);
   try_facts("thumbv7m-acme-windows-eabi-elf", thumb);
@@ -249,6 +262,22 @@ static void try_numbers(void) {
   expect(triple.vendor == LEXICON_VENDOR_CUSTOM && lexicon_settle(&triple) == LEXICON_OK, "settle", "esp");
   expect(triple.vendor == LEXICON_VENDOR_ESPRESSIF, "settle", "espressif");
   expect(triple.custom_vendor == NULL && triple.custom_vendor_size == 0, "settle", "no custom vendor");
+}
+
+/* A struct that is filled in by hand, with the implied format and without. */
+static void try_filled_in(void) {
+  struct lexicon_triple parsed = triple_of("aarch64-linux"), made;
+  struct lexicon_triple_facts facts;
+  bool answer = true;
+  memset(&made, 0, sizeof made);
+  made.architecture = LEXICON_ARCHITECTURE_AARCH64;
+  made.operating_system = LEXICON_OPERATING_SYSTEM_LINUX;
+  expect(lexicon_equal(&made, &parsed, &answer) == LEXICON_OK && !answer, "filled in", "with no format");
+  try_write(&made, "aarch64-unknown-linux-unknown-unknown");
+  expect(lexicon_facts(&made, &facts) == LEXICON_OK, "facts", "filled in");
+  made.binary_format = facts.implied_format;
+  expect(lexicon_equal(&made, &parsed, &answer) == LEXICON_OK && answer, "filled in", "with the implied format");
+  try_write(&made, "aarch64-unknown-linux");
 }
 
 static void try_number(uint32_t field, const char *text, uint32_t status, uint32_t expected) {
@@ -305,11 +334,20 @@ static void try_sources(void) {
   expect(it.operating_system.kind == LEXICON_GIVEN && it.operating_system.start == 9, "the system before", refused);
   expect(it.environment.kind == LEXICON_NOT_GIVEN && it.binary_format.kind == LEXICON_NOT_GIVEN, "no field after", refused);
   expect(error.start == 15 && error.size == 3, "the refused part", refused);
+  fill(&it, sizeof it);
+  expect(lexicon_explain("foo", 3, &triple, &it, &error) == LEXICON_NO_ARCHITECTURE, "explain", "foo");
+  expect(it.architecture.kind == LEXICON_NOT_GIVEN && it.vendor.kind == LEXICON_NOT_GIVEN, "no source", "foo");
+  expect(it.operating_system.kind == LEXICON_NOT_GIVEN && it.environment.kind == LEXICON_NOT_GIVEN, "no source", "foo");
+  expect(it.binary_format.kind == LEXICON_NOT_GIVEN && it.binary_format.size == 0, "no source", "foo");
+  expect(lexicon_parse("x86_64-", 7, &triple, &error) == LEXICON_NO_VENDOR, "an empty part", "x86_64-");
+  expect(error.start == 7 && error.size == 0, "an empty part at the end", "x86_64-");
 }
 
 int main(void) {
   for (size_t i = 0; i < sizeof rows / sizeof *rows; i++) try_row(&rows[i]);
   expect(strlen("aarch64-unknown-unknown-elf") - strlen("arm64") == LEXICON_MAX_GROWTH, "the bound of growth", "arm64");
+  try_line_growth();
+  try_filled_in();
   try_bad_numbers();
   try_bad_vendors();
   try_two_bad();

@@ -56,7 +56,7 @@ static void try_field(uint32_t field) {
 
 static void try_family(const char *architecture, uint32_t family) {
   struct lexicon_triple triple;
-  struct lexicon_facts facts;
+  struct lexicon_triple_facts facts;
   uint32_t number = 0;
   memset(&triple, 0, sizeof triple);
   expect(lexicon_number(LEXICON_ARCHITECTURE, architecture, strlen(architecture), &number) == LEXICON_OK, "the number of", architecture);

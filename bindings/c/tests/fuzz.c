@@ -89,7 +89,7 @@ static bool has_zeros(const struct lexicon_triple *it) {
 static void try_triple(const struct lexicon_triple *triple) {
   struct lexicon_triple settled = *triple, again;
   struct lexicon_error error;
-  struct lexicon_facts facts, same_facts;
+  struct lexicon_triple_facts facts, same_facts;
   bool comes_back = false, same = false;
   char *text, *settled_text;
   CHECK(lexicon_settle(&settled) == LEXICON_OK && has_zeros(&settled));
@@ -141,7 +141,7 @@ static uint32_t expected_status(const struct lexicon_triple *it) {
 /* All calls give the status, and change nothing. */
 static void try_bad(const struct lexicon_triple *bad, const struct lexicon_triple *other, uint32_t other_status, uint32_t status) {
   struct lexicon_triple copy = *bad;
-  struct lexicon_facts facts;
+  struct lexicon_triple_facts facts;
   char out[64];
   size_t length = 77;
   bool answer = true;

@@ -15,7 +15,7 @@ static const char *const models[] = {"-", "LP32", "ILP32", "LLP64", "LP64", "ILP
 static char *out;
 static size_t room;
 
-static void show_facts(const struct lexicon_facts *facts) {
+static void show_facts(const struct lexicon_triple_facts *facts) {
   printf(" %s", byte_orders[facts->endianness]);
   if (facts->pointer_bits == 0) printf(" -");
   else printf(" %u", (unsigned)facts->pointer_bits);
@@ -61,7 +61,8 @@ static void try_sources(const struct lexicon_triple *triple, const struct lexico
 static void show_refused(const char *line, size_t size, const struct lexicon_error *error) {
   size_t length = 0;
   expect(error->start + error->size <= size, "the refused part is in the text", line);
-  expect(lexicon_error_line(error->expected, line + error->start, error->size, out, room, &length) == LEXICON_OK, "error_line", line);
+  expect(lexicon_error_line(error->expected, line + error->start, error->size, out, error->size + LEXICON_MAX_LINE_GROWTH, &length) ==
+             LEXICON_OK, "error_line", line);
   fputs("error: ", stdout);
   fwrite(out, 1, length, stdout);
   putchar('\n');
@@ -71,7 +72,7 @@ static void show(const char *line, size_t size) {
   struct lexicon_triple triple, explained;
   struct lexicon_sources sources;
   struct lexicon_error error, other;
-  struct lexicon_facts facts;
+  struct lexicon_triple_facts facts;
   size_t length = 0;
   bool equal = false;
   uint32_t status = lexicon_parse(line, size, &triple, &error);

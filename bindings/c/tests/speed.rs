@@ -9,7 +9,7 @@ use std::hint::black_box;
 use std::mem::MaybeUninit;
 use std::time::Instant;
 
-/// struct lexicon_triple, lexicon_error and lexicon_facts, of which this program reads only the error.
+/// struct lexicon_triple, lexicon_error and lexicon_triple_facts, of which this program reads only the error.
 #[repr(C)]
 #[derive(Clone, Copy)]
 struct Triple([u64; 4]);

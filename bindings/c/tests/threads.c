@@ -16,7 +16,7 @@ static unsigned calls_with(const char *text, const struct lexicon_triple *first)
   struct lexicon_triple triple = *first;
   struct lexicon_sources sources;
   struct lexicon_error error;
-  struct lexicon_facts facts;
+  struct lexicon_triple_facts facts;
   unsigned sum = lexicon_parse(text, size, &triple, &error) + lexicon_explain(text, size, &triple, &sources, &error);
   sum += lexicon_write(&triple, out, sizeof out, &length) + lexicon_facts(&triple, &facts) + lexicon_comes_back(&triple, &answer);
   sum += lexicon_equal(&triple, first, &answer) + lexicon_same_target(&triple, first, &answer) + lexicon_settle(&triple);
