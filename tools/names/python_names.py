@@ -7,10 +7,10 @@ from __future__ import annotations
 from ._fields import FieldValue, NamedValue, VendorValue
 '''
 
-# A field or `family`, its class and what that derives from, and what the class says.
+# A field or `family`, its class and what that derives from, and what the class says. Each but a family has a `parse`.
 CLASSES = {
     "architecture": ("Architecture", "FieldValue", "The architecture, in some families with a sub-architecture."),
-    "family": ("Family", "NamedValue", "The family of an architecture: one for all of Arm's, one for each without a family."),
+    "family": ("Family", "NamedValue", "The family of an architecture: all of 32-bit Arm, Thumb too, is `ARM`; AArch64 is its own."),
     "vendor": ("Vendor", "VendorValue", "A known vendor. Any other one is a `CustomVendor`."),
     "operating_system": ("OperatingSystem", "FieldValue", "The operating system. The version of one is `Triple.version`."),
     "environment": ("Environment", "FieldValue", "The environment on top of the operating system: the ABI, or the C library."),
@@ -25,7 +25,8 @@ def module(values):
     lists["family"] = [(name, "") for name in families]
     text = HEAD
     for field, (name, base, about) in CLASSES.items():
-        text += f'\n\nclass {name}({base}):\n    """{about}"""\n\n'
+        parse = f"\n\n    `{name}.parse` gives the value that a text is in this field.\n    " * (field != "family")
+        text += f'\n\nclass {name}({base}):\n    """{about}{parse}"""\n\n'
         text += "".join(f"    #: {about}\n" * bool(about) + f'    {member(name)} = "{name}"\n' for name, about in lists[field])
     return text
 

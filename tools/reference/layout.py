@@ -1,5 +1,6 @@
 """The frame of a page, links to words, and source as HTML."""
 
+import re
 from html import escape
 from urllib.parse import quote
 
@@ -132,7 +133,7 @@ def code_block(pieces, page, margin=0, anchors=None):
 
 def line_anchor(plain, anchors):
     """The anchor of a line that declares a constructor, a field or a variant."""
-    words = plain.replace("(", " ").replace(",", " ").replace("{", " ").split()
+    words = re.sub(r"\bpub\([^)]*\)", "", plain).replace("(", " ").replace(",", " ").replace("{", " ").split()
     words = [word.rstrip(":") for word in words if word not in ("pub", "ghost")]
     for name, anchor in list(anchors.items()):
         if words[:1] == [name]:

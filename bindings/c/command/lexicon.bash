@@ -17,7 +17,11 @@ _lexicon() {
                 fi
                 ;;
             explain | facts)
-                words=$(lexicon names architecture 2> /dev/null)
+                if [ "$COMP_CWORD" -eq 2 ] && [ "${word:0:1}" = - ]; then
+                    words="--json --"
+                else
+                    words=$(lexicon names architecture 2> /dev/null)
+                fi
                 ;;
         esac
     fi

@@ -1,10 +1,13 @@
 """What was built and installed: the files, how the library is found, the samples of the pages, and the types."""
+import contextlib
 import doctest
 import email
 import filecmp
 import importlib
+import json
 import os
 import pkgutil
+import pydoc
 import re
 import shutil
 import subprocess
@@ -131,16 +134,11 @@ class FindsTheLibrary(Folder):
 
 
 class Samples(unittest.TestCase):
-    def examples(self, name, text):
-        """Runs the examples of a text; the fences of a page aren't part of what is printed."""
-        text = "\n".join("" if line.lstrip().startswith("```") else line for line in text.split("\n"))
-        test = doctest.DocTestParser().get_doctest(text, vars(lexicon).copy(), name, name, 0)
-        results = doctest.DocTestRunner(optionflags=doctest.IGNORE_EXCEPTION_DETAIL).run(test)
-        self.assertEqual(results.failed, 0)
-        return results.attempted
-
     def test_page(self):
-        self.assertGreater(self.examples("README.md", lists.read("bindings/python/README.md")), 20)
+        """The examples of the page, as `python -m doctest` runs them."""
+        results = doctest.testfile(os.path.join(SOURCE, "README.md"), module_relative=False, encoding="utf-8")
+        self.assertEqual(results.failed, 0)
+        self.assertGreater(results.attempted, 20)
 
     def test_recipe(self):
         """The script of the page, run on the input that the page shows, writes what the page shows."""
@@ -150,17 +148,51 @@ class Samples(unittest.TestCase):
         command, output = re.search(r"```console\n\$ (printf .*?) \| python3 matrix\.py\n(.*?)```", page, re.S).groups()
         given = run("bash", "-c", command).stdout
         ran = subprocess.run([sys.executable, "-I", "-c", script], input=given, capture_output=True, text=True, check=False)
-        self.assertEqual((ran.stdout, ran.stderr), (output, ""))
-        ran = subprocess.run([sys.executable, "-I", "-c", script], input="x86_64-foo-bar", capture_output=True, text=True, check=False)
-        self.assertEqual((ran.returncode, ran.stdout), (1, ""))
-        self.assertIn("Unrecognized operating system: bar\n  x86_64-foo-bar\n             ^^^\n", ran.stderr)
+        self.assertEqual((ran.stderr + ran.stdout, ran.returncode), (output, 0))
+        given = "x86_64-foo-bar thumbv7a-none-eabi thumbv7a-unknown-none-eabi elf"
+        ran = subprocess.run([sys.executable, "-I", "-c", script], input=given, capture_output=True, text=True, check=False)
+        self.assertEqual([it["targets"] for it in json.loads(ran.stdout)["include"]], [["thumbv7a-none-eabi"]])
+        refused = ["x86_64-foo-bar: Unrecognized operating system: bar", "elf: Unrecognized architecture: elf"]
+        self.assertEqual(ran.stderr.splitlines(), refused)
+
+    @unittest.skipUnless(shutil.which("rustc"), "no rustc")
+    def test_counts_of_the_page(self):
+        """Which targets of rustc come back, have another canonical text, and have an unknown system."""
+        home = {name: value for name, value in os.environ.items() if name in ("HOME", "RUSTUP_HOME", "RUSTUP_TOOLCHAIN", "CARGO_HOME")}
+        if not run("rustc", "--version", **home).stdout.startswith("rustc 1.95."):
+            self.skipTest("another version of rustc than the page's")
+        triples = {}
+        for text in run("rustc", "--print", "target-list", **home).stdout.split():
+            with contextlib.suppress(lexicon.ParseError):
+                triples[text] = lexicon.Triple(text)
+        self.assertEqual(len(triples), 263)
+        self.assertTrue(all(it.comes_back() for it in triples.values()))
+        others = {str(it.settled()) for text, it in triples.items() if str(it.settled()) != text}
+        self.assertEqual((len(others), others & set(triples)), (18, set()))
+        taken = [it for it in triples.values()
+                 if isinstance(it.vendor, lexicon.CustomVendor) and it.operating_system is lexicon.OperatingSystem.UNKNOWN]
+        self.assertEqual((len(taken), {str(it.vendor) for it in taken}), (13, {"nuttx", "rtems", "wasip3"}))
 
     def test_doc_strings(self):
         count = 0
+        runner = doctest.DocTestRunner()
         for module in [lexicon, *(importlib.import_module(f"lexicon.{it.name}") for it in pkgutil.iter_modules(lexicon.__path__))]:
-            for test in doctest.DocTestFinder(exclude_empty=True).find(module, globs=vars(lexicon)):
-                count += self.examples(test.name, test.docstring or "")
+            for test in doctest.DocTestFinder(exclude_empty=True).find(module, globs=vars(lexicon).copy()):
+                results = runner.run(test)
+                self.assertEqual(results.failed, 0)
+                count += results.attempted
         self.assertGreater(count, 15)
+
+    def test_help(self):
+        """What `help` says of arguments that may be left out, of an error, and of an enumeration."""
+        shown = {value: pydoc.plain(pydoc.render_doc(value))
+                 for value in (lexicon.Triple.replace, lexicon.ParseError, lexicon.Architecture, lexicon.Vendor)}
+        self.assertEqual(shown[lexicon.Triple.replace].count(" = ..."), 6)
+        for word in "kind", "part", "start", "end", "text", "line":
+            self.assertIn(f"`{word}`", lexicon.ParseError.__doc__)
+        self.assertIn("class ParseError in module lexicon\n", shown[lexicon.ParseError])
+        for value in lexicon.Architecture, lexicon.Vendor:
+            self.assertIn(f"`{value.__name__}.parse`", shown[value])
 
     def test_everything_public_has_a_doc_string(self):
         for name in lexicon.__all__:
@@ -179,6 +211,10 @@ class Types(unittest.TestCase):
             command = ["mypy", "--strict", "--no-error-summary", "--cache-dir", cache, "--python-executable", sys.executable]
             if run(*command, "-c", "x = 1").returncode != 0:
                 self.skipTest("this mypy can't ask this Python for its folders")
+            values = ("family", "vendor", "architecture")
+            ran = run(*command, "-c", "from lexicon import Triple\n" + "\n".join(
+                f"reveal_type(Triple('x86_64-linux').{it}.value)" for it in values))
+            self.assertEqual(ran.stdout.count('"builtins.str"'), len(values), ran.stdout)
             for checked in ["-p", "lexicon"], [os.path.join(os.path.dirname(os.path.abspath(__file__)), "typed_sample.py")]:
                 ran = run(*command, "--python-version", "3.9", *checked)
                 self.assertEqual((ran.stdout + ran.stderr, ran.returncode), ("", 0))

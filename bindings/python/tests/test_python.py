@@ -1,6 +1,7 @@
 """What Python asks of a value: equality, hashes, order, copies, pickles, `repr`, and wrong arguments."""
 import copy
 import itertools
+import json
 import pickle
 import unittest
 
@@ -70,6 +71,13 @@ class Equality(unittest.TestCase):
         triple.__init__("arm-linux")
         self.assertEqual(str(triple), "x86_64-acme-linux")
 
+    def test_final(self):
+        with self.assertRaisesRegex(TypeError, "Triple is final"):
+            type("Other", (Triple,), {})
+        with self.assertRaisesRegex(TypeError, "Triple is final"):
+            class Other(Triple, word="x"):  # pylint: disable=unused-variable
+                pass
+
 
 class Fields(unittest.TestCase):
     def test_custom_vendors(self):
@@ -84,6 +92,11 @@ class Fields(unittest.TestCase):
             self.assertRaises(ParseError, CustomVendor, text)
         for value in None, b"acme", 3:
             self.assertRaises(TypeError, CustomVendor, value)
+
+    def test_members_are_not_texts(self):
+        self.assertRaises(TypeError, sorted, Architecture)
+        self.assertRaises(TypeError, json.dumps, Architecture.ARM)
+        self.assertEqual(json.dumps(str(Architecture.ARM)), '"arm"')
 
     def test_structs_are_aligned(self):
         triples = [Triple(text) for text in TEXTS * 100]
@@ -181,6 +194,17 @@ class Texts(unittest.TestCase):
             with self.assertRaises(ParseError) as caught:
                 Triple(text)
             self.assertEqual(str(caught.exception), message)
+
+    def test_lines(self):
+        for text, line in {"x86_64-foo-bar": "Unrecognized operating system: bar",
+                           "x86_64-pc-l\u00e9\tx": "Unrecognized operating system: l\u00e9\tx",
+                           "a" * 100: f"Unrecognized architecture: {'a' * 100}",
+                           "x86_64-linux-elf-gnu": "Unrecognized field: gnu",
+                           "x86_64-\udcff": "Lone surrogate: \udcff"}.items():
+            with self.assertRaises(ParseError) as caught:
+                Triple(text)
+            self.assertEqual(caught.exception.line, line)
+        self.assertEqual(ParseError.__module__, "lexicon")
 
     def test_errors_are_values(self):
         with self.assertRaises(ValueError) as caught:

@@ -3,8 +3,9 @@ use Rattle.std.specs.Prelude.{◌≡◌, ◌==◌, ◌&&◌, ℕ, Bool, true, fa
 use Rattle.std.specs.Str.{IsUtf8}
 use Rattle.lexicon_names.specs.{declared.field.Field.Field, KnownNames.known_names}
 use Rattle.lexicon_names.specs.declared.field.Field.TheVariants as field
+use Rattle.serde_json.specs.{Data.array, View.items_of, Written.compact_text}
 use Rattle.lexicon_programs.specs.{Lines.lines_of, Streams.AppendsBeginning}
-use Rattle.lexicon.specs.{declared.command.Command.Command, declared.outcome.Outcome.Outcome, TargetAnswers.AreTextsFor, TargetAnswers.Texts, Request.RequestValue, Request.argument_request}
+use Rattle.lexicon.specs.{declared.command.Command.Command, declared.outcome.Outcome.Outcome, TargetAnswers.AreTextsFor, TargetAnswers.Texts, JsonReports.JsonValues, JsonReports.AreJsonValuesFor, Request.RequestValue, Request.argument_request}
 use Rattle.lexicon.specs.declared.command.Command.TheVariants as command
 use Rattle.lexicon.specs.declared.run_error.RunError.{RunError}
 use Rattle.lexicon.specs.declared.run_error.RunError.TheVariants as run_error
@@ -25,10 +26,10 @@ outcome_value o = outcome (string_bytes o.output) (string_bytes o.errors) o.stat
 
 -- what the arguments may be
 unfoldable pub usage_text : List ℕ
-usage_text = codes "usage: lexicon explain TARGET...            each field: its value, and how it came\n       lexicon facts TARGET...              the fields, and what follows from them\n       lexicon settle [--strict] TARGET...  the canonical text of each target\n       lexicon check [--strict] TARGET...   nothing but the errors and the status\n       lexicon names [FIELD]                the known names\n       lexicon --help | --version\nWithout a TARGET the lines of standard input are the targets. With --strict a custom vendor is an error.\nA TARGET that begins with a dash follows --.\n"
+usage_text = codes "usage: lexicon explain [--json] TARGET...   each field: its value, and how it came\n       lexicon facts [--json] TARGET...     the fields, and what follows from them\n       lexicon settle [--strict] TARGET...  the canonical text of each target\n       lexicon check [--strict] TARGET...   nothing but the errors and the status\n       lexicon names [FIELD]                the known names\n       lexicon --help | --version\nWithout a TARGET the lines of standard input are the targets. With --strict a custom vendor is an error.\nWith --json there is one array of objects, of the errors too.\nA TARGET that begins with a dash follows --.\n"
 
 unfoldable pub version_text : List ℕ
-version_text = codes "lexicon 0.13.5\n"
+version_text = codes "lexicon 0.2.0\n"
 
 -- names, each on a line after the same prefix
 abbrev pub names_after : List ℕ → List (List ℕ) → List ℕ
@@ -59,12 +60,17 @@ status_for has_refusal = if has_refusal then 1 else 0
 abbrev pub texts_outcome : Texts → OutcomeValue
 texts_outcome texts = outcome texts.shown texts.refused (status_for texts.has_refusal)
 
+-- all go to the output, as one array on a line
+abbrev pub json_value_outcome : JsonValues → OutcomeValue
+json_value_outcome values = outcome (compact_text (array (items_of values.values)) ++ codes "\n") [] (status_for values.has_rejected)
+
 -- what a command writes for these targets
 abbrev pub IsOutcome : Command → List (List ℕ) → OutcomeValue → Type 0
 IsOutcome command.Help targets o = o ≡ outcome usage_text [] 0
 IsOutcome command.Version targets o = o ≡ outcome version_text [] 0
 IsOutcome (command.Names field) targets o = o ≡ outcome (names_text field) [] 0
 IsOutcome (command.Targets view vendors) targets o = (texts : Texts) × AreTextsFor view vendors targets texts × (o ≡ texts_outcome texts)
+IsOutcome (command.Json report) targets o = (values : JsonValues) × AreJsonValuesFor report targets values × (o ≡ json_value_outcome values)
 
 -- wrong arguments
 abbrev pub usage_outcome : OutcomeValue
@@ -72,6 +78,7 @@ usage_outcome = outcome [] usage_text 2
 
 abbrev pub takes_targets : Command → Bool
 takes_targets (command.Targets view vendors) = true
+takes_targets (command.Json report) = true
 takes_targets _ = false
 
 -- whether the targets are the lines of the input

@@ -8,6 +8,7 @@ use Rattle.lexicon.specs.{declared.command.Command.Command, declared.command.Ver
 use Rattle.lexicon_names.specs.declared.field.Field.TheVariants as field
 use Rattle.lexicon.specs.declared.command.Command.TheVariants as command
 use Rattle.lexicon.specs.declared.command.Verb.TheVariants as verb
+use Rattle.lexicon.specs.declared.command.Report.TheVariants as report
 use Rattle.lexicon.specs.declared.command.Vendors.TheVariants as vendors
 use Rattle.lexicon.specs.declared.command.View.TheVariants as view
 
@@ -73,8 +74,8 @@ names_request (word ∷ words) = option_and_then (λ field. request_without_word
 
 -- the request of the words after a verb
 abbrev pub verb_request : Verb → List (List ℕ) → Option RequestValue
-verb_request verb.Explain words = request_with (command.Targets view.Explain vendors.Any) words
-verb_request verb.Facts words = request_with (command.Targets view.Facts vendors.Any) words
+verb_request verb.Explain words = optional_request (codes "--json") (command.Targets view.Explain vendors.Any) (command.Json report.Explain) words
+verb_request verb.Facts words = optional_request (codes "--json") (command.Targets view.Facts vendors.Any) (command.Json report.Facts) words
 verb_request verb.Settle words = strict_request view.Settle words
 verb_request verb.Check words = strict_request view.Check words
 verb_request verb.Names words = names_request words

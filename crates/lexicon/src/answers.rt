@@ -22,7 +22,7 @@ pub(crate) struct TargetTexts {
 }
 
 /// The triple that a target reads as, with the sources of its fields; or what is wrong with it.
-fn reading<'a>(vendors: Vendors, text: &'a str) -> Result<Explanation<'a>, Problem<'a>>
+pub(crate) fn reading<'a>(vendors: Vendors, text: &'a str) -> Result<Explanation<'a>, Problem<'a>>
     ensures ok { IfOk result
         (λ it. IsReading vendors text.entry.now (values_of_ref it.triple) (sources_of it.sources)) }
     ensures plain { IfOk result (λ it. is_plain (ref_value it.triple.vendor) ≡ true) }

@@ -4,6 +4,15 @@ ghost use Rattle.lexicon.specs.Request.{verb_of, field_of};
 
 use lexicon_names::Field;
 
+/// What is written of a target as JSON.
+#[derive(Clone, Copy)]
+pub enum Report {
+    /// The value of each field, and how it came.
+    Explain,
+    /// The fields and what follows from them.
+    Facts,
+}
+
 /// What is written of a target as text.
 #[derive(Clone, Copy)]
 pub enum View {
@@ -37,6 +46,22 @@ pub enum Command {
     Names(Option<Field>),
     /// It writes what a view shows of each target, and refuses the others and those with another vendor.
     Targets(View, Vendors),
+    /// It writes a report of each target, or what is wrong with it, as an object of a JSON array.
+    Json(Report),
+}
+
+impl Command {
+    ghost use Rattle.lexicon.specs.Outcome.{takes_targets};
+
+    /// Whether the command is about targets.
+    pub(crate) fn takes_targets(self) -> bool
+        ensures { result ≡ takes_targets self }
+    {
+        match self {
+            Command::Targets(_, _) | Command::Json(_) => true,
+            Command::Help | Command::Version | Command::Names(_) => false,
+        }
+    }
 }
 
 /// The first argument.

@@ -4,6 +4,8 @@
 mod answers;
 mod command;
 mod conclude;
+mod json;
+mod json_reports;
 mod layout;
 mod outcome;
 mod problem;

@@ -3,7 +3,8 @@ ghost use Rattle.std.specs.Prelude.{◌≡◌, ◌++◌, [], map, IfOk, OnOk, st
 ghost use Rattle.lexicon.specs.Outcome.{IsOutcome, all_names_text, names_after, names_text, outcome, outcome_value, status_for, titled_names, usage_outcome, usage_text, version_text};
 
 use crate::answers::{TargetTexts, target_answers};
-use crate::command::{Command, Vendors, View};
+use crate::command::{Command, Report, Vendors, View};
+use crate::json::{TargetList, array_line, target_list};
 use crate::layout::push_three;
 use lexicon_names::{Field, names};
 use std::alloc::{AllocError, Global};
@@ -21,7 +22,7 @@ pub(crate) struct Outcome {
 fn usage_text() -> &'static str
     ensures { result.now ≡ usage_text }
 {
-    "usage: lexicon explain TARGET...            each field: its value, and how it came\n       lexicon facts TARGET...              the fields, and what follows from them\n       lexicon settle [--strict] TARGET...  the canonical text of each target\n       lexicon check [--strict] TARGET...   nothing but the errors and the status\n       lexicon names [FIELD]                the known names\n       lexicon --help | --version\nWithout a TARGET the lines of standard input are the targets. With --strict a custom vendor is an error.\nA TARGET that begins with a dash follows --.\n"
+    "usage: lexicon explain [--json] TARGET...   each field: its value, and how it came\n       lexicon facts [--json] TARGET...     the fields, and what follows from them\n       lexicon settle [--strict] TARGET...  the canonical text of each target\n       lexicon check [--strict] TARGET...   nothing but the errors and the status\n       lexicon names [FIELD]                the known names\n       lexicon --help | --version\nWithout a TARGET the lines of standard input are the targets. With --strict a custom vendor is an error.\nWith --json there is one array of objects, of the errors too.\nA TARGET that begins with a dash follows --.\n"
 }
 
 /// The version.
@@ -29,7 +30,7 @@ fn usage_text() -> &'static str
 fn version_text() -> &'static str
     ensures { result.now ≡ version_text }
 {
-    "lexicon 0.13.5\n"
+    "lexicon 0.2.0\n"
 }
 
 /// Appends names, each on a line after the same prefix.
@@ -142,6 +143,22 @@ fn targets_outcome(
     })
 }
 
+/// The objects for targets.
+fn json_outcome(alloc: Global, report: Report, targets: &[String]) -> Result<Outcome, AllocError>
+    ensures { IfOk result
+        (λ o. IsOutcome (Command.Json report) (map string_bytes targets.now) (outcome_value o)) }
+{
+    let TargetList {
+        values,
+        has_rejected,
+    } = target_list(alloc, report, targets)?;
+    Ok(Outcome {
+        output: array_line(alloc, values)?,
+        errors: String::new(alloc),
+        status: status_for(has_rejected),
+    })
+}
+
 /// What a command writes for these targets.
 pub(crate) fn command_outcome(
     alloc: Global,
@@ -156,5 +173,6 @@ pub(crate) fn command_outcome(
         Command::Version => text_outcome(alloc, version_text()),
         Command::Names(field) => names_outcome(alloc, field),
         Command::Targets(view, vendors) => targets_outcome(alloc, view, vendors, targets),
+        Command::Json(report) => json_outcome(alloc, report, targets),
     }
 }

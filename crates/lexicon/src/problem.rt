@@ -16,12 +16,12 @@ use target_lexicon::{ExplainedError, Explanation, ParseErrorRef, Source, VendorR
 #[derive(Clone, Copy)]
 pub(crate) struct Problem<'a> {
     /// What is wrong.
-    words: &'static str,
+    pub(crate) words: &'static str,
     /// The field whose name was expected, if any.
-    field: Option<Field>,
+    pub(crate) field: Option<Field>,
     /// The part, and the index at which it begins.
-    part: &'a str,
-    start: usize,
+    pub(crate) part: &'a str,
+    pub(crate) start: usize,
 }
 
 impl<'a> Problem<'a> {
@@ -92,7 +92,7 @@ pub(crate) fn vendor_problem<'a>(
 }
 
 /// The nearest known name of the field, if one is near.
-fn suggestion(field: Option<Field>, part: &str) -> Option<&'static str>
+pub(crate) fn suggestion(field: Option<Field>, part: &str) -> Option<&'static str>
     ensures { IsSuggested field part.now (option_map (λ name. name.now) result) }
 {
     match field {

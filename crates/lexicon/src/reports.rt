@@ -164,7 +164,10 @@ fn push_version(out: &mut String, version: DeploymentTarget) -> Result<(), Alloc
 }
 
 /// A version, `-` for none.
-fn version_word(alloc: Global, version: Option<DeploymentTarget>) -> Result<String, AllocError>
+pub(crate) fn version_word(
+    alloc: Global,
+    version: Option<DeploymentTarget>,
+) -> Result<String, AllocError>
     ensures { IfOk result (λ word. string_bytes word ≡ version_word version) }
 {
     let Some(version) = version else {

@@ -3,7 +3,7 @@ ghost use Rattle.std.specs.Prelude.{◌≡◌, map, option_map, string_bytes};
 ghost use Rattle.std.specs.List.{list_any};
 ghost use Rattle.lexicon.specs.Request.{argument_request, begins_with_dash, names_request, optional_request, request_value, request_with, request_without_words, strict_request, targets_of, verb_request};
 
-use crate::command::{Command, Vendors, Verb, View, field_of, verb_of};
+use crate::command::{Command, Report, Vendors, Verb, View, field_of, verb_of};
 
 /// A command, and the targets that the arguments give, of which there may be none.
 #[derive(Clone, Copy)]
@@ -126,8 +126,14 @@ fn verb_request(verb: Verb, words: &[String]) -> Option<Request<'_>>
         ≡ verb_request verb (map string_bytes words.entry.now) }
 {
     match verb {
-        Verb::Explain => request_with(Command::Targets(View::Explain, Vendors::Any), words),
-        Verb::Facts => request_with(Command::Targets(View::Facts, Vendors::Any), words),
+        Verb::Explain => {
+            let text = Command::Targets(View::Explain, Vendors::Any);
+            optional_request("--json", text, Command::Json(Report::Explain), words)
+        }
+        Verb::Facts => {
+            let text = Command::Targets(View::Facts, Vendors::Any);
+            optional_request("--json", text, Command::Json(Report::Facts), words)
+        }
         Verb::Settle => strict_request(View::Settle, words),
         Verb::Check => strict_request(View::Check, words),
         Verb::Names => names_request(words),

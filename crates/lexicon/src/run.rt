@@ -7,7 +7,6 @@ ghost use Rattle.lexicon_programs.specs.Streams.{AppendsBeginning, failures, inn
 ghost use Rattle.lexicon.specs.Outcome.{BeginsOutcome, IsRequestOutcome, IsRunOutcome, WritesOutcome, outcome_value, reads_input};
 ghost use Rattle.lexicon.specs.Request.{request_value};
 
-use crate::command::Command;
 use crate::outcome::{Outcome, command_outcome, usage_outcome};
 use crate::request::{Request, argument_request};
 use crate::run_error::RunError;
@@ -52,7 +51,7 @@ fn input_lines<R: Read>(alloc: Global, r: &mut Counted<R>) -> Result<Vec<String>
 fn reads_input(request: &Request<'_>) -> bool
     ensures { result ≡ reads_input (request_value request.now) }
 {
-    matches!(request.command, Command::Targets(_, _)) && request.targets.is_empty()
+    request.command.takes_targets() && request.targets.is_empty()
 }
 
 /// What a request writes.

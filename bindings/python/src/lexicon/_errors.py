@@ -23,7 +23,7 @@ class ErrorKind(enum.Enum):
     ENVIRONMENT = "environment"
     #: Likewise after the environment.
     BINARY_FORMAT = "binary format"
-    #: A part follows the binary format.
+    #: A part follows the binary format, so that no field is left for it.
     FIELD = "field"
     #: The text has a lone surrogate, so that UTF-8 can't encode it.
     UNICODE = "unicode"
@@ -48,7 +48,13 @@ class ParseError(ValueError):
     lexicon.ParseError: Unrecognized operating system: bar
       x86_64-foo-bar
                  ^^^
+
+    `kind` is an `ErrorKind`, what was expected. `part` is the refused part, from `start` to `end` of the whole `text`.
+    `line` is the first line of the message with the whole part, and nothing escaped.
     """
+
+    # The name by which tracebacks and callers know it.
+    __module__ = "lexicon"
 
     def __init__(self, text: str, kind: ErrorKind, start: int, part: str) -> None:
         super().__init__(text, kind, start, part)

@@ -24,6 +24,13 @@ class NamedValue(enum.Enum):
     #: The number of the value in the library for C.
     number: int
 
+    if TYPE_CHECKING:
+
+        @property
+        def value(self) -> str:
+            """The name."""
+            ...
+
     def __new__(cls, name: str) -> "NamedValue":
         member = object.__new__(cls)
         member._value_ = name
@@ -31,7 +38,7 @@ class NamedValue(enum.Enum):
         return member
 
     def __str__(self) -> str:
-        return str(self.value)
+        return self.value
 
     def __repr__(self) -> str:
         return f"{type(self).__name__}.{self.name}"

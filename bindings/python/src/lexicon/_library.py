@@ -103,6 +103,8 @@ _IGNORED_LENGTH = c_size_t()
 class LibraryError(RuntimeError):
     """The library gave a status that it shouldn't. It and this package don't go together."""
 
+    __module__ = "lexicon"
+
 
 def check(status: int) -> None:
     """Raises an error if the status isn't 0."""

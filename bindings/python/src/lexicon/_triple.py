@@ -48,7 +48,7 @@ class _Keep(enum.Enum):
     KEEP = "keep"
 
     def __repr__(self) -> str:
-        return "KEEP"
+        return "..."
 
 
 _KEEP = _Keep.KEEP
@@ -63,7 +63,8 @@ class Triple:
     ('aarch64-apple-macosx13.2.0', Architecture.AARCH64, (13, 2, 0), 64)
 
     A text that is refused raises a `ParseError`, anything but a `str` a `TypeError`. A triple is immutable and
-    hashable. Triples are equal by the values of their fields, and ordered by their printed texts.
+    hashable. Triples are equal by the values of their fields, and ordered by their printed texts, then by the fields;
+    in texts, ios17 comes before ios9. No class derives from this one.
     """
 
     # The struct of C; the bytes that a custom vendor is in; the facts and the printed text, once somebody has asked.
@@ -84,6 +85,9 @@ class Triple:
         self._facts = None
         self._text = None
         return self
+
+    def __init_subclass__(cls, **arguments: Any) -> None:
+        raise TypeError("Triple is final: no class derives from it")
 
     @classmethod
     def parse(cls, text: str) -> "Triple":
@@ -195,7 +199,7 @@ class Triple:
 
     @property
     def family(self) -> Family:
-        """The family of the architecture."""
+        """The family of the architecture: all of 32-bit Arm, Thumb too, is `Family.ARM`; AArch64 is its own."""
         return _FAMILIES[(self._facts or self._ask())[5]]
 
     @property
@@ -221,8 +225,9 @@ class Triple:
     def settled(self) -> "Triple":
         """The canonical form of the triple, which comes back. So its text is a key for the target.
 
-        >>> Triple("armv6k-nintendo-horizon-gnu").settled().environment
-        Environment.NEWLIB
+        >>> one, other = Triple("armv7-nintendo-horizon"), Triple("armv7-nintendo-horizon-newlib")
+        >>> one == other, one.settled() == other.settled()
+        (False, True)
         """
         out = _library.TripleBuffer.from_buffer_copy(self._struct)
         _library.check(_library.settle(out))
@@ -264,7 +269,8 @@ class Triple:
         """The triple with other values in the fields that are given.
 
         The binary format stays, unless it is given; None is the one that the other fields imply. A new operating system
-        has no version, unless that is given.
+        has no version, unless that is given. An environment is one value, so `MUSL` instead of `GNUEABIHF` loses the
+        hard floats; `MUSLEABIHF` keeps them.
 
         >>> linux = Triple("x86_64-unknown-linux-gnu")
         >>> linux.replace(environment=Environment.MUSL)

@@ -5,7 +5,10 @@ from ._fields import FieldValue, NamedValue, VendorValue
 
 
 class Architecture(FieldValue):
-    """The architecture, in some families with a sub-architecture."""
+    """The architecture, in some families with a sub-architecture.
+
+    `Architecture.parse` gives the value that a text is in this field.
+    """
 
     UNKNOWN = "unknown"
     #: Arm of no stated version.
@@ -167,7 +170,7 @@ class Architecture(FieldValue):
 
 
 class Family(NamedValue):
-    """The family of an architecture: one for all of Arm's, one for each without a family."""
+    """The family of an architecture: all of 32-bit Arm, Thumb too, is `ARM`; AArch64 is its own."""
 
     UNKNOWN = "unknown"
     ARM = "arm"
@@ -209,7 +212,10 @@ class Family(NamedValue):
 
 
 class Vendor(VendorValue):
-    """A known vendor. Any other one is a `CustomVendor`."""
+    """A known vendor. Any other one is a `CustomVendor`.
+
+    `Vendor.parse` gives the value that a text is in this field.
+    """
 
     UNKNOWN = "unknown"
     AMD = "amd"
@@ -229,7 +235,10 @@ class Vendor(VendorValue):
 
 
 class OperatingSystem(FieldValue):
-    """The operating system. The version of one is `Triple.version`."""
+    """The operating system. The version of one is `Triple.version`.
+
+    `OperatingSystem.parse` gives the value that a text is in this field.
+    """
 
     UNKNOWN = "unknown"
     AIX = "aix"
@@ -276,7 +285,10 @@ class OperatingSystem(FieldValue):
 
 
 class Environment(FieldValue):
-    """The environment on top of the operating system: the ABI, or the C library."""
+    """The environment on top of the operating system: the ABI, or the C library.
+
+    `Environment.parse` gives the value that a text is in this field.
+    """
 
     UNKNOWN = "unknown"
     #: AMD graphics processors where the generic address space is number 0.
@@ -333,7 +345,10 @@ class Environment(FieldValue):
 
 
 class BinaryFormat(FieldValue):
-    """The format of object files."""
+    """The format of object files.
+
+    `BinaryFormat.parse` gives the value that a text is in this field.
+    """
 
     UNKNOWN = "unknown"
     ELF = "elf"

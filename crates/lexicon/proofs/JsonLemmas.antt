@@ -1,0 +1,108 @@
+-- JSON objects made of fields, and that they have no floating-point number.
+use Rattle.std.proofs.Common.{◌≡◌, ◌∙◌, ℕ, Bool, true, false, ◌||◌, List, [], ◌∷◌, map, Option, Some, None, unwrap_or, if◌then◌else◌, Result, Ok, Err, OnOk, refl, ap}
+use Rattle.std.specs.{Ordering.nat_cmp, Ordering.match_ordering, Cmp.Lexicographic.slice_cmp, List.AllZip, List.list_any, Str.bytes_eq}
+use Rattle.std.specs.declared.cmp.Ordering.TheVariants.{Less, Equal, Greater}
+use Rattle.lexicon_fields.specs.Names.{Pair, value_named}
+use Rattle.serde_json.specs.{Data.Data, Data.Members, Data.no_members, Data.member, Data.string, Data.put, View.items_of, Written.has_float, Written.members_have_float, Written.items_have_float}
+use Rattle.target_lexicon.specs.{Explanation.SourceValue, Explanation.SourceValues, Values.Values}
+use Rattle.lexicon.specs.{declared.command.Report.Report}
+use Rattle.lexicon.specs.declared.command.Report.TheVariants as report
+use Rattle.lexicon.specs.JsonReports.{Field, with_field, fields_onto, word_values, word_data, optional_data, origin_fields, origin_data, source_part, explained_fields, value_fields, answer_fields, size_fields, text_fields, facts_onto, with_report, problem_fields, target_members, JsonAnswer, Reported, Rejected, IsJsonAnswer, answer_data}
+
+-- five and six fields, one after the other
+module _ {T E : Type 0} (m0 m1 m2 m3 m4 m5 : Members) (k1 k2 k3 k4 k5 : List ℕ) (d1 d2 d3 d4 d5 : Data)
+    (e1 : m1 ≡ with_field k1 d1 m0) (e2 : m2 ≡ with_field k2 d2 m1) (e3 : m3 ≡ with_field k3 d3 m2) (e4 : m4 ≡ with_field k4 d4 m3) where
+  pub five-fields : (done : Result T E) → OnOk done (m5 ≡ with_field k5 d5 m4)
+      → OnOk done (m5 ≡ fields_onto m0 ((k1, d1) ∷ (k2, d2) ∷ (k3, d3) ∷ (k4, d4) ∷ (k5, d5) ∷ []))
+  five-fields (Ok _) e5 =
+      e5 ∙ ap (λ (m : Members). with_field k5 d5 m) (e4 ∙ ap (λ (m : Members). with_field k4 d4 m) (e3 ∙ ap (λ (m : Members). with_field k3 d3 m)
+      (e2 ∙ ap (λ (m : Members). with_field k2 d2 m) e1)))
+  five-fields (Err _) e5 = tt
+
+  pub six-fields : (m6 : Members) (k6 : List ℕ) (d6 : Data) (done : Result T E) → m5 ≡ with_field k5 d5 m4 → OnOk done (m6 ≡ with_field k6 d6 m5)
+      → OnOk done (m6 ≡ fields_onto m0 ((k1, d1) ∷ (k2, d2) ∷ (k3, d3) ∷ (k4, d4) ∷ (k5, d5) ∷ (k6, d6) ∷ []))
+  six-fields m6 k6 d6 (Ok _) e5 e6 =
+      e6 ∙ ap (λ (m : Members). with_field k6 d6 m) (e5 ∙ ap (λ (m : Members). with_field k5 d5 m) (e4 ∙ ap (λ (m : Members). with_field k4 d4 m)
+      (e3 ∙ ap (λ (m : Members). with_field k3 d3 m) (e2 ∙ ap (λ (m : Members). with_field k2 d2 m) e1))))
+  six-fields m6 k6 d6 (Err _) e5 e6 = tt
+
+neither : (a b : Bool) → a ≡ false → b ≡ false → (a || b) ≡ false
+neither a b x y = rw x y
+
+not-first : (a b : Bool) → (a || b) ≡ false → a ≡ false
+not-first true b h = absurd cc
+not-first false b h = refl
+
+not-second : (a b : Bool) → (a || b) ≡ false → b ≡ false
+not-second true b h = absurd cc
+not-second false b h = h
+
+put-floatless : (k : List ℕ) (d : Data) (ms : Members) → has_float d ≡ false → members_have_float ms ≡ false → members_have_float (put k d ms) ≡ false
+put-floatless k d no_members x y = neither (has_float d) false x refl
+put-floatless k d (member l e ms) x y =
+    let first = not-first (has_float e) (members_have_float ms) y in
+    let rest = not-second (has_float e) (members_have_float ms) y in
+    elim (slice_cmp nat_cmp k l) as (λ o. members_have_float (match_ordering o (member k d (member l e ms)) (member l d ms) (member l e (put k d ms))) ≡ false) [
+      | Less ↦ neither (has_float d) (members_have_float (member l e ms)) x y
+      | Equal ↦ neither (has_float d) (members_have_float ms) x rest
+      | Greater ↦ neither (has_float e) (members_have_float (put k d ms)) first (put-floatless k d ms x rest)
+    ]
+
+with_field-floatless : (k : List ℕ) (d : Data) (ms : Members) → has_float d ≡ false → members_have_float ms ≡ false → members_have_float (with_field k d ms) ≡ false
+unfolding with_field
+with_field-floatless k d ms x y = put-floatless k d ms x y
+
+-- no field has a floating-point number
+abbrev AreFloatless : List Field → Type 0
+AreFloatless fields = list_any (λ f. has_float f.1) fields ≡ false
+
+fields-floatless : (fields : List Field) (ms : Members) → AreFloatless fields → members_have_float ms ≡ false → members_have_float (fields_onto ms fields) ≡ false
+fields-floatless [] ms x y = y
+fields-floatless (field ∷ fields) ms x y =
+    fields-floatless fields (with_field field.0 field.1 ms) (not-second (has_float field.1) (list_any (λ f. has_float f.1) fields) x)
+    (with_field-floatless field.0 field.1 ms (not-first (has_float field.1) (list_any (λ f. has_float f.1) fields) x) y)
+
+named-floatless : (pairs : List (Pair Data)) (word : List ℕ) → list_any (λ p. has_float p.1) pairs ≡ false → has_float (unwrap_or (value_named pairs word) (string word)) ≡ false
+named-floatless [] word x = refl
+named-floatless (pair ∷ pairs) word x =
+    elim (bytes_eq word pair.0) as (λ b. has_float (unwrap_or (if b then Some pair.1 else value_named pairs word) (string word)) ≡ false) [
+      | true ↦ not-first (has_float pair.1) (list_any (λ p. has_float p.1) pairs) x
+      | false ↦ named-floatless pairs word (not-second (has_float pair.1) (list_any (λ p. has_float p.1) pairs) x)
+    ]
+
+word-floatless : (word : List ℕ) → has_float (word_data word) ≡ false
+unfolding word_data
+word-floatless word = named-floatless word_values word refl
+
+optional-floatless : (text : Option (List ℕ)) → has_float (optional_data text) ≡ false
+optional-floatless None = refl
+optional-floatless (Some text) = refl
+
+origin-floatless : (name : List ℕ) (source : SourceValue) → has_float (origin_data name source) ≡ false
+origin-floatless name source = fields-floatless (origin_fields name source) no_members (rw (optional-floatless (source_part source)) refl) refl
+
+facts-floatless : (t : Values) (ms : Members) → members_have_float ms ≡ false → members_have_float (facts_onto t ms) ≡ false
+unfolding facts_onto
+facts-floatless t ms x =
+    fields-floatless (text_fields t) _ refl
+    (fields-floatless (size_fields _) _ (simp word-floatless)
+    (fields-floatless (answer_fields t) _ (simp word-floatless)
+    (fields-floatless (value_fields t) ms (simp word-floatless) x)))
+
+report-floatless : (r : Report) (t : Values) (s : SourceValues) (ms : Members) → members_have_float ms ≡ false → members_have_float (with_report r t s ms) ≡ false
+report-floatless report.Explain t s ms x = fields-floatless (explained_fields t s) ms (simp origin-floatless) x
+report-floatless report.Facts t s ms x = facts-floatless t ms x
+
+target-floatless : (text : List ℕ) → members_have_float (target_members text) ≡ false
+target-floatless text = with_field-floatless _ (string text) no_members refl refl
+
+answer-floatless : (r : Report) (text : List ℕ) (answer : JsonAnswer) → IsJsonAnswer r text answer → has_float (answer_data answer) ≡ false
+answer-floatless r text (Reported value) is = rw is.1.2 (report-floatless r is.0 is.1.0 (target_members text) (target-floatless text))
+answer-floatless r text (Rejected value) is = rw is.1.3 (fields-floatless (problem_fields is.0 is.1.0) (target_members text) (simp optional-floatless) (target-floatless text))
+
+pub answers-floatless : (r : Report) (targets : List (List ℕ)) (answers : List JsonAnswer) → AllZip (IsJsonAnswer r) targets answers → items_have_float (items_of (map answer_data answers)) ≡ false
+answers-floatless r [] [] are = refl
+answers-floatless r [] (answer ∷ answers) are = elim are [ ]
+answers-floatless r (text ∷ targets) [] are = elim are [ ]
+answers-floatless r (text ∷ targets) (answer ∷ answers) are =
+    neither (has_float (answer_data answer)) (items_have_float (items_of (map answer_data answers))) (answer-floatless r text answer are.0) (answers-floatless r targets answers are.1)

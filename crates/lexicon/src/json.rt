@@ -1,0 +1,129 @@
+//! The answers to targets as a JSON array.
+ghost use Rattle.std.specs.Prelude.{◌≡◌, ◌++◌, ◌||◌, false, true, codes, map, IfOk, string_bytes};
+ghost use Rattle.lexicon_fields.specs.Vendor.{is_plain};
+ghost use Rattle.lexicon_fields.specs.VendorRef.{ref_value};
+ghost use Rattle.serde_json.specs.Data.{array, object};
+ghost use Rattle.serde_json.specs.View.{items_view, view};
+ghost use Rattle.serde_json.specs.Written.{compact_text, items_have_float};
+ghost use Rattle.target_lexicon.specs.Explanation.{sources_of};
+ghost use Rattle.target_lexicon.specs.ValuesRef.{values_of_ref};
+ghost use Rattle.lexicon.specs.JsonAnswers.{IsJsonObject, IsProblemObject, list_values};
+ghost use Rattle.lexicon.specs.JsonReports.{AreJsonValuesFor, target_members, with_report};
+ghost use Rattle.lexicon.specs.Problem.{problem_value};
+
+use crate::answers::reading;
+use crate::command::{Report, Vendors};
+use crate::json_reports::{put_problem, put_report, put_text};
+use crate::problem::{Problem, suggestion};
+use serde_json::{Map, Value};
+use std::alloc::{AllocError, Global};
+use target_lexicon::Explanation;
+
+/// The object for a target, and whether it is an error.
+#[derive(Drop)]
+struct TargetObject {
+    value: Value,
+    is_rejected: bool,
+}
+
+/// The objects for targets, and whether one is an error.
+#[derive(Drop)]
+pub(crate) struct TargetList {
+    pub(crate) values: Vec<Value>,
+    pub(crate) has_rejected: bool,
+}
+
+/// The object of a report.
+fn report_object(
+    alloc: Global,
+    report: Report,
+    text: &str,
+    it: &Explanation<'_>,
+) -> Result<Value, AllocError>
+    requires { is_plain (ref_value it.now.triple.vendor) ≡ true }
+    ensures { IfOk result
+        (λ value.
+        view value
+        ≡ object (with_report report (values_of_ref it.now.triple) (sources_of it.now.sources)
+        (target_members text.now))) }
+{
+    let mut members = Map::new(alloc);
+    put_text(alloc, &mut members, "target", text)?;
+    put_report(alloc, &mut members, report, it)?;
+    Ok(Value::Object(members))
+}
+
+/// The object of what is wrong.
+fn problem_object(alloc: Global, text: &str, problem: &Problem<'_>) -> Result<Value, AllocError>
+    ensures { IfOk result
+        (λ value. IsProblemObject text.now (problem_value problem.now) (view value)) }
+{
+    let suggestion = suggestion(problem.field, problem.part);
+    let mut members = Map::new(alloc);
+    put_text(alloc, &mut members, "target", text)?;
+    put_problem(alloc, &mut members, problem, suggestion)?;
+    Ok(Value::Object(members))
+}
+
+/// The object for a target.
+fn target_object(alloc: Global, report: Report, text: &str) -> Result<TargetObject, AllocError>
+    ensures { IfOk result
+        (λ it. IsJsonObject report text.now (view it.value) it.is_rejected) }
+{
+    match reading(Vendors::Any, text) {
+        Ok(it) => {
+            let value = report_object(alloc, report, text, &it)?;
+            Ok(TargetObject {
+                value,
+                is_rejected: false,
+            })
+        }
+        Err(problem) => {
+            let value = problem_object(alloc, text, &problem)?;
+            Ok(TargetObject {
+                value,
+                is_rejected: true,
+            })
+        }
+    }
+}
+
+/// Whether one of two tests holds.
+fn is_either(first: bool, second: bool) -> bool
+    ensures { result ≡ (first || second) }
+{
+    first || second
+}
+
+/// The objects for targets, in order.
+pub(crate) fn target_list(
+    alloc: Global,
+    report: Report,
+    targets: &[String],
+) -> Result<TargetList, AllocError>
+    ensures { IfOk result
+        (λ list. AreJsonValuesFor report (map string_bytes targets.now) (list_values list)) }
+{
+    let mut list = TargetList {
+        values: Vec::new(alloc),
+        has_rejected: false,
+    };
+    for text in targets {
+        let object = target_object(alloc, report, text.as_str())?;
+        list.has_rejected = is_either(list.has_rejected, object.is_rejected);
+        list.values.push(object.value)?;
+    }
+    Ok(list)
+}
+
+/// The text of an array, and a line feed.
+pub(crate) fn array_line(alloc: Global, values: Vec<Value>) -> Result<String, AllocError>
+    requires { items_have_float (items_view values.items) ≡ false }
+    ensures { IfOk result
+        (λ line.
+        string_bytes line ≡ compact_text (array (items_view values.items)) ++ codes "\n") }
+{
+    let mut line = Value::from(values).to_string(alloc)?;
+    line.push('\n')?;
+    Ok(line)
+}
