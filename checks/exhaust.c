@@ -16,6 +16,39 @@ static void stop(const char *why) {
   exit(2);
 }
 
+static int write_facts(const struct lexicon_triple *triple, char *out, size_t room) {
+  struct lexicon_triple_facts facts;
+  if (lexicon_facts(triple, &facts) != LEXICON_OK) stop("a parsed triple has no facts");
+  return snprintf(out, room, " %s %s %s %s", byte_orders[facts.endianness],
+                  widths[facts.pointer_bits < 64 ? facts.pointer_bits / 16 : 3], conventions[facts.calling_convention],
+                  models[facts.data_model]);
+}
+
+/* The line of a refusal. */
+static size_t write_refused(const char *line, const struct lexicon_error *error, char *out, size_t room) {
+  size_t length;
+  int begun = snprintf(out, room, "error: ");
+  if (lexicon_error_line(error->expected, line + error->start, error->size, out + begun, room - begun, &length) != LEXICON_OK)
+    stop("a refusal has no line");
+  return begun + length;
+}
+
+/* Writes the answer to a line, without a line feed, and returns its length. checks/fuzz_upstream.rs calls it too. */
+size_t answer(const char *line, size_t size, int settles, char *out, size_t room);
+
+size_t answer(const char *line, size_t size, int settles, char *out, size_t room) {
+  size_t length;
+  struct lexicon_triple triple;
+  struct lexicon_error error;
+  uint32_t status = lexicon_parse(line, size, &triple, &error);
+  if (status >= LEXICON_NO_ARCHITECTURE && status <= LEXICON_NO_FIELD) return write_refused(line, &error, out, room);
+  if (status != LEXICON_OK) return (size_t)snprintf(out, room, "status %u", status);
+  if (settles && lexicon_settle(&triple) != LEXICON_OK) stop("a parsed triple can't be settled");
+  if (lexicon_write(&triple, out, room, &length) != LEXICON_OK) stop("a parsed triple can't be written");
+  return settles ? length : length + write_facts(&triple, out + length, room - length);
+}
+
+#ifndef NO_MAIN
 /* The input, and its size. */
 static char *input(size_t *size) {
   size_t room = 1 << 20;
@@ -30,51 +63,21 @@ static char *input(size_t *size) {
   }
 }
 
-static void show_facts(const struct lexicon_triple *triple) {
-  struct lexicon_triple_facts facts;
-  if (lexicon_facts(triple, &facts) != LEXICON_OK) stop("a parsed triple has no facts");
-  printf(" %s %s %s %s", byte_orders[facts.endianness], widths[facts.pointer_bits < 64 ? facts.pointer_bits / 16 : 3],
-         conventions[facts.calling_convention], models[facts.data_model]);
-}
-
-/* The line of a refusal. */
-static void show_refused(const char *line, const struct lexicon_error *error) {
-  char text[4096];
-  size_t length;
-  if (lexicon_error_line(error->expected, line + error->start, error->size, text, sizeof text, &length) != LEXICON_OK)
-    stop("a refusal has no line");
-  printf("error: %.*s\n", (int)length, text);
-}
-
-static void show(const char *line, size_t size, int settles) {
-  char text[4096];
-  size_t length;
-  struct lexicon_triple triple;
-  struct lexicon_error error;
-  uint32_t status = lexicon_parse(line, size, &triple, &error);
-  if (status >= LEXICON_NO_ARCHITECTURE && status <= LEXICON_NO_FIELD) {
-    show_refused(line, &error);
-    return;
-  }
-  if (status != LEXICON_OK) stop("a text is neither parsed nor refused");
-  if (settles && lexicon_settle(&triple) != LEXICON_OK) stop("a parsed triple can't be settled");
-  if (lexicon_write(&triple, text, sizeof text, &length) != LEXICON_OK) stop("a parsed triple can't be written");
-  fwrite(text, 1, length, stdout);
-  if (!settles) show_facts(&triple);
-  putchar('\n');
-}
-
 int main(int count, char **words) {
   size_t size;
   const char *text, *end;
+  static char line[1 << 16];
   int settles = count == 2 && strcmp(words[1], "settle") == 0;
   if (!settles && (count != 2 || strcmp(words[1], "show") != 0)) stop("usage: exhaust_c show | settle");
   text = input(&size);
   for (; size > 0; text = end + 1) {
     end = (const char *)memchr(text, '\n', size);
     if (end == NULL) stop("the last line has no line feed");
-    show(text, (size_t)(end - text), settles);
+    size_t length = answer(text, (size_t)(end - text), settles, line, sizeof line);
+    line[length] = '\n';
+    fwrite(line, 1, length + 1, stdout);
     size -= (size_t)(end - text) + 1;
   }
   return fflush(stdout) == 0 ? 0 : 2;
 }
+#endif

@@ -32,21 +32,44 @@ def stop(why):
     sys.exit(2)
 
 
-def build(crate, folder):
-    """Builds the crate and the driver. Returns the driver's path, which is in the folder."""
+def rustc(words, folder, what):
+    """Compiles with rustc, for sources that include what is in the folder."""
+    environment = {**os.environ, "OUT_DIR": folder}
+    if subprocess.run(["rustc", "-O", "--cap-lints", "allow", *words], env=environment).returncode:
+        stop(f"rustc doesn't build {what}")
+
+
+def build_library(crate, folder, words=()):
+    """Builds the crate, with these words for rustc. Returns the library's path, which is in the folder."""
     with open(f"{folder}/host.rs", "w", encoding="utf-8") as it:
         it.write(HOST)
-    library, driver = f"{folder}/libtarget_lexicon.rlib", f"{folder}/upstream"
+    library = f"{folder}/libtarget_lexicon.rlib"
     features = [it for name in ("std", "arch_zkasm", "arch_z80") for it in ("--cfg", f'feature="{name}"')]
-    crate_words = ["--edition", "2018", "--crate-type", "rlib", "--crate-name", "target_lexicon", *features,
-                   f"{crate}/src/lib.rs", "-o", library]
-    driver_words = ["--edition", "2021", f"{built.ROOT}/checks/upstream.rs", "--extern", f"target_lexicon={library}",
-                    "-o", driver]
-    environment = {**os.environ, "OUT_DIR": folder}
-    for words in crate_words, driver_words:
-        if subprocess.run(["rustc", "-O", "--cap-lints", "allow", *words], env=environment).returncode:
-            stop("rustc doesn't build the crate and the driver")
+    rustc(["--edition", "2018", "--crate-type", "rlib", "--crate-name", "target_lexicon", *features, *words,
+           f"{crate}/src/lib.rs", "-o", library], folder, "the crate")
+    return library
+
+
+def build(crate, folder):
+    """Builds the crate and the driver. Returns the driver's path, which is in the folder."""
+    library, driver = build_library(crate, folder), f"{folder}/upstream"
+    rustc(["--edition", "2021", f"{built.ROOT}/checks/upstream.rs", "--extern", f"target_lexicon={library}", "-o", driver],
+          folder, "the driver")
     return driver
+
+
+def build_rust_library(folder, words=()):
+    """Builds the Rust crate of this repository without cargo, with these words for rustc. Returns its path."""
+    here, script, library = f"{built.ROOT}/bindings/rust", f"{folder}/build_script", f"{folder}/libtarget_lexicon.rlib"
+    rustc(["--edition", "2024", f"{here}/build.rs", "-o", script], folder, "bindings/rust/build.rs")
+    version = subprocess.run(["rustc", "-vV"], check=True, capture_output=True, text=True).stdout
+    host = re.search(r"^host: (.*)$", version, re.MULTILINE)[1]
+    environment = {**os.environ, "CARGO_MANIFEST_DIR": built.ROOT, "OUT_DIR": folder, "TARGET": host, "HOST": host}
+    if subprocess.run([script], env=environment, stdout=subprocess.DEVNULL).returncode:
+        stop("bindings/rust/build.rs fails")
+    rustc(["--edition", "2024", "--crate-type", "rlib", "--crate-name", "target_lexicon", *words, f"{here}/src/lib.rs",
+           "-o", library], folder, "the Rust crate")
+    return library
 
 
 def build_rust_program(folder):

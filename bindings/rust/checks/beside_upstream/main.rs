@@ -6,9 +6,10 @@
 //!                                       the file NAMES parse as: the printed text and the four queries
 //!        beside_upstream NAMES unread   the same with custom vendors that no text parses as: also, that no such triple
 //!                                       comes back
-use std::collections::hash_map::DefaultHasher;
-use std::fmt::{Debug, Display, Write};
-use std::hash::{Hash, Hasher};
+mod comparison;
+
+use comparison::{compare_queries, compare_text, differ_by_the_rule};
+use std::fmt::Write;
 use std::io::Read;
 use std::str::FromStr;
 
@@ -25,56 +26,17 @@ const UNREAD_VENDORS: [&str; 20] = [
     "linux", "ios17.1", "gnueabihf", "elf",
 ];
 
-fn hash(value: &impl Hash) -> u64 {
-    let mut hasher = DefaultHasher::new();
-    value.hash(&mut hasher);
-    hasher.finish()
-}
-
-fn same(ours: impl Debug, theirs: impl Debug, of: impl Display) {
-    assert_eq!(format!("{ours:?}"), format!("{theirs:?}"), "of {of}");
-}
-
-/// Compares two printed texts, and returns whether they differ by the rule: if environment and format are unknown and
-/// another format is implied, both are shown.
-fn differ_by_the_rule(triple: &ours::Triple, ours: &str, theirs: &str) -> bool {
-    if ours == theirs {
-        return false;
-    }
-    assert!(!cfg!(feature = "upstream_printing"), "{triple:?}: {ours} {theirs}");
-    let omits_system = triple.architecture.is_clever() && triple.operating_system == ours::OperatingSystem::Unknown;
-    let both_unknown = triple.environment == ours::Environment::Unknown && triple.binary_format == ours::BinaryFormat::Unknown;
-    assert!(both_unknown, "{triple:?}: {ours} {theirs}");
-    assert_eq!(ours, format!("{theirs}{}", if omits_system { "-unknown-unknown" } else { "-unknown" }));
-    true
-}
-
 fn compare_lines() {
     let mut input = String::new();
     std::io::stdin().read_to_string(&mut input).expect("lines");
     let (mut parsed, mut refused, mut by_the_rule) = (0, 0, 0);
     for line in input.split('\n') {
-        match (line.parse::<ours::Triple>(), line.parse::<upstream::Triple>()) {
-            (Err(ours), Err(theirs)) => {
-                same(&ours, &theirs, line);
-                assert_eq!(ours.to_string(), theirs.to_string());
-                assert_eq!(ours.clone(), ours);
-                refused += 1;
-            }
-            (Ok(ours), Ok(theirs)) => {
-                same(&ours, &theirs, line);
+        match compare_text(line) {
+            None => refused += 1,
+            Some((ours, theirs)) => {
                 by_the_rule += i32::from(differ_by_the_rule(&ours, &ours.to_string(), &theirs.to_string()));
-                assert_eq!(ours.architecture.into_str(), theirs.architecture.into_str());
-                assert_eq!(ours.vendor.as_str(), theirs.vendor.as_str());
-                assert_eq!(ours.operating_system.into_str(), theirs.operating_system.into_str());
-                assert_eq!(ours.operating_system.is_like_darwin(), theirs.operating_system.is_like_darwin());
-                assert_eq!(ours.environment.into_str(), theirs.environment.into_str());
-                assert_eq!(ours.binary_format.into_str(), theirs.binary_format.into_str());
-                assert_eq!(ours.clone(), ours);
-                assert_eq!(hash(&ours.clone()), hash(&ours));
                 parsed += 1;
             }
-            (ours, theirs) => panic!("{line}: {ours:?} {theirs:?}"),
         }
     }
     println!("{parsed} lines parse and {refused} are refused as upstream's; {by_the_rule} print otherwise by the rule");
@@ -91,13 +53,6 @@ fn values<O: FromStr, U: FromStr>(names: &[&str]) -> Vec<(O, U)> {
         }
     }
     found
-}
-
-fn compare_queries(ours: &ours::Triple, theirs: &upstream::Triple) {
-    same(ours.endianness(), theirs.endianness(), ours);
-    same(ours.pointer_width(), theirs.pointer_width(), ours);
-    same(ours.default_calling_convention(), theirs.default_calling_convention(), ours);
-    same(ours.data_model(), theirs.data_model(), ours);
 }
 
 fn custom_vendor(text: &'static str) -> (ours::Vendor, upstream::Vendor) {
