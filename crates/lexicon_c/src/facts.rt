@@ -1,11 +1,11 @@
 //! The facts of a triple, as numbers.
-ghost use Rattle.std.specs.Prelude.{◌≡◌, Option};
+ghost use Rattle.std.specs.Prelude.{◌≡◌, Option, map};
 ghost use Rattle.std.specs.Option.{option_map_or};
 ghost use Rattle.lexicon_fields.specs.PointerWidth.{width_bits};
 ghost use Rattle.lexicon_fields.specs.VendorRef.{ref_value};
 ghost use Rattle.target_lexicon.specs.Queries.{endianness, pointer_width, calling_convention, data_model};
 ghost use Rattle.target_lexicon.specs.ValuesRef.{values_of_ref};
-ghost use Rattle.lexicon_c.specs.Facts.{AreFactsOf, convention_number, endianness_number, is_custom, is_thumb_architecture, model_number, type_bits};
+ghost use Rattle.lexicon_c.specs.Facts.{AreFactsOf, convention_number, endianness_number, is_custom, is_thumb_architecture, model_number, models_by_number, type_bits};
 
 use lexicon_numbers::{binary_format_number, family_number};
 use target_lexicon::{
@@ -140,29 +140,26 @@ fn model_number(model: Option<CDataModel>) -> u8
 fn type_bits(model: Option<CDataModel>) -> LexiconTypeBits
     ensures { result ≡ type_bits model }
 {
-    match model {
-        Some(model) => LexiconTypeBits {
-            char: 8,
-            short: model.short_size().bits(),
-            int: model.int_size().bits(),
-            long: model.long_size().bits(),
-            long_long: model.long_long_size().bits(),
-            float: model.float_size().bits(),
-            double: model.double_size().bits(),
-            pointer: model.pointer_width().bits(),
-        },
-        None => LexiconTypeBits {
-            char: 0,
-            short: 0,
-            int: 0,
-            long: 0,
-            long_long: 0,
-            float: 0,
-            double: 0,
-            pointer: 0,
-        },
-    }
+    all_type_bits()[usize::from(model_number(model))]
 }
+
+/// The bits of C's types without a data model, and then in each model, in the order of their numbers.
+#[inline(always)]
+fn all_type_bits() -> &'static [LexiconTypeBits]
+    ensures { result.now ≡ map type_bits models_by_number }
+{
+    &TYPE_BITS
+}
+
+#[rattlefmt::skip]
+static TYPE_BITS: [LexiconTypeBits; 6] = [
+    LexiconTypeBits { char: 0, short: 0, int: 0, long: 0, long_long: 0, float: 0, double: 0, pointer: 0 },
+    LexiconTypeBits { char: 8, short: 16, int: 16, long: 32, long_long: 64, float: 32, double: 64, pointer: 32 },
+    LexiconTypeBits { char: 8, short: 16, int: 32, long: 32, long_long: 64, float: 32, double: 64, pointer: 32 },
+    LexiconTypeBits { char: 8, short: 16, int: 32, long: 32, long_long: 64, float: 32, double: 64, pointer: 64 },
+    LexiconTypeBits { char: 8, short: 16, int: 32, long: 64, long_long: 64, float: 32, double: 64, pointer: 64 },
+    LexiconTypeBits { char: 8, short: 16, int: 64, long: 64, long_long: 64, float: 32, double: 64, pointer: 64 },
+];
 
 /// Whether an architecture is an Arm one that is Thumb.
 #[inline(always)]

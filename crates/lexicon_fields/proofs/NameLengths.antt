@@ -1,5 +1,5 @@
 -- No name but a custom vendor's has more than 21 bytes.
-use Rattle.std.proofs.Common.{◌≡◌, ◌+◌, ◌≤◌, ◌++◌, ℕ, List, [], codes, length, nat_le, true, Option, Some, None, IfSome, refl, arith}
+use Rattle.std.proofs.Common.{◌≡◌, ◌≤◌, ◌++◌, ℕ, List, [], codes, length, nat_le, true, Option, Some, None, IfSome, refl, arith}
 use Rattle.std.proofs.{lemmas.Bool.leb-true, lemmas.List.length-append, lemmas.Fmt.length-decimal-le}
 use Rattle.lexicon_fields.specs.{declared.architecture.Architecture.Architecture, declared.environment.Environment.Environment, declared.binary_format.BinaryFormat.BinaryFormat}
 use Rattle.lexicon_fields.specs.{declared.operating_system.OperatingSystem.OperatingSystem, declared.known_vendor.KnownVendor.KnownVendor}

@@ -1,5 +1,5 @@
 -- The rows are exactly those of the texts that are a fixed name of some field.
-use Rattle.std.proofs.Common.{◌≡◌, ◌≢◌, ◌↔◌, ◌∙◌, ℕ, ◌<◌, ◌≤◌, List, [], true, false, Option, Some, None, is_some, refl, ap, sym, get_or, arith, Ordering, Less, Greater, nat_cmp, inl, inr, Contains}
+use Rattle.std.proofs.Common.{◌≡◌, ◌≢◌, ◌↔◌, ◌∙◌, ℕ, ◌+◌, ◌<◌, ◌≤◌, List, [], true, false, Option, Some, None, is_some, refl, ap, sym, get_or, arith, Ordering, Less, Greater, nat_cmp, inl, inr, Contains}
 use Rattle.std.specs.{Cmp.Lexicographic.slice_cmp, Cmp.Lexicographic.nat_list_eq_equiv, Str.bytes_eq, Option.option_or, Prelude.is_none, Ordering.is_eq}
 use Rattle.std.proofs.{lemmas.Bool.or_parts, lemmas.Bool.cases_lt, lemmas.Bool.cases_Bool, lemmas.Bool.false_from_ne_true, lemmas.List.Folds.list_any_at}
 use Rattle.std.proofs.{lemmas.Map.Text.is_eq-slice_cmp, lemmas.Map.Views.Contains-from_any, lemmas.Map.Views.list_any-from_Contains}
@@ -7,7 +7,7 @@ use Rattle.std.proofs.{lemmas.Option.get_or_from_slice_get, lemmas.Option.slice_
 use Rattle.lexicon_fields.specs.{Names.named_values, Architecture.architecture_of, declared.known_vendor.KnownVendor.KnownVendor, Vendor.known_vendor_name, Vendor.known_vendors, Vendor.known_vendor_of, declared.operating_system.OperatingSystem.OperatingSystem, Environment.environment_of, BinaryFormat.binary_format_of}
 use Rattle.lexicon_fields.specs.OperatingSystem.{operating_system_name, operating_system_of, darwin_prefixes, darwin_like_system, fixed_operating_systems, fixed_operating_system_of}
 use Rattle.lexicon_fields.specs.FixedRow.{has_row, row_count, row_texts, row_text}
-use Rattle.lexicon_fields.proofs.{LookUpLemmas.value_named-passes, LookUpLemmas.option_or-none, LookUpLemmas.none_is, RowTexts.is_row_text, RowTexts.row_text-passes, RowTexts.length-row_texts}
+use Rattle.lexicon_fields.proofs.{LookUpLemmas.value_named-passes, LookUpLemmas.option_or-none, LookUpLemmas.none_is, RowTexts.is_row_text, RowTexts.rows_below, RowTexts.rows_above, RowTexts.row_text-passes, RowTexts.length-row_texts}
 use Rattle.lexicon_fields.proofs.NamesReadBack.{architecture_of-row, environment_of-row, binary_format_of-row}
 
 pub known_vendor_of-row : (text : List ℕ) (v : KnownVendor) → known_vendor_of text ≡ Some v → is_row_text text ≡ true
@@ -63,14 +63,22 @@ row_text-at s found =
 slice_cmp-differ : (x y : List ℕ) (o : Ordering) → is_eq o ≡ false → slice_cmp nat_cmp x y ≡ o → x ≢ y
 slice_cmp-differ x y o other is same = let bad : true ≡ false = sym (is_eq-slice_cmp x y ∙ (bytes_eq-Decides x y).1 same) ∙ ap is_eq is ∙ other in cc
 
--- a text that follows all rows before an index and precedes all others has no row
-pub no_row-between : (s : List ℕ) (place : ℕ) → ((k : ℕ) → k < place → slice_cmp nat_cmp (row_text k) s ≡ Less)
-    → ((k : ℕ) → place ≤ k → k < row_count → slice_cmp nat_cmp (row_text k) s ≡ Greater) → has_row s ≡ false
-no_row-between s place below above = no_row s (false_from_ne_true (is_row_text s) (λ found.
+-- a row that precedes a text is not the text's, nor is any earlier row
+pub no_row-below : (middle : ℕ) (s : List ℕ) → middle < row_count → slice_cmp nat_cmp (row_text middle) s ≡ Less → (k : ℕ) → k < middle + 1 → row_text k ≢ s
+no_row-below middle s below is k lt = slice_cmp-differ (row_text k) s Less refl (rows_below middle s below is k lt)
+
+-- a row that follows a text is not the text's, nor is any later row
+pub no_row-above : (middle : ℕ) (s : List ℕ) → slice_cmp nat_cmp (row_text middle) s ≡ Greater → (k : ℕ) → middle ≤ k → k < row_count → row_text k ≢ s
+no_row-above middle s is k ge below = slice_cmp-differ (row_text k) s Greater refl (rows_above middle s is k ge below)
+
+-- a text that is in no row before an index, nor from it on, has no row
+pub no_row-outside : (s : List ℕ) (place : ℕ) → ((k : ℕ) → k < place → row_text k ≢ s)
+    → ((k : ℕ) → place ≤ k → k < row_count → row_text k ≢ s) → has_row s ≡ false
+no_row-outside s place below above = no_row s (false_from_ne_true (is_row_text s) (λ found.
     let at = row_text-at s found in
     elim (cases_lt at.0 place) [
-      | inl lt ↦ slice_cmp-differ (row_text at.0) s Less refl (below at.0 lt) at.2
-      | inr ge ↦ slice_cmp-differ (row_text at.0) s Greater refl (above at.0 ge at.1) at.2
+      | inl lt ↦ below at.0 lt at.2
+      | inr ge ↦ above at.0 ge at.1 at.2
     ]))
 
 -- the texts of the rows are all texts that have a row

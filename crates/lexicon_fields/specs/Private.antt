@@ -1,6 +1,7 @@
 -- Definitions for the contracts of private functions; no public contract cites them.
-use Rattle.std.specs.Prelude.{ℕ, zero, suc, ◌+◌, ◌*◌, ◌^◌, List, [], ◌∷◌, Option, Some, None}
+use Rattle.std.specs.Prelude.{ℕ, zero, suc, ◌+◌, ◌*◌, ◌/◌, ◌%◌, ◌^◌, ◌&&◌, Bool, true, nat_lt, nat_le, List, [], ◌∷◌, Option, Some, None, slice_index_or}
 use Rattle.std.specs.Borrow.{Bor}
+use Rattle.lexicon_fields.specs.FixedRow.{row_count}
 use Rattle.lexicon_fields.specs.Version.{pieces_of}
 
 -- the pieces of the rest of a version text, if there is a rest
@@ -20,3 +21,24 @@ abbrev pub prefix_key_of : ℕ → List ℕ → ℕ
 prefix_key_of zero text = 0
 prefix_key_of (suc k) [] = 0
 prefix_key_of (suc k) (c ∷ cs) = c * 256 ^ k + prefix_key_of k cs
+
+-- the slot of a prefix key in the index of the table: the eleven highest bits of its product with a fixed number
+abbrev pub slot_of : ℕ → ℕ
+-- written by tools/names/write: slot_of
+slot_of key = key * 1222796868377974413 % 2 ^ 64 / 2 ^ 53
+
+-- end of what is written
+
+-- an entry of the index is eight times the number of a row, plus how many rows it leads to from there on
+abbrev pub leads_to : ℕ → ℕ → Bool
+leads_to entry i = nat_le (entry / 8) i && nat_lt i (entry / 8 + entry % 8)
+
+-- whether an entry leads to some rows, all of them in the table
+abbrev pub is_entry : ℕ → Bool
+is_entry entry = nat_lt 0 (entry % 8) && nat_le (entry / 8 + entry % 8) row_count
+
+-- whether the prefix key of each text leads to its row, where the first text is that of row i
+abbrev pub lead_to_rows : List ℕ → ℕ → List (List ℕ) → Bool
+lead_to_rows index i [] = true
+lead_to_rows index i (text ∷ texts) =
+    leads_to (slice_index_or index (slot_of (prefix_key_of 8 text)) 0) i && lead_to_rows index (suc i) texts

@@ -4,6 +4,7 @@ ghost use Rattle.std.specs.Cmp.Lexicographic.{slice_cmp};
 ghost use Rattle.std.specs.Ordering.{nat_cmp};
 ghost use Rattle.lexicon_fields.specs.FixedRow.{has_row, IsRowOf, row_count, row_text};
 
+mod index;
 mod prefix_key;
 mod rows;
 
@@ -20,9 +21,6 @@ use std::cmp::Ordering;
 // written by tools/names/write: the number of rows
 pub const ROW_COUNT: usize = 192;
 // end of what is written
-
-/// The number of rows that seven comparisons can search: 1 + 2 + 4 + .. + 64.
-const ROWS_IN_SEVEN_STEPS: usize = 127;
 
 /// A fixed name or the alias, and the value with that name in each field.
 #[derive(Clone, Copy, Debug, PartialEq, Eq)]
@@ -101,7 +99,7 @@ fn row_number_of_short(text: &str, steps: &mut Steps) -> Option<usize>
     search(text, steps)
 }
 
-/// The binary search for the text's row.
+/// The binary search for the text's row, among the rows that can have its prefix key.
 #[inline(always)]
 fn search(text: &str, steps: &mut Steps) -> Option<usize>
     ensures row { MatchOption result (has_row text.now ≡ false)
@@ -109,19 +107,16 @@ fn search(text: &str, steps: &mut Steps) -> Option<usize>
     ensures counted { steps.old.count < steps.new.count }
     ensures few { steps.new.count ≤ steps.old.count + 8 }
 {
-    let mut low = ROW_COUNT - ROWS_IN_SEVEN_STEPS;
-    match row_order(ROWS_IN_SEVEN_STEPS, text, steps) {
-        Ordering::Less => {}
-        Ordering::Greater => low = 0,
-        Ordering::Equal => return Some(ROWS_IN_SEVEN_STEPS),
-    }
-    let mut left = ROWS_IN_SEVEN_STEPS;
+    let (mut low, mut left) = index::rows_with_key(prefix_key::prefix_key(text));
     while left > 0 {
-        let middle = low + left / 2;
-        left /= 2;
+        let half = left / 2;
+        let middle = low + half;
         match row_order(middle, text, steps) {
-            Ordering::Less => low = middle + 1,
-            Ordering::Greater => {}
+            Ordering::Less => {
+                low = middle + 1;
+                left -= half + 1;
+            }
+            Ordering::Greater => left = half,
             Ordering::Equal => return Some(middle),
         }
     }

@@ -1,6 +1,6 @@
 //! Where the fields of a triple come from in its text.
 ghost use Rattle.std.specs.Prelude.{◌≡◌, ◌+◌, ◌<◌, ◌^◌, IfOk, IfErr, length};
-ghost use Rattle.target_lexicon.specs.Explanation.{AreInText, AreSourcesOf, IsInText, IsRefusedAfter, next_start, part_value, source_at, source_value, sources_at, sources_of, start_after, whole_text_sources};
+ghost use Rattle.target_lexicon.specs.Explanation.{AreInText, AreSourcesOf, IsInText, IsRefusedAfter, NotGiven, next_start, part_value, source_at, source_value, sources_at, sources_of, start_after, whole_text_sources};
 ghost use Rattle.target_lexicon.specs.Reading.{ReadsAs, IsRefusedAs};
 ghost use Rattle.target_lexicon.specs.RemainingParts.{part_bytes, texts_of};
 ghost use Rattle.target_lexicon.specs.ValuesRef.{refusal_of_ref, values_of_ref};
@@ -138,6 +138,16 @@ impl<'a> Sources<'a> {
         (sources, start)
     }
 
+    /// The sources of fields that these parts of a refused text fill, and where the refused part begins.
+    #[inline(never)]
+    fn of_refused(parts: FieldParts<'a>) -> (Sources<'a>, usize)
+        requires { next_start (texts_of parts) < 2 ^ 64 }
+        ensures sources { sources_of result.0 ≡ sources_at NotGiven (texts_of parts.entry) }
+        ensures start { result.1 ≡ next_start (texts_of parts.entry) }
+    {
+        Sources::of_parts(parts, Source::NotGiven)
+    }
+
     /// The sources of the fields of a special text.
     #[inline(always)]
     fn of_special_text(text: &'a str) -> Sources<'a>
@@ -187,7 +197,7 @@ impl<'a> TripleRef<'a> {
                 Ok(Explanation { triple, sources })
             }
             Err(error) => {
-                let (sources, start) = Sources::of_parts(reading.parts, Source::NotGiven);
+                let (sources, start) = Sources::of_refused(reading.parts);
                 let part = TextPart::starting_at(error.part(), start);
                 Err(ExplainedError {
                     error,

@@ -68,6 +68,7 @@ impl<'a> Part<'a> {
     ghost use Rattle.target_lexicon.specs.RemainingParts.{remaining_parts};
 
     /// The first part of a text.
+    #[inline(always)]
     pub(crate) fn first(text: &'a str) -> Self
         ensures { parts_of text.entry.now ≡ result.text.now ∷ parts_after_dash result.after_dash }
     {

@@ -1,36 +1,26 @@
-use Rattle.std.proofs.Common.{arith, sym, ◌+◌, ◌/◌}
-use Rattle.lexicon_fields.proofs.{Halving.halved-first, Halving.halved-middle, Halving.halved-next, RowLemmas.no_row-between, RowTexts.rows_below, RowTexts.rows_above, RowTexts.row_text-is}
-use Rattle.lexicon_fields.proofs.table.search.Goals.{in-Less, in-Greater}
+use Rattle.std.proofs.Common.{arith, sym, ap, ◌∙◌, ◌+◌, ◌/◌}
+use Rattle.lexicon_fields.specs.{Private.prefix_key_of}
+use Rattle.lexicon_fields.proofs.{Halving.halved-first, Halving.halved-next, RowLemmas.no_row-outside, RowLemmas.no_row-below, RowLemmas.no_row-above, RowTexts.row_text-is}
 use Rattle.lexicon_fields.proofs.table.search.Goals as goal
 
-pub returns-in-Equal-clause-row : goal.returns-in-Equal-clause-row
-returns-in-Equal-clause-row c = (omega arith, row_text-is 127 _ (sym c.in-Equal.ensures.order))
-
 pub loop-left-init : goal.loop-left-init
-loop-left-init c = elim c.match-row_order.branch [
-  | in-Less w ↦ record {
-    within = omega (arith, w.low-is);
-    below = λ k lt. rows_below 127 c.args.text.now (omega arith) (sym w.in-Less.ensures.order) k (omega (arith, w.low-is));
-    above = λ k ge lt. absurd (omega (arith, w.low-is));
-    halved = halved-first _ _ c.row_order.ensures.count;
-  }
-  | in-Greater w ↦ record {
-    within = omega (arith, w.low-is);
-    below = λ k lt. absurd (omega (arith, w.low-is));
-    above = λ k ge lt. rows_above 127 c.args.text.now (sym w.in-Greater.ensures.order) k (omega (arith, w.low-is)) lt;
-    halved = halved-first _ _ c.row_order.ensures.count;
-  }
-]
-
-pub loop-left-preserved-in-Less-row_order : goal.loop-left-preserved-in-Less-row_order
-loop-left-preserved-in-Less-row_order c =
-    let middle = c.loop-left.low + c.loop-left.left / 2 in
-    let parts = halved-middle _ _ _ c.loop-left.invariant.halved (omega arith) in
+loop-left-init c =
+    let rows = c.rows_with_key-low.ensures in
     record {
-      within = omega (arith, parts, c.loop-left.invariant.within);
-      below = rows_below middle c.args.text.now (omega (arith, parts, c.loop-left.invariant.within)) (sym c.in-Less-row_order.ensures.order);
-      above = λ k ge lt. c.loop-left.invariant.above k (omega (arith, parts)) lt;
-      halved = halved-next _ _ _ _ c.loop-left.invariant.halved (omega arith) c.in-Less-row_order.ensures.count;
+      within = rows.within;
+      below = λ k lt same. let held = rows.whole k (omega (arith, lt, rows.within)) (ap (prefix_key_of 8) same ∙ sym c.prefix_key.ensures) in omega (arith, lt, held.0);
+      above = λ k ge lt same. let held = rows.whole k lt (ap (prefix_key_of 8) same ∙ sym c.prefix_key.ensures) in omega (arith, ge, held.1);
+      halved = halved-first _ _ rows.some rows.few;
+    }
+
+pub loop-left-preserved-in-Less : goal.loop-left-preserved-in-Less
+loop-left-preserved-in-Less c =
+    let middle = c.loop-left.low + c.loop-left.left / 2 in
+    record {
+      within = omega (arith, c.loop-left.invariant.within);
+      below = no_row-below middle c.args.text.now (omega (arith, c.loop-left.invariant.within)) (sym c.in-Less.ensures.order);
+      above = λ k ge lt. c.loop-left.invariant.above k (omega arith) lt;
+      halved = halved-next _ _ _ _ _ c.loop-left.invariant.halved (omega arith) c.row_order.ensures.count (omega arith);
     }
 
 pub loop-left-preserved : goal.loop-left-preserved
@@ -39,14 +29,12 @@ loop-left-preserved c =
     record {
       within = omega (arith, c.loop-left.invariant.within);
       below = c.loop-left.invariant.below;
-      above = rows_above middle c.args.text.now (sym c.in-Greater-row_order.ensures.order);
-      halved = halved-next _ _ _ _ c.loop-left.invariant.halved (omega arith) c.in-Greater-row_order.ensures.count;
+      above = no_row-above middle c.args.text.now (sym c.in-Greater.ensures.order);
+      halved = halved-next _ _ _ _ _ c.loop-left.invariant.halved (omega arith) c.row_order.ensures.count (omega arith);
     }
 
-pub returns-in-Equal-row_order-clause-row : goal.returns-in-Equal-row_order-clause-row
-returns-in-Equal-row_order-clause-row c =
-    let parts = halved-middle _ _ _ c.loop-left.invariant.halved (omega arith) in
-    (omega (arith, parts, c.loop-left.invariant.within), row_text-is _ _ (sym c.in-Equal-row_order.ensures.order))
+pub returns-in-Equal-clause-row : goal.returns-in-Equal-clause-row
+returns-in-Equal-clause-row c = (omega (arith, c.loop-left.invariant.within), row_text-is _ _ (sym c.in-Equal.ensures.order))
 
 pub returns-clause-row : goal.returns-clause-row
-returns-clause-row c = no_row-between c.args.text.now c.loop-left.low c.loop-left.invariant.below (λ k ge lt. c.loop-left.invariant.above k (omega arith) lt)
+returns-clause-row c = no_row-outside c.args.text.now c.loop-left.low c.loop-left.invariant.below (λ k ge lt. c.loop-left.invariant.above k (omega arith) lt)

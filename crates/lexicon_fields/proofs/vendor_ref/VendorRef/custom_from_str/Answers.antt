@@ -1,5 +1,4 @@
 use Rattle.std.proofs.Common.{rules, sym, ap, ◌∙◌, refl, is_none}
-use Rattle.lexicon_fields.specs.OperatingSystem.{operating_system_of}
 use Rattle.lexicon_fields.proofs.{RowLemmas.no_name_without_row, RowLemmas.without_row_is_darwin_like, VendorsReadBack.admitted_without_row, VendorsReadBack.custom_read, VendorsReadBack.formless_read}
 use Rattle.lexicon_fields.proofs.vendor_ref.VendorRef.custom_from_str.Goals as goal
 

@@ -9,8 +9,8 @@ of_parts-requires c =
     let bound = start-bound c.args.text.now _ _ (sym c.in_default.ensures) c.first.ensures in
     omega (arith, c.length_fits.ensures, bound, ap next_start c.from_parts-reading.ensures.parts)
 
-pub of_parts-start-requires : goal.of_parts-start-requires
-of_parts-start-requires c =
+pub of_refused-start-requires : goal.of_refused-start-requires
+of_refused-start-requires c =
     let bound = start-bound c.args.text.now _ _ (sym c.in_default.ensures) c.first.ensures in
     omega (arith, c.length_fits.ensures, bound, ap next_start c.from_parts-reading.ensures.parts)
 
@@ -40,13 +40,13 @@ starting_at-part-requires c =
     let outcome = sym c.from_parts-reading.ensures.result ∙ ap outcome_of c.in-Err.is in
     let refused = subst (Holds text) outcome (parts-hold text _ _ (sym c.in_default.ensures) c.first.ensures) in
     let within = (refused-after text _ _ (sym c.in_default.ensures) c.first.ensures _ refused).1.0 in
-    omega (arith, within, c.length_fits.ensures, c.of_parts-start.ensures.start, ap next_start c.from_parts-reading.ensures.parts, ap length c.part.ensures)
+    omega (arith, within, c.length_fits.ensures, c.of_refused-start.ensures.start, ap next_start c.from_parts-reading.ensures.parts, ap length c.part.ensures)
 
 pub returns-in-Err-clause-refused : goal.returns-in-Err-clause-refused
 returns-in-Err-clause-refused c =
     let text = c.args.text.now in
-    let given = c.of_parts-start.ensures.sources ∙ ap (sources_at NotGiven) c.from_parts-reading.ensures.parts in
-    let start = c.of_parts-start.ensures.start ∙ ap next_start c.from_parts-reading.ensures.parts in
+    let given = c.of_refused-start.ensures.sources ∙ ap (sources_at NotGiven) c.from_parts-reading.ensures.parts in
+    let start = c.of_refused-start.ensures.start ∙ ap next_start c.from_parts-reading.ensures.parts in
     let part = c.starting_at-part.ensures ∙ (λ i. source_at NotGiven (start i) (Some (c.part.ensures i))) in
     let after = (refused-after text _ _ (sym c.in_default.ensures) c.first.ensures _ (returns-in-Err-clause-error c)).0 in
     subst (λ s. IsRefusedAfter text (refusal_of_ref c.in-Err.error) s (part_value c.starting_at-part.result)) (sym given)
@@ -55,8 +55,8 @@ returns-in-Err-clause-refused c =
 pub returns-in-Err-clause-refused_ranges : goal.returns-in-Err-clause-refused_ranges
 returns-in-Err-clause-refused_ranges c =
     let text = c.args.text.now in
-    let given = c.of_parts-start.ensures.sources ∙ ap (sources_at NotGiven) c.from_parts-reading.ensures.parts in
-    let start = c.of_parts-start.ensures.start ∙ ap next_start c.from_parts-reading.ensures.parts in
+    let given = c.of_refused-start.ensures.sources ∙ ap (sources_at NotGiven) c.from_parts-reading.ensures.parts in
+    let start = c.of_refused-start.ensures.start ∙ ap next_start c.from_parts-reading.ensures.parts in
     let part = c.starting_at-part.ensures ∙ (λ i. source_at NotGiven (start i) (Some (c.part.ensures i))) in
     let within = (refused-after text _ _ (sym c.in_default.ensures) c.first.ensures _ (returns-in-Err-clause-error c)).1 in (
       subst (AreInText text) (sym given) (read-ranges text _ _ (sym c.in_default.ensures) c.first.ensures NotGiven tt),
