@@ -42,6 +42,10 @@ fn report_calls_on_allocated(rt: &impl Print, alloc: Global) -> Option<()> {
 
 fn report_settle(rt: &impl Print, alloc: Global, text: &str) -> Option<()> {
     let triple = Triple::from_str(alloc, text).ok()?;
+    report(rt, "Triple::comes_back", &text, &triple.comes_back());
+    let other = Triple::from_str(alloc, text).ok()?.normal();
+    report(rt, "Triple::settles_as", &text, &triple.settles_as(&other));
+    report(rt, "Triple::normal", &text, &other);
     report(rt, "Triple::settle", &text, &triple.settle());
     Some(())
 }

@@ -81,6 +81,14 @@ fn report_triple_ref(rt: &impl Print, triple: TripleRef<'_>)
         &triple.default_binary_format(),
     );
     report(rt, "TripleRef::comes_back", &triple, &triple.comes_back());
+    let normal = triple.normal();
+    report(rt, "TripleRef::normal", &triple, &normal);
+    report(
+        rt,
+        "TripleRef::settles_as",
+        &triple,
+        &triple.settles_as(&normal),
+    );
     report(rt, "TripleRef::settle", &triple, &triple.settle());
     report(
         rt,
