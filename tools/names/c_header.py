@@ -16,8 +16,7 @@ def enumerator(field, name, number, about=""):
 def lists_of(values):
     """Each list of the header, as text, from the values of the table."""
     fields = {field: [it for it in values if it.field == field] for field in LISTS}
-    lists = {name: "".join(enumerator(field, it.name, number, it.about) for number, it in enumerate(fields[field]))
-             for field, name in LISTS.items()}
+    lists = {name: "".join(enumerator(field, it.name, it.number, it.about) for it in fields[field]) for field, name in LISTS.items()}
     families = dict.fromkeys(it.family or it.variant for it in fields["architecture"])
     return lists | {"the families": "".join(enumerator("family", it, number) for number, it in enumerate(families))}
 

@@ -1,6 +1,7 @@
 """The table of names, tools/names/names.tsv: its values by field and by Rust type, and what is wrong in it."""
 import re
 from collections import namedtuple
+from itertools import count
 
 TYPES = {"vendor": "KnownVendor", "operating_system": "OperatingSystem", "environment": "Environment",
          "binary_format": "BinaryFormat"}
@@ -9,27 +10,29 @@ FIELDS = ("architecture", *TYPES)
 # A name has the form of a vendor (`has_vendor_form` in specs/Vendor.antt), so it has no dash (`is_dash_free`).
 NAME = re.compile(r"[a-z][a-z0-9_.]*")
 VARIANT = re.compile(r"[A-Z][A-Za-z0-9_]*")
+NUMBER = re.compile(r"0|[1-9][0-9]*")
 
-# A line of the table; a variant of a Rust type, with the type of its field, if it has one; and a Rust type, with its
-# name in definitions, its variants, and those of them without and with a field.
-Value = namedtuple("Value", "field variant name family about")
+# A line of the table, in which an alias has no number; a variant of a Rust type, with the type of its field, if it has
+# one; and a Rust type, with its name in definitions, its variants, and those of them without and with a field.
+Value = namedtuple("Value", "field variant name number family about")
 Variant = namedtuple("Variant", "variant name holds about")
 Type = namedtuple("Type", "name word variants plain held")
 
 
 def table_of(text):
-    """The values of the table, and what is wrong in it."""
+    """The values of the table, those of a field in the order of their numbers, and what is wrong in it."""
     values, wrong = [], []
     for number, columns in enumerate((line.split("\t") for line in text.splitlines()), 1):
         if columns[0].startswith("#"):
             continue
-        if not 3 <= len(columns) <= 5:
-            wrong.append(f"names.tsv:{number}: {len(columns)} columns, not 3 to 5")
+        if not 4 <= len(columns) <= 6:
+            wrong.append(f"names.tsv:{number}: {len(columns)} columns, not 4 to 6")
             continue
-        value = Value(*columns, *[""] * (5 - len(columns)))
+        value = Value(*columns, *[""] * (6 - len(columns)))
         wrong += [f"names.tsv:{number}: {it}" for it in faults_of(value, values)]
         values.append(value)
-    return values, wrong
+    wrong = wrong or [f"names.tsv: {it}" for it in missing_numbers(values)]
+    return values if wrong else sorted(values, key=lambda it: int(it.number or 0)), wrong
 
 
 def faults_of(value, earlier):
@@ -44,6 +47,7 @@ def faults_of(value, earlier):
     if value.family and not (value.field in ("architecture", "alias") and VARIANT.fullmatch(value.family)
                              or (value.field, value.family) == ("operating_system", "Darwin")):
         yield f"`{value.family}` is no family of the field"
+    yield from number_faults(value, field)
     if field and earlier[-1].field != value.field:
         yield "the lines of the field are not together"
     if value.name in [it.name for it in field]:
@@ -58,8 +62,30 @@ def faults_of(value, earlier):
         yield f"the variant `{value.variant}` is in the field twice"
 
 
+def number_faults(value, field):
+    """What is wrong with the number of a line after the earlier ones of its field."""
+    if value.field == "alias":
+        if value.number:
+            yield "an alias has no number"
+    elif not value.number:
+        yield "the value has no number"
+    elif not NUMBER.fullmatch(value.number):
+        yield f"`{value.number}` is no number"
+    elif value.number in [it.number for it in field]:
+        yield f"the number {value.number} is in the field twice"
+
+
+def missing_numbers(values):
+    """The fields in which a number is missing, which is lower than another one."""
+    for field in FIELDS:
+        numbers = {int(it.number) for it in values if it.field == field}
+        missing = next(it for it in count() if it not in numbers)
+        if missing < len(numbers):
+            yield f"no value of the field `{field}` has the number {missing}, and one has {max(numbers)}"
+
+
 class Table:
-    """The values by field, and by Rust type."""
+    """The values by field, in the order of their numbers, and by Rust type."""
 
     def __init__(self, values):
         self.values = values

@@ -117,6 +117,14 @@ static bool has_name(uint32_t field, uint32_t number) {
   return name != NULL;
 }
 
+/* A number that is small enough to name a value of the field in most cases, and none in one. */
+static uint32_t small_number(uint32_t field, uint32_t number) {
+  static uint32_t counts[5];
+  if (counts[field] == 0)
+    while (has_name(field, counts[field])) counts[field]++;
+  return number % (counts[field] + 1);
+}
+
 /* The status that each call with the struct must give, by the names and numbers of the library. */
 static uint32_t expected_status(const struct lexicon_triple *it) {
   uint32_t number = 0;
@@ -161,11 +169,11 @@ static struct lexicon_triple *take_triple(struct input *input, int region, int v
   uint8_t how = take_byte(input);
   take(input, it, sizeof *it);
   if (how & 1) {
-    it->architecture %= 110;
-    it->vendor = it->vendor % 17 == 16 ? LEXICON_VENDOR_CUSTOM : it->vendor % 17;
-    it->operating_system %= 42;
-    it->environment %= 37;
-    it->binary_format %= 7;
+    it->architecture = small_number(LEXICON_ARCHITECTURE, it->architecture);
+    it->vendor = it->vendor >= 0xf0 ? LEXICON_VENDOR_CUSTOM : small_number(LEXICON_VENDOR, it->vendor);
+    it->operating_system = small_number(LEXICON_OPERATING_SYSTEM, it->operating_system);
+    it->environment = small_number(LEXICON_ENVIRONMENT, it->environment);
+    it->binary_format = small_number(LEXICON_BINARY_FORMAT, it->binary_format);
     it->has_version %= 3;
   }
   if (how & 2) it->vendor = LEXICON_VENDOR_CUSTOM;

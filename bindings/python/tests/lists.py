@@ -19,9 +19,10 @@ def read(path):
 
 
 def table():
-    """The lines of the table of names."""
+    """The lines of the table of names, in the order of their numbers."""
     rows = [line.split("\t") for line in read("tools/names/names.tsv").splitlines() if not line.startswith("#")]
-    return [Row(*row[:3], row[3] if len(row) > 3 else "") for row in rows]
+    rows.sort(key=lambda row: int(row[3] or 0))
+    return [Row(*row[:3], row[4] if len(row) > 4 else "") for row in rows]
 
 
 def rows(file, name):

@@ -33,5 +33,13 @@ fn distances(rt: HostRuntime) {
     assert!(rt; distance_up_to(b"kitten", b"sitting", 9) == 3);
     assert!(rt; distance_up_to(b"sitting", b"kitten", 2) == 2);
     assert!(rt; distance_up_to(b"", b"four", 5) == 4);
-    assert!(rt; names(Field::Vendor).len() == 15);
+}
+
+#[test]
+fn each_name_is_nearest_to_itself(rt: HostRuntime) {
+    for (field, _, _) in ROWS.iter() {
+        for name in names(*field) {
+            assert!(rt; nearest_name(*field, name) == Some(*name));
+        }
+    }
 }
