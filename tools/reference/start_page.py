@@ -44,6 +44,7 @@ class StartPage:
         self.site = site
         self.references = site.references
         self.known = []
+        self.kit = 0
         self.parts = []
         self.headlines = []
 
@@ -56,7 +57,6 @@ class StartPage:
         self.site.add("index.html", "What to read, to believe the statement", content, contents)
 
     def introduction(self):
-        kit = [word for word in self.known if word.page == GLOSSARY_PAGE]
         return f"""<p>The statement is what the proofs show of the code: the contracts of all public items, in the words
 of the definitions. The proofs show that the code keeps its contracts. Whether these say what they should, only a reader
 can judge. This page lists what such a reader has to read: the contracts, by crate and in the order of its page, and
@@ -66,7 +66,7 @@ it.</p>
 <h2 id="sum">How much it is</h2>
 {self.summary()}
 <p>Besides, these contracts and definitions use
-<a href="{GLOSSARY_PAGE}">{counted(len(kit), "word")} of Rattle's own library</a>.
+<a href="{GLOSSARY_PAGE}">{counted(self.kit, "word")} of Rattle's own library</a>.
 <a href="promises.html">The promises</a> say in plain words what the contracts say;
 <a href="trials.html">the tests and mutations</a> show what was tried besides the proofs.</p>
 """
@@ -152,6 +152,7 @@ these calls use the same words, and so tie it to the code:</p>
         self.parts.append(part)
         reached = self.references.reading(words, self.known)
         self.known += reached
+        self.kit += 0 if part.is_apart else sum(word.page == GLOSSARY_PAGE for word in reached)
         for word in reached:
             if word.page == GLOSSARY_PAGE or word.origin is None or word.kind in NOT_READ:
                 continue
