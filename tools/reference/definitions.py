@@ -2,8 +2,9 @@
 
 from dataclasses import dataclass
 
+from rattle_source import split_at_commas
 from resolving import Piece, Resolver
-from scopes import plain, result_type, signature_types
+from scopes import ContractScope, DefinitionScope, plain, result_type, signature_types
 from terms import OPENING, SYMBOLS, Binder, Term, explicit_types
 from words import Variable, Word
 
@@ -20,6 +21,18 @@ class Part:
     types: list
     is_clause: bool
     is_local: bool
+
+
+class Arguments:
+    """The types of a pattern's arguments, each with its scope, which are taken in order; where they are not known, all
+    have one type."""
+
+    def __init__(self, types, else_type=("", None)):
+        self.types = types
+        self.else_type = else_type
+
+    def take(self):
+        return self.types.pop(0) if self.types else self.else_type
 
 
 def margin_of(line):
@@ -89,24 +102,47 @@ class DefinitionResolver(Resolver):
 
     def bind_patterns(self, term, types):
         """On the left of a clause a name that is no constructor binds a variable; the arguments have the signature's
-        types."""
-        depth = argument = 0
+        types, and those of a constructor have its own."""
         bound = []
-        for index in range(len(term)):
+        patterns = [Arguments([(text, self.scope) for text in types])]
+        for index in range(1, len(term)):
             text = term.text_at(index)
-            if text == "=" and depth == 0:
+            if text == "=" and len(patterns) == 1:
                 break
-            if index and depth == 0 and text != "{":
-                argument += text not in ("}", ")")
-            depth += (text in OPENING) - (text in OPENING.values())
-            if index and term.tokens[index].kind == "path" and text not in SYMBOLS and not self.is_constructor(text):
-                bound.append(Variable(plain(text), types[argument - 1] if 0 < argument <= len(types) else ""))
+            if text in OPENING:
+                patterns.append(self.arguments_in(term, index, patterns[-1]))
+            elif text in OPENING.values() and patterns[1:]:
+                patterns.pop()
+            elif term.tokens[index].kind == "path" and text not in SYMBOLS and not self.is_head(term, index):
+                type_text, scope = patterns[-1].take()
+                if self.constructor(text) is None:
+                    bound.append(Variable(plain(text), type_text, scope=scope))
         term.binders += [Binder(variable, 0, len(term)) for variable in bound]
         return bound
 
-    def is_constructor(self, text):
+    def is_head(self, term, index):
+        """Whether the token is the constructor that a pattern in brackets begins with."""
+        return term.text_at(index - 1) == "(" and self.constructor(term.text_at(index)) is not None
+
+    def arguments_in(self, term, opening, around):
+        """The arguments of the pattern in the brackets that open here: of a constructor of the repository those that it
+        takes; of others, such as `Some x`, the type of the pattern says what they are."""
+        if term.text_at(opening) != "(":
+            return Arguments([])
+        whole = around.take()
+        word = self.constructor(term.text_at(opening + 1))
+        if word is None or not word.crate:
+            return Arguments([], whole)
+        if word.kind == "variant":
+            scope = ContractScope.of_source(self.project, word.owner.file)
+            return Arguments([(text, scope) for text in split_at_commas(word.text.strip()[1:-1])])
+        scope = DefinitionScope(self.project, word.owner.file)
+        return Arguments([(text, scope) for text in explicit_types(word.text.partition(" : ")[2])])
+
+    def constructor(self, text):
+        """The constructor that a path of a pattern means, or None for a variable."""
         head, *rest = text.split(".")
         found = self.scope.lookup(head)
         for name in rest:
             found = found and self.scope.member_of(found, name)
-        return isinstance(found, Word) and found.kind in PATTERN_KINDS
+        return found if isinstance(found, Word) and found.kind in PATTERN_KINDS else None

@@ -44,7 +44,19 @@ class FieldFinder:
 
     def exact_owner_of_field(self, word):
         scope, text = self.type_of_field(word)
-        return scope.exact_owner(text)
+        return scope.exact_owner(text) or scope.kit_type(text)
+
+    def made_with(self, names, made):
+        """The records or types that a `record { .. }` with these fields can be: those of what is made here that have
+        them; else those that can be named here and have exactly these fields."""
+        near = [owner for owner in made if set(names) <= set(owner.members)]
+        owners = dict.fromkeys(word.owner for word in self.visible(self.project.members.get(names[0], ())))
+        return near or [owner for owner in owners if set(names) == set(owner.members)]
+
+    def visible(self, words):
+        """Those of some words that this crate declares, or one that it uses."""
+        crates = self.project.crates_seen_by(self.scope.crate)
+        return [word for word in words if word.crate in crates]
 
     def owners_of_result(self, word):
         """The records or types that the result of a definition names."""
@@ -53,8 +65,10 @@ class FieldFinder:
         return []
 
     def find(self, owners, name, exact=None):
-        """The word of a field: of the owner that is known exactly, or of one that the type names, or of the one type
-        around that has it; None if none has."""
+        """The word of a field: of the owner that is known exactly, which can be a type of the kit, by its name; or of
+        one that the type names, or of the one type around that has it; None if none has."""
+        if isinstance(exact, str):
+            return self.project.notation[".0"] if name.isdigit() else self.kit_field(name, [exact])
         for owner in [exact] if exact else owners:
             if name in owner.members:
                 return owner.members[name]
@@ -62,7 +76,7 @@ class FieldFinder:
             return self.project.notation[".0"]
         if exact:
             return None
-        candidates = [word for word in self.project.members.get(name, ()) if word.kind == "field"]
+        candidates = [word for word in self.visible(self.project.members.get(name, ())) if word.kind == "field"]
         for near in (self.named_types, self.implementers_and_parts, self.results_of_cited, lambda: self.seen, self.next_to_seen):
             found = [word for word in candidates if word.owner in near()]
             if len(found) == 1:
@@ -94,9 +108,10 @@ class FieldFinder:
     def next_to_seen(self):
         return [owner for seen in self.seen for word in seen.members.values() for owner in self.owners_of_field(word)]
 
-    def kit_field(self, name):
-        """A field of one of the kit's types that the term or the types around name."""
+    def kit_field(self, name, types=()):
+        """A field of one of these types of the kit, or of one that the term or the types around name."""
         cited = [word for word in self.cited if word.page == GLOSSARY_PAGE]
         texts = self.type_texts + [word.text for owner in self.seen for word in owner.members.values()]
-        types = list(dict.fromkeys(name for text in texts for name in TYPE_NAME.findall(text)))
-        return self.project.kit.field(name, cited) or self.project.kit.field_of_type(name, types)
+        around = dict.fromkeys(name for text in texts for name in TYPE_NAME.findall(text))
+        kit = self.project.kit
+        return kit.field_of_type(name, types) or kit.field(name, cited) or kit.field_of_type(name, list(around))

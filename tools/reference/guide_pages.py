@@ -1,116 +1,13 @@
-"""The pages that lead through the reference: the start page, the crates, all words, the words of Rattle, the tests and
-mutations."""
+"""The pages that lead through the reference, besides the start page: the crates, all words, the words of Rattle, the
+tests and mutations."""
 
 from html import escape
 
-from comments import doc_html
 from layout import code_block, counted, display_name, table, word_link, word_list
-from markdown import Markdown
+from markdown import Markdown, inline
 from references import is_definition
 from resolving import Piece
 from words import GLOSSARY_PAGE, WORDS_PAGE
-
-def inline(text):
-    """A sentence of a comment; a link in it to an item is shown as its name."""
-    return Markdown(link=lambda target: "").inline(text)
-
-
-class StartPage:
-    """Writes the start page: what a reader has to read, in order, and how much it is."""
-
-    def __init__(self, site):
-        self.site = site
-        self.references = site.references
-        self.known = []
-        self.total = 0
-        self.summary = []
-        self.headlines = []
-
-    def write(self, headlines):
-        self.headlines = headlines
-        parts = [self.headline(law) for law in headlines]
-        parts += [self.crate(crate) for crate in self.site.project.crates.values()]
-        contents = [("sum", "How much it is")]
-        contents += [(f"law-{law.name}", f"The headline, {law.name}") for law in headlines]
-        contents += [(f"crate-{row[0]}", f"Crate {row[0]}") for row in self.summary if row[0]]
-        self.site.add("index.html", "What to read, to believe the statement", self.introduction() + "\n".join(parts), contents)
-
-    def introduction(self):
-        clauses = sum(row[3] for row in self.summary)
-        rows = [self.summary_row(*row) for row in self.summary]
-        rows.append(["<strong>All</strong>", "", f"{clauses:,}", "", f"{self.total:,}"])
-        heads = ["@Crate", "#Contracts", "#Their lines", "#Definitions", "#Their lines"]
-        kit = [word for word in self.known if word.page == GLOSSARY_PAGE]
-        return f"""<p>The proofs show that the code keeps its contracts. Whether the contracts say what they should, only a reader can
-judge. This page lists what such a reader has to read: the contracts, and each definition that their words lead to,
-after those that it uses itself. Lines are counted without empty lines and comments. A type of the code counts as a
-definition. Each definition is listed once, in the first part that leads to it.</p>
-<h2 id="sum">How much it is</h2>
-{table(heads, rows)}
-<p>Besides, these contracts and definitions use
-<a href="{GLOSSARY_PAGE}">{counted(len(kit), "word")} of Rattle's own library</a>.
-<a href="promises.html">The promises</a> say in plain words what the contracts say;
-<a href="trials.html">the tests and mutations</a> show what was tried besides the proofs.</p>
-"""
-
-    def summary_row(self, name, title, contracts, lines, definitions, total):
-        anchor = f"crate-{name}" if name else title
-        text = escape(name) if name else "The headline"
-        return [f'<a href="#{escape(anchor)}">{text}</a>', f"{contracts:,}", f"{lines:,}", f"{definitions:,}", f"{total:,}"]
-
-    def headline(self, law):
-        entry = self.references.entries[law]
-        doc = doc_html(self.site, law.file, law.origin, "index.html")
-        rows, definitions, lines = self.reading([law])
-        anchor = f"law-{law.name}"
-        self.summary.append(("", anchor, 1, self.contract_lines(law), definitions, lines))
-        statement = "".join(code_block(self.references.entries[word].pieces, "index.html") for word in entry.cited if is_definition(word))
-        return f"""<h2 id="{escape(anchor)}">The headline: <code>{word_link(law)}</code></h2>
-{doc}
-{code_block(entry.pieces, "index.html")}
-{statement}
-<p>Its words lead to these, each after those that it uses itself:</p>
-{self.reading_table(rows)}"""
-
-    def contract_lines(self, word):
-        """How many lines the contract of an item has."""
-        return sum(clause_lines(word.file.file.text[clause.start : clause.end]) for clause in word.origin.clauses)
-
-    def crate(self, crate):
-        contracts = [word for word in self.references.public_contracts(crate) if word not in self.headlines]
-        if not contracts:
-            return ""
-        rows, definitions, lines = self.reading(contracts)
-        clauses = sum(self.contract_lines(word) for word in contracts)
-        self.summary.append((crate.name, crate.name, len(contracts), clauses, definitions, lines))
-        head = f'<h2 id="crate-{escape(crate.name)}">Crate <a href="{crate.page}">{escape(crate.name)}</a></h2>'
-        contract_count = counted(len(contracts), "more public item has a contract", "more public items have contracts")
-        text = f"<p>{contract_count}, with {counted(clauses, 'line')} of clauses. "
-        more = "Their words are among those above.</p>" if not rows else "Their words, besides those above:</p>"
-        return head + text + more + (self.reading_table(rows) if rows else "")
-
-    def reading(self, words):
-        """The rows of what these words reach and no part above did."""
-        rows = []
-        lines = 0
-        for word in self.references.reading(words, self.known):
-            self.known.append(word)
-            if word.page == GLOSSARY_PAGE or word.origin is None or word.kind in ("impl", "function", "law", "ghost member"):
-                continue
-            own = self.references.lines(word)
-            lines += own
-            self.total += own
-            where = self.site.home_link(word)
-            says = inline(word.first_line)
-            rows.append([str(len(rows) + 1), f"<code>{word_link(word)}</code>", says, where, f"{own:,}", f"{self.total:,}"])
-        return rows, len(rows), lines
-
-    def reading_table(self, rows):
-        return table(["#No.", "@Word", "What it says", "~Where", "#Lines", "#Sum"], rows)
-
-
-def clause_lines(text):
-    return max(1, sum(1 for line in text.strip().split("\n") if line.strip() and not line.strip().startswith("//")))
 
 
 def write_crates(site):

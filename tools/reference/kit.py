@@ -230,12 +230,22 @@ class Kit:
         if self.folder is None:
             return self.bare_word(("field", name)) if types else None
         for type_name in types:
+            record = self.find(("Rattle", "std", "specs", type_name, type_name))
+            word = isinstance(record, Word) and record.kind == "record" and self.field(name, [record])
+            if word:
+                return word
             found = self.rust_item("std", rf"pub struct {type_name}\b", "")
             line = found and re.search(rf"^\s+pub ghost {re.escape(name)}:.*$", found[0], re.MULTILINE)
             if line:
                 text = found[0].split("\n")[0] + "\n" + line.group()
                 return self.new_word(name, "field", f"std.{type_name}", text, "", found[2])
         return None
+
+    def aliased(self, crate, name):
+        """The name of the type that a crate of the kit gives this name to; else the name itself."""
+        found = self.rust_item(crate, rf"pub type {re.escape(name)}\b", "") if self.folder else None
+        match = found and re.search(r"=\s*(?:\w+::)*(\w+)", found[0])
+        return match.group(1) if match else name
 
     def trait_member(self, trait, member):
         """A ghost member of one of the kit's traits of this name."""

@@ -9,9 +9,13 @@ VIEWPORT = "width=device-width,initial-scale=1"
 
 
 def display_name(word):
-    """How a page names a word: a method with its type, everything else by its own name."""
+    """How a page names a word: a method with its type, and with the trait that it implements; everything else by its
+    own name."""
     if word.kind in ("function", "law", "ghost member") and word.origin is not None:
-        type_name = word.home.split(".")[-1]
+        *_, around, type_name = ("", *word.home.split("."))
+        if word.trait:
+            trait = re.sub(r"\w+::", "", word.trait)
+            return f"<{around} as {trait}>::{word.name}"
         if type_name[:1].isupper() and "." in word.anchor:
             return f"{type_name}::{word.name}"
     if word.owner is not None:

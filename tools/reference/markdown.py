@@ -146,3 +146,8 @@ def cells(line):
     text = line.strip().strip("|")
     parts = re.split(r"(?<!\\)\|(?=(?:[^`]*`[^`]*`)*[^`]*$)", text)
     return [part.strip().replace("\\|", "|") for part in parts]
+
+
+def inline(text):
+    """A sentence of a comment; a link in it to an item is shown as its name."""
+    return Markdown(link=lambda target: "").inline(text)

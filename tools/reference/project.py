@@ -25,6 +25,9 @@ class Source:
     def place(self):
         return str(self.file.path.relative_to(self.crate.root))
 
+    def text_of(self, item):
+        return self.file.text[item.start : item.end]
+
 
 @dataclass
 class Crate:
@@ -100,6 +103,17 @@ class Project:
             head, colon, uses = line.partition("#")[0].partition(":")
             if colon:
                 yield head.split()[0], tuple(uses.split())
+
+    def crate_of(self, path):
+        """The crate that has a file of this path."""
+        return self.crates[path.relative_to(self.root).parts[1]]
+
+    def crates_seen_by(self, crate):
+        """The names of a crate and of those that it uses, also by others."""
+        seen = {crate.name}
+        for name in crate.uses:
+            seen |= self.crates_seen_by(self.crates[name]) if name in self.crates else set()
+        return seen
 
     def place(self, path, line):
         return f"{path.relative_to(self.root)}:{line}"
@@ -187,7 +201,7 @@ class Project:
         if trait:
             self.add_rust_word(source, (*path, name, *trait), item)
         for inner in item.items:
-            self.add_rust_word(source, (*path, name, *trait, inner.name), inner)
+            self.add_rust_word(source, (*path, name, *trait, inner.name), inner).trait = item.trait
 
     def add_rust_word(self, source, names, item):
         kinds = {"fn": "function", "const": "constant", "static": "constant", "ghost": "ghost member", "mod": "module"}

@@ -10,9 +10,15 @@ from layout import word_link
 from markdown import Markdown, slug
 
 PAGE = "docs/SPEC.md"
+FILES = "| File |"
 NAME = re.compile(r"[A-Za-z_]\w*(?:::\w+)*(?:\(\))?$")
 LAW = re.compile(r"\blaws?\s+((?:`\w+`(?:,\s+|\s+and\s+)?)+)")
 CARRIERS = ("function", "law", "struct", "enum", "trait", "macro", "constant", "impl", "definition", "record", "data")
+
+
+def callable_words(words):
+    """Those that can be called, where there are any."""
+    return [word for word in words if word.kind in ("function", "law")] or words
 
 
 class PromisesPage(Markdown):
@@ -23,7 +29,7 @@ class PromisesPage(Markdown):
         self.site = site
         self.path = path
         self.crate = None
-        self.is_carrier = False
+        self.is_carrier = self.is_file = False
         self.row = []
         self.named = {}
         for word in site.project.words:
@@ -39,9 +45,12 @@ class PromisesPage(Markdown):
         self.check_laws(text)
         self.site.add("promises.html", title, self.block(rest), contents)
 
+    @property
+    def place(self):
+        return str(self.path.relative_to(self.site.project.root))
+
     def report(self, name):
-        place = str(self.path.relative_to(self.site.project.root))
-        self.site.project.problems.add(place, f"`{name}` carries a promise, and is no call, law or clause")
+        self.site.project.problems.add(self.place, f"`{name}` carries a promise, and is no call, law or clause")
 
     def check_laws(self, text):
         """Each name that the page calls a law is one."""
@@ -60,8 +69,7 @@ class PromisesPage(Markdown):
         return os.path.relpath(self.path.parent / path, self.site.folder) + (f"#{anchor}" if anchor else "")
 
     def heading(self, match):
-        name = match["text"].strip("`* ")
-        self.crate = self.site.project.crates.get(name, self.crate)
+        self.crate = self.site.project.crates.get(match["text"].strip("`* "))
         return super().heading(match)
 
     def table(self, lines, position, html):
@@ -73,39 +81,43 @@ class PromisesPage(Markdown):
         cells = []
         for number, cell in enumerate(row):
             self.is_carrier = number == len(row) - 1 and number > 0
+            self.is_file = number == 0 and self.header.startswith(FILES)
             cells.append(self.inline(cell))
-        self.is_carrier = False
+        self.is_carrier = self.is_file = False
         return cells
 
     def code_span(self, text):
         plain = escape(text)
+        if self.is_file:
+            return self.file_link(text)
         if not NAME.match(text):
             return f"<code>{plain}</code>"
-        words = self.words(text)
+        found = self.words(text)
+        own = [word for word in found if self.crate and word.crate == self.crate.name]
+        with_clause = self.items_with_clause(text) if self.is_carrier and not own else []
+        words = callable_words(own or with_clause or found)
         if len(words) == 1:
             return f"<code>{word_link(words[0], text)}</code>"
-        if words:
-            address = self.crate.page if words[0].kind == "impl" and self.crate else f"words.html#word-{words[0].name}"
-            return f'<code><a href="{escape(address)}">{plain}</a></code>'
-        items = self.items_with_clause(text) if self.is_carrier else []
-        if len(items) == 1:
-            return f"<code>{word_link(items[0], text)}</code>"
-        if items:
+        if words and self.crate and (with_clause or words[0].kind == "impl"):
             return f'<code><a href="{self.crate.page}">{plain}</a></code>'
-        if self.is_carrier and not (self.site.project.root / text).exists():
+        if words and words[0].kind != "impl":
+            return f'<code><a href="words.html#word-{escape(words[0].name)}">{plain}</a></code>'
+        if self.is_carrier and not words and not (self.site.project.root / text).exists():
             self.report(text)
         return f"<code>{plain}</code>"
 
+    def file_link(self, name):
+        """A file of definitions of the section's crate."""
+        if self.crate is None or name not in self.crate.definitions:
+            self.site.project.problems.add(self.place, f"`{name}` is no file of definitions")
+            return f"<code>{escape(name)}</code>"
+        return f"<code>{self.site.module_link(self.crate, name)}</code>"
+
     def words(self, text):
-        """The words that a name can mean: those of the section's crate, where it has any."""
+        """The words that a name can mean."""
         path = text.removesuffix("()").split("::")
         found = self.named.get(path[-1], [])
-        if len(path) > 1:
-            found = [word for word in found if word.home.split(".")[-1] == path[-2]]
-        near = [word for word in found if self.crate and word.crate == self.crate.name]
-        near = near or found
-        callable_words = [word for word in near if word.kind in ("function", "law")]
-        return callable_words or near
+        return [word for word in found if word.home.split(".")[-1] == path[-2]] if path[1:] else found
 
     def items_with_clause(self, name):
         """The public items with a clause of this name: those that the row or the table's head names, or all of the

@@ -4,9 +4,10 @@ import re
 from dataclasses import dataclass
 
 from fields import FieldFinder
-from lexing import Token, line_number, rust_tokens
-from scopes import ContractScope, plain
+from lexing import CLOSING, Token, line_number, rust_tokens
+from scopes import TYPE_KINDS, ContractScope, plain
 from terms import SYMBOLS, Term
+from variable_types import VariableTypes
 from words import REFERENCES, Module, Word
 
 CLAUSE_WORDS = ("requires", "ensures", "ghost")
@@ -32,6 +33,7 @@ class Resolver:
         self.place = place
         self.context = context
         self.fields = FieldFinder(project, scope)
+        self.types = VariableTypes(self)
         self.record_fields = {}
         self.local_words = {}
         self.made = []
@@ -97,12 +99,23 @@ class Resolver:
             return [Piece(token.text, self.notation(head), "keyword" if head in KEYWORDS else "")]
         if self.term.is_named_argument(index):
             return [Piece(token.text, None, "variable")]
-        if self.term.is_field_of_record(index):
-            return [Piece(token.text, self.cite(self.field(token, self.made, head)))]
-        variable = self.term.variable(plain(head), index) or self.scope.variable(plain(head))
+        record = self.term.record_of_field(index)
+        if record is not None:
+            owners = self.fields.made_with(self.term.fields_of_record(record), self.made_at(record))
+            return [Piece(token.text, self.cite(self.field(token, owners, head)))]
+        bound = self.term.variable(plain(head), index)
+        variable = bound or self.scope.variable(plain(head))
         if variable is not None:
-            return self.variable_pieces(token, variable, names)
+            return self.variable_pieces(token, variable, names, bound is None)
         return self.word_pieces(token, names)
+
+    def made_at(self, opening):
+        """The records or types of a `record { .. }` whose braces open here: in `record r { .. }` that of r, else those
+        that the definition makes."""
+        base = self.term.text_at(opening - 1)
+        variable = self.term.variable(base, opening) or self.scope.variable(base)
+        scope, text = self.types.of(self.term, variable) if variable else (self.scope, "")
+        return scope.owners(text) or self.made
 
     def is_keyword(self, token, index):
         return token.text != "record" or self.term.text_at(index + 1) != "{" and self.term.text_at(index + 2) != "{"
@@ -128,15 +141,17 @@ class Resolver:
                 return self.fields.owners_of_result(word) if isinstance(word, Word) else []
         return []
 
-    def variable_pieces(self, token, variable, names):
-        head = Piece(names[0], self.notation(names[0]), "variable")
+    def variable_pieces(self, token, variable, names, is_given):
+        head = Piece(names[0], self.notation(names[0]) if is_given else None, "variable")
         if isinstance(self.scope, ContractScope) and names[0] in self.scope.bounds and names[1:]:
             word = self.scope.trait_member(self.scope.bounds[names[0]], names[1])
             if word is None:
                 self.report(token, ".".join(names[:2]))
             return [head, Piece("."), Piece(names[1], self.cite(word))]
-        owners = self.scope.owners(variable.type or self.type_beside(variable))
-        return [head] + self.field_pieces(token, owners, names[1:], self.scope.exact_owner(variable.type))
+        scope, text = self.types.of(self.term, variable)
+        owners = scope.owners(text) if text else self.scope.owners(self.type_beside(variable))
+        exact = scope.exact_owner(text) or scope.kit_type(text)
+        return [head] + self.field_pieces(token, owners, names[1:], exact)
 
     def type_beside(self, variable):
         """The type of the argument before a `λ`, of which the `λ`'s variable is mostly a part."""
@@ -163,7 +178,10 @@ class Resolver:
         if isinstance(found, Module):
             self.report(token, token.text)
             return [Piece(token.text, None, "unresolved")]
-        return [Piece(shown, self.cite(found))] + self.field_pieces(token, [], names[count:])
+        is_value = found.kind == "field" and names[count:]
+        owners = self.fields.owners_of_field(found) if is_value else []
+        exact = self.fields.exact_owner_of_field(found) if is_value else None
+        return [Piece(shown, self.cite(found))] + self.field_pieces(token, owners, names[count:], exact)
 
     def is_declared_above(self, field, token):
         """Whether a field of the record that is being declared can be named here: after its declaration, or as what is
@@ -219,15 +237,18 @@ class ItemResolver(Resolver):
 
     def rust_pieces(self, start, end):
         pieces = []
-        for token in rust_tokens(self.text, start, end):
-            word = self.rust_word(token) if token.kind == "name" else None
+        tokens = rust_tokens(self.text, start, end)
+        declared = declared_members(tokens, self.item.kind == "enum")
+        for index, token in enumerate(tokens):
+            word = self.rust_word(path_to(tokens, index)) if token.kind == "name" and index not in declared else None
             style = token.kind if token.kind in ("comment", "string", "number") else ""
             pieces.append(Piece(token.text, word, "keyword" if token.text in CLAUSE_WORDS and word else style))
         return pieces
 
-    def rust_word(self, token):
-        """The word of a name outside the clauses: a type, a constant, what begins a clause, or the ghost member that is
-        given here."""
+    def rust_word(self, path):
+        """The word that a path outside the clauses ends with: a type, a variant, a constant, what begins a clause, or
+        the ghost member that is given here."""
+        token = path[-1]
         if token.text in CLAUSE_WORDS:
             return self.notation(token.text)
         if self.item.kind == "ghost" and token.text == self.item.name and self.scope.outer and self.scope.outer[0].trait:
@@ -235,6 +256,35 @@ class ItemResolver(Resolver):
             if word is None:
                 self.report(token, token.text)
             return word
-        word = self.scope.rust_word(self.scope.subject if token.text == "Self" else token.text)
+        if path[0].text in self.scope.bounds:
+            return None
+        names = [self.scope.subject if name.text == "Self" else name.text for name in path]
+        word = self.scope.rust_word("::".join(names), (*TYPE_KINDS, "variant") if names[1:] else TYPE_KINDS)
         self.fields.see(word)
         return word
+
+
+def declared_members(tokens, is_enum):
+    """The indices of the names that a declaration or a signature gives: of fields and parameters, which a colon
+    follows, and of an enum's variants."""
+    found = set()
+    depth, before = 0, ""
+    for index, token in enumerate(tokens):
+        if token.kind in ("space", "comment"):
+            continue
+        after = next((other.text for other in tokens[index + 1 :] if other.kind not in ("space", "comment")), "")
+        is_variant = is_enum and depth == 1 and before in ("{", ",", "]")
+        if token.kind == "name" and (after == ":" or is_variant):
+            found.add(index)
+        depth += (token.text in CLOSING) - (token.text in CLOSING.values())
+        before = token.text
+    return found
+
+
+def path_to(tokens, index):
+    """The names of a path up to this one."""
+    names = [tokens[index]]
+    while index >= 2 and tokens[index - 1].text == "::" and tokens[index - 2].kind == "name":
+        index -= 2
+        names.insert(0, tokens[index])
+    return names

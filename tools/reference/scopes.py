@@ -7,6 +7,7 @@ from terms import explicit_types
 from words import Module, Variable, Word
 
 PRELUDE = ("Rattle", "std", "specs", "Prelude")
+WRAPPERS = ("Option", "List", "Result", "Self", "Type")
 TYPE_KINDS = ("struct", "enum", "trait", "type", "union", "constant")
 
 
@@ -71,6 +72,22 @@ class Scope:
         owners = self.owners(head.group())
         return owners[0] if owners and owners[0].kind in ("record", "struct") else None
 
+    def kit_type(self, type_text):
+        """The name of the type of the kit that values of this type are, or None; a type that wraps others has no
+        fields."""
+        head = re.match(r"(?:\s|&|'\w+|mut\b)*([A-Z]\w+)", type_text)
+        if head is None or "→" in type_text or "×" in type_text or head.group(1) in WRAPPERS:
+            return None
+        word = self.lookup(head.group(1))
+        if isinstance(word, Word) and word.kind == "type" and word.crate:
+            target = word.file.text_of(word.origin).partition("=")[2]
+            return ContractScope.of_source(self.project, word.file).kit_type(target)
+        is_own = isinstance(word, Word) and word.crate or self.variable(head.group(1)) is not None
+        return None if is_own else self.kit_name(head.group(1))
+
+    def kit_name(self, name):
+        return name
+
 
 class DefinitionScope(Scope):
     """The names of a file of definitions."""
@@ -78,6 +95,7 @@ class DefinitionScope(Scope):
     def __init__(self, project, file):
         super().__init__(project, file.imports)
         self.file = file
+        self.crate = project.crate_of(file.path)
         self.operators = {piece: d.name for d in file.declarations for piece in operator_pieces(d.name)}
 
     def own(self, name):
@@ -98,6 +116,7 @@ class ContractScope(Scope):
             imports += around.imports
         super().__init__(project, imports + item.imports)
         self.source = source
+        self.crate = source.crate
         self.subject = next((around.subject or around.name for around in outer), "")
         self.outer = outer
         self.bounds = {}
@@ -150,11 +169,16 @@ class ContractScope(Scope):
             found = self.project.find(PRELUDE + (name,))
         return found
 
-    def rust_word(self, text):
-        """The type or constant that a Rust path means here."""
+    def rust_word(self, text, kinds=TYPE_KINDS):
+        """The type or constant, or another of these kinds, that a Rust path means here."""
         match = re.match(r"\w+(?:::\w+)*", text)
         word = match and self.project.find_rust(self.source, tuple(match.group().split("::")))
-        return word if word and word.kind in TYPE_KINDS else None
+        return word if word and word.kind in kinds else None
+
+    def kit_name(self, name):
+        """The name of a type of the kit, of which another crate of the kit can have made a name of its own."""
+        home = self.source.rust_names.get(name)
+        return self.project.kit.aliased(home[0], name) if home else name
 
     def trait_member(self, trait, member):
         """A ghost member of a trait: the repository's own, or the kit's."""

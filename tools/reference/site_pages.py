@@ -15,6 +15,7 @@ from layout import STYLE_PAGE, Frame, counted
 from project import definitions_page
 from promises import PAGE, PromisesPage
 from references import References, is_definition, owner_of
+from start_page import StartPage
 from trials import Trials
 from words import GLOSSARY_PAGE, Word
 
@@ -124,7 +125,7 @@ class Site:
         guide_pages.write_crates(self)
         guide_pages.write_trials(self)
         self.write_promises()
-        guide_pages.StartPage(self).write(headlines)
+        StartPage(self).write(headlines)
         self.counts["words of Rattle"] = guide_pages.write_glossary(self)
         self.counts["words"] = guide_pages.write_words(self)
         crates = [self.pages[crate.page] for crate in self.project.crates.values()]

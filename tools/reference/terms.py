@@ -69,8 +69,8 @@ class Term:
     def type_text(self, first, last):
         return " ".join(token.text for token in self.tokens[first:last])
 
-    def add(self, name, type_text, first, last, beside=""):
-        self.binders.append(Binder(Variable(name, type_text, beside), first, last))
+    def add(self, name, type_text, first, last, beside="", maker=-1, number=-1):
+        self.binders.append(Binder(Variable(name, type_text, beside, maker, number), first, last))
 
     def argument_before(self, index):
         """The name right before the bracket that opens before this token, which other functions in brackets may part
@@ -84,6 +84,7 @@ class Term:
         """`λ x (y : A) _. body`: the body ends with the group around it."""
         end = self.group_end[index]
         position = index + 1
+        number = 0
         while position < len(self) and self.text_at(position) != ".":
             if self.text_at(position) in ("(", "{"):
                 close = self.closing(position)
@@ -91,8 +92,9 @@ class Term:
                     self.add_names(position + 1, close, end)
                 position = close
             elif self.tokens[position].kind == "path":
-                self.add(self.text_at(position), "", position, end, self.argument_before(index))
+                self.add(self.text_at(position), "", position, end, self.argument_before(index), index, number)
             position += 1
+            number += 1
 
     def add_names(self, first, last, end):
         for position in range(first, last):
@@ -121,34 +123,36 @@ class Term:
             type_end += 1
         for name in range(index + 1, position):
             if self.tokens[name].kind == "path":
-                self.add(self.text_at(name), self.type_text(position + 1, type_end), name, self.group_end[index])
+                type_text = self.type_text(position + 1, type_end)
+                self.add(self.text_at(name), type_text, name, self.group_end[index], "", type_end + 1)
 
     def variable(self, name, index):
         """The variable that a name means at this token, or None."""
         found = [binder for binder in self.binders if binder.variable.name == name and binder.first <= index <= binder.last]
         return max(found, key=lambda binder: binder.first).variable if found else None
 
-    def is_field_of_record(self, index):
-        """Whether the name at this token is a field in `record r { f = a; .. }`."""
+    def record_of_field(self, index):
+        """Where the braces open of the `record r { f = a; .. }` of which the name at this token is a field, or None."""
         if self.text_at(index + 1) != "=" or self.text_at(index - 1) not in ("{", ";"):
-            return False
+            return None
         depth = 0
         for position in range(index - 1, -1, -1):
             depth += (self.text_at(position) in OPENING.values()) - (self.text_at(position) in OPENING)
             if depth < 0:
-                return "record" in (self.text_at(position - 1), self.text_at(position - 2))
-        return False
+                return position if "record" in (self.text_at(position - 1), self.text_at(position - 2)) else None
+        return None
+
+    def is_field_of_record(self, index):
+        return self.record_of_field(index) is not None
+
+    def fields_of_record(self, opening):
+        """The names of the fields that a `record { .. }` gives."""
+        inside = range(opening + 1, self.closing(opening))
+        return [self.text_at(index) for index in inside if self.record_of_field(index) == opening]
 
     def is_named_argument(self, index):
         """Whether the name at this token is that of an argument in `f {x = e}`."""
         return self.text_at(index - 1) == "{" and self.text_at(index + 1) == "=" and not self.is_field_of_record(index)
-
-    def is_pattern_of_case(self, index):
-        """Whether the token lies between `[` or `|` and `↦`."""
-        position = index
-        while position < len(self) and self.text_at(position) not in ("|", "]", "↦", "["):
-            position += 1
-        return self.text_at(position) == "↦"
 
 
 def explicit_types(signature):

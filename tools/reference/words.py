@@ -7,7 +7,8 @@ from urllib.parse import quote
 
 @dataclass
 class Word:
-    """A word that a page explains. Its members are the constructors, variants or fields under it."""
+    """A word that a page explains. Its members are the constructors, variants or fields under it. Of a member of an
+    implementation it has the trait."""
 
     name: str
     kind: str
@@ -23,6 +24,7 @@ class Word:
     file: object = None
     members: dict = field(default_factory=dict)
     is_public: bool = True
+    trait: str = ""
 
     def __hash__(self):
         return id(self)
@@ -50,12 +52,17 @@ class Word:
 
 @dataclass(frozen=True)
 class Variable:
-    """A name that a clause or a definition binds, with the text of its type where that is written; of a `λ` that is an
-    argument, also the argument before it, such as `r` in `IfOk r (λ x. ..)`."""
+    """A name that a clause or a definition binds, with the text of its type where that is written, and the scope of
+    that text if it is another. Of a `λ` that is an argument it has the argument before it too, such as `r` in
+    `IfOk r (λ x. ..)`. Its maker is the token that begins its `λ` or the value of its `let`, and its number is its
+    place among the variables of the `λ`."""
 
     name: str
     type: str = ""
     beside: str = ""
+    maker: int = -1
+    number: int = -1
+    scope: object = None
 
 
 @dataclass
