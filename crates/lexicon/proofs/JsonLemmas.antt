@@ -9,7 +9,7 @@ use Rattle.lexicon.specs.{declared.command.Report.Report}
 use Rattle.lexicon.specs.declared.command.Report.TheVariants as report
 use Rattle.lexicon.specs.JsonReports.{Field, with_field, fields_onto, word_values, word_data, optional_data, origin_fields, origin_data, source_part, explained_fields, value_fields, answer_fields, size_fields, text_fields, facts_onto, with_report, problem_fields, target_members, JsonAnswer, Reported, Rejected, IsJsonAnswer, answer_data}
 
--- five and six fields, one after the other
+-- five, six and seven fields, one after the other
 module _ {T E : Type 0} (m0 m1 m2 m3 m4 m5 : Members) (k1 k2 k3 k4 k5 : List ℕ) (d1 d2 d3 d4 d5 : Data)
     (e1 : m1 ≡ with_field k1 d1 m0) (e2 : m2 ≡ with_field k2 d2 m1) (e3 : m3 ≡ with_field k3 d3 m2) (e4 : m4 ≡ with_field k4 d4 m3) where
   pub five-fields : (done : Result T E) → OnOk done (m5 ≡ with_field k5 d5 m4)
@@ -25,6 +25,12 @@ module _ {T E : Type 0} (m0 m1 m2 m3 m4 m5 : Members) (k1 k2 k3 k4 k5 : List ℕ
       e6 ∙ ap (λ (m : Members). with_field k6 d6 m) (e5 ∙ ap (λ (m : Members). with_field k5 d5 m) (e4 ∙ ap (λ (m : Members). with_field k4 d4 m)
       (e3 ∙ ap (λ (m : Members). with_field k3 d3 m) (e2 ∙ ap (λ (m : Members). with_field k2 d2 m) e1))))
   six-fields m6 k6 d6 (Err _) e5 e6 = tt
+
+  pub seven-fields : (m6 m7 : Members) (k6 k7 : List ℕ) (d6 d7 : Data) (done : Result T E) → m5 ≡ with_field k5 d5 m4 → m6 ≡ with_field k6 d6 m5
+      → OnOk done (m7 ≡ with_field k7 d7 m6)
+      → OnOk done (m7 ≡ fields_onto m0 ((k1, d1) ∷ (k2, d2) ∷ (k3, d3) ∷ (k4, d4) ∷ (k5, d5) ∷ (k6, d6) ∷ (k7, d7) ∷ []))
+  seven-fields m6 m7 k6 k7 d6 d7 (Ok of) e5 e6 e7 = e7 ∙ ap (λ (m : Members). with_field k7 d7 m) (six-fields m6 k6 d6 (Ok of) e5 e6)
+  seven-fields m6 m7 k6 k7 d6 d7 (Err _) e5 e6 e7 = tt
 
 neither : (a b : Bool) → a ≡ false → b ≡ false → (a || b) ≡ false
 neither a b x y = rw x y

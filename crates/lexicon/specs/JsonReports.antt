@@ -4,10 +4,10 @@ use Rattle.std.specs.List.{AllZip, list_any}
 use Rattle.std.specs.Str.{bytes_eq}
 use Rattle.lexicon_fields.specs.{Architecture.architecture_name, Names.Pair, Names.value_named, Vendor.vendor_name, OperatingSystem.operating_system_name, OperatingSystem.system_version, Environment.environment_name, BinaryFormat.binary_format_name}
 use Rattle.lexicon_programs.specs.Words.{endianness_word, width_word, convention_word, model_word}
-use Rattle.serde_json.specs.{Data.Data, Data.Members, Data.no_members, Data.null, Data.string, Data.number, Data.unsigned, Data.object, Data.put}
+use Rattle.serde_json.specs.{Data.Data, Data.Members, Data.no_members, Data.null, Data.boolean, Data.string, Data.number, Data.unsigned, Data.object, Data.put}
 use Rattle.target_lexicon.specs.{Values.Values, declared.data_model.CDataModel.CDataModel, Queries.endianness, Queries.pointer_width, Queries.calling_convention, Queries.data_model}
 use Rattle.target_lexicon.specs.{Explanation.SourceValue, Explanation.SourceValues, Explanation.FromPart, Explanation.NotGiven, Explanation.Implied, FixedPoints.canonical_text, Printing.text_of}
-use Rattle.lexicon.specs.{declared.command.Report.Report, Problem.ProblemValue, Problem.IsSuggested, Reports.size_in, Reports.version_word, TargetAnswers.IsReading, TargetAnswers.IsProblemOf}
+use Rattle.lexicon.specs.{declared.command.Report.Report, Problem.ProblemValue, Problem.IsSuggested, Reports.is_custom, Reports.size_in, Reports.version_word, TargetAnswers.IsReading, TargetAnswers.IsProblemOf}
 use Rattle.lexicon_fields.specs.PointerWidth.{width_bits}
 use Rattle.lexicon_fields.specs.declared.pointer_width.PointerWidth.TheVariants as width
 use Rattle.lexicon.specs.declared.command.Report.TheVariants as report
@@ -66,13 +66,19 @@ origin_fields name source =
 abbrev pub origin_data : List ℕ → SourceValue → Data
 origin_data name source = object_of (origin_fields name source)
 
+-- whether the vendor is a custom one
+abbrev pub custom_field : Values → Field
+custom_field t = (codes "has_custom_vendor", boolean (is_custom t.vendor))
+
+-- how each field came, and whether the vendor is a custom one
 abbrev pub explained_fields : Values → SourceValues → List Field
 explained_fields t s =
     (codes "architecture", origin_data (architecture_name t.architecture) s.architecture)
     ∷ (codes "vendor", origin_data (vendor_name t.vendor) s.vendor)
     ∷ (codes "operating_system", origin_data (operating_system_name t.operating_system) s.operating_system)
     ∷ (codes "environment", origin_data (environment_name t.environment) s.environment)
-    ∷ (codes "binary_format", origin_data (binary_format_name t.binary_format) s.binary_format) ∷ []
+    ∷ (codes "binary_format", origin_data (binary_format_name t.binary_format) s.binary_format)
+    ∷ custom_field t ∷ []
 
 abbrev pub value_fields : Values → List Field
 value_fields t =
@@ -81,7 +87,8 @@ value_fields t =
     ∷ (codes "operating_system", string (operating_system_name t.operating_system))
     ∷ (codes "version", word_data (version_word (system_version t.operating_system)))
     ∷ (codes "environment", string (environment_name t.environment))
-    ∷ (codes "binary_format", string (binary_format_name t.binary_format)) ∷ []
+    ∷ (codes "binary_format", string (binary_format_name t.binary_format))
+    ∷ custom_field t ∷ []
 
 abbrev pub answer_fields : Values → List Field
 answer_fields t =

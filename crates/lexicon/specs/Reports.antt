@@ -1,7 +1,7 @@
 -- What is shown of a target: lines of a label and a value.
-use Rattle.std.specs.Prelude.{ℕ, List, [], ◌∷◌, ◌++◌, length, max, codes, Option, Some, None, option_map, if◌then◌else◌}
+use Rattle.std.specs.Prelude.{ℕ, Bool, true, false, List, [], ◌∷◌, ◌++◌, length, max, codes, Option, Some, None, option_map, if◌then◌else◌}
 use Rattle.std.specs.Str.{bytes_eq}
-use Rattle.lexicon_fields.specs.{Architecture.architecture_name, Vendor.vendor_name, OperatingSystem.operating_system_name, OperatingSystem.system_version, Environment.environment_name, BinaryFormat.binary_format_name}
+use Rattle.lexicon_fields.specs.{Architecture.architecture_name, Vendor.vendor_name, Vendor.VendorValue, Vendor.Known, Vendor.Custom, OperatingSystem.operating_system_name, OperatingSystem.system_version, Environment.environment_name, BinaryFormat.binary_format_name}
 use Rattle.lexicon_fields.specs.{Version.version_name, declared.deployment_target.DeploymentTarget.DeploymentTarget}
 use Rattle.lexicon_programs.specs.Words.{endianness_word, width_word, convention_word, model_word}
 use Rattle.target_lexicon.specs.{DataModel.sizes_of, declared.data_model.CDataModel.CDataModel, declared.data_model.Size.Size, Values.Values}
@@ -19,9 +19,26 @@ origin_words name (FromPart start end part) = (if bytes_eq part name then codes 
 origin_words name NotGiven = codes "not given"
 origin_words name Implied = codes "implied"
 
+-- whether a vendor is a custom one
+abbrev pub is_custom : VendorValue → Bool
+is_custom (Known known) = false
+is_custom (Custom text) = true
+
+-- how a vendor came, after a word for a custom one
+abbrev pub vendor_origin_words : VendorValue → SourceValue → List ℕ
+vendor_origin_words vendor source = (if is_custom vendor then codes "custom, " else []) ++ origin_words (vendor_name vendor) source
+
+-- a name in its column, and words after it
+abbrev pub name_and_words : ℕ → List ℕ → List ℕ → List ℕ
+name_and_words width name words = column_text width name ++ (codes "  " ++ words)
+
 -- a name in its column, and how the value came
 abbrev pub name_and_origin : ℕ → List ℕ → SourceValue → List ℕ
-name_and_origin width name source = column_text width name ++ (codes "  " ++ origin_words name source)
+name_and_origin width name source = name_and_words width name (origin_words name source)
+
+-- a vendor's name in its column, and how it came
+abbrev pub explained_vendor_line : ℕ → VendorValue → SourceValue → Line
+explained_vendor_line width vendor source = (codes "vendor", name_and_words width (vendor_name vendor) (vendor_origin_words vendor source))
 
 -- the column of the names: the length of the longest
 abbrev pub name_width : Values → ℕ
@@ -33,7 +50,7 @@ name_width t =
 abbrev pub first_explained_lines : ℕ → Values → SourceValues → List Line
 first_explained_lines width t s =
     (codes "architecture", name_and_origin width (architecture_name t.architecture) s.architecture)
-    ∷ (codes "vendor", name_and_origin width (vendor_name t.vendor) s.vendor)
+    ∷ explained_vendor_line width t.vendor s.vendor
     ∷ (codes "operating system", name_and_origin width (operating_system_name t.operating_system) s.operating_system) ∷ []
 
 -- the other fields
@@ -59,11 +76,16 @@ size_word (Some size.U32) = codes "4"
 size_word (Some size.U64) = codes "8"
 size_word None = codes "-"
 
--- the first fields
+-- the answer to a question
+abbrev pub answer_word : Bool → List ℕ
+answer_word answer = if answer then codes "yes" else codes "no"
+
+-- the first fields, and whether the vendor is a custom one
 abbrev pub first_field_lines : Values → List Line
 first_field_lines t =
     (codes "architecture", architecture_name t.architecture)
     ∷ (codes "vendor", vendor_name t.vendor)
+    ∷ (codes "custom vendor", answer_word (is_custom t.vendor))
     ∷ (codes "operating system", operating_system_name t.operating_system) ∷ []
 
 -- the version of the system and the other fields

@@ -1,17 +1,17 @@
 //! What is written of a target as JSON.
-ghost use Rattle.std.specs.Prelude.{◌≡◌, true, option_map, IfOk, OnOk};
+ghost use Rattle.std.specs.Prelude.{◌≡◌, [], ◌∷◌, true, option_map, IfOk, OnOk};
 ghost use Rattle.lexicon_fields.specs.Vendor.{is_plain};
 ghost use Rattle.lexicon_fields.specs.VendorRef.{ref_value};
 ghost use Rattle.serde_json.specs.Data.{string};
 ghost use Rattle.serde_json.specs.View.{members_view, view};
 ghost use Rattle.target_lexicon.specs.Explanation.{source_value, sources_of};
 ghost use Rattle.target_lexicon.specs.ValuesRef.{values_of_ref};
-ghost use Rattle.lexicon.specs.JsonReports.{answer_fields, explained_fields, facts_onto, fields_onto, optional_data, origin_data, origin_word, problem_fields, size_fields, source_part, text_fields, value_fields, with_field, with_report, word_data};
+ghost use Rattle.lexicon.specs.JsonReports.{answer_fields, custom_field, explained_fields, facts_onto, fields_onto, optional_data, origin_data, origin_word, problem_fields, size_fields, source_part, text_fields, value_fields, with_field, with_report, word_data};
 ghost use Rattle.lexicon.specs.Problem.{problem_value};
 
 use crate::command::Report;
 use crate::problem::Problem;
-use crate::reports::version_word;
+use crate::reports::{is_custom, version_word};
 use crate::sizes::{CType, size_in};
 use lexicon_programs::{convention_word, endianness_word, model_word, width_word};
 use serde_json::{Map, Value, put};
@@ -136,7 +136,22 @@ fn put_origin(
     put_value(alloc, members, key, Value::Object(of))
 }
 
-/// Adds each field, its value, and how it came.
+/// Adds whether the vendor is a custom one.
+fn put_custom(
+    alloc: Global,
+    members: &mut Members,
+    triple: &TripleRef<'_>,
+) -> Result<(), AllocError>
+    ensures { OnOk result
+        (members_view members.new.entries
+        ≡ fields_onto (members_view members.old.entries)
+        (custom_field (values_of_ref triple.now) ∷ [])) }
+{
+    let value = Value::Bool(is_custom(triple.vendor));
+    put_value(alloc, members, "has_custom_vendor", value)
+}
+
+/// Adds each field, its value, how it came, and whether the vendor is a custom one.
 fn put_explained(
     alloc: Global,
     members: &mut Members,
@@ -186,10 +201,11 @@ fn put_explained(
         "binary_format",
         format.as_str(),
         &sources.binary_format,
-    )
+    )?;
+    put_custom(alloc, members, triple)
 }
 
-/// Adds the fields and the version.
+/// Adds the fields, the version, and whether the vendor is a custom one.
 fn put_values(
     alloc: Global,
     members: &mut Members,
@@ -210,7 +226,8 @@ fn put_values(
     put_text(alloc, members, "operating_system", system.as_str())?;
     put_word(alloc, members, "version", version.as_str())?;
     put_text(alloc, members, "environment", environment.as_str())?;
-    put_text(alloc, members, "binary_format", format.as_str())
+    put_text(alloc, members, "binary_format", format.as_str())?;
+    put_custom(alloc, members, triple)
 }
 
 /// Adds the answers of the queries.

@@ -7,14 +7,14 @@ ghost use Rattle.target_lexicon.specs.Explanation.{source_value, sources_of};
 ghost use Rattle.target_lexicon.specs.FixedPoints.{canonical_text};
 ghost use Rattle.target_lexicon.specs.ValuesRef.{values_of_ref};
 ghost use Rattle.lexicon.specs.Layout.{laid_below, line_text};
-ghost use Rattle.lexicon.specs.Reports.{answer_lines, explained_lines, facts_lines, first_explained_lines, first_field_lines, integer_size_lines, name_and_origin, name_width, origin_words, other_explained_lines, other_field_lines, other_size_lines, shown_text, text_lines, version_word};
+ghost use Rattle.lexicon.specs.Reports.{answer_lines, answer_word, explained_lines, explained_vendor_line, facts_lines, first_explained_lines, first_field_lines, integer_size_lines, is_custom, name_and_origin, name_width, origin_words, other_explained_lines, other_field_lines, other_size_lines, shown_text, text_lines, vendor_origin_words, version_word};
 
 use crate::command::View;
 use crate::layout::{push_label, push_line, push_padded};
 use crate::sizes::{CType, size_in};
 use lexicon_programs::{convention_word, endianness_word, model_word, width_word};
 use std::alloc::{AllocError, Global};
-use target_lexicon::{CDataModel, DeploymentTarget, Explanation, Source, TripleRef};
+use target_lexicon::{CDataModel, DeploymentTarget, Explanation, Source, TripleRef, VendorRef};
 
 /// Appends how a value came that has this name.
 fn push_origin(out: &mut String, name: &str, source: &Source<'_>) -> Result<(), AllocError>
@@ -35,6 +35,52 @@ fn push_origin(out: &mut String, name: &str, source: &Source<'_>) -> Result<(), 
         Source::NotGiven => out.push_str("not given"),
         Source::Implied => out.push_str("implied"),
     }
+}
+
+/// Whether a vendor is a custom one.
+pub(crate) fn is_custom(vendor: VendorRef<'_>) -> bool
+    ensures { result ≡ is_custom (ref_value vendor.entry) }
+{
+    match vendor {
+        VendorRef::Known(_) => false,
+        VendorRef::Custom(_) => true,
+    }
+}
+
+/// Appends how a vendor came, after a word for a custom one.
+fn push_vendor_origin(
+    out: &mut String,
+    vendor: VendorRef<'_>,
+    source: &Source<'_>,
+) -> Result<(), AllocError>
+    ensures { OnOk result
+        (string_bytes out.new
+        ≡ string_bytes out.old
+        ++ vendor_origin_words (ref_value vendor.entry) (source_value source.now)) }
+{
+    out.push_str(if is_custom(vendor) { "custom, " } else { "" })?;
+    push_origin(out, vendor.as_str(), source)
+}
+
+/// Appends the line of the vendor: its name in its column, and how it came.
+#[tactic(auto, unfolding(crate::specs::Layout::line_text))]
+fn push_explained_vendor(
+    out: &mut String,
+    width: usize,
+    vendor: VendorRef<'_>,
+    source: &Source<'_>,
+) -> Result<(), AllocError>
+    ensures { OnOk result
+        (string_bytes out.new
+        ≡ string_bytes out.old
+        ++ line_text (explained_vendor_line width (ref_value vendor.entry)
+        (source_value source.now))) }
+{
+    push_label(out, "vendor")?;
+    push_padded(out, vendor.as_str(), width)?;
+    out.push_str("  ")?;
+    push_vendor_origin(out, vendor, source)?;
+    out.push_str("\n")
 }
 
 /// Appends the line of a field: its name in its column, and how the value came.
@@ -97,13 +143,7 @@ fn push_first_explained(
         architecture.as_str(),
         &sources.architecture,
     )?;
-    push_explained_line(
-        out,
-        "vendor",
-        width,
-        triple.vendor.as_str(),
-        &sources.vendor,
-    )?;
+    push_explained_vendor(out, width, triple.vendor, &sources.vendor)?;
     let source = &sources.operating_system;
     push_explained_line(out, "operating system", width, system.as_str(), source)
 }
@@ -178,7 +218,14 @@ pub(crate) fn version_word(
     Ok(word)
 }
 
-/// Appends the first fields.
+/// The answer to a question.
+fn answer_word(answer: bool) -> &'static str
+    ensures { result.now ≡ answer_word answer }
+{
+    if answer { "yes" } else { "no" }
+}
+
+/// Appends the first fields, and whether the vendor is a custom one.
 fn push_first_fields(
     alloc: Global,
     out: &mut String,
@@ -192,6 +239,7 @@ fn push_first_fields(
     let system = triple.operating_system.into_str(alloc)?;
     push_line(out, "architecture", architecture.as_str())?;
     push_line(out, "vendor", triple.vendor.as_str())?;
+    push_line(out, "custom vendor", answer_word(is_custom(triple.vendor)))?;
     push_line(out, "operating system", system.as_str())
 }
 
