@@ -12,5 +12,5 @@ mod tests;
 pub use distance::distance_up_to;
 pub use field::Field;
 pub use known_names::names;
-pub use laws::edit_distance_is_least;
+pub use laws::{copies_equal_their_sources, edit_distance_is_least, fields_are_equal_by_variant};
 pub use nearest::nearest_name;

@@ -4,6 +4,7 @@
 
 mod counted;
 mod input;
+pub mod laws;
 mod lines;
 mod stream_error;
 mod words;
