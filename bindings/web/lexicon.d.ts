@@ -74,8 +74,9 @@ export class ParseError extends Error {
 /** A target triple. It never changes. */
 export class Triple {
   private constructor();
-  /** The name of each field's value; of a custom vendor, its text. */
+  /** The name, one of `namesOf("architecture")`. It is never an alias: of `arm64` it is `aarch64`. So are the fields below. */
   readonly architecture: string;
+  /** The name, or the text of a custom vendor. */
   readonly vendor: string;
   /** The name without the version. */
   readonly operatingSystem: string;
@@ -116,4 +117,4 @@ export function numberOf(field: Field, text: string): number | null;
 export function hasMemory64(): boolean;
 
 /** Loads the module, from its bytes. What was loaded before is replaced. The package's own entry has done so. */
-export function load(bytes: BufferSource): Promise<void>;
+export function load(bytes: ArrayBuffer | ArrayBufferView): Promise<void>;

@@ -112,7 +112,8 @@ impl OperatingSystem {
     }
 }
 
-/// The triple has a vendor that no text parses as, so that it has no canonical form. It gives the triple back.
+/// No text parses as the vendor of the triple, so its printed text is refused or parses with another vendor: the triple
+/// has no result of [`Triple::normal`] and [`Triple::settle`]. It is given back.
 ///
 /// # Examples
 ///
@@ -158,8 +159,9 @@ impl Triple {
         if self.vendor.is_plain() { Ok(self.normal_unchecked()) } else { Err(NotPlain(self)) }
     }
 
-    /// The canonical form of the triple, which comes back. Two canonical triples with the same text are the same, so the
-    /// text serves as a key. A triple that [`comes_back`](Triple::comes_back) is unchanged.
+    /// The canonical form of the triple: the result of [`normal`](Triple::normal), which comes back. Two canonical triples
+    /// with the same text are the same, so the text serves as a key. A triple that [`comes_back`](Triple::comes_back) is
+    /// unchanged.
     ///
     /// # Errors
     ///
@@ -347,7 +349,7 @@ impl Triple {
     }
 }
 
-/// The triple of a text that must be one. Any other text ends the program.
+/// The triple of a text. Panics if the text is refused.
 ///
 /// # Examples
 ///
