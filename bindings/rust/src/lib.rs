@@ -15,6 +15,12 @@
 //! assert_eq!(triple.to_string(), "aarch64-apple-ios");
 //! # Ok::<(), target_lexicon::ParseError>(())
 //! ```
+//!
+//! The crate needs Rust 1.85, is `no_std` with `alloc`, and has no dependency but `serde`, with the feature
+//! `serde_support`. The feature `upstream_printing` prints each triple as upstream does; `std`, `arch_zkasm` and `arch_z80`
+//! change nothing. [`TripleRef`] is a triple that borrows from the text, [`TripleRef::explain`] says where a text is
+//! refused, and [`Triple::settle`] gives a key. The page `bindings/rust/README.md` of the repository says what differs from
+//! upstream, and what is proved.
 #![no_std]
 #![forbid(unsafe_code)]
 
@@ -66,6 +72,17 @@ impl Clone for ParseError {
 impl FromStr for Vendor {
     type Err = ();
 
+    /// The vendor that the text parses as: a known one, or a custom one, if [`Vendor::Custom`] admits the text.
+    ///
+    /// # Examples
+    ///
+    /// ```
+    /// use target_lexicon::{CustomVendor, Vendor};
+    ///
+    /// assert_eq!("apple".parse(), Ok(Vendor::Apple));
+    /// assert_eq!("acme".parse(), Ok(Vendor::Custom(CustomVendor::Static("acme"))));
+    /// assert_eq!("linux".parse::<Vendor>(), Err(()));
+    /// ```
     fn from_str(text: &str) -> Result<Self, ()> {
         match Vendor::from_str_alloc(Global, text) {
             Ok(vendor) => Ok(vendor),
