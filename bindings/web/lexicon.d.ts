@@ -7,7 +7,7 @@ export type Field = "architecture" | "vendor" | "operatingSystem" | "environment
 /** The names of the fields, in the order of their numbers. */
 export const FIELDS: readonly Field[];
 
-/** The families of architectures, by their numbers. */
+/** The families of architectures, by their numbers. They are spelled as the variants of Rust's `Architecture`: `X86_32`. */
 export const FAMILIES: readonly string[];
 
 export interface Version {
@@ -25,7 +25,10 @@ export type Source =
   /** The binary format that the other fields imply. */
   | { kind: "implied" };
 
-/** The triple or the error of a text, and where each field comes from: of an error, the fields before the refused part. */
+/**
+ * The triple or the error of a text, and where each field comes from. Of an error only the fields before the refused part have a
+ * source; the later ones are `not given`.
+ */
 export type Explanation = { text: string; sources: Record<Field, Source> } & (
   | { triple: Triple; error: null }
   | { triple: null; error: ParseError }
@@ -53,6 +56,7 @@ export interface Facts {
   cBits: CBits | null;
   /** The binary format that the other fields imply. */
   impliedFormat: string;
+  /** The family of the architecture, one of FAMILIES: `X86_32` for i686. */
   family: string;
   isThumb: boolean;
   isLikeDarwin: boolean;
@@ -67,15 +71,16 @@ export class ParseError extends Error {
   readonly part: string;
   readonly start: number;
   readonly end: number;
-  /** The message, the text below it, and carets below the refused part. */
+  /** The message, the text below it, and carets below the refused part. A control character is shown as U+FFFD; `message` keeps it. */
   readonly report: string;
 }
 
 /** A target triple. It never changes. */
 export class Triple {
   private constructor();
-  /** The name of each field's value; of a custom vendor, its text. */
+  /** The name of the value, one of `namesOf("architecture")`. It is never an alias: of `arm64` it is `aarch64`. So are all fields. */
   readonly architecture: string;
+  /** The name, or the text of a custom vendor. */
   readonly vendor: string;
   /** The name without the version. */
   readonly operatingSystem: string;
@@ -90,7 +95,10 @@ export class Triple {
   static parse(text: string): Triple;
   /** The triple or the error of a text, and where each field comes from. */
   static explain(text: string): Explanation;
-  /** The triple of these values, by their names; a field that is left out is unknown. Throws a RangeError if there is none. */
+  /**
+   * The triple of these values, by their names. A field that is left out is unknown, and so is the binary format: it isn't the implied
+   * one, which facts().impliedFormat has. Throws a RangeError if there is no such value.
+   */
   static of(values: Partial<Record<Field, string>> & { version?: { major: number; minor?: number; patch?: number } | null }): Triple;
 
   /** The printed text. */
@@ -116,4 +124,4 @@ export function numberOf(field: Field, text: string): number | null;
 export function hasMemory64(): boolean;
 
 /** Loads the module, from its bytes. What was loaded before is replaced. The package's own entry has done so. */
-export function load(bytes: BufferSource): Promise<void>;
+export function load(bytes: ArrayBuffer | ArrayBufferView): Promise<void>;

@@ -15,6 +15,12 @@
 //! assert_eq!(triple.to_string(), "aarch64-apple-ios");
 //! # Ok::<(), target_lexicon::ParseError>(())
 //! ```
+//!
+//! The crate needs Rust 1.85, is `no_std` with `alloc`, and has no dependency but `serde`, with the feature
+//! `serde_support`. The feature `upstream_printing` prints each triple as upstream does; `std`, `arch_zkasm` and `arch_z80`
+//! change nothing. [`TripleRef`] is a triple that borrows from the text, [`TripleRef::explain`] says where a text is
+//! refused, and [`Triple::settle`] gives a key. The page `bindings/rust/README.md` of the repository says what differs from
+//! upstream, and what is proved.
 #![no_std]
 #![forbid(unsafe_code)]
 
@@ -66,6 +72,17 @@ impl Clone for ParseError {
 impl FromStr for Vendor {
     type Err = ();
 
+    /// The vendor that the text parses as: a known one, or a custom one, if [`Vendor::Custom`] admits the text.
+    ///
+    /// # Examples
+    ///
+    /// ```
+    /// use target_lexicon::{CustomVendor, Vendor};
+    ///
+    /// assert_eq!("apple".parse(), Ok(Vendor::Apple));
+    /// assert_eq!("acme".parse(), Ok(Vendor::Custom(CustomVendor::Static("acme"))));
+    /// assert_eq!("linux".parse::<Vendor>(), Err(()));
+    /// ```
     fn from_str(text: &str) -> Result<Self, ()> {
         match Vendor::from_str_alloc(Global, text) {
             Ok(vendor) => Ok(vendor),
@@ -112,7 +129,8 @@ impl OperatingSystem {
     }
 }
 
-/// The triple has a vendor that no text parses as, so that it has no canonical form. It gives the triple back.
+/// No text parses as the vendor of the triple, so its printed text is refused or parses with another vendor: the triple
+/// has no result of [`Triple::normal`] and [`Triple::settle`]. It is given back.
 ///
 /// # Examples
 ///
@@ -158,8 +176,9 @@ impl Triple {
         if self.vendor.is_plain() { Ok(self.normal_unchecked()) } else { Err(NotPlain(self)) }
     }
 
-    /// The canonical form of the triple, which comes back. Two canonical triples with the same text are the same, so the
-    /// text serves as a key. A triple that [`comes_back`](Triple::comes_back) is unchanged.
+    /// The canonical form of the triple: the result of [`normal`](Triple::normal), which comes back. Two canonical triples
+    /// with the same text are the same, so the text serves as a key. A triple that [`comes_back`](Triple::comes_back) is
+    /// unchanged.
     ///
     /// # Errors
     ///
@@ -347,7 +366,7 @@ impl Triple {
     }
 }
 
-/// The triple of a text that must be one. Any other text ends the program.
+/// The triple of a text. Panics if the text is refused.
 ///
 /// # Examples
 ///

@@ -102,7 +102,9 @@ pub enum Vendor {
     Uwp,
     Wrs,
     // end of what is written
-    /// Any other vendor. Parsing produces only admitted texts (see `from_str`); code can make a value with any text.
+    /// Any other vendor. Parsing admits a text as one if it begins with a letter from `a` to `z`, has only such
+    /// letters, digits, `_` and `.`, and parses as no known vendor and no other field. Code can make a value with any
+    /// text.
     Custom(CustomVendor),
 }
 
@@ -182,7 +184,7 @@ impl Vendor {
         }
     }
 
-    /// Whether parsing can produce the vendor: it is known, or custom with an admitted text.
+    /// Whether parsing can produce the vendor: it is known, or custom with a text that [`Vendor::Custom`] admits.
     pub fn is_plain(&self) -> bool
         ensures { result ≡ is_plain (vendor_value self.now) }
     {

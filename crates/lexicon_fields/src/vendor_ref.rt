@@ -18,13 +18,13 @@ use std::fmt;
 pub enum VendorRef<'a> {
     /// A vendor that has a fixed name.
     Known(KnownVendor),
-    /// Any other vendor, as its text.
+    /// Any other vendor, as its text: see [`Vendor::Custom`].
     Custom(&'a str),
 }
 
 impl<'a> VendorRef<'a> {
-    /// The vendor that the text parses as, as [`Vendor::from_str`] says; a custom one borrows the text. `Err` for every
-    /// other text.
+    /// The vendor that the text parses as: a known one, or a custom one that borrows the text, if [`Vendor::Custom`]
+    /// admits it. `Err` for every other text.
     pub fn from_str(text: &'a str) -> Result<VendorRef<'a>, ()>
         ensures ok { IfOk result (λ vendor. vendor_of text.entry.now ≡ Some (ref_value vendor)) }
         ensures err { OnErr result (vendor_of text.entry.now ≡ None) }
@@ -65,7 +65,7 @@ impl<'a> VendorRef<'a> {
         }
     }
 
-    /// Whether parsing can produce the vendor: it is known, or custom with an admitted text.
+    /// Whether parsing can produce the vendor: it is known, or custom with a text that [`Vendor::Custom`] admits.
     pub fn is_plain(&self) -> bool
         ensures { result ≡ is_plain (ref_value self.now) }
     {

@@ -137,8 +137,8 @@ impl Triple {
         self.as_triple_ref().to_upstream_text(alloc)
     }
 
-    /// Writes the printed text at the front of the buffer if it fits there, and returns its length. Nothing is
-    /// allocated.
+    /// Writes the printed text at the front of the buffer if it fits there, and returns its length. If it doesn't fit,
+    /// the buffer is unchanged: compare the result with `out.len()`. Nothing is allocated.
     pub fn write_to(&self, out: &mut [u8]) -> usize
         ensures { IsWritten (text_of (values_of self.now)) out.old out.new result }
     {
@@ -163,7 +163,7 @@ impl<'a> TripleRef<'a> {
     }
 
     /// Writes the printed text at the front of the buffer if it fits there, and returns its length. If it doesn't fit,
-    /// the buffer is unchanged. Nothing is allocated.
+    /// the buffer is unchanged: compare the result with `out.len()`. Nothing is allocated.
     pub fn write_to(&self, out: &mut [u8]) -> usize
         ensures { IsWritten (text_of (values_of_ref self.now)) out.old out.new result }
     {

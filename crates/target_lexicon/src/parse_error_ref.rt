@@ -99,7 +99,8 @@ impl<'a> ParseErrorRef<'a> {
 }
 
 impl ParseError {
-    /// The refusal, with the part borrowed. `None` for `OutOfMemory`.
+    /// The refusal, with the part borrowed. `None` if an allocation failed. The Rust crate has no such error: there it
+    /// is always `Some`.
     pub fn as_parse_error_ref(&self) -> Option<ParseErrorRef<'_>>
         ensures { option_map refusal_of_ref result ≡ refusal_of self.now }
     {

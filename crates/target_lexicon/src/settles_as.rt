@@ -9,7 +9,8 @@ use crate::triple::Triple;
 use crate::triple_ref::TripleRef;
 
 impl Triple {
-    /// Whether both triples have the same canonical form. Nothing is moved, copied or allocated.
+    /// Whether both triples have the same canonical form. Nothing is moved, copied or allocated. The cases that
+    /// [`Triple::comes_back`] lists give one to a triple whose vendor isn't plain too, but its text is no key.
     pub fn settles_as(&self, other: &Triple) -> bool
         ensures { IsTrue result
             ↔ (settled_values (values_of self.now) ≡ settled_values (values_of other.now)) }
@@ -19,7 +20,7 @@ impl Triple {
 }
 
 impl TripleRef<'_> {
-    /// Whether both triples have the same canonical form, whatever their vendors are.
+    /// Whether both triples have the same canonical form, as [`Triple::settles_as`] says.
     pub fn settles_as(&self, other: &TripleRef<'_>) -> bool
         ensures { IsTrue result
             ↔ (settled_values (values_of_ref self.now) ≡ settled_values (values_of_ref other.now)) }
