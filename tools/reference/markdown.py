@@ -6,6 +6,7 @@ from html import escape
 from layout import table
 
 FENCE = re.compile(r"\s*```(?P<language>\w*)")
+COMMENT = re.compile(r"\s*<!--.*-->\s*$")
 HEADING = re.compile(r"(?P<signs>#{1,6}) (?P<text>.*)")
 LIST_ITEM = re.compile(r"(?P<indent>\s*)(?P<symbol>[-*]|\d+\.) (?P<text>.*)")
 TABLE_RULE = re.compile(r"\s*\|?[\s:|-]+\|[\s:|-]*$")
@@ -67,7 +68,7 @@ class Markdown:
         position = 0
         while position < len(lines):
             line = lines[position]
-            if not line.strip():
+            if not line.strip() or COMMENT.match(line):
                 position += 1
             elif FENCE.match(line):
                 position = self.fence(lines, position, html)

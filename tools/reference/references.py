@@ -135,6 +135,11 @@ def is_definition(word):
     return word.kind in ("definition", "data", "record") and word.crate != ""
 
 
+def is_relation(word):
+    """Whether a word is a definition of what may hold, such as `ReadsAs`. Their names begin with a capital letter."""
+    return is_definition(word) and word.name[0].isupper()
+
+
 def is_shown(word):
     """Whether the pages show a Rattle item: it is public, and no test."""
     return word.is_public and word.file is not None and not (hasattr(word.file, "is_test") and word.file.is_test)

@@ -6,7 +6,7 @@ from html import escape
 from comments import doc_html
 from layout import code_block, counted, table, word_link, word_list
 from markdown import inline
-from references import is_definition
+from references import is_definition, is_relation
 from words import GLOSSARY_PAGE
 
 # Crates of proved callers: they show that the contracts suffice, and the other crates can be believed without them.
@@ -95,12 +95,13 @@ it.</p>
 {self.reading_table(rows)}"""
 
     def ties(self, law, reached):
-        """What ties a law to the code that has no call in its words: the calls whose contracts use these words."""
+        """What ties a law to the code that has no call in its words: the calls whose contracts use these words, or use a
+        relation that is not among them and that these words define."""
         crate = self.site.project.crates[law.crate]
         calls = [word for word in self.references.public_contracts(crate) if word.kind != "law"]
         rows = []
         for word in reached:
-            tied = [call for call in calls if word in self.references.entries[call].cited]
+            tied = [call for call in calls if word in self.cited_by(call, reached)]
             if word.kind == "definition" and word.crate == law.crate and tied:
                 rows.append([f"<code>{word_link(word)}</code>", inline(word.first_line), word_list(tied)])
         if not rows or any(word.crate and word.kind in CALLS for word in reached):
@@ -108,6 +109,12 @@ it.</p>
         return f"""<p>This law is about the definitions only: no call of the code is in its words. The contracts of
 these calls use the same words, and so tie it to the code:</p>
 {table(["@Word", "What it says", "~Calls whose contracts use it"], rows)}"""
+
+    def cited_by(self, call, reached):
+        """What a contract cites, and the relations that define those relations which are not among `reached`."""
+        cited = self.references.entries[call].cited
+        others = [word for word in cited if is_relation(word) and word not in reached]
+        return [*cited, *(word for other in others for word in self.references.entries[other].cited if is_relation(word))]
 
     # The crates
 
