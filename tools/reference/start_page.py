@@ -95,7 +95,7 @@ it.</p>
 {self.reading_table(rows)}"""
 
     def ties(self, law, reached):
-        """What ties a law to the code that has no call in its words: the calls whose contracts use these words, or use a
+        """What ties a law to the code that has no call in its words: the calls whose contracts use these words, or a
         relation that is not among them and that these words define."""
         crate = self.site.project.crates[law.crate]
         calls = [word for word in self.references.public_contracts(crate) if word.kind != "law"]
