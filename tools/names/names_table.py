@@ -41,7 +41,7 @@ def faults_of(value, earlier):
     if value.field not in (*FIELDS, "alias"):
         yield f"`{value.field}` is no field"
     if not NAME.fullmatch(value.name):
-        yield f"the name `{value.name}` has a character that no name may have"
+        yield f"the name `{value.name}` has a character that no name may have: it begins with a-z, and has a-z, 0-9, `_` and `.`"
     if not VARIANT.fullmatch(value.variant):
         yield f"`{value.variant}` is no variant"
     if value.family and not (value.field in ("architecture", "alias") and VARIANT.fullmatch(value.family)
