@@ -20,8 +20,9 @@
    of the struct. Of two structs that are wrong, the status is the first one's.
 
    The fields of the structs are integers. Cast one to its enum, so that -Wswitch reports the values that a switch leaves
-   out. No enumerator names the 0 of endianness, data_model and calling_convention, which is no answer. In C++ cast a status to lexicon_status, and a uint8_t to unsigned before it goes to a stream, which would print it
-   as a character.
+   out. No enumerator names the 0 of endianness, data_model and calling_convention, which is no answer.
+   In C++ cast a status to lexicon_status, and a uint8_t to unsigned before it goes to a stream, which would print it as a
+   character.
 
    The library is machine code for x86-64 Linux, level x86-64-v2 (SSE4.2 and POPCNT, as in processors since 2009).
 
