@@ -55,15 +55,15 @@ pub extern "C" fn lexicon_parse<'a>(
     let Ok(text) = from_utf8(text) else {
         return Status::NotUtf8.number();
     };
-    match TripleRef::explain(text) {
-        Ok(explained) => {
-            *triple = numbers_of(&explained.triple);
-            *vendor = vendor_text(explained.triple.vendor);
+    match TripleRef::parse_or_locate(text) {
+        Ok(parsed) => {
+            *triple = numbers_of(&parsed);
+            *vendor = vendor_text(parsed.vendor);
             Status::Done.number()
         }
-        Err(refused) => {
-            *error = error_numbers(&refused);
-            error_number(&refused.error)
+        Err((refusal, part)) => {
+            *error = error_numbers(&refusal, &part);
+            error_number(&refusal)
         }
     }
 }
@@ -99,7 +99,7 @@ pub extern "C" fn lexicon_explain<'a>(
         }
         Err(refused) => {
             *sources = sources_numbers(&refused.sources);
-            *error = error_numbers(&refused);
+            *error = error_numbers(&refused.error, &refused.part);
             error_number(&refused.error)
         }
     }

@@ -5,7 +5,7 @@ ghost use Rattle.target_lexicon.specs.ValuesRef.{refusal_of_ref};
 ghost use Rattle.lexicon_c.specs.Parsing.{IsErrorAt, source_numbers, sources_numbers};
 
 use crate::status::error_number;
-use target_lexicon::{ExplainedError, Source, Sources};
+use target_lexicon::{ParseErrorRef, Source, Sources, TextPart};
 
 /// Why a text is refused: the status, and the range of the refused part.
 #[repr(C)]
@@ -72,15 +72,15 @@ pub(crate) fn sources_numbers(sources: &Sources<'_>) -> LexiconSources
     }
 }
 
-/// A refusal as numbers.
+/// A refusal and the refused part as numbers.
 #[inline(always)]
 #[tactic(auto, unfolding(crate::specs::Outcome::status_of))]
-pub(crate) fn error_numbers(refused: &ExplainedError<'_>) -> LexiconError
-    ensures { IsErrorAt (refusal_of_ref refused.now.error) (part_value refused.now.part) result }
+pub(crate) fn error_numbers(error: &ParseErrorRef<'_>, refused: &TextPart<'_>) -> LexiconError
+    ensures { IsErrorAt (refusal_of_ref error.now) (part_value refused.now) result }
 {
     LexiconError {
-        expected: error_number(&refused.error),
-        start: refused.part.start,
-        size: refused.part.text.len(),
+        expected: error_number(error),
+        start: refused.start,
+        size: refused.text.len(),
     }
 }

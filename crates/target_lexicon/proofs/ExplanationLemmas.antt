@@ -1,19 +1,19 @@
 -- The parts that fields take one after the other are those of the least placement, and where they are in the text.
-use Rattle.std.proofs.Common.{◌≡◌, ℕ, ◌+◌, ◌<◌, ◌≤◌, List, [], ◌∷◌, ◌++◌, take, length, true, false, nat_eq, Option, Some, None, refl, sym, ◌∙◌, ap, subst, arith, inl, inr}
+use Rattle.std.proofs.Common.{◌≡◌, ℕ, ◌+◌, ◌-◌, ◌<◌, ◌≤◌, List, [], ◌∷◌, ◌++◌, take, length, true, false, nat_eq, Option, Some, None, Result, Err, IfErr, refl, sym, ◌∙◌, ap, subst, arith, inl, inr}
 use Rattle.std.specs.Prelude.{is_some}
 use Rattle.std.specs.List.{join_with_byte}
 use Rattle.std.proofs.{Math.Seq.take-append_seam, lemmas.Bool.cases_Bool}
 use Rattle.lexicon_fields.specs.Names.{dash}
 use Rattle.lexicon_fields.specs.{declared.architecture.Architecture.Architecture as AnyArchitecture, Architecture.architecture_of, Vendor.vendor_of, OperatingSystem.operating_system_of, Environment.environment_of, BinaryFormat.binary_format_of}
 use Rattle.target_lexicon.specs.Field.{Field, Architecture, Vendor, OperatingSystem, Environment, BinaryFormat, field_number, parses_as}
-use Rattle.target_lexicon.specs.FieldTexts.{texts, texts_at, no_texts, taken_part, parts_left, taken_after_architecture, taken_texts}
+use Rattle.target_lexicon.specs.FieldTexts.{texts, texts_at, no_texts, taken_part, parts_left, taken_after_architecture, taken_texts, left_after_architecture, left_by_fields, dashed_length}
 use Rattle.target_lexicon.specs.{Placement.ArePartsOf, Placement.IsPlacedAfter, Placement.IsLeastPlacement, Placement.HasPlacement, Placement.parts_of, SpecialTexts.special_values, Values.Values}
 use Rattle.target_lexicon.specs.Reading.{part_at, IsRefusal, IsRefusedAs, PartsReadAs, ReadsAs, expected_after, last_field}
 use Rattle.target_lexicon.specs.Refusal.{Expects, Refusal, refusal_with}
 use Rattle.target_lexicon.specs.Explanation.{SourceValue, NotGiven, Implied, source_at, sources_at, next_start, AreSourcesOf, AreTextsOf, IsRefusalAfter, IsRefusedAfter, IsInText, AreInText}
 use Rattle.target_lexicon.proofs.GreedyPlacement.{Follows, filled, unread, after_architecture, filled-placed, greedy-finds, greedy-least, placement_prefix}
 use Rattle.target_lexicon.proofs.{PartLemmas.parts_of-are, PartLemmas.parts-only, RefusalLemmas.stop, RefusalLemmas.refused_first, RefusalLemmas.refused-at, UniqueReading.refusal_at, UniqueReading.refusal_unique}
-use Rattle.target_lexicon.proofs.TextRanges.{AreAt, first-in, left_of, left_after, all-in, next_start-bound}
+use Rattle.target_lexicon.proofs.TextRanges.{AreAt, first-in, all-in, left-length}
 
 -- a field has no part in a greedy placement of later fields
 absent : (f l : Field) (fs : List Field) (ps : List (List ℕ)) → field_number f ≤ field_number l → Follows l fs → part_at f ps (filled fs ps) ≡ None
@@ -123,19 +123,24 @@ unread-none : (ps : List (List ℕ)) → unread [] ps ≡ ps
 unread-none [] = refl
 unread-none (p ∷ ps) = refl
 
-unread-left : (ps : List (List ℕ)) → unread after_architecture ps ≡ left_of ps
+unread-left : (a : AnyArchitecture) (p : List ℕ) (ps : List (List ℕ)) → unread after_architecture ps ≡ left_after_architecture (Some a) p ps
 unfolding parses_as
-unread-left ps =
+unread-left a p ps =
     unread-step Vendor vendor_of (λ p. refl) _ ps ∙ unread-step OperatingSystem operating_system_of (λ p. refl) _ _
     ∙ unread-step Environment environment_of (λ p. refl) _ _ ∙ unread-step BinaryFormat binary_format_of (λ p. refl) _ _ ∙ unread-none _
 
 module _ (text p : List ℕ) (ps : List (List ℕ)) (ordinary : special_values text ≡ None) (are : parts_of text ≡ p ∷ ps) where
-  -- the next part begins at most one byte after the end of the text
-  pub start-bound : next_start (taken_texts (p ∷ ps)) ≤ length text + 1
-  start-bound =
+  -- the parts that are left begin where the parts of the fields end
+  pub next_start-left : next_start (taken_texts (p ∷ ps)) + dashed_length (left_by_fields (p ∷ ps)) ≡ length text + 1
+  next_start-left =
       let joined : join_with_byte dash (p ∷ ps) ≡ text = ap (join_with_byte dash) (sym are) ∙ (parts_of-are text).joined in
-      let bound = next_start-bound p ps in
-      omega (arith, bound, ap length joined)
+      left-length p ps ∙ ap (λ bytes. length bytes + 1) joined
+
+  pub refused-start : {A E : Type 0} (r : Result A E) (e : E) (n : ℕ) → r ≡ Err e → IfErr r (λ _. dashed_length (left_by_fields (p ∷ ps)) ≡ n + 1)
+      → (n ≤ length text) × (length text - n ≡ next_start (taken_texts (p ∷ ps)))
+  refused-start r e n is if_refused =
+      let left = subst (λ r. IfErr r (λ _. dashed_length (left_by_fields (p ∷ ps)) ≡ n + 1)) is if_refused in
+      (omega (arith, next_start-left, left), omega (arith, next_start-left, left))
 
   -- a text that reads: the parts are those of the least placement
   pub read-sources : (t : Values) → ReadsAs text t → AreSourcesOf text (sources_at Implied (taken_texts (p ∷ ps)))
@@ -158,7 +163,7 @@ module _ (text p : List ℕ) (ps : List (List ℕ)) (ordinary : special_values t
   abbrev pub IsExplained : Refusal → Type 0
   IsExplained x = IsRefusalAfter (p ∷ ps) x (sources_at NotGiven (taken_texts (p ∷ ps))) (refused_part x.part) × IsInText text (refused_part x.part)
 
-  refused_part-in : (q : List ℕ) (rest : List (List ℕ)) → left_after (architecture_of p) p ps ≡ q ∷ rest → IsInText text (refused_part q)
+  refused_part-in : (q : List ℕ) (rest : List (List ℕ)) → left_by_fields (p ∷ ps) ≡ q ∷ rest → IsInText text (refused_part q)
   refused_part-in q rest left =
       let at = (all-in text NotGiven p ps tt (starts-at text p ps are)).1 in
       (first-in text _ q rest (subst (AreAt text (next_start (taken_texts (p ∷ ps)))) left at)).0
@@ -172,7 +177,7 @@ module _ (text p : List ℕ) (ps : List (List ℕ)) (ordinary : special_values t
         refused_part-in p ps (by_architecture (architecture_of p) skips),
       )
     where
-      by_architecture : (a : Option AnyArchitecture) → is_some a ≡ false → left_after a p ps ≡ p ∷ ps
+      by_architecture : (a : Option AnyArchitecture) → is_some a ≡ false → left_after_architecture a p ps ≡ p ∷ ps
       by_architecture None h = refl
       by_architecture (Some a) h = absurd cc
 
@@ -198,9 +203,9 @@ module _ (text p : List ℕ) (ps : List (List ℕ)) (ordinary : special_values t
         refused_part-in q rest (by_architecture (architecture_of p) takes),
       )
     where
-      by_architecture : (a : Option AnyArchitecture) → is_some a ≡ true → left_after a p ps ≡ q ∷ rest
+      by_architecture : (a : Option AnyArchitecture) → is_some a ≡ true → left_after_architecture a p ps ≡ q ∷ rest
       by_architecture None h = absurd cc
-      by_architecture (Some a) h = sym (unread-left ps) ∙ left
+      by_architecture (Some a) h = sym (unread-left a p ps) ∙ left
 
   -- the refusal of the text is the one that is explained
   as_refused : (x y : Refusal) → IsRefusedAs text x → IsExplained y → IsExplained x

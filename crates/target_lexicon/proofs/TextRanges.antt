@@ -5,7 +5,9 @@ use Rattle.std.specs.List.{join_with_byte}
 use Rattle.std.proofs.{Math.Seq.take-append_seam, Math.Seq.drop-append_seam, lemmas.Bool.cases_Bool, lemmas.List.append-nil, lemmas.List.length-append}
 use Rattle.lexicon_fields.specs.Names.{dash}
 use Rattle.lexicon_fields.specs.{declared.architecture.Architecture.Architecture as AnyArchitecture, Architecture.architecture_of, Vendor.vendor_of, OperatingSystem.operating_system_of, Environment.environment_of, BinaryFormat.binary_format_of}
-use Rattle.target_lexicon.specs.FieldTexts.{taken_part, parts_left, taken_after_architecture, taken_texts}
+use Rattle.target_lexicon.specs.FieldTexts.{taken_part, parts_left, taken_after_architecture, taken_texts, left_after_architecture, left_by_fields, dashed_length}
+use Rattle.target_lexicon.specs.Placement.{ArePartsOf, parts_of}
+use Rattle.target_lexicon.proofs.PartLemmas.{parts_of-are}
 use Rattle.target_lexicon.specs.Explanation.{SourceValue, FromPart, NotGiven, source_at, start_after, sources_at, next_start, IsInText, AreInText}
 
 -- the parts, joined by dashes, are the end of the text from `start` on; there may be none
@@ -47,21 +49,13 @@ taken-in find unfilled text start (p ∷ ps) none at =
       | inr skips ↦ rw skips (none, at)
     ]
 
--- the parts that are left after all fields
-abbrev pub left_of : List (List ℕ) → List (List ℕ)
-left_of ps = parts_left binary_format_of (parts_left environment_of (parts_left operating_system_of (parts_left vendor_of ps)))
-
-abbrev pub left_after : Option AnyArchitecture → List ℕ → List (List ℕ) → List (List ℕ)
-left_after None p ps = p ∷ ps
-left_after (Some a) p ps = left_of ps
-
 -- the parts that the fields take are in the text, and so are those that they leave
 pub all-in : (text : List ℕ) (unfilled : SourceValue) (p : List ℕ) (ps : List (List ℕ)) → IsInText text unfilled → AreAt text 0 (p ∷ ps)
-    → AreInText text (sources_at unfilled (taken_texts (p ∷ ps))) × AreAt text (next_start (taken_texts (p ∷ ps))) (left_after (architecture_of p) p ps)
+    → AreInText text (sources_at unfilled (taken_texts (p ∷ ps))) × AreAt text (next_start (taken_texts (p ∷ ps))) (left_by_fields (p ∷ ps))
 all-in text unfilled p ps none at = by_architecture (architecture_of p)
   where
     by_architecture : (a : Option AnyArchitecture)
-        → AreInText text (sources_at unfilled (taken_after_architecture a p ps)) × AreAt text (next_start (taken_after_architecture a p ps)) (left_after a p ps)
+        → AreInText text (sources_at unfilled (taken_after_architecture a p ps)) × AreAt text (next_start (taken_after_architecture a p ps)) (left_after_architecture a p ps)
     by_architecture None = (record { architecture = tt; vendor = tt; operating_system = tt; environment = tt; binary_format = none }, at)
     by_architecture (Some a) =
         let first = first-in text 0 p ps at in
@@ -71,32 +65,36 @@ all-in text unfilled p ps none at = by_architecture (architecture_of p)
         let f = taken-in binary_format_of unfilled text _ (parts_left environment_of (parts_left operating_system_of (parts_left vendor_of ps))) none e.1 in
         (record { architecture = first.0; vendor = v.0; operating_system = s.0; environment = e.0; binary_format = f.0 }, f.1)
 
--- the next part begins at most one byte after the end of the text
+-- the parts that are left begin where the parts of the fields end
 
-abbrev pub total : List (List ℕ) → ℕ
-total [] = 0
-total (p ∷ ps) = length p + 1 + total ps
-
-total-joined : (p : List ℕ) (ps : List (List ℕ)) → total (p ∷ ps) ≡ length (join_with_byte dash (p ∷ ps)) + 1
-total-joined p [] = omega arith
-total-joined p (q ∷ ps) =
-    let rest = total-joined q ps in
+pub dashed_length-joined : (p : List ℕ) (ps : List (List ℕ)) → dashed_length (p ∷ ps) ≡ length (join_with_byte dash (p ∷ ps)) + 1
+dashed_length-joined p [] = omega arith
+dashed_length-joined p (q ∷ ps) =
+    let rest = dashed_length-joined q ps in
     let whole = length-append p (dash ∷ join_with_byte dash (q ∷ ps)) in
     omega (arith, rest, whole)
 
-taken-total : {A : Type 0} (find : List ℕ → Option A) (start : ℕ) (ps : List (List ℕ)) → start_after start (taken_part find ps) + total (parts_left find ps) ≡ start + total ps
-taken-total find start [] = refl
-taken-total find start (p ∷ ps) =
+pub dashed_length_of : (text : List ℕ) → dashed_length (parts_of text) ≡ length text + 1
+dashed_length_of text = by_parts (parts_of text) (parts_of-are text)
+  where
+    by_parts : (parts : List (List ℕ)) → ArePartsOf text parts → dashed_length parts ≡ length text + 1
+    by_parts [] are = absurd (are.some refl)
+    by_parts (p ∷ ps) are = dashed_length-joined p ps ∙ ap (λ bytes. length bytes + 1) are.joined
+
+taken-length : {A : Type 0} (find : List ℕ → Option A) (start : ℕ) (ps : List (List ℕ)) → start_after start (taken_part find ps) + dashed_length (parts_left find ps) ≡ start + dashed_length ps
+taken-length find start [] = refl
+taken-length find start (p ∷ ps) =
     elim (cases_Bool (is_some (find p))) [
       | inl takes ↦ rw takes (omega arith)
       | inr skips ↦ rw skips refl
     ]
 
-pub next_start-bound : (p : List ℕ) (ps : List (List ℕ)) → next_start (taken_texts (p ∷ ps)) ≤ length (join_with_byte dash (p ∷ ps)) + 1
-next_start-bound p ps = by_architecture (architecture_of p)
+pub left-length : (p : List ℕ) (ps : List (List ℕ)) → next_start (taken_texts (p ∷ ps)) + dashed_length (left_by_fields (p ∷ ps)) ≡ length (join_with_byte dash (p ∷ ps)) + 1
+left-length p ps = by_architecture (architecture_of p)
   where
-    by_architecture : (a : Option AnyArchitecture) → next_start (taken_after_architecture a p ps) ≤ length (join_with_byte dash (p ∷ ps)) + 1
-    by_architecture None = omega arith
+    by_architecture : (a : Option AnyArchitecture)
+        → next_start (taken_after_architecture a p ps) + dashed_length (left_after_architecture a p ps) ≡ length (join_with_byte dash (p ∷ ps)) + 1
+    by_architecture None = omega (arith, dashed_length-joined p ps)
     by_architecture (Some a) =
         let ps₁ = parts_left vendor_of ps in
         let ps₂ = parts_left operating_system_of ps₁ in
@@ -107,9 +105,9 @@ next_start-bound p ps = by_architecture (architecture_of p)
         let n₄ = start_after n₃ (taken_part environment_of ps₂) in
         omega (
           arith,
-          total-joined p ps,
-          taken-total vendor_of n₁ ps,
-          taken-total operating_system_of n₂ ps₁,
-          taken-total environment_of n₃ ps₂,
-          taken-total binary_format_of n₄ ps₃,
+          dashed_length-joined p ps,
+          taken-length vendor_of n₁ ps,
+          taken-length operating_system_of n₂ ps₁,
+          taken-length environment_of n₃ ps₂,
+          taken-length binary_format_of n₄ ps₃,
         )

@@ -99,6 +99,10 @@ pub record IsRefusalAfter (parts : List (List ℕ)) (refusal : Refusal) (s : Sou
 abbrev pub IsRefusedAfter : List ℕ → Refusal → SourceValues → SourceValue → Type 0
 IsRefusedAfter text refusal s part = (parts : List (List ℕ)) × ArePartsOf text parts × IsRefusalAfter parts refusal s part
 
+-- the text is refused at this part, whatever the fields that earlier parts fill
+abbrev pub IsRefusedAt : List ℕ → Refusal → SourceValue → Type 0
+IsRefusedAt text refusal part = (s : SourceValues) × IsRefusedAfter text refusal s part
+
 -- the bytes of the text in this range are the part
 abbrev pub IsInText : List ℕ → SourceValue → Type 0
 IsInText text (FromPart start end part) = (end ≤ length text) × (slice_range text start end ≡ part)

@@ -1,5 +1,5 @@
 -- The parts of a text that fill fields: those that a placement assigns, and how they are found field by field.
-use Rattle.std.specs.Prelude.{ℕ, List, [], ◌∷◌, Option, Some, None, is_some, if◌then◌else◌}
+use Rattle.std.specs.Prelude.{ℕ, ◌+◌, List, [], ◌∷◌, Option, Some, None, is_some, length, if◌then◌else◌}
 use Rattle.lexicon_fields.specs.{Architecture.architecture_of, Vendor.vendor_of, OperatingSystem.operating_system_of, Environment.environment_of, BinaryFormat.binary_format_of}
 use Rattle.target_lexicon.specs.{Field.Field, Reading.part_at, Values.Architecture}
 use Rattle.target_lexicon.specs.Field as field
@@ -43,6 +43,21 @@ taken_after_architecture (Some a) p ps =
     texts (Some p) (taken_part vendor_of ps) (taken_part operating_system_of after_vendor) (taken_part environment_of after_system)
     (taken_part binary_format_of after_environment)
 taken_after_architecture None p ps = no_texts
+
+-- the parts that all fields leave
+abbrev pub left_after_architecture : Option Architecture → List ℕ → List (List ℕ) → List (List ℕ)
+left_after_architecture (Some a) p ps =
+    parts_left binary_format_of (parts_left environment_of (parts_left operating_system_of (parts_left vendor_of ps)))
+left_after_architecture None p ps = p ∷ ps
+
+abbrev pub left_by_fields : List (List ℕ) → List (List ℕ)
+left_by_fields [] = []
+left_by_fields (p ∷ ps) = left_after_architecture (architecture_of p) p ps
+
+-- how many bytes these parts have, each with a dash
+abbrev pub dashed_length : List (List ℕ) → ℕ
+dashed_length [] = 0
+dashed_length (p ∷ ps) = length p + 1 + dashed_length ps
 
 -- the parts that the fields take, one field after the other; none if the first part is no architecture
 abbrev pub taken_texts : List (List ℕ) → FieldTexts

@@ -1,6 +1,6 @@
 //! Where the fields of a triple come from in its text.
 ghost use Rattle.std.specs.Prelude.{◌≡◌, ◌+◌, ◌<◌, ◌^◌, IfOk, IfErr, length};
-ghost use Rattle.target_lexicon.specs.Explanation.{AreInText, AreSourcesOf, IsInText, IsRefusedAfter, NotGiven, next_start, part_value, source_at, source_value, sources_at, sources_of, start_after, whole_text_sources};
+ghost use Rattle.target_lexicon.specs.Explanation.{AreInText, AreSourcesOf, IsInText, IsRefusedAfter, IsRefusedAt, NotGiven, next_start, part_value, source_at, source_value, sources_at, sources_of, start_after, whole_text_sources};
 ghost use Rattle.target_lexicon.specs.Reading.{ReadsAs, IsRefusedAs};
 ghost use Rattle.target_lexicon.specs.RemainingParts.{part_bytes, texts_of};
 ghost use Rattle.target_lexicon.specs.ValuesRef.{refusal_of_ref, values_of_ref};
@@ -111,13 +111,12 @@ fn next_source<'a>(part: Option<&'a str>, start: usize, unfilled: Source<'a>) ->
 }
 
 impl<'a> Sources<'a> {
-    /// The sources of fields that these parts of one text fill, and where the part after them begins.
+    /// The sources of fields that these parts of one text fill.
     #[inline(always)]
-    fn of_parts(parts: FieldParts<'a>, unfilled_format: Source<'a>) -> (Sources<'a>, usize)
+    fn of_parts(parts: FieldParts<'a>, unfilled_format: Source<'a>) -> Sources<'a>
         requires { next_start (texts_of parts) < 2 ^ 64 }
-        ensures sources { sources_of result.0
+        ensures { sources_of result
             ≡ sources_at (source_value unfilled_format.entry) (texts_of parts.entry) }
-        ensures start { result.1 ≡ next_start (texts_of parts.entry) }
     {
         let (architecture, start) = next_source(parts.architecture, 0, Source::NotGiven);
         let (vendor, start) = next_source(parts.vendor, start, Source::NotGiven);
@@ -127,25 +126,14 @@ impl<'a> Sources<'a> {
             Source::NotGiven,
         );
         let (environment, start) = next_source(parts.environment, start, Source::NotGiven);
-        let (binary_format, start) = next_source(parts.binary_format, start, unfilled_format);
-        let sources = Sources {
+        let (binary_format, _) = next_source(parts.binary_format, start, unfilled_format);
+        Sources {
             architecture,
             vendor,
             operating_system,
             environment,
             binary_format,
-        };
-        (sources, start)
-    }
-
-    /// The sources of fields that these parts of a refused text fill, and where the refused part begins.
-    #[inline(never)]
-    fn of_refused(parts: FieldParts<'a>) -> (Sources<'a>, usize)
-        requires { next_start (texts_of parts) < 2 ^ 64 }
-        ensures sources { sources_of result.0 ≡ sources_at NotGiven (texts_of parts.entry) }
-        ensures start { result.1 ≡ next_start (texts_of parts.entry) }
-    {
-        Sources::of_parts(parts, Source::NotGiven)
+        }
     }
 
     /// The sources of the fields of a special text.
@@ -165,6 +153,33 @@ impl<'a> Sources<'a> {
 }
 
 impl<'a> TripleRef<'a> {
+    /// The triple that a text parses as; or why it is refused, and the refused part. Nothing is allocated. `explain`
+    /// answers this too, and where each field comes from.
+    #[inline(always)]
+    pub fn parse_or_locate(
+        text: &'a str,
+    ) -> Result<TripleRef<'a>, (ParseErrorRef<'a>, TextPart<'a>)>
+        ensures triple { IfOk result (λ triple. ReadsAs text.entry.now (values_of_ref triple)) }
+        ensures error { IfErr result
+            (λ it. IsRefusedAs text.entry.now (refusal_of_ref it.0)) }
+        ensures refused { IfErr result
+            (λ it. IsRefusedAt text.entry.now (refusal_of_ref it.0) (part_value it.1)) }
+        ensures range { IfErr result (λ it. IsInText text.entry.now (part_value it.1)) }
+    {
+        if let Some(triple) = TripleRef::from_special_text(text) {
+            return Ok(triple);
+        }
+        length_fits(text);
+        let reading = Reading::from_parts(Part::first(text));
+        match reading.result {
+            Ok(triple) => Ok(triple),
+            Err(error) => {
+                let start = text.len() - reading.refused_length;
+                Err((error, TextPart::starting_at(error.part(), start)))
+            }
+        }
+    }
+
     /// The triple that a text parses as, and where in the text each of its fields comes from; or why the text is
     /// refused, where, and which fields the parts before the refused one filled. Nothing is allocated.
     ///
@@ -193,12 +208,13 @@ impl<'a> TripleRef<'a> {
         let reading = Reading::from_parts(Part::first(text));
         match reading.result {
             Ok(triple) => {
-                let (sources, _) = Sources::of_parts(reading.parts, Source::Implied);
+                let sources = Sources::of_parts(reading.parts, Source::Implied);
                 Ok(Explanation { triple, sources })
             }
             Err(error) => {
-                let (sources, start) = Sources::of_refused(reading.parts);
+                let start = text.len() - reading.refused_length;
                 let part = TextPart::starting_at(error.part(), start);
+                let sources = Sources::of_parts(reading.parts, Source::NotGiven);
                 Err(ExplainedError {
                     error,
                     part,

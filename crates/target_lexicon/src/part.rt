@@ -1,8 +1,9 @@
 //! The parts of a text, each looked up once in the table of names.
-ghost use Rattle.std.specs.Prelude.{◌≡◌, ◌∷◌};
+ghost use Rattle.std.specs.Prelude.{◌≡◌, ◌≤◌, ◌+◌, ◌^◌, ◌∷◌, Some};
 ghost use Rattle.std.specs.Option.{ForSome};
 ghost use Rattle.lexicon_fields.specs.OperatingSystem.{operating_system_of};
 ghost use Rattle.target_lexicon.specs.Placement.{parts_of};
+ghost use Rattle.target_lexicon.specs.FieldTexts.{dashed_length};
 ghost use Rattle.target_lexicon.specs.Private.{IsLookedUp, AreDashBits, parts_after_dash};
 
 use crate::dashes::{dash_in, dashes_at_end};
@@ -58,6 +59,19 @@ fn split_at_dash(text: &str, at_end: u64) -> (&str, Option<&str>)
     }
 }
 
+/// How many bytes follow a part: a dash and what is after it, if there is one.
+#[inline(always)]
+#[tactic(auto, using(crate::proofs::TextRanges::dashed_length_of))]
+fn length_after_part(after_dash: Option<&str>) -> usize
+    ensures value { result ≡ dashed_length (parts_after_dash after_dash.entry) }
+    ensures bound { result ≤ 2 ^ 63 }
+{
+    match after_dash {
+        Some(rest) => rest.len() + 1,
+        None => 0,
+    }
+}
+
 impl<'a> Part<'a> {
     ghost use Rattle.std.specs.Prelude.{option_map};
     ghost use Rattle.lexicon_fields.specs.Architecture.{architecture_of};
@@ -84,6 +98,14 @@ impl<'a> Part<'a> {
             Some(text) => Some(Part::first_of(text, self.dashes_at_end)),
             None => None,
         }
+    }
+
+    /// How many bytes the text has from this part on.
+    #[inline(always)]
+    pub(crate) fn length_to_end(&self) -> usize
+        ensures { dashed_length (remaining_parts (Some self.now)) ≡ result + 1 }
+    {
+        self.text.len() + length_after_part(self.after_dash)
     }
 
     /// The first part of a text, the dashes of whose end are known.

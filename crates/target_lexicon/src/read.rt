@@ -1,18 +1,20 @@
 //! Reading a triple.
-ghost use Rattle.std.specs.Prelude.{◌≡◌, Some, true, IfOk, IfErr, option_map, unwrap_or};
+ghost use Rattle.std.specs.Prelude.{◌≡◌, ◌+◌, Some, true, IfOk, IfErr, unwrap_or};
 ghost use Rattle.lexicon_fields.specs.declared.known_vendor.KnownVendor.TheVariants.{Unknown};
 ghost use Rattle.lexicon_fields.specs.BinaryFormat.{binary_format_of};
 ghost use Rattle.lexicon_fields.specs.Environment.{environment_of};
 ghost use Rattle.lexicon_fields.specs.OperatingSystem.{operating_system_of};
 ghost use Rattle.lexicon_fields.specs.Vendor.{Known, OwnsCustomText, vendor_of, vendor_value, is_plain};
 ghost use Rattle.lexicon_fields.specs.VendorRef.{ref_value};
-ghost use Rattle.target_lexicon.specs.FieldTexts.{parts_left, taken_part, taken_texts};
+ghost use Rattle.target_lexicon.specs.FieldTexts.{dashed_length, left_by_fields, parts_left, taken_part, taken_texts};
 ghost use Rattle.target_lexicon.specs.GreedyReading.{field_reading, reading_of_parts};
 ghost use Rattle.target_lexicon.specs.Field as field;
 ghost use Rattle.target_lexicon.specs.ImpliedFormat.{implied_format};
 ghost use Rattle.target_lexicon.specs.RemainingParts.{field_of, field_reading_of, outcome_of, part_bytes, remaining_parts, texts_of};
 ghost use Rattle.target_lexicon.specs.Reading.{ReadsAs, IsErrorOf, IsRefusedAs, expected_after};
 ghost use Rattle.target_lexicon.specs.Refusal.{refusal_with};
+ghost use Rattle.target_lexicon.specs.Values.operating_system;
+ghost use Rattle.target_lexicon.specs.Values.environment;
 ghost use Rattle.target_lexicon.specs.Values.{values_of};
 ghost use Rattle.target_lexicon.specs.ValuesRef.{refusal_of_ref, values_of_ref};
 
@@ -45,19 +47,20 @@ struct PartCursor<'a> {
     next_part: Option<Part<'a>>,
 }
 
-/// What reading a text gives, and the part that each field took.
+/// What reading a text gives, the part that each field took, and how many bytes the text has from a refused part on.
 #[derive(Clone, Copy)]
 pub(crate) struct Reading<'a> {
     pub result: Result<TripleRef<'a>, ParseErrorRef<'a>>,
     pub parts: FieldParts<'a>,
+    pub refused_length: usize,
 }
 
 impl<'a> PartCursor<'a> {
-    /// Takes the first part that is left, if it parses as a vendor. The part is returned beside the value.
+    /// Takes the first part that is left, if it parses as a vendor. The part is returned beside the value, which is
+    /// `Unknown` without a part.
     #[inline(always)]
-    fn take_vendor(&mut self) -> (Option<VendorRef<'a>>, Option<&'a str>)
-        ensures value { field_reading_of (unwrap_or (option_map ref_value result.0) (Known Unknown))
-            self.new
+    fn take_vendor(&mut self) -> (VendorRef<'a>, Option<&'a str>)
+        ensures value { field_reading_of (ref_value result.0) self.new
             ≡ field_reading field.Vendor vendor_of (Known Unknown) (field_of self.old.last)
             (remaining_parts self.old.next_part) }
         ensures part { part_bytes result.1
@@ -69,18 +72,17 @@ impl<'a> PartCursor<'a> {
             if let Some(vendor) = part.vendor() {
                 self.last = Field::Vendor;
                 self.next_part = part.next();
-                return (Some(vendor), Some(part.text));
+                return (vendor, Some(part.text));
             }
         }
-        (None, None)
+        (VendorRef::Known(KnownVendor::Unknown), None)
     }
 
     /// Takes the first part that is left, if it parses as an operating system.
     #[inline(always)]
-    fn take_operating_system(&mut self) -> (Option<OperatingSystem>, Option<&'a str>)
-        ensures value { (unfilled : OperatingSystem) →
-            field_reading_of (unwrap_or result.0 unfilled) self.new
-            ≡ field_reading field.OperatingSystem operating_system_of unfilled
+    fn take_operating_system(&mut self) -> (OperatingSystem, Option<&'a str>)
+        ensures value { field_reading_of result.0 self.new
+            ≡ field_reading field.OperatingSystem operating_system_of operating_system.Unknown
             (field_of self.old.last) (remaining_parts self.old.next_part) }
         ensures part { part_bytes result.1
             ≡ taken_part operating_system_of (remaining_parts self.old.next_part) }
@@ -91,18 +93,17 @@ impl<'a> PartCursor<'a> {
             if let Some(operating_system) = part.operating_system() {
                 self.last = Field::OperatingSystem;
                 self.next_part = part.next();
-                return (Some(operating_system), Some(part.text));
+                return (operating_system, Some(part.text));
             }
         }
-        (None, None)
+        (OperatingSystem::Unknown, None)
     }
 
     /// Takes the first part that is left, if it parses as an environment.
     #[inline(always)]
-    fn take_environment(&mut self) -> (Option<Environment>, Option<&'a str>)
-        ensures value { (unfilled : Environment) →
-            field_reading_of (unwrap_or result.0 unfilled) self.new
-            ≡ field_reading field.Environment environment_of unfilled
+    fn take_environment(&mut self) -> (Environment, Option<&'a str>)
+        ensures value { field_reading_of result.0 self.new
+            ≡ field_reading field.Environment environment_of environment.Unknown
             (field_of self.old.last) (remaining_parts self.old.next_part) }
         ensures part { part_bytes result.1
             ≡ taken_part environment_of (remaining_parts self.old.next_part) }
@@ -113,10 +114,10 @@ impl<'a> PartCursor<'a> {
             if let Some(environment) = part.environment() {
                 self.last = Field::Environment;
                 self.next_part = part.next();
-                return (Some(environment), Some(part.text));
+                return (environment, Some(part.text));
             }
         }
-        (None, None)
+        (Environment::Unknown, None)
     }
 
     /// Takes the first part that is left, if it parses as a binary format.
@@ -128,6 +129,8 @@ impl<'a> PartCursor<'a> {
             (field_of self.old.last) (remaining_parts self.old.next_part) }
         ensures part { part_bytes result.1
             ≡ taken_part binary_format_of (remaining_parts self.old.next_part) }
+        ensures left { remaining_parts self.new.next_part
+            ≡ parts_left binary_format_of (remaining_parts self.old.next_part) }
     {
         if let Some(part) = self.next_part {
             if let Some(binary_format) = part.binary_format() {
@@ -178,47 +181,56 @@ impl<'a> Reading<'a> {
             ≡ reading_of_parts (remaining_parts (Some first.entry)) }
         ensures parts { texts_of result.parts
             ≡ taken_texts (remaining_parts (Some first.entry)) }
+        ensures left { IfErr result.result
+            (λ _. dashed_length (left_by_fields (remaining_parts (Some first.entry)))
+            ≡ result.refused_length + 1) }
     {
         let Some(architecture) = first.architecture() else {
             return Reading {
                 result: Err(ParseErrorRef::UnrecognizedArchitecture(first.text)),
                 parts: FieldParts::none(),
+                refused_length: first.length_to_end(),
             };
         };
         let mut cursor = PartCursor {
             last: Field::Architecture,
             next_part: first.next(),
         };
-        let vendor = cursor.take_vendor();
-        let operating_system = cursor.take_operating_system();
-        let environment = cursor.take_environment();
-        let binary_format = cursor.take_binary_format();
+        let (vendor, vendor_part) = cursor.take_vendor();
+        let (operating_system, operating_system_part) = cursor.take_operating_system();
+        let (environment, environment_part) = cursor.take_environment();
+        let (binary_format, binary_format_part) = cursor.take_binary_format();
         let parts = FieldParts {
             architecture: Some(first.text),
-            vendor: vendor.1,
-            operating_system: operating_system.1,
-            environment: environment.1,
-            binary_format: binary_format.1,
+            vendor: vendor_part,
+            operating_system: operating_system_part,
+            environment: environment_part,
+            binary_format: binary_format_part,
         };
         if let Some(left) = cursor.next_part {
-            let result = Err(refusal(left.text, cursor.last));
-            return Reading { result, parts };
+            return Reading {
+                result: Err(refusal(left.text, cursor.last)),
+                parts,
+                refused_length: left.length_to_end(),
+            };
         }
-        let operating_system = operating_system.0.unwrap_or(OperatingSystem::Unknown);
-        let environment = environment.0.unwrap_or(Environment::Unknown);
         let result = Ok(TripleRef {
             architecture,
-            vendor: vendor.0.unwrap_or(VendorRef::Known(KnownVendor::Unknown)),
+            vendor,
             operating_system,
             environment,
             binary_format: given_or_implied(
-                binary_format.0,
+                binary_format,
                 architecture,
                 operating_system,
                 environment,
             ),
         });
-        Reading { result, parts }
+        Reading {
+            result,
+            parts,
+            refused_length: 0,
+        }
     }
 }
 
