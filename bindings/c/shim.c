@@ -36,6 +36,8 @@ IS_AT(minor, 7);
 IS_AT(patch, 8);
 IS_AT(major, 10);
 IS_AT(custom_vendor, 16);
+IS_AT(custom_vendor_size, 24);
+_Static_assert(sizeof(struct lexicon_proved_text) == 16 && offsetof(struct lexicon_proved_text, size) == 8, "text");
 _Static_assert(sizeof(struct lexicon_triple) == 32 && sizeof(struct lexicon_error) == 24, "triple, error");
 _Static_assert(sizeof(struct lexicon_sources) == 120 && sizeof(struct lexicon_triple_facts) == 17, "sources, facts");
 
@@ -57,19 +59,24 @@ static void set_vendor(struct lexicon_triple *triple, struct lexicon_proved_text
   triple->custom_vendor_size = vendor.size;
 }
 
-uint32_t lexicon_parse(const char *text, size_t text_size, struct lexicon_triple *triple, struct lexicon_error *error) {
-  struct lexicon_proved_text vendor = {"", 0};
-  uint32_t status = lexicon_proved_parse(text_at(text, text_size), text_size, triple, &vendor, error);
-  if (status == LEXICON_OK) set_vendor(triple, vendor);
+/* Where a proved call that parses writes the text of a custom vendor: in the struct itself, whose last two members are laid
+   out as a text is. It doesn't read what is there before. */
+static struct lexicon_proved_text *vendor_in(struct lexicon_triple *triple) {
+  return (struct lexicon_proved_text *)(void *)&triple->custom_vendor;
+}
+
+static uint32_t parsed(uint32_t status, struct lexicon_triple *triple) {
+  if (status == LEXICON_OK && !triple->custom_vendor_size) triple->custom_vendor = NULL;
   return status;
+}
+
+uint32_t lexicon_parse(const char *text, size_t text_size, struct lexicon_triple *triple, struct lexicon_error *error) {
+  return parsed(lexicon_proved_parse(text_at(text, text_size), text_size, triple, vendor_in(triple), error), triple);
 }
 
 uint32_t lexicon_explain(const char *text, size_t text_size, struct lexicon_triple *triple, struct lexicon_sources *sources,
                          struct lexicon_error *error) {
-  struct lexicon_proved_text vendor = {"", 0};
-  uint32_t status = lexicon_proved_explain(text_at(text, text_size), text_size, triple, &vendor, sources, error);
-  if (status == LEXICON_OK) set_vendor(triple, vendor);
-  return status;
+  return parsed(lexicon_proved_explain(text_at(text, text_size), text_size, triple, vendor_in(triple), sources, error), triple);
 }
 
 uint32_t lexicon_write(const struct lexicon_triple *triple, char *out, size_t out_size, size_t *length) {

@@ -1,9 +1,8 @@
 //! The caller's bytes as text.
-ghost use Rattle.std.specs.Prelude.{◌≡◌, ◌≤◌, ◌<◌, ◌+◌, ℕ, length, slice_index, IsTrue, MatchResult};
+ghost use Rattle.std.specs.Prelude.{◌≡◌, ◌↔◌, ◌≤◌, ◌<◌, ◌+◌, ℕ, length, slice_index, IsTrue, MatchResult};
 ghost use Rattle.std.specs.Str.{IsUtf8};
 
 use std::simd::prelude::*;
-use std::str::Utf8Error;
 
 /// Whether the sixteen bytes from `at` on are ASCII.
 #[inline(always)]
@@ -20,14 +19,24 @@ fn are_ascii(bytes: &[u8], at: usize) -> bool
 /// The text that the bytes are, if they are UTF-8. Most texts are ASCII and have sixteen to thirty-two bytes, which fit
 /// in two loads that may overlap.
 #[inline(always)]
-pub(crate) fn from_utf8(bytes: &[u8]) -> Result<&str, Utf8Error>
+pub(crate) fn from_utf8(bytes: &[u8]) -> Result<&str, ()>
     ensures cases { MatchResult result (λ text. (text.now ≡ bytes.now) × IsUtf8 bytes.now)
         (λ error. ¬ (IsUtf8 bytes.now)) }
 {
     let length = bytes.len();
     if 16 <= length && length <= 32 && are_ascii(bytes, 0) && are_ascii(bytes, length - 16) {
         Ok(unsafe { str::from_utf8_unchecked(bytes) })
+    } else if is_utf8(bytes) {
+        Ok(unsafe { str::from_utf8_unchecked(bytes) })
     } else {
-        str::from_utf8(bytes)
+        Err(())
     }
+}
+
+/// Whether the bytes are UTF-8.
+#[inline(never)]
+fn is_utf8(bytes: &[u8]) -> bool
+    ensures { IsTrue result ↔ IsUtf8 bytes.now }
+{
+    str::from_utf8(bytes).is_ok()
 }

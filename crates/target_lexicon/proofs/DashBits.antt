@@ -1,17 +1,18 @@
 -- The dashes among up to sixteen bytes, as bits.
-use Rattle.std.proofs.Common.{◌≡◌, ◌∙◌, ap, sym, refl, ℕ, zero, suc, ◌+◌, ◌-◌, ◌*◌, ◌/◌, ◌%◌, ◌^◌, ◌<◌, ◌≤◌, ◌==◌, Bool, true, false, not, cond, eqb, List, [], ◌∷◌, ◌++◌, map, take, drop, get_or, replicate, length, Some, None, w8, arith, inl, inr}
+use Rattle.std.proofs.Common.{◌≡◌, ◌∙◌, ap, sym, refl, ℕ, zero, suc, ◌+◌, ◌-◌, ◌*◌, ◌/◌, ◌%◌, ◌^◌, ◌<◌, ◌≤◌, ◌==◌, Bool, true, false, not, cond, eqb, List, [], ◌∷◌, ◌++◌, map, take, drop, get_or, replicate, length, Some, None, w8, arith, inl, inr, subst}
 use Rattle.std.specs.{List.position, List.position_or_len, Simd.Lanes.mask_l}
-use Rattle.std.proofs.Math.Nat.{pow-zero, pow-suc, mul_comm, div-one, zero-div, div-div-eq-div-mul}
+use Rattle.std.proofs.Math.Nat.{pow-zero, pow-suc, mul_assoc, mul_comm, mod-eq_of_lt, div-one, zero-div, div-div-eq-div-mul}
+use Rattle.std.proofs.Math.{Pow.pow_mono, Seq.take-append-add}
 use Rattle.std.proofs.{lemmas.Bool.cases_lt, lemmas.Grind.common_steps}
-use Rattle.std.proofs.lemmas.List.{drop-drop, drop-map, drop_at, length-drop, length-take-le, take_all}
+use Rattle.std.proofs.lemmas.List.{drop-drop, drop-map, drop_at, length-drop, length-map, length-take-le, map-append, take-append-drop, take_all}
 use Rattle.std.proofs.lemmas.List.Sums.{position_or_len_is}
-use Rattle.std.proofs.lemmas.Simd.{bitmask_splat, length-chunk, none_from_empty_mask, run_in_chunk_fails, run_in_chunk_le, run_in_chunk_stops, trailing_mask_l}
+use Rattle.std.proofs.lemmas.Simd.{bitmask_splat, length-chunk, mask_l-lt, none_from_empty_mask, run_in_chunk_fails, run_in_chunk_le, run_in_chunk_stops, trailing_mask_l}
 use Rattle.std.proofs.lemmas.Slice.{take-put_mid}
 use borrow.Rule.Slice.PartMut.{put_mid}
 use lib.Count.{count_trailing_zeros}
 use lib.Lanes.{chunk, top, zip2}
 use Rattle.lexicon_fields.specs.Names.{dash}
-use Rattle.target_lexicon.specs.Private.{AreDashBits}
+use Rattle.target_lexicon.specs.Private.{AreDashBits, AreLastDashBits}
 
 abbrev pub is_dash : ℕ → Bool
 is_dash b = b == dash
@@ -37,14 +38,14 @@ mask_l-drop (suc n) (m ∷ ms) =
 
 -- the bits of sixteen bytes that end like the text
 dash_bits_by : (bytes text : List ℕ) (bits : ℕ) → bits ≡ mask_l (map is_dash bytes)
-    → ((k : ℕ) → k ≤ length text → length text ≤ k + 16 → drop (16 - (length text - k)) bytes ≡ drop k text) → AreDashBits bits text
+    → ((k : ℕ) → k ≤ length text → length text ≤ k + 16 → drop (16 - (length text - k)) bytes ≡ drop k text) → AreLastDashBits bits text
 dash_bits_by bytes text bits is same = record {
   at_each = λ k within few.
       let n = 16 - (length text - k) in
       ap (λ b. b / 2 ^ n) is ∙ mask_l-drop n (map is_dash bytes) ∙ ap mask_l (drop-map is_dash n bytes ∙ ap (map is_dash) (same k within few));
 }
 
-pub dash_bits_by_last : (text : List ℕ) (bits : ℕ) → 16 ≤ length text → bits ≡ mask_l (map is_dash (take 16 (drop (length text - 16) text))) → AreDashBits bits text
+pub dash_bits_by_last : (text : List ℕ) (bits : ℕ) → 16 ≤ length text → bits ≡ mask_l (map is_dash (take 16 (drop (length text - 16) text))) → AreLastDashBits bits text
 dash_bits_by_last text bits long is =
     let last = drop (length text - 16) text in
     dash_bits_by last text bits (is ∙ ap (λ bytes. mask_l (map is_dash bytes)) (take_all 16 last (omega (arith, length-drop (length text - 16) text))))
@@ -52,7 +53,7 @@ dash_bits_by_last text bits long is =
 
 -- the same if the text is at the end of sixteen bytes, after zeros
 pub dash_bits_by_padded : (zeros text : List ℕ) (k bits : ℕ) → length zeros ≡ 16 → length text ≤ 16
-    → bits ≡ mask_l (map is_dash (take 16 (put_mid (16 - length text) k zeros text))) → AreDashBits bits text
+    → bits ≡ mask_l (map is_dash (take 16 (put_mid (16 - length text) k zeros text))) → AreLastDashBits bits text
 dash_bits_by_padded zeros text k bits long short is =
     let prefix = take (16 - length text) zeros in
     let before : length prefix ≡ 16 - length text = length-take-le (16 - length text) zeros (omega (arith, long)) in
@@ -63,18 +64,8 @@ dash_bits_by_padded zeros text k bits long short is =
     ∙ sym (drop-drop i (length prefix) (prefix ++ text))
     ∙ ap (drop i) (drop_at prefix text (length prefix) refl))
 
--- the text after a dash ends like the text
-pub dash_bits_after : (bits : ℕ) (text rest : List ℕ) (i : ℕ) → i ≤ length text → AreDashBits bits text → rest ≡ drop i text → AreDashBits bits rest
-dash_bits_after bits text rest i within are_bits after = record {
-  at_each = λ k below few.
-      let long : length rest ≡ length text - i = ap length after ∙ length-drop i text in
-      ap (λ n. bits / 2 ^ n) (omega (arith, long, within, below))
-      ∙ are_bits.at_each (i + k) (omega (arith, long, within, below)) (omega (arith, long, within, few))
-      ∙ ap (λ xs. mask_l (map is_dash xs)) (sym (drop-drop k i text) ∙ ap (drop k) (sym after));
-}
-
 -- the bits of the rest, which has at most sixteen bytes
-pub bits_of-rest : (bits : ℕ) (bytes : List ℕ) (at : ℕ) → AreDashBits bits bytes → at ≤ length bytes → length bytes - at ≤ 16
+pub bits_of-rest : (bits : ℕ) (bytes : List ℕ) (at : ℕ) → AreLastDashBits bits bytes → at ≤ length bytes → length bytes - at ≤ 16
     → bits / 2 ^ (16 - (length bytes - at)) ≡ mask_l (map is_dash (take (length bytes - at) (drop at bytes)))
 bits_of-rest bits bytes at are_bits within few =
     are_bits.at_each at within (omega (arith, few))
@@ -118,3 +109,86 @@ pub no_dash : (bytes : List ℕ) → ((k : ℕ) → k < length bytes → is_dash
 no_dash bytes none =
     let whole : position_or_len is_dash bytes ≡ length bytes = position_or_len_is is_dash bytes (length bytes) 0 (omega arith) none (λ more. absurd (omega (arith, more))) in
     grind (arith, common_steps)
+
+-- the bits of a text, sixteen bytes after sixteen
+
+mask_l-append : (xs ys : List Bool) → mask_l (xs ++ ys) ≡ mask_l xs + mask_l ys * 2 ^ length xs
+mask_l-append [] ys = omega arith
+mask_l-append (x ∷ xs) ys =
+    let rest = mask_l-append xs ys in
+    let twice : mask_l ys * 2 ^ suc (length xs) ≡ mask_l ys * 2 ^ length xs * 2 = ap (λ k. mask_l ys * k) (pow-suc 2 (length xs)) ∙ sym (mul_assoc (mask_l ys) (2 ^ length xs) 2) in
+    omega (arith, rest, twice)
+
+take-more : (bytes : List ℕ) (at n : ℕ) → at ≤ length bytes → take (at + n) bytes ≡ take at bytes ++ take n (drop at bytes)
+take-more bytes at n within =
+    ap (take (at + n)) (sym (take-append-drop at bytes))
+    ∙ ap (λ k. take (k + n) (take at bytes ++ drop at bytes)) (sym (length-take-le at bytes within))
+    ∙ take-append-add (take at bytes) (drop at bytes) n
+
+module _ (bytes : List ℕ) (at n bits more : ℕ) (room : at + n ≤ length bytes) (few : at + n ≤ 64) (are : bits ≡ mask_l (map is_dash (take at bytes)))
+    (next : more ≡ mask_l (map is_dash (take n (drop at bytes)))) where
+  sum-is : bits + more * 2 ^ at ≡ mask_l (map is_dash (take (at + n) bytes))
+  sum-is =
+      let before : length (map is_dash (take at bytes)) ≡ at = length-map (take at bytes) is_dash ∙ length-take-le at bytes (omega (arith, room)) in
+      (λ i. are i + next i * 2 ^ sym before i)
+      ∙ sym (mask_l-append (map is_dash (take at bytes)) (map is_dash (take n (drop at bytes))))
+      ∙ ap mask_l (sym (map-append is_dash (take at bytes) (take n (drop at bytes))) ∙ ap (map is_dash) (sym (take-more bytes at n (omega (arith, room)))))
+
+  sum-small : bits + more * 2 ^ at < 2 ^ 64
+  sum-small =
+      let all = map is_dash (take (at + n) bytes) in
+      let many : length all ≡ at + n = length-map (take (at + n) bytes) is_dash ∙ length-take-le (at + n) bytes room in
+      let below : mask_l all < 2 ^ (at + n) = subst (λ k. mask_l all < 2 ^ k) many (mask_l-lt all) in
+      omega (arith, sum-is, below, pow_mono few)
+
+  pub bits-more : bits + more * 2 ^ at % 2 ^ 64 ≡ mask_l (map is_dash (take (at + n) bytes))
+  bits-more = ap (λ k. bits + k) (mod-eq_of_lt (omega (arith, sum-small))) ∙ sum-is
+
+  pub bits-fit : bits + more * 2 ^ at % 2 ^ 64 < 2 ^ 64
+  bits-fit = subst (λ k. k < 2 ^ 64) (sym (ap (λ k. bits + k) (mod-eq_of_lt (omega (arith, sum-small))))) sum-small
+
+-- the bits of few bytes, of two loads, of what follows a dash, and where the first dash is
+
+pub bits_of_few : (text : List ℕ) (last : ℕ) → AreLastDashBits last text → length text ≤ 16 → AreDashBits (last / 2 ^ (16 - length text)) text
+bits_of_few text last are few =
+    let whole : length text - 0 ≡ length text = omega arith in
+    record { of_short = λ _. ap (λ k. last / 2 ^ (16 - k)) (sym whole) ∙ are.at_each 0 (omega arith) (omega (arith, few)) }
+
+pub bits_of_two : (bytes text : List ℕ) (first last : ℕ) → bytes ≡ text → 16 ≤ length bytes → length bytes ≤ 32
+    → first ≡ mask_l (map is_dash (take 16 (drop 0 bytes))) → last ≡ mask_l (map is_dash (take 16 (drop (length bytes - 16) bytes)))
+    → (first + last / 2 ^ (32 - length bytes) * 2 ^ 16 % 2 ^ 64 < 2 ^ 64) × AreDashBits (first + last / 2 ^ (32 - length bytes) * 2 ^ 16 % 2 ^ 64) text
+bits_of_two bytes text first last same long short is_first is_last =
+    let n : 32 - length bytes ≡ 16 - (length bytes - 16) = omega (arith, long, short) in
+    let rest = bits_of-rest last bytes 16 (dash_bits_by_last bytes last long is_last) long (omega (arith, short)) in
+    let next = ap (λ k. last / 2 ^ k) n ∙ rest in
+    let room : 16 + (length bytes - 16) ≤ length bytes = omega (arith, long) in
+    let few : 16 + (length bytes - 16) ≤ 64 = omega (arith, short) in
+    let whole : 16 + (length bytes - 16) ≡ length bytes = omega (arith, long) in (
+      bits-fit bytes 16 (length bytes - 16) first (last / 2 ^ (32 - length bytes)) room few is_first next,
+      record {
+        of_short = λ _.
+            bits-more bytes 16 (length bytes - 16) first (last / 2 ^ (32 - length bytes)) room few is_first next
+            ∙ ap (λ xs. mask_l (map is_dash xs)) (ap (λ k. take k bytes) whole ∙ take_all (length bytes) bytes (omega arith) ∙ same);
+      },
+    )
+
+pub bits_after : (text rest : List ℕ) (bits at : ℕ) → AreDashBits bits text → length text ≤ 32 → rest ≡ drop (at + 1) text → AreDashBits (bits / 2 ^ at / 2) rest
+bits_after text rest bits at are short after = record {
+  of_short = λ _.
+      let next : suc at ≡ at + 1 = omega arith in
+      div-div-eq-div-mul bits (2 ^ at) 2
+      ∙ ap (λ k. bits / k) (sym (pow-suc 2 at))
+      ∙ ap (λ b. b / 2 ^ suc at) (are.of_short short)
+      ∙ mask_l-drop (suc at) (map is_dash text)
+      ∙ ap mask_l (drop-map is_dash (suc at) text ∙ ap (λ n. map is_dash (drop n text)) next ∙ ap (map is_dash) (sym after));
+}
+
+module _ (text : List ℕ) (bits : ℕ) (are : AreDashBits bits text) (short : length text ≤ 32) where
+  whole : bits ≡ mask_l (map is_dash (take (length text) (drop 0 text)))
+  whole = are.of_short short ∙ ap (λ xs. mask_l (map is_dash xs)) (sym (take_all (length text) text (omega arith)))
+
+  pub first_dash : 0 < bits → position is_dash text ≡ Some (count_trailing_zeros 64 bits)
+  first_dash some = first_in_bits text 0 (length text) bits (omega arith) (omega (arith, short)) (λ k lt. absurd (omega (arith, lt))) whole some ∙ ap Some (omega arith)
+
+  pub without_dash : bits ≡ 0 → position is_dash text ≡ None
+  without_dash empty = no_dash text (λ k lt. none_in_bits text 0 (length text) bits (omega arith) (omega (arith, short)) (λ k lt. absurd (omega (arith, lt))) whole empty k (omega (arith, lt)))

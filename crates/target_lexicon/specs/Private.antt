@@ -14,8 +14,12 @@ parts_after_dash (Some text) = parts_of text.now
 
 -- the bits are set for the dashes among a text's last sixteen bytes, or fewer; the highest of sixteen is that of the
 -- last byte
-pub record AreDashBits (bits : ℕ) (text : List ℕ) : Type 0 where
+pub record AreLastDashBits (bits : ℕ) (text : List ℕ) : Type 0 where
   pub at_each : (k : ℕ) → k ≤ length text → length text ≤ k + 16 → bits / 2 ^ (16 - (length text - k)) ≡ mask_l (map (λ b. b == dash) (drop k text))
+
+-- if a text has at most 32 bytes, the bits are set for its dashes; the lowest is that of the first byte
+pub record AreDashBits (bits : ℕ) (text : List ℕ) : Type 0 where
+  pub of_short : length text ≤ 32 → bits ≡ mask_l (map (λ b. b == dash) text)
 
 -- what the look-up of a text shows: its value in each field; without a row, vendor and operating system remain open
 pub record IsLookedUp (text : List ℕ) (row : Option FixedRow) : Type 0 where

@@ -1,9 +1,9 @@
-//! The search for the first dash of a text, sixteen bytes a step.
-ghost use Rattle.std.specs.Prelude.{◌≡◌, ◌≤◌, ◌+◌, ◌==◌, length, take, drop, map};
+//! The dashes of a text, as bits if it is short.
+ghost use Rattle.std.specs.Prelude.{◌≡◌, ◌≤◌, ◌<◌, ◌+◌, ◌==◌, length, take, drop, map};
 ghost use Rattle.std.specs.List.{position};
 ghost use Rattle.std.specs.Simd.Lanes.{mask_l};
 ghost use Rattle.lexicon_fields.specs.Names.{dash};
-ghost use Rattle.target_lexicon.specs.Private.{AreDashBits};
+ghost use Rattle.target_lexicon.specs.Private.{AreDashBits, AreLastDashBits};
 
 use std::simd::prelude::*;
 
@@ -19,8 +19,9 @@ fn dashes_from(bytes: &[u8], at: usize) -> u64
 }
 
 /// A bit for each of the last sixteen bytes of a text, set for a dash. The highest bit is that of the last byte.
-pub(crate) fn dashes_at_end(text: &str) -> u64
-    ensures { AreDashBits result text.now }
+#[inline(always)]
+fn dashes_at_end(text: &str) -> u64
+    ensures { AreLastDashBits result text.now }
 {
     let bytes = text.as_bytes();
     if 16 <= bytes.len() {
@@ -31,11 +32,47 @@ pub(crate) fn dashes_at_end(text: &str) -> u64
     dashes_from(&last, 0)
 }
 
-/// The index of the first dash of a text, given the bits of its last sixteen bytes.
-pub(crate) fn dash_in(text: &str, at_end: u64) -> Option<usize>
-    requires { AreDashBits at_end text.now }
+/// A bit for each byte of a text of at most 32 bytes, set for a dash. The lowest bit is that of the first byte. A longer
+/// text has no bits.
+#[inline(always)]
+pub(crate) fn dash_bits(text: &str) -> u64
+    ensures { AreDashBits result text.now }
+{
+    let bytes = text.as_bytes();
+    if 32 < bytes.len() {
+        return 0;
+    }
+    if bytes.len() <= 16 {
+        return dash_bits_of_few(text);
+    }
+    let last = dashes_from(bytes, bytes.len() - 16);
+    dashes_from(bytes, 0) + ((last >> (32 - bytes.len())) << 16)
+}
+
+/// The bits of at most sixteen bytes.
+#[inline(never)]
+fn dash_bits_of_few(text: &str) -> u64
+    requires { length text.now ≤ 16 }
+    ensures { AreDashBits result text.now }
+{
+    dashes_at_end(text) >> (16 - text.len())
+}
+
+/// The bits of what is left of a longer text.
+#[inline(never)]
+pub(crate) fn dash_bits_of_rest(rest: &str) -> u64
+    ensures { AreDashBits result rest.now }
+{
+    dash_bits(rest)
+}
+
+/// The index of the first dash of a text of at least sixteen bytes, searched sixteen bytes a step.
+#[inline(never)]
+pub(crate) fn dash_in_long(text: &str) -> Option<usize>
+    requires { 16 ≤ length text.now }
     ensures { result ≡ position (λ b. b == dash) text.now }
 {
+    let at_end = dashes_at_end(text);
     let bytes = text.as_bytes();
     let mut at = 0;
     while 16 < bytes.len() - at {

@@ -1,28 +1,28 @@
 //! The parts of a text, each looked up once in the table of names.
-ghost use Rattle.std.specs.Prelude.{◌≡◌, ◌≤◌, ◌+◌, ◌^◌, ◌∷◌, Some};
+ghost use Rattle.std.specs.Prelude.{◌≡◌, ◌≤◌, ◌+◌, ◌^◌, ◌∷◌, Some, length};
 ghost use Rattle.std.specs.Option.{ForSome};
 ghost use Rattle.lexicon_fields.specs.OperatingSystem.{operating_system_of};
 ghost use Rattle.target_lexicon.specs.Placement.{parts_of};
 ghost use Rattle.target_lexicon.specs.FieldTexts.{dashed_length};
 ghost use Rattle.target_lexicon.specs.Private.{IsLookedUp, AreDashBits, parts_after_dash};
 
-use crate::dashes::{dash_in, dashes_at_end};
+use crate::dashes::{dash_bits, dash_bits_of_rest, dash_in_long};
 use lexicon_fields::{
     Architecture, BinaryFormat, Environment, FixedRow, OperatingSystem, Steps, VendorRef, fixed_row,
 };
 
-/// A part of a text, its row in the table of names, the system that it parses as, what follows its dash, and the dashes
-/// of the text's end.
+/// A part of a text, its row in the table of names, the system that it parses as, and what follows its dash, with the
+/// bits of the dashes there.
 #[derive(Clone, Copy)]
 pub(crate) struct Part<'a> {
     pub text: &'a str,
     row: Option<FixedRow>,
     operating_system: Option<OperatingSystem>,
     pub after_dash: Option<&'a str>,
-    dashes_at_end: u64,
+    dash_bits: u64,
     ghost looked_up: { IsLookedUp text.now row },
     ghost system: { operating_system ≡ operating_system_of text.now },
-    ghost dash_bits: { ForSome after_dash (λ rest. AreDashBits dashes_at_end rest.now) },
+    ghost are_dash_bits: { ForSome after_dash (λ rest. AreDashBits dash_bits rest.now) },
 }
 
 /// The row of the name `text` in the table of fixed names, or `None` if the table hasn't it. Its steps aren't counted.
@@ -46,16 +46,36 @@ fn system_of(text: &str, row: Option<FixedRow>) -> Option<OperatingSystem>
     }
 }
 
-/// Cuts a text at its first dash, the dashes of whose end are known.
+/// Cuts a text at its first dash, given the bits of its dashes. The bits of what follows the dash are returned too.
 #[inline(always)]
-fn split_at_dash(text: &str, at_end: u64) -> (&str, Option<&str>)
-    requires { AreDashBits at_end text.now }
+fn split_at_dash(text: &str, bits: u64) -> (&str, Option<&str>, u64)
+    requires { AreDashBits bits text.now }
     ensures parts { parts_of text.now ≡ result.0.now ∷ parts_after_dash result.1 }
-    ensures dash_bits { ForSome result.1 (λ rest. AreDashBits at_end rest.now) }
+    ensures dash_bits { ForSome result.1 (λ rest. AreDashBits result.2 rest.now) }
 {
-    match dash_in(text, at_end) {
-        Some(at) => (&text[..at], Some(&text[at + 1..])),
-        None => (text, None),
+    if 32 < text.len() {
+        return split_long_at_dash(text);
+    }
+    if bits == 0 {
+        return (text, None, 0);
+    }
+    let at = bits.trailing_zeros() as usize;
+    (&text[..at], Some(&text[at + 1..]), bits >> at >> 1)
+}
+
+/// Cuts a long text at its first dash.
+#[inline(always)]
+fn split_long_at_dash(text: &str) -> (&str, Option<&str>, u64)
+    requires { 16 ≤ length text.now }
+    ensures parts { parts_of text.now ≡ result.0.now ∷ parts_after_dash result.1 }
+    ensures dash_bits { ForSome result.1 (λ rest. AreDashBits result.2 rest.now) }
+{
+    match dash_in_long(text) {
+        Some(at) => {
+            let after_dash = &text[at + 1..];
+            (&text[..at], Some(after_dash), dash_bits_of_rest(after_dash))
+        }
+        None => (text, None, 0),
     }
 }
 
@@ -86,7 +106,7 @@ impl<'a> Part<'a> {
     pub(crate) fn first(text: &'a str) -> Self
         ensures { parts_of text.entry.now ≡ result.text.now ∷ parts_after_dash result.after_dash }
     {
-        Part::first_of(text, dashes_at_end(text))
+        Part::first_of(text, dash_bits(text))
     }
 
     /// The part after the dash.
@@ -95,7 +115,7 @@ impl<'a> Part<'a> {
         ensures { remaining_parts result ≡ parts_after_dash self.now.after_dash }
     {
         match self.after_dash {
-            Some(text) => Some(Part::first_of(text, self.dashes_at_end)),
+            Some(text) => Some(Part::first_of(text, self.dash_bits)),
             None => None,
         }
     }
@@ -108,20 +128,20 @@ impl<'a> Part<'a> {
         self.text.len() + length_after_part(self.after_dash)
     }
 
-    /// The first part of a text, the dashes of whose end are known.
+    /// The first part of a text, given the bits of its dashes.
     #[inline(always)]
-    fn first_of(text: &'a str, dashes_at_end: u64) -> Self
-        requires { AreDashBits dashes_at_end text.now }
+    fn first_of(text: &'a str, bits: u64) -> Self
+        requires { AreDashBits bits text.now }
         ensures { parts_of text.entry.now ≡ result.text.now ∷ parts_after_dash result.after_dash }
     {
-        let (first, after_dash) = split_at_dash(text, dashes_at_end);
+        let (first, after_dash, dash_bits) = split_at_dash(text, bits);
         let row = row_of(first);
         Part {
             text: first,
             row,
             operating_system: system_of(first, row),
             after_dash,
-            dashes_at_end,
+            dash_bits,
         }
     }
 

@@ -1,6 +1,6 @@
 use Rattle.std.proofs.Common.{Some, length, sym, ap, ◌∙◌, subst, arith}
 use Rattle.target_lexicon.specs.{RemainingParts.outcome_of, ValuesRef.refusal_of_ref}
-use Rattle.target_lexicon.specs.Explanation.{IsInText, IsRefusedAt, NotGiven, part_value, source_at}
+use Rattle.target_lexicon.specs.Explanation.{IsInText, IsRefusedAt, NotGiven, source_at}
 use Rattle.target_lexicon.proofs.{ComputedReading.Holds, ComputedReading.parts-hold, ExplanationLemmas.refused-start, ExplanationLemmas.refused-after}
 use Rattle.target_lexicon.proofs.triple_ref.TripleRef.parse_or_locate.Goals as goal
 

@@ -1,7 +1,7 @@
 -- No dash has been found so far.
 use Rattle.std.proofs.Common.{◌≡◌, ◌<◌, ◌≤◌, ◌-◌, ◌==◌, ℕ, false, get_or, length}
 use Rattle.lexicon_fields.specs.Names.{dash}
-use Rattle.target_lexicon.proofs.dashes.dash_in.Given as goal
+use Rattle.target_lexicon.proofs.dashes.dash_in_long.Given as goal
 
 abbrev pub invariant-loop-at : goal.invariant-loop-at
 invariant-loop-at l = record {
