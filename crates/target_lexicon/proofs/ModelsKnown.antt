@@ -5,7 +5,7 @@ use Rattle.target_lexicon.specs.{Values.Architecture, Values.OperatingSystem, Va
 use Rattle.target_lexicon.specs.DataModel.{size_bits, sizes_of}
 use Rattle.target_lexicon.specs.declared.calling_convention.CallingConvention.TheVariants.{SystemV, AppleAarch64}
 use Rattle.target_lexicon.specs.declared.data_model.CDataModel.TheVariants.{ILP32, LLP64, LP64}
-use Rattle.target_lexicon.specs.Queries.{convention_on, convention_model_64, convention_model_32, model_64, model_32, model_of_width, pointer_width, data_model}
+use Rattle.target_lexicon.specs.Queries.{convention_on, convention_model_64, convention_model_32, other_model_64, other_model_32, model_64, model_32, model_of_width, pointer_width, data_model}
 use Rattle.lexicon_fields.specs.{declared.architecture.Architecture.TheVariants.Wasm32, declared.architecture.Architecture.TheVariants.Wasm64, declared.pointer_width.PointerWidth.PointerWidth}
 use Rattle.lexicon_fields.specs.{declared.operating_system.OperatingSystem.TheVariants.Windows, declared.pointer_width.PointerWidth.TheVariants.U32, declared.pointer_width.PointerWidth.TheVariants.U64}
 use Rattle.lexicon_fields.specs.PointerWidth.{width_bits}
@@ -17,10 +17,13 @@ by_convention_64 (Some SystemV) m h = cc
 by_convention_64 (Some AppleAarch64) m h = cc
 by_convention_64 _ m h = absurd (true≢false (ap is_none h))
 
+off_windows_64 : (a : Architecture) (c : Option CallingConvention) (m : CDataModel) → other_model_64 a c ≡ Some m → m ≡ LP64
+off_windows_64 Wasm64 c m h = cc
+off_windows_64 _ c m h = by_convention_64 c m h
+
 at_64 : (a : Architecture) (s : OperatingSystem) (m : CDataModel) → model_64 a s ≡ Some m → (m ≡ LLP64) ⊎ (m ≡ LP64)
 at_64 a Windows m h = inl cc
-at_64 Wasm64 s m h = inr cc
-at_64 a s m h = inr (by_convention_64 (convention_on a s) m h)
+at_64 a s m h = inr (off_windows_64 a (convention_on a s) m h)
 
 -- the one model of 32-bit pointers
 
@@ -28,10 +31,13 @@ by_convention_32 : (c : Option CallingConvention) (m : CDataModel) → conventio
 by_convention_32 (Some SystemV) m h = cc
 by_convention_32 _ m h = absurd (true≢false (ap is_none h))
 
+off_windows_32 : (a : Architecture) (c : Option CallingConvention) (m : CDataModel) → other_model_32 a c ≡ Some m → m ≡ ILP32
+off_windows_32 Wasm32 c m h = cc
+off_windows_32 _ c m h = by_convention_32 c m h
+
 at_32 : (a : Architecture) (s : OperatingSystem) (m : CDataModel) → model_32 a s ≡ Some m → m ≡ ILP32
 at_32 a Windows m h = cc
-at_32 Wasm32 s m h = cc
-at_32 a s m h = by_convention_32 (convention_on a s) m h
+at_32 a s m h = off_windows_32 a (convention_on a s) m h
 
 -- a model has the pointer width by which it is chosen, and is one of three
 chosen : (w : Option PointerWidth) (a : Architecture) (s : OperatingSystem) (m : CDataModel) → model_of_width w a s ≡ Some m
@@ -54,18 +60,24 @@ no_convention_64 SystemV p q = absurd (p refl)
 no_convention_64 AppleAarch64 p q = absurd (q refl)
 no_convention_64 _ p q = refl
 
+no_other_model_64 : (a : Architecture) (c : CallingConvention) → (a ≡ Wasm64 → ⊥) → (c ≡ SystemV → ⊥) → (c ≡ AppleAarch64 → ⊥) → other_model_64 a (Some c) ≡ None
+no_other_model_64 Wasm64 c p q r = absurd (p refl)
+no_other_model_64 _ c p q r = no_convention_64 c q r
+
 pub no_model_64 : (a : Architecture) (s : OperatingSystem) (c : CallingConvention) → convention_on a s ≡ Some c
     → (s ≡ Windows → ⊥) → (a ≡ Wasm64 → ⊥) → (c ≡ SystemV → ⊥) → (c ≡ AppleAarch64 → ⊥) → model_64 a s ≡ None
 no_model_64 a Windows c is n p q r = absurd (n refl)
-no_model_64 Wasm64 s c is n p q r = absurd (p refl)
-no_model_64 a s c is n p q r = rw is (no_convention_64 c q r)
+no_model_64 a s c is n p q r = rw is (no_other_model_64 a c p q r)
 
 no_convention_32 : (c : CallingConvention) → (c ≡ SystemV → ⊥) → convention_model_32 (Some c) ≡ None
 no_convention_32 SystemV p = absurd (p refl)
 no_convention_32 _ p = refl
 
+no_other_model_32 : (a : Architecture) (c : CallingConvention) → (a ≡ Wasm32 → ⊥) → (c ≡ SystemV → ⊥) → other_model_32 a (Some c) ≡ None
+no_other_model_32 Wasm32 c p q = absurd (p refl)
+no_other_model_32 _ c p q = no_convention_32 c q
+
 pub no_model_32 : (a : Architecture) (s : OperatingSystem) (c : CallingConvention) → convention_on a s ≡ Some c
     → (s ≡ Windows → ⊥) → (a ≡ Wasm32 → ⊥) → (c ≡ SystemV → ⊥) → model_32 a s ≡ None
 no_model_32 a Windows c is n p q = absurd (n refl)
-no_model_32 Wasm32 s c is n p q = absurd (p refl)
-no_model_32 a s c is n p q = rw is (no_convention_32 c q)
+no_model_32 a s c is n p q = rw is (no_other_model_32 a c p q)

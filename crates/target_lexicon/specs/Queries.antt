@@ -66,17 +66,24 @@ abbrev pub convention_model_32 : Option CallingConvention → Option CDataModel
 convention_model_32 (Some SystemV) = Some ILP32
 convention_model_32 _ = None
 
+-- the models on a system other than Windows, by the architecture and its calling convention there
+abbrev pub other_model_64 : Architecture → Option CallingConvention → Option CDataModel
+other_model_64 architecture.Wasm64 c = Some LP64
+other_model_64 _ c = convention_model_64 c
+
+abbrev pub other_model_32 : Architecture → Option CallingConvention → Option CDataModel
+other_model_32 architecture.Wasm32 c = Some ILP32
+other_model_32 _ c = convention_model_32 c
+
 -- the model of 64-bit pointers
 abbrev pub model_64 : Architecture → OperatingSystem → Option CDataModel
 model_64 a operating_system.Windows = Some LLP64
-model_64 architecture.Wasm64 s = Some LP64
-model_64 a s = convention_model_64 (convention_on a s)
+model_64 a s = other_model_64 a (convention_on a s)
 
 -- the model of 32-bit pointers
 abbrev pub model_32 : Architecture → OperatingSystem → Option CDataModel
 model_32 a operating_system.Windows = Some ILP32
-model_32 architecture.Wasm32 s = Some ILP32
-model_32 a s = convention_model_32 (convention_on a s)
+model_32 a s = other_model_32 a (convention_on a s)
 
 -- the model by the pointer width; pointers of 16 bits have none
 abbrev pub model_of_width : Option PointerWidth → Architecture → OperatingSystem → Option CDataModel
