@@ -75,7 +75,6 @@ impl OperatingSystem {
     ///
     /// A text is a fixed name, or the prefix of a system like Darwin with nothing or a version after it: one to three
     /// pieces between dots, each an optional plus and digits, the first at most 65535, the others at most 255.
-    #[tactic(auto, using(crate::proofs::RowLemmas::operating_system_of_either_way))]
     pub fn from_str(s: &str) -> Result<Self, ()>
         ensures { MatchesLookup (operating_system_of s.now) result }
     {
