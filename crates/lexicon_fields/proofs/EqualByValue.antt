@@ -1,7 +1,7 @@
 -- `==` is true exactly for the same values.
-use Rattle.std.proofs.Common.{rules, ◌≡◌, ◌∙◌, Bool, false, List, [], ◌∷◌, Option, Some, None, inl, inr, refl, sym, ap}
+use Rattle.std.proofs.Common.{rules, ◌≡◌, ◌∙◌, Bool, true, false, ◌&&◌, List, [], ◌∷◌, Option, Some, None, inl, inr, refl, sym, ap}
 use Rattle.std.specs.{Prelude.Decides, Cmp.Derive.of_values, Option.option_eq}
-use Rattle.std.proofs.{lemmas.Bool.false≢true, lemmas.Bool.Decides.Decides-like}
+use Rattle.std.proofs.{lemmas.Bool.false≢true, lemmas.Bool.and_parts, lemmas.Bool.Decides.Decides-like}
 use Rattle.lexicon_fields.specs.declared.deployment_target.DeploymentTarget.{DeploymentTarget}
 use denote.Struct.Field.{Field}
 use denote.Struct.Values.{Values}
@@ -25,10 +25,17 @@ option_eq-Decides eq decides _ _ = (λ same. absurd cc, λ same. absurd cc)
 pub version-Decides : (a b : DeploymentTarget) → Decides (version.ghosts.eq a b) (a ≡ b)
 version-Decides a b = search rules
 
--- the fields of each variant are equal by value
+-- the fields of each variant that has some are equal by value
 abbrev pub EachDecides : (Fss : List (List Field)) → Each Bool Fss → Type 0
 EachDecides [] each = Unit {0}
-EachDecides (Fs ∷ Fss) each = ((x y : Values Fs) → Decides (each.0 x y) (x ≡ y)) × EachDecides Fss each.1
+EachDecides ([] ∷ Fss) each = EachDecides Fss each.1
+EachDecides ((F ∷ Fs) ∷ Fss) each = ((x y : Values (F ∷ Fs)) → Decides (each.0 x y) (x ≡ y)) × EachDecides Fss each.1
+
+-- whether each variant without fields equals itself
+abbrev pub are_bare_equal : (Fss : List (List Field)) → Each Bool Fss → Bool
+are_bare_equal [] each = true
+are_bare_equal ([] ∷ Fss) each = each.0 tt tt && are_bare_equal Fss each.1
+are_bare_equal ((F ∷ Fs) ∷ Fss) each = are_bare_equal Fss each.1
 
 pub one_field-Decides : {V : Type 0} (eq : V → V → Bool) → ((a b : V) → Decides (eq a b) (a ≡ b)) → (x y : V × Unit {0}) → Decides (eq x.0 y.0) (x ≡ y)
 one_field-Decides {V} eq decides x y = Decides-like _ (λ same. ap (λ (v : V). (v, tt)) same) (λ same. ap (λ fields. fields.0) same) (decides x.0 y.0)
@@ -36,13 +43,19 @@ one_field-Decides {V} eq decides x y = Decides-like _ (λ same. ap (λ (v : V). 
 pub bare_field-Decides : (D : Declared) → Bare D.parts → (x y : D.D × Unit {0}) → Decides (sameb D x.0 y.0) (x ≡ y)
 bare_field-Decides D bare = one_field-Decides _ (bare-Decides D bare)
 
-choices-Decide : (Fss : List (List Field)) (each : Each Bool Fss) → EachDecides Fss each → (c d : Choice Fss) → Decides (by false false Fss each c d) (c ≡ d)
-choices-Decide [] each decide c d = absurd c
-choices-Decide (Fs ∷ Fss) each decide (inl x) (inl y) = Decides-like _ (λ same. ap inl same) (λ same. let fields : x ≡ y = cc in fields) (decide.0 x y)
-choices-Decide (Fs ∷ Fss) each decide (inr x) (inr y) =
-    Decides-like _ (λ same. ap inr same) (λ same. let choices : x ≡ y = cc in choices) (choices-Decide Fss each.1 decide.1 x y)
-choices-Decide (Fs ∷ Fss) each decide _ _ = (λ same. absurd (false≢true same), λ same. absurd cc)
+choices-Decide : (Fss : List (List Field)) (each : Each Bool Fss) → are_bare_equal Fss each ≡ true → EachDecides Fss each
+    → (c d : Choice Fss) → Decides (by false false Fss each c d) (c ≡ d)
+choices-Decide [] each bare decide c d = absurd c
+choices-Decide ([] ∷ Fss) each bare decide (inl x) (inl y) = (λ _. refl, λ _. (and_parts _ _ bare).0)
+choices-Decide ((F ∷ Fs) ∷ Fss) each bare decide (inl x) (inl y) = Decides-like _ (λ same. ap inl same) (λ same. let fields : x ≡ y = cc in fields) (decide.0 x y)
+choices-Decide ([] ∷ Fss) each bare decide (inr x) (inr y) =
+    Decides-like _ (λ same. ap inr same) (λ same. let choices : x ≡ y = cc in choices) (choices-Decide Fss each.1 (and_parts _ _ bare).1 decide x y)
+choices-Decide ((F ∷ Fs) ∷ Fss) each bare decide (inr x) (inr y) =
+    Decides-like _ (λ same. ap inr same) (λ same. let choices : x ≡ y = cc in choices) (choices-Decide Fss each.1 bare decide.1 x y)
+choices-Decide (Fs ∷ Fss) each bare decide _ _ = (λ same. absurd (false≢true same), λ same. absurd cc)
 
-pub enum-Decides : (N : Record) (each : Each Bool N.parts) → EachDecides N.parts each → (x y : N.D) → Decides (of_values N false false each x y) (x ≡ y)
-enum-Decides N each decide x y =
-    Decides-like _ (λ same. sym (N.eta x) ∙ ap N.make same ∙ N.eta y) (λ same. ap N.as_values same) (choices-Decide N.parts each decide (N.as_values x) (N.as_values y))
+pub enum-Decides : (N : Record) (each : Each Bool N.parts) → are_bare_equal N.parts each ≡ true → EachDecides N.parts each
+    → (x y : N.D) → Decides (of_values N false false each x y) (x ≡ y)
+enum-Decides N each bare decide x y =
+    Decides-like _ (λ same. sym (N.eta x) ∙ ap N.make same ∙ N.eta y) (λ same. ap N.as_values same)
+    (choices-Decide N.parts each bare decide (N.as_values x) (N.as_values y))

@@ -1,34 +1,23 @@
 -- How the names of systems are parsed.
-use Rattle.std.proofs.Common.{[], ◌∷◌, Option, Some, IfSome, option_map, ◌≡◌, ◌≢◌, ◌∙◌, ℕ, List, ◌++◌, codes, take, drop, length, nat_eq, None, refl, sym, ap}
+use Rattle.std.proofs.Common.{[], ◌∷◌, Option, Some, IfSome, option_map, ◌≡◌, ◌≢◌, ◌∙◌, ℕ, List, ◌++◌, take, drop, length, nat_eq, None, refl, sym, ap}
 use Rattle.std.specs.List.{starts_with}
-use Rattle.std.proofs.{lemmas.Bool.false_from_ne_true, lemmas.Bool.cond-false, lemmas.List.take-append-drop, lemmas.Slice.Eq.bytes_eq-Decides}
+use Rattle.std.proofs.{lemmas.Bool.false_from_ne_true, lemmas.Bool.cond-false, lemmas.Bool.cond-true, Math.Seq.take-append_seam, Math.Seq.drop-append_seam, lemmas.List.take-append-drop, lemmas.Slice.Eq.bytes_eq-Decides}
 use Rattle.lexicon_fields.specs.{declared.deployment_target.DeploymentTarget.DeploymentTarget, declared.operating_system.OperatingSystem.OperatingSystem, Laws.IsVersionInRange, Laws.HasVersionInRange}
 use Rattle.lexicon_fields.specs.Version.{version_of, version_name}
-use Rattle.lexicon_fields.specs.OperatingSystem.{operating_system_name, fixed_operating_system_of, operating_system_of, optional_version_of, version_suffix, text_after_prefix, darwin_like_system, darwin_prefixes}
+use Rattle.lexicon_fields.specs.OperatingSystem.{operating_system_name, fixed_operating_system_of, operating_system_of, optional_version_of, version_suffix, text_after_prefix}
 use Rattle.lexicon_fields.proofs.VersionsReadBack.{version_of-name}
 use Rattle.lexicon_fields.specs.declared.operating_system.OperatingSystem.TheVariants as operating_system
 
--- a text that does not begin with a prefix has no rest after it
-has_no_prefix : (prefix text : List ℕ) → ((rest : List ℕ) → text ≢ prefix ++ rest) → text_after_prefix prefix text ≡ None
+-- a text that begins with a prefix has the rest after it, and every other text has none
+pub has_prefix : (prefix text rest : List ℕ) → text ≡ prefix ++ rest → text_after_prefix prefix text ≡ Some rest
+has_prefix prefix text rest is =
+    let begins = (bytes_eq-Decides prefix (take (length prefix) text)).1 (sym (take-append_seam prefix rest) ∙ ap (take (length prefix)) (sym is)) in
+    cond-true (starts_with nat_eq text prefix) _ _ begins ∙ ap (λ (xs : List ℕ). Some (drop (length prefix) xs)) is ∙ ap Some (drop-append_seam prefix rest)
+
+pub has_no_prefix : (prefix text : List ℕ) → ((rest : List ℕ) → text ≢ prefix ++ rest) → text_after_prefix prefix text ≡ None
 has_no_prefix prefix text differs = cond-false (starts_with nat_eq text prefix) _ _ (false_from_ne_true _ (λ begins.
     let prefix_key = (bytes_eq-Decides prefix (take (length prefix) text)).0 begins in
     differs (drop (length prefix) text) (sym (take-append-drop (length prefix) text) ∙ ap (λ xs. xs ++ drop (length prefix) text) (sym prefix_key))))
-
-pub no_darwin_prefix : (text : List ℕ)
-    → ((rest : List ℕ) → text ≢ codes "darwin" ++ rest) → ((rest : List ℕ) → text ≢ codes "ios" ++ rest)
-    → ((rest : List ℕ) → text ≢ codes "macosx" ++ rest) → ((rest : List ℕ) → text ≢ codes "tvos" ++ rest)
-    → ((rest : List ℕ) → text ≢ codes "visionos" ++ rest) → ((rest : List ℕ) → text ≢ codes "watchos" ++ rest)
-    → ((rest : List ℕ) → text ≢ codes "xros" ++ rest) → darwin_like_system darwin_prefixes text ≡ None
-no_darwin_prefix text darwin ios macosx tvos visionos watchos xros =
-    rw (
-      has_no_prefix (codes "darwin") text darwin,
-      has_no_prefix (codes "ios") text ios,
-      has_no_prefix (codes "macosx") text macosx,
-      has_no_prefix (codes "tvos") text tvos,
-      has_no_prefix (codes "visionos") text visionos,
-      has_no_prefix (codes "watchos") text watchos,
-      has_no_prefix (codes "xros") text xros,
-    ) refl
 
 -- every system parses back from its name
 

@@ -131,6 +131,8 @@ option_or-either_order None (Some v) slice_cmp-differ = refl
 option_or-either_order (Some v) None slice_cmp-differ = refl
 option_or-either_order (Some v) (Some w) slice_cmp-differ = absurd (let bad = slice_cmp-differ v refl in cc)
 
-pub operating_system_of_either_way : (s : List ℕ) → operating_system_of s ≡ option_or (darwin_like_system darwin_prefixes s) (fixed_operating_system_of s)
+pub like_darwin-parses : (s : List ℕ) (v : OperatingSystem) → Some v ≡ darwin_like_system darwin_prefixes s → operating_system_of s ≡ Some v
 unfolding operating_system_of
-operating_system_of_either_way s = option_or-either_order (fixed_operating_system_of s) (darwin_like_system darwin_prefixes s) (λ v found. none_is _ (row_text-unlike_darwin s (fixed_operating_system_of-row s v found)))
+like_darwin-parses s v like =
+    option_or-either_order (fixed_operating_system_of s) (darwin_like_system darwin_prefixes s) (λ w found. none_is _ (row_text-unlike_darwin s (fixed_operating_system_of-row s w found)))
+    ∙ ap (λ found. option_or found (fixed_operating_system_of s)) (sym like)

@@ -1,10 +1,10 @@
 //! The operating systems.
-ghost use Rattle.std.specs.Prelude.{◌≡◌, ◌++◌, false, Some, None, IfOk, IsNone, IsOkAnd};
+ghost use Rattle.std.specs.Prelude.{◌≡◌, ◌++◌, false, Some, None, IfOk, IsNone, IsOkAnd, option_and_then};
 ghost use Rattle.std.specs.Cow.{cow_str_bytes, IsBorrowedStr};
 ghost use Rattle.lexicon_fields.specs.FixedRow.{has_row};
 ghost use Rattle.lexicon_fields.specs.Names.{MatchesLookup};
 ghost use Rattle.lexicon_fields.specs.Version.{version_name};
-ghost use Rattle.lexicon_fields.specs.OperatingSystem.{operating_system_name, operating_system_of, system_version, version_suffix, optional_version_of, darwin_like_system, darwin_prefixes, is_like_darwin};
+ghost use Rattle.lexicon_fields.specs.OperatingSystem.{operating_system_name, operating_system_of, system_version, version_suffix, optional_version_of, text_after_prefix, darwin_like_system, darwin_prefixes, is_like_darwin};
 
 use crate::deployment_target::DeploymentTarget;
 use crate::steps::Steps;
@@ -75,7 +75,6 @@ impl OperatingSystem {
     ///
     /// A text is a fixed name, or the prefix of a system like Darwin with nothing or a version after it: one to three
     /// pieces between dots, each an optional plus and digits, the first at most 65535, the others at most 255.
-    #[tactic(auto, using(crate::proofs::RowLemmas::operating_system_of_either_way))]
     pub fn from_str(s: &str) -> Result<Self, ()>
         ensures { MatchesLookup (operating_system_of s.now) result }
     {
@@ -109,26 +108,26 @@ impl OperatingSystem {
         ensures { result ≡ darwin_like_system darwin_prefixes s.now }
     {
         // written by tools/names/write: the prefixes of systems like Darwin
-        if let Some(rest) = s.strip_prefix("darwin") {
-            return Some(OperatingSystem::Darwin(optional_version_of(rest)?));
+        if let Some(version) = version_after("darwin", s) {
+            return Some(OperatingSystem::Darwin(version));
         }
-        if let Some(rest) = s.strip_prefix("ios") {
-            return Some(OperatingSystem::IOS(optional_version_of(rest)?));
+        if let Some(version) = version_after("ios", s) {
+            return Some(OperatingSystem::IOS(version));
         }
-        if let Some(rest) = s.strip_prefix("macosx") {
-            return Some(OperatingSystem::MacOSX(optional_version_of(rest)?));
+        if let Some(version) = version_after("macosx", s) {
+            return Some(OperatingSystem::MacOSX(version));
         }
-        if let Some(rest) = s.strip_prefix("tvos") {
-            return Some(OperatingSystem::TvOS(optional_version_of(rest)?));
+        if let Some(version) = version_after("tvos", s) {
+            return Some(OperatingSystem::TvOS(version));
         }
-        if let Some(rest) = s.strip_prefix("visionos") {
-            return Some(OperatingSystem::VisionOS(optional_version_of(rest)?));
+        if let Some(version) = version_after("visionos", s) {
+            return Some(OperatingSystem::VisionOS(version));
         }
-        if let Some(rest) = s.strip_prefix("watchos") {
-            return Some(OperatingSystem::WatchOS(optional_version_of(rest)?));
+        if let Some(version) = version_after("watchos", s) {
+            return Some(OperatingSystem::WatchOS(version));
         }
-        if let Some(rest) = s.strip_prefix("xros") {
-            return Some(OperatingSystem::XROS(optional_version_of(rest)?));
+        if let Some(version) = version_after("xros", s) {
+            return Some(OperatingSystem::XROS(version));
         }
         // end of what is written
         None
@@ -231,6 +230,15 @@ impl OperatingSystem {
             _ => None,
         }
     }
+}
+
+/// The version after this prefix: `Some(None)` if nothing follows, `None` if the text doesn't begin with the prefix, or
+/// if what follows is no version.
+#[inline(always)]
+fn version_after(prefix: &str, text: &str) -> Option<Option<DeploymentTarget>>
+    ensures { result ≡ option_and_then optional_version_of (text_after_prefix prefix.now text.now) }
+{
+    optional_version_of(text.strip_prefix(prefix)?)
 }
 
 /// The version after a prefix: `Some(None)` if nothing follows, `None` if what follows is no version.

@@ -1,6 +1,6 @@
 -- The elements of a JSON array that have been parsed so far.
 use Rattle.std.proofs.Common.{◌≡◌, ℕ, zero, suc, ◌+◌, ◌<◌, ◌≤◌, List, [], ◌∷◌, ◌++◌, Option, Some, MatchOption, All, length, get_or, take, map, add-one, arith, subst}
-use Rattle.std.proofs.lemmas.{List.map-append, List.Elements.All-append}
+use Rattle.std.proofs.lemmas.{List.map-append, List.take_all, List.Elements.All-append}
 use Rattle.serde_json.specs.{Data.Data, Data.Items, View.view, View.items_view, declared.value.Value.Value}
 use Rattle.serde_json.proofs.Views.{get_item_within}
 use Rattle.target_lexicon.specs.{Json.JsonReadsAs, Json.ElementsReadAs, Json.IsElementRead, Json.JsonErrorValue, Json.IsJsonErrorOf, Json.IsFirstError, Values.Values, Values.values_of}
@@ -60,3 +60,7 @@ all-one P t here (suc k) d within = absurd (omega arith)
 
 pub all_triples-more : (P : Triple → Type 0) (old new : List Triple) (t : Triple) → new ≡ old ++ t ∷ [] → All P old → P t → All P new
 all_triples-more P old new t grown all here = rw grown (All-append P old (t ∷ []) all (all-one P t here))
+
+-- all elements parse if those before the end do
+pub elements_read : (xs : List Value) (i : ℕ) (ts : List Values) → length xs ≤ i → ElementsReadAs (items_view (take i xs)) ts → ElementsReadAs (items_view xs) ts
+elements_read xs i ts whole read = rw (take_all i xs whole) at read

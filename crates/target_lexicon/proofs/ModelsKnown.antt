@@ -1,5 +1,5 @@
 -- The data models of triples.
-use Rattle.std.proofs.Common.{◌≡◌, ◌⊎◌, inl, inr, Option, Some, None, is_none, true≢false, refl, ap}
+use Rattle.std.proofs.Common.{◌≡◌, ◌⊎◌, inl, inr, Option, Some, None, is_none, true≢false, refl, ap, ◌∙◌}
 use Rattle.std.specs.Prelude.{option_map}
 use Rattle.target_lexicon.specs.{Values.Architecture, Values.OperatingSystem, Values.Values, declared.calling_convention.CallingConvention.CallingConvention, declared.data_model.CDataModel.CDataModel}
 use Rattle.target_lexicon.specs.DataModel.{size_bits, sizes_of}
@@ -54,30 +54,44 @@ pub one_of_three : (t : Values) (m : CDataModel) → data_model t ≡ Some m →
 unfolding data_model
 one_of_three t m h = (chosen (pointer_width t) t.architecture t.operating_system m h).1
 
--- if no case of the table fits, there is no model
-no_convention_64 : (c : CallingConvention) → (c ≡ SystemV → ⊥) → (c ≡ AppleAarch64 → ⊥) → convention_model_64 (Some c) ≡ None
+-- the model on a system other than Windows is that of the convention, except on WebAssembly
+
+off_windows_64-is : (a : Architecture) (s : OperatingSystem) → (s ≡ Windows → ⊥) → model_64 a s ≡ other_model_64 a (convention_on a s)
+off_windows_64-is a Windows n = absurd (n refl)
+off_windows_64-is a _ n = refl
+
+off_wasm_64-is : (a : Architecture) (c : Option CallingConvention) → (a ≡ Wasm64 → ⊥) → other_model_64 a c ≡ convention_model_64 c
+off_wasm_64-is Wasm64 c n = absurd (n refl)
+off_wasm_64-is _ c n = refl
+
+pub wasm_64-is : (a : Architecture) (s : OperatingSystem) → (s ≡ Windows → ⊥) → a ≡ Wasm64 → model_64 a s ≡ Some LP64
+wasm_64-is a s n is = off_windows_64-is a s n ∙ ap (λ architecture. other_model_64 architecture (convention_on a s)) is
+
+pub convention_64-is : (a : Architecture) (s : OperatingSystem) (c : Option CallingConvention) → (s ≡ Windows → ⊥) → (a ≡ Wasm64 → ⊥) → convention_on a s ≡ c
+    → model_64 a s ≡ convention_model_64 c
+convention_64-is a s c n p is = off_windows_64-is a s n ∙ off_wasm_64-is a (convention_on a s) p ∙ ap convention_model_64 is
+
+off_windows_32-is : (a : Architecture) (s : OperatingSystem) → (s ≡ Windows → ⊥) → model_32 a s ≡ other_model_32 a (convention_on a s)
+off_windows_32-is a Windows n = absurd (n refl)
+off_windows_32-is a _ n = refl
+
+off_wasm_32-is : (a : Architecture) (c : Option CallingConvention) → (a ≡ Wasm32 → ⊥) → other_model_32 a c ≡ convention_model_32 c
+off_wasm_32-is Wasm32 c n = absurd (n refl)
+off_wasm_32-is _ c n = refl
+
+pub wasm_32-is : (a : Architecture) (s : OperatingSystem) → (s ≡ Windows → ⊥) → a ≡ Wasm32 → model_32 a s ≡ Some ILP32
+wasm_32-is a s n is = off_windows_32-is a s n ∙ ap (λ architecture. other_model_32 architecture (convention_on a s)) is
+
+pub convention_32-is : (a : Architecture) (s : OperatingSystem) (c : Option CallingConvention) → (s ≡ Windows → ⊥) → (a ≡ Wasm32 → ⊥) → convention_on a s ≡ c
+    → model_32 a s ≡ convention_model_32 c
+convention_32-is a s c n p is = off_windows_32-is a s n ∙ off_wasm_32-is a (convention_on a s) p ∙ ap convention_model_32 is
+
+-- and other conventions have no model
+pub no_convention_64 : (c : CallingConvention) → (c ≡ SystemV → ⊥) → (c ≡ AppleAarch64 → ⊥) → convention_model_64 (Some c) ≡ None
 no_convention_64 SystemV p q = absurd (p refl)
 no_convention_64 AppleAarch64 p q = absurd (q refl)
 no_convention_64 _ p q = refl
 
-no_other_model_64 : (a : Architecture) (c : CallingConvention) → (a ≡ Wasm64 → ⊥) → (c ≡ SystemV → ⊥) → (c ≡ AppleAarch64 → ⊥) → other_model_64 a (Some c) ≡ None
-no_other_model_64 Wasm64 c p q r = absurd (p refl)
-no_other_model_64 _ c p q r = no_convention_64 c q r
-
-pub no_model_64 : (a : Architecture) (s : OperatingSystem) (c : CallingConvention) → convention_on a s ≡ Some c
-    → (s ≡ Windows → ⊥) → (a ≡ Wasm64 → ⊥) → (c ≡ SystemV → ⊥) → (c ≡ AppleAarch64 → ⊥) → model_64 a s ≡ None
-no_model_64 a Windows c is n p q r = absurd (n refl)
-no_model_64 a s c is n p q r = rw is (no_other_model_64 a c p q r)
-
-no_convention_32 : (c : CallingConvention) → (c ≡ SystemV → ⊥) → convention_model_32 (Some c) ≡ None
+pub no_convention_32 : (c : CallingConvention) → (c ≡ SystemV → ⊥) → convention_model_32 (Some c) ≡ None
 no_convention_32 SystemV p = absurd (p refl)
 no_convention_32 _ p = refl
-
-no_other_model_32 : (a : Architecture) (c : CallingConvention) → (a ≡ Wasm32 → ⊥) → (c ≡ SystemV → ⊥) → other_model_32 a (Some c) ≡ None
-no_other_model_32 Wasm32 c p q = absurd (p refl)
-no_other_model_32 _ c p q = no_convention_32 c q
-
-pub no_model_32 : (a : Architecture) (s : OperatingSystem) (c : CallingConvention) → convention_on a s ≡ Some c
-    → (s ≡ Windows → ⊥) → (a ≡ Wasm32 → ⊥) → (c ≡ SystemV → ⊥) → model_32 a s ≡ None
-no_model_32 a Windows c is n p q = absurd (n refl)
-no_model_32 a s c is n p q = rw is (no_other_model_32 a c p q)

@@ -1,10 +1,11 @@
 -- The pieces that are written are the text of the triple.
 use Rattle.std.proofs.Common.{◌≡◌, ℕ, Bool, true, false, List, [], ◌∷◌, ◌++◌, ◌||◌, refl, sym, ap, append_assoc, Some, None}
 use Rattle.std.specs.List.{join_with_byte}
-use Rattle.std.proofs.lemmas.List.{append-nil}
+use Rattle.std.proofs.{lemmas.List.append-nil, Math.Bool.and-false}
 use Rattle.lexicon_fields.specs.Names.{dash}
 use Rattle.lexicon_fields.specs.{Architecture.architecture_name, Vendor.vendor_name, OperatingSystem.operating_system_name, Environment.environment_name, BinaryFormat.binary_format_name}
-use Rattle.target_lexicon.specs.{Values.Values, Private.part_text, Put.text_with, SpecialTexts.special_text}
+use Rattle.target_lexicon.specs.{Values.Values, Values.Environment, Values.is_unknown_environment, Values.is_newlib, Values.implies_newlib, Private.part_text, Put.text_with, SpecialTexts.special_text}
+use Rattle.target_lexicon.specs.Values.environment
 use Rattle.target_lexicon.specs.Printing.{shows_vendor, shows_operating_system, shows_environment, shows_binary_format, cons_if, upstream_parts, shows_unknowns, parts_with_unknowns, text_of}
 
 -- each part after a dash
@@ -69,3 +70,17 @@ prints_parts t none = shown_pieces (shows_unknowns t) t none
 pub prints_special : (t : Values) (text : List ℕ) → Some text ≡ special_text t → text ≡ text_of t
 unfolding text_of
 prints_special t text special = special_pieces (shows_unknowns t) t text special
+
+-- an environment other than these two is always shown
+
+other_than_unknown : (e : Environment) → (e ≡ environment.Unknown → ⊥) → is_unknown_environment e ≡ false
+other_than_unknown environment.Unknown n = absurd (n refl)
+other_than_unknown _ n = refl
+
+other_than_newlib : (e : Environment) → (e ≡ environment.Newlib → ⊥) → is_newlib e ≡ false
+other_than_newlib environment.Newlib n = absurd (n refl)
+other_than_newlib _ n = refl
+
+pub other_environment_shown : (t : Values) → (t.environment ≡ environment.Unknown → ⊥) → (t.environment ≡ environment.Newlib → ⊥) → true ≡ shows_environment t
+unfolding shows_environment
+other_environment_shown t unknown newlib = rw (other_than_unknown t.environment unknown, other_than_newlib t.environment newlib, and-false (implies_newlib t.vendor t.operating_system)) refl

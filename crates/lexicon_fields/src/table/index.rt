@@ -29,7 +29,6 @@ fn slot(key: u64) -> usize
 
 /// The entry of each slot.
 #[inline(always)]
-#[tactic(auto, unfolding(crate::specs::FixedRow::row_texts))]
 fn index() -> &'static [u16]
     ensures length { length result.now ≡ 2048 }
     ensures entries { list_all is_entry result.now ≡ true }

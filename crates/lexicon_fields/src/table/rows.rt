@@ -47,7 +47,6 @@ pub(crate) fn row(i: usize) -> Row
 
 /// The whole table.
 #[inline(always)]
-#[tactic(auto, unfolding(crate::specs::FixedRow::row_texts, crate::specs::Architecture::architecture_of, crate::specs::Vendor::known_vendor_of, crate::specs::OperatingSystem::fixed_operating_system_of, crate::specs::Environment::environment_of, crate::specs::BinaryFormat::binary_format_of))]
 fn rows() -> &'static [Row]
     ensures texts { map (λ r. r.0.now) result.now ≡ row_texts }
     ensures prefix_keys { map (λ r. r.1) result.now ≡ map (prefix_key_of 8) row_texts }

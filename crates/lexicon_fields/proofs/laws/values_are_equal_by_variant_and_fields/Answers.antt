@@ -1,4 +1,4 @@
-use Rattle.std.proofs.Common.{rules}
+use Rattle.std.proofs.Common.{rules, refl}
 use Rattle.std.proofs.{lemmas.Bool.Decides.Decides-like, lemmas.Bool.Decides.Decides-and, lemmas.Slice.Eq.bytes_eq-Decides}
 use Rattle.lexicon_fields.proofs.EqualByValue.{bare-Decides, bare_field-Decides, enum-Decides, one_field-Decides, option_eq-Decides, version-Decides}
 use Rattle.lexicon_fields.specs.contracts.architecture.Architecture as architecture
@@ -19,7 +19,7 @@ use Rattle.lexicon_fields.proofs.laws.values_are_equal_by_variant_and_fields.Goa
 
 pub returns-clause-architecture : goal.returns-clause-architecture
 returns-clause-architecture c =
-    enum-Decides architecture.enum _ (search (
+    enum-Decides architecture.enum _ refl (search (
       rules,
       bare_field-Decides arm.the_type tt,
       bare_field-Decides aarch64.the_type tt,
@@ -32,9 +32,45 @@ returns-clause-architecture c =
       bare_field-Decides z80.the_type tt,
     ))
 
+pub returns-clause-arm : goal.returns-clause-arm
+returns-clause-arm c = bare-Decides arm.the_type tt
+
+pub returns-clause-aarch64 : goal.returns-clause-aarch64
+returns-clause-aarch64 c = bare-Decides aarch64.the_type tt
+
+pub returns-clause-x86_32 : goal.returns-clause-x86_32
+returns-clause-x86_32 c = bare-Decides x86_32.the_type tt
+
+pub returns-clause-mips32 : goal.returns-clause-mips32
+returns-clause-mips32 c = bare-Decides mips32.the_type tt
+
+pub returns-clause-mips64 : goal.returns-clause-mips64
+returns-clause-mips64 c = bare-Decides mips64.the_type tt
+
+pub returns-clause-riscv32 : goal.returns-clause-riscv32
+returns-clause-riscv32 c = bare-Decides riscv32.the_type tt
+
+pub returns-clause-riscv64 : goal.returns-clause-riscv64
+returns-clause-riscv64 c = bare-Decides riscv64.the_type tt
+
+pub returns-clause-clever : goal.returns-clause-clever
+returns-clause-clever c = bare-Decides clever.the_type tt
+
+pub returns-clause-z80 : goal.returns-clause-z80
+returns-clause-z80 c = bare-Decides z80.the_type tt
+
 pub returns-clause-operating_system : goal.returns-clause-operating_system
 returns-clause-operating_system c =
-    enum-Decides operating_system.enum _ (search (rules, one_field-Decides, option_eq-Decides, version-Decides))
+    enum-Decides operating_system.enum _ refl (search (rules, one_field-Decides, option_eq-Decides, version-Decides))
+
+pub returns-clause-environment : goal.returns-clause-environment
+returns-clause-environment c = bare-Decides environment.the_type tt
+
+pub returns-clause-binary_format : goal.returns-clause-binary_format
+returns-clause-binary_format c = bare-Decides binary_format.the_type tt
+
+pub returns-clause-known_vendor : goal.returns-clause-known_vendor
+returns-clause-known_vendor c = bare-Decides known_vendor.the_type tt
 
 pub returns-clause-fixed_row : goal.returns-clause-fixed_row
 returns-clause-fixed_row c x y =
@@ -43,7 +79,7 @@ returns-clause-fixed_row c x y =
     (λ same. (same.text, (same.architecture, (same.vendor, (same.operating_system, (same.environment, same.binary_format))))))
     (Decides-and _ _ (bytes_eq-Decides x.text.now y.text.now)
     (Decides-and _ _ (option_eq-Decides _ (returns-clause-architecture c) x.architecture y.architecture)
-    (Decides-and _ _ (option_eq-Decides _ (bare-Decides known_vendor.the_type _) x.vendor y.vendor)
+    (Decides-and _ _ (option_eq-Decides _ (returns-clause-known_vendor c) x.vendor y.vendor)
     (Decides-and _ _ (option_eq-Decides _ (returns-clause-operating_system c) x.operating_system y.operating_system)
-    (Decides-and _ _ (option_eq-Decides _ (bare-Decides environment.the_type _) x.environment y.environment)
-    (option_eq-Decides _ (bare-Decides binary_format.the_type _) x.binary_format y.binary_format))))))
+    (Decides-and _ _ (option_eq-Decides _ (returns-clause-environment c) x.environment y.environment)
+    (option_eq-Decides _ (returns-clause-binary_format c) x.binary_format y.binary_format))))))

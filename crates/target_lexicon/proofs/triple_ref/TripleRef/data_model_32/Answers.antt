@@ -1,6 +1,22 @@
-use Rattle.target_lexicon.proofs.ModelsKnown.{no_model_32}
+use Rattle.std.proofs.Common.{◌∙◌, None, rules}
+use Rattle.target_lexicon.proofs.ModelsKnown.{wasm_32-is, convention_32-is, no_convention_32}
 use Rattle.target_lexicon.proofs.triple_ref.TripleRef.data_model_32.Goals as goal
+
+pub returns-in-Wasm32 : goal.returns-in-Wasm32
+returns-in-Wasm32 c = wasm_32-is _ _ c.in_default.not-Windows c.in-Wasm32.is
+
+pub returns-in_err-default_calling_convention-in_default-architecture :
+    goal.returns-in_err-default_calling_convention-in_default-architecture
+returns-in_err-default_calling_convention-in_default-architecture c =
+    let none = convention_32-is _ _ None c.in_default.not-Windows c.in_default-architecture.not-Wasm32 c.in_err-default_calling_convention-in_default-architecture.ensures in
+    search (rules, none)
+
+pub returns-in-SystemV : goal.returns-in-SystemV
+returns-in-SystemV c =
+    let found = convention_32-is _ _ _ c.in_default.not-Windows c.in_default-architecture.not-Wasm32 c.in_ok-default_calling_convention-in_default-architecture.ensures in
+    rw c.in-SystemV.is at found
 
 pub returns-in_default-2 : goal.returns-in_default-2
 returns-in_default-2 c =
-    no_model_32 _ _ _ c.in_ok-default_calling_convention-in_default-architecture.ensures c.in_default.not-Windows c.in_default-architecture.not-Wasm32 c.in_default-2.not-SystemV
+    convention_32-is _ _ _ c.in_default.not-Windows c.in_default-architecture.not-Wasm32 c.in_ok-default_calling_convention-in_default-architecture.ensures
+    ∙ no_convention_32 _ c.in_default-2.not-SystemV
