@@ -8,16 +8,16 @@ ends_over : (text to : List ℕ) (half : ℕ) → half ≤ length text → lengt
     → put_chunk (length text - half) (put_chunk 0 to (take half text)) (take half (drop (length text - half) text)) ≡ text
 ends_over text to half fits covers room =
     let last = length text - half in
-    let front = take half text in
+    let first = take half text in
     let tail = take half (drop last text) in
-    let begun = put_chunk 0 to front in
+    let begun = put_chunk 0 to first in
     let whole = put_chunk last begun tail in
-    let front_long : length front ≡ half = length-take-le half text fits in
+    let first_long : length first ≡ half = length-take-le half text fits in
     let rest_long : length (drop last text) ≡ half = omega (arith, length-drop last text) in
     let tail_long : length tail ≡ half = length-take-le half (drop last text) (omega (arith, rest_long)) in
-    let begun_long : length begun ≡ length text = length-put_chunk 0 to front ∙ room in
+    let begun_long : length begun ≡ length text = length-put_chunk 0 to first ∙ room in
     let whole_long : length whole ≡ length text = length-put_chunk last begun tail ∙ begun_long in
-    let begins : take half begun ≡ front = take_more_put_chunk 0 to front half (omega (arith, front_long)) (omega (arith, room)) in
+    let begins : take half begun ≡ first = take_more_put_chunk 0 to first half (omega (arith, first_long)) (omega (arith, room)) in
     let kept : take last begun ≡ take last text =
     sym (take-take last half begun (omega arith)) ∙ ap (take last) begins ∙ take-take last half text (omega arith) in
     sym (take_all (length text) whole (omega (arith, whole_long)))
