@@ -1,5 +1,5 @@
 //! The text of a triple.
-ghost use Rattle.std.specs.Prelude.{◌≡◌, ◌≤◌, ◌||◌, Bool, Some, IfOk, length, option_map, string_bytes};
+ghost use Rattle.std.specs.Prelude.{◌≡◌, ◌≤◌, ◌||◌, Some, IfOk, length, option_map, string_bytes};
 ghost use Rattle.lexicon_fields.specs.Laws.{max_name_length};
 ghost use Rattle.lexicon_fields.specs.OperatingSystem.{operating_system_name};
 ghost use Rattle.lexicon_fields.specs.VendorRef.{ref_value};
@@ -8,14 +8,12 @@ ghost use Rattle.std.specs.Option.{ForSome};
 ghost use Rattle.target_lexicon.specs.Printing.{text_of, upstream_text_of, is_bare_arm, omits_unknown_vendor, shows_vendor, shows_operating_system, shows_environment, shows_binary_format, shows_implied_format, shows_unknowns, architecture_implies_format};
 ghost use Rattle.target_lexicon.specs.Pieces.{pieces_text};
 ghost use Rattle.target_lexicon.specs.Private.{part_text};
-ghost use Rattle.target_lexicon.specs.Put.{IsPut, dashed_piece, dashed_system, text_with};
+ghost use Rattle.target_lexicon.specs.Put.{dashed_piece, dashed_system, text_with};
 ghost use Rattle.target_lexicon.specs.Values.{values_of, implies_newlib};
 ghost use Rattle.target_lexicon.specs.ValuesRef.{values_of_ref};
 ghost use Rattle.target_lexicon.specs.Written.{IsWritten};
 
 use crate::pieces::Pieces;
-use crate::put::{put, put_part, put_system};
-use crate::settle::version_fits;
 use crate::triple::Triple;
 use crate::triple_ref::TripleRef;
 use lexicon_fields::laws::names_are_short;
@@ -25,9 +23,6 @@ use lexicon_fields::{
 };
 use std::alloc::{AllocError, Global};
 use std::fmt;
-
-/// The length of the longest name that is no custom vendor's.
-const MAX_NAME_LENGTH: usize = 21;
 
 impl fmt::Display for TripleRef<'_> {
     ghost output = { λ it. Some (text_of (values_of_ref it)) };
@@ -78,7 +73,7 @@ impl fmt::Display for Triple {
 }
 
 #[inline(always)]
-fn either(first: bool, second: bool) -> bool
+pub(crate) fn either(first: bool, second: bool) -> bool
     ensures { result ≡ (first || second) }
 {
     first || second
@@ -184,51 +179,6 @@ impl<'a> TripleRef<'a> {
         self.write_with(false, out)
     }
 
-    /// Writes the text by upstream's rules, or with an unknown environment and an unknown format shown, as
-    /// [`TripleRef::write_to`] says. Its length is computed only if the buffer may be too small.
-    #[inline(always)]
-    fn write_with(&self, unknowns: bool, out: &mut [u8]) -> usize
-        ensures { IsWritten (text_with unknowns (values_of_ref self.now)) out.old out.new result }
-    {
-        if out.len() < self.max_text_length() {
-            let length = self.pieces_with(unknowns).text_length();
-            if out.len() < length {
-                return length;
-            }
-        }
-        self.put_with(unknowns, out)
-    }
-
-    /// A length that no text of the triple exceeds.
-    #[inline(always)]
-    fn max_text_length(&self) -> usize
-        ensures { (unknowns : Bool) →
-            length (text_with unknowns (values_of_ref self.now)) ≤ result }
-    {
-        names_are_short();
-        version_fits(self.operating_system);
-        4 * (MAX_NAME_LENGTH + 1) + self.vendor.as_str().len()
-    }
-
-    /// Writes that text at the front of a buffer that has room for it, and returns its end.
-    #[inline(always)]
-    fn put_with(&self, unknowns: bool, out: &mut [u8]) -> usize
-        requires { length (text_with unknowns (values_of_ref self.now)) ≤ length out.old }
-        ensures { IsPut (text_with unknowns (values_of_ref self.now)) out.old out.new result }
-    {
-        if let Some(text) = self.special_text() {
-            return put(out, 0, text.as_bytes());
-        }
-        let at = put(out, 0, self.architecture.name().as_bytes());
-        let at = put_part(out, at, self.shows_vendor(), self.vendor.as_str());
-        let system = either(unknowns, self.shows_operating_system());
-        let at = put_system(out, at, system, self.operating_system);
-        let environment = either(unknowns, self.shows_environment());
-        let at = put_part(out, at, environment, self.environment.name());
-        let binary_format = either(unknowns, self.shows_binary_format());
-        put_part(out, at, binary_format, self.binary_format.name())
-    }
-
     /// The pieces of the printed text.
     #[tactic(auto, unfolding(crate::specs::Printing::text_of))]
     #[inline(always)]
@@ -249,7 +199,7 @@ impl<'a> TripleRef<'a> {
 
     /// The pieces by upstream's rules, or with an unknown environment and an unknown format shown.
     #[inline(always)]
-    fn pieces_with(&self, unknowns: bool) -> Pieces<'a>
+    pub(crate) fn pieces_with(&self, unknowns: bool) -> Pieces<'a>
         ensures { pieces_text result ≡ text_with unknowns (values_of_ref self.now) }
     {
         names_are_short();
@@ -270,7 +220,7 @@ impl<'a> TripleRef<'a> {
 
     /// Whether the vendor is shown.
     #[tactic(auto, unfolding(crate::specs::Printing::shows_vendor))]
-    fn shows_vendor(&self) -> bool
+    pub(crate) fn shows_vendor(&self) -> bool
         ensures { result ≡ shows_vendor (values_of_ref self.now) }
     {
         match (self.vendor, self.environment) {
@@ -317,7 +267,7 @@ impl<'a> TripleRef<'a> {
 
     /// Whether the environment is shown.
     #[tactic(auto, unfolding(crate::specs::Printing::shows_environment))]
-    fn shows_environment(&self) -> bool
+    pub(crate) fn shows_environment(&self) -> bool
         ensures { result ≡ shows_environment (values_of_ref self.now) }
     {
         match self.environment {
@@ -345,7 +295,7 @@ impl<'a> TripleRef<'a> {
 
     /// Whether the binary format is shown: if it isn't the implied one, or `shows_implied_format` holds.
     #[tactic(auto, unfolding(crate::specs::Printing::shows_binary_format))]
-    fn shows_binary_format(&self) -> bool
+    pub(crate) fn shows_binary_format(&self) -> bool
         ensures { result ≡ shows_binary_format (values_of_ref self.now) }
     {
         self.binary_format != self.default_binary_format() || self.shows_implied_format()

@@ -1,10 +1,10 @@
 //! Texts written one after the other at the front of a buffer that has room for them.
-ghost use Rattle.std.specs.Prelude.{◌≡◌, ◌+◌, ◌≤◌, ◌++◌, ◌∷◌, [], List, ℕ, length};
+ghost use Rattle.std.specs.Prelude.{◌≡◌, ◌+◌, ◌≤◌, ◌∷◌, [], length};
 ghost use Rattle.std.specs.Fmt.{decimal};
 ghost use Rattle.lexicon_fields.specs.OperatingSystem.{operating_system_name};
 ghost use Rattle.lexicon_fields.specs.Version.{dot, version_name};
-ghost use Rattle.target_lexicon.specs.Private.{part_text};
-ghost use Rattle.target_lexicon.specs.Put.{IsPut};
+ghost use Rattle.lexicon_fields.specs.Names.{dash};
+ghost use Rattle.target_lexicon.specs.Put.{Puts};
 
 use lexicon_fields::{DeploymentTarget, OperatingSystem};
 use std::simd::Simd;
@@ -70,11 +70,7 @@ fn copy_many(to: &mut [u8], text: &[u8])
 #[inline(always)]
 pub(crate) fn put(out: &mut [u8], at: usize, text: &[u8]) -> usize
     requires { at + length text.now ≤ length out.old }
-    ensures end { result ≡ at + length text.now }
-    ensures len { length out.new ≡ length out.old }
-    ensures text { (before first : List ℕ) →
-        IsPut before first out.old at →
-        IsPut (before ++ text.now) first out.new result }
+    ensures { Puts text.now out.old at out.new result }
 {
     let end = at + text.len();
     copy_text(&mut out[at..end], text);
@@ -85,53 +81,29 @@ pub(crate) fn put(out: &mut [u8], at: usize, text: &[u8]) -> usize
 #[inline(always)]
 fn put_byte(out: &mut [u8], at: usize, byte: u8) -> usize
     requires { at + 1 ≤ length out.old }
-    ensures end { result ≡ at + 1 }
-    ensures len { length out.new ≡ length out.old }
-    ensures text { (before first : List ℕ) →
-        IsPut before first out.old at →
-        IsPut (before ++ (byte ∷ [])) first out.new result }
+    ensures { Puts (byte ∷ []) out.old at out.new result }
 {
     out[at] = byte;
     at + 1
 }
 
-/// Writes a dash and the part, if it is shown, as [`put`] writes a text.
+/// Writes a dash and a text, as [`put`] writes a text.
 #[inline(always)]
-pub(crate) fn put_part(out: &mut [u8], at: usize, is_shown: bool, part: &str) -> usize
-    requires { at + length (part_text is_shown part.now) ≤ length out.old }
-    ensures end { result ≡ at + length (part_text is_shown part.now) }
-    ensures len { length out.new ≡ length out.old }
-    ensures text { (before first : List ℕ) →
-        IsPut before first out.old at →
-        IsPut (before ++ part_text is_shown part.now) first out.new result }
+pub(crate) fn put_dashed(out: &mut [u8], at: usize, text: &str) -> usize
+    requires { at + length (dash ∷ text.now) ≤ length out.old }
+    ensures { Puts (dash ∷ text.now) out.old at out.new result }
 {
-    if !is_shown {
-        return at;
-    }
     let at = put_byte(out, at, b'-');
-    put(out, at, part.as_bytes())
+    put(out, at, text.as_bytes())
 }
 
-/// Writes a dash and the name of the system, if it is shown, as [`put`] writes a text.
+/// Writes a dash and the name of a system, as [`put`] writes a text.
 #[inline(always)]
-pub(crate) fn put_system(
-    out: &mut [u8],
-    at: usize,
-    is_shown: bool,
-    system: OperatingSystem,
-) -> usize
-    requires { at + length (part_text is_shown (operating_system_name system)) ≤ length out.old }
-    ensures end { result ≡ at + length (part_text is_shown (operating_system_name system)) }
-    ensures len { length out.new ≡ length out.old }
-    ensures text { (before first : List ℕ) →
-        IsPut before first out.old at →
-        IsPut (before ++ part_text is_shown (operating_system_name system)) first out.new result }
+pub(crate) fn put_dashed_system(out: &mut [u8], at: usize, system: OperatingSystem) -> usize
+    requires { at + length (dash ∷ operating_system_name system) ≤ length out.old }
+    ensures { Puts (dash ∷ operating_system_name system) out.old at out.new result }
 {
-    if !is_shown {
-        return at;
-    }
-    let at = put_byte(out, at, b'-');
-    let at = put(out, at, system.prefix().as_bytes());
+    let at = put_dashed(out, at, system.prefix());
     match system.version() {
         Some(version) => put_version(out, at, version),
         None => at,
@@ -142,11 +114,7 @@ pub(crate) fn put_system(
 #[inline(never)]
 fn put_version(out: &mut [u8], at: usize, version: DeploymentTarget) -> usize
     requires { at + length (version_name version) ≤ length out.old }
-    ensures end { result ≡ at + length (version_name version) }
-    ensures len { length out.new ≡ length out.old }
-    ensures text { (before first : List ℕ) →
-        IsPut before first out.old at →
-        IsPut (before ++ version_name version) first out.new result }
+    ensures { Puts (version_name version) out.old at out.new result }
 {
     let at = put_decimal(out, at, usize::from(version.major));
     let at = put_dotted(out, at, version.minor);
@@ -156,11 +124,7 @@ fn put_version(out: &mut [u8], at: usize, version: DeploymentTarget) -> usize
 /// Writes a dot and a number, as [`put`] writes a text.
 fn put_dotted(out: &mut [u8], at: usize, n: u8) -> usize
     requires { at + length (dot ∷ decimal n) ≤ length out.old }
-    ensures end { result ≡ at + length (dot ∷ decimal n) }
-    ensures len { length out.new ≡ length out.old }
-    ensures text { (before first : List ℕ) →
-        IsPut before first out.old at →
-        IsPut (before ++ (dot ∷ decimal n)) first out.new result }
+    ensures { Puts (dot ∷ decimal n) out.old at out.new result }
 {
     let at = put_byte(out, at, b'.');
     put_decimal(out, at, usize::from(n))
@@ -169,11 +133,7 @@ fn put_dotted(out: &mut [u8], at: usize, n: u8) -> usize
 /// Writes a number in decimal, as [`put`] writes a text.
 fn put_decimal(out: &mut [u8], at: usize, n: usize) -> usize
     requires { at + length (decimal n) ≤ length out.old }
-    ensures end { result ≡ at + length (decimal n) }
-    ensures len { length out.new ≡ length out.old }
-    ensures text { (before first : List ℕ) →
-        IsPut before first out.old at →
-        IsPut (before ++ decimal n) first out.new result }
+    ensures { Puts (decimal n) out.old at out.new result }
 {
     if n < 10 {
         return put_byte(out, at, b'0' + n as u8);
