@@ -43,7 +43,10 @@ _Static_assert(sizeof(struct lexicon_sources) == 120 && sizeof(struct lexicon_tr
 
 static const char *text_at(const char *text, size_t size) { return size ? text : ""; }
 
-static char *buffer_at(char *out, size_t size, char *none) { return size ? out : none; }
+static char *buffer_at(char *out, size_t size) {
+  static char none;
+  return size ? out : &none;
+}
 
 static struct lexicon_proved_text vendor_of(const struct lexicon_triple *triple) {
   struct lexicon_proved_text vendor = {"", 0};
@@ -80,9 +83,8 @@ uint32_t lexicon_explain(const char *text, size_t text_size, struct lexicon_trip
 }
 
 uint32_t lexicon_write(const struct lexicon_triple *triple, char *out, size_t out_size, size_t *length) {
-  char none;
   struct lexicon_proved_text vendor = vendor_of(triple);
-  return lexicon_proved_write(triple, vendor.text, vendor.size, buffer_at(out, out_size, &none), out_size, length);
+  return lexicon_proved_write(triple, vendor.text, vendor.size, buffer_at(out, out_size), out_size, length);
 }
 
 uint32_t lexicon_settle(struct lexicon_triple *triple) {
@@ -113,8 +115,7 @@ uint32_t lexicon_facts(const struct lexicon_triple *triple, struct lexicon_tripl
 }
 
 uint32_t lexicon_error_line(uint32_t expected, const char *part, size_t part_size, char *out, size_t out_size, size_t *length) {
-  char none;
-  return lexicon_proved_error_line(expected, text_at(part, part_size), part_size, buffer_at(out, out_size, &none), out_size, length);
+  return lexicon_proved_error_line(expected, text_at(part, part_size), part_size, buffer_at(out, out_size), out_size, length);
 }
 
 uint32_t lexicon_number(uint32_t field, const char *text, size_t text_size, uint32_t *number) {

@@ -87,7 +87,7 @@ form_ascii [] k form = absurd cc
 form_ascii (c ∷ cs) zero form = letter_ascii c (and_parts (is_ascii_lowercase c) (list_all is_vendor_character cs) form).0
 form_ascii (c ∷ cs) (suc k) form = characters_ascii cs k (and_parts (is_ascii_lowercase c) (list_all is_vendor_character cs) form).1
 
-admitted_text : (text : List ℕ) → is_admitted text ≡ true → IsUtf8 text
+pub admitted_text : (text : List ℕ) → is_admitted text ≡ true → IsUtf8 text
 unfolding is_admitted
 admitted_text text admitted = IsUtf8-from_ascii text (λ k. form_ascii text k (and_parts (is_free text) (has_vendor_form text) admitted).1)
 

@@ -1,10 +1,10 @@
 //! Triples as numbers.
 ghost use Rattle.std.specs.Prelude.{◌≡◌, ◌↔◌, true, Ok, Err, [], IfOk, IsTrue, MatchResult};
-ghost use Rattle.lexicon_fields.specs.Vendor.{is_plain};
+ghost use Rattle.lexicon_fields.specs.Vendor.{is_admitted, is_plain};
 ghost use Rattle.lexicon_fields.specs.VendorRef.{ref_value};
 ghost use Rattle.target_lexicon.specs.ValuesRef.{values_of_ref};
 ghost use Rattle.lexicon_c.specs.Outcome.{outcome_of};
-ghost use Rattle.lexicon_c.specs.Triple.{AreNumbersOf, custom_vendor_number, triple_in, operating_system_in, vendor_text, vendor_with, version_in};
+ghost use Rattle.lexicon_c.specs.Triple.{AreNumbersOf, triple_in, operating_system_in, vendor_text, vendor_with, version_in};
 
 use crate::output::LexiconText;
 use crate::status::Status;
@@ -14,6 +14,7 @@ use lexicon_numbers::{
     environment_number, known_vendor_at, known_vendor_number, operating_system_at,
     operating_system_number,
 };
+use std::str;
 use target_lexicon::laws::triple_refs_are_equal_by_value;
 use target_lexicon::{DeploymentTarget, OperatingSystem, TripleRef, VendorRef};
 
@@ -83,7 +84,12 @@ fn vendor_with<'a>(number: u8, text: &'a [u8]) -> Result<VendorRef<'a>, Status>
     ensures plain { IfOk result (λ v. is_plain (ref_value v) ≡ true) }
 {
     if number == CUSTOM_VENDOR {
-        custom_vendor(text)
+        if is_custom_vendor(text) {
+            let text = unsafe { str::from_utf8_unchecked(text) };
+            Ok(VendorRef::Custom(text))
+        } else {
+            Err(Status::NoSuchVendor)
+        }
     } else {
         match known_vendor_at(number) {
             Some(known) => Ok(VendorRef::Known(known)),
@@ -92,22 +98,14 @@ fn vendor_with<'a>(number: u8, text: &'a [u8]) -> Result<VendorRef<'a>, Status>
     }
 }
 
-/// The custom vendor with this text, if the text parses as one.
+/// Whether the bytes are a text that parses as a custom vendor.
 #[inline(never)]
-fn custom_vendor<'a>(text: &'a [u8]) -> Result<VendorRef<'a>, Status>
-    ensures vendor { MatchResult result
-        (λ v. vendor_with custom_vendor_number text.entry.now ≡ Ok (ref_value v))
-        (λ s. vendor_with custom_vendor_number text.entry.now ≡ Err (outcome_of s [])) }
-    ensures plain { IfOk result (λ v. is_plain (ref_value v) ≡ true) }
+fn is_custom_vendor(bytes: &[u8]) -> bool
+    ensures { result ≡ is_admitted bytes.now }
 {
-    let Ok(text) = from_utf8(text) else {
-        return Err(Status::NoSuchVendor);
-    };
-    let vendor = VendorRef::Custom(text);
-    if vendor.is_plain() {
-        Ok(vendor)
-    } else {
-        Err(Status::NoSuchVendor)
+    match from_utf8(bytes) {
+        Ok(text) => VendorRef::Custom(text).is_plain(),
+        Err(_) => false,
     }
 }
 

@@ -219,6 +219,7 @@ impl Architecture {
     }
 
     /// The name.
+    #[inline(always)]
     pub fn name(self) -> &'static str
         ensures { result.now ≡ architecture_name self }
     {

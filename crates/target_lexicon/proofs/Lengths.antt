@@ -1,4 +1,5 @@
--- Printed texts are at most so much longer than the text that was parsed, and the canonical form makes no text longer.
+-- Printed texts are at most so much longer than the vendor's name, and than the text that was parsed, and the
+-- canonical form makes no text longer.
 use Rattle.std.proofs.Common.{◌≡◌, ℕ, zero, suc, ◌+◌, ◌≤◌, List, [], ◌∷◌, length, codes, Bool, true, false, true≢false, not, ◌&&◌, ◌||◌, cond, Option, Some, None, Ok, ◌⊎◌, inl, inr, unwrap_or, refl, sym, ap, subst, arith}
 use Rattle.std.specs.List.{join_with_byte, slice_get}
 use Rattle.std.proofs.{lemmas.List.length-append, lemmas.List.Splits.join_with_byte-slice_split, lemmas.Option.MatchOption-at_some, lemmas.Bool.and_parts, lemmas.Bool.not-true, Math.Bool.and-false, Math.Bool.or-true}
@@ -6,7 +7,7 @@ use Rattle.lexicon_fields.specs.Names.{dash}
 use Rattle.target_lexicon.specs.Values.{Architecture, OperatingSystem, Environment, BinaryFormat, VendorValue, Known, Values, values, is_unknown_vendor, is_clever_without_system, is_same_format}
 use Rattle.target_lexicon.specs.{Field.Field, ImpliedFormat.default_binary_format, ImpliedFormat.implied_format, Laws.ReadingIsComputed, Placement.parts_of, NormalStep.normal_step, NormalStep.elf_if_unknown}
 use Rattle.target_lexicon.specs.{FixedPoints.PrintedTextsGrowAtMost, FixedPoints.CanonicalTextsGrowAtMost, FixedPoints.RefusedPartsDoNotGrow}
-use Rattle.target_lexicon.specs.SpecialTexts.{special_text, special_values}
+use Rattle.target_lexicon.specs.{SpecialTexts.special_text, SpecialTexts.special_values, Put.text_with}
 use Rattle.target_lexicon.specs.Families.{IsNintendo3ds, IsEspIdf, HidesNewlib, PrintsTheEspIdfText, ShowsOnlyNone}
 use Rattle.target_lexicon.specs.Printing.{architecture_implies_format, shows_vendor, shows_operating_system, shows_environment, shows_implied_format, shows_binary_format, shows_unknowns, upstream_parts, parts_with_unknowns, shown_parts, cons_if, text_of}
 use Rattle.target_lexicon.specs.GreedyReading.{FieldReading, field_reading_by, field_reading, final_reading, reading_after_architecture, reading_of_parts, reading_unless_special, reading}
@@ -103,6 +104,19 @@ unfolding special_text
 special-short (architecture.Arm arm.Armv6k) (Known Nintendo) operating_system.Horizon e f joined n room short = omega arith
 special-short (architecture.Riscv32 riscv32.Riscv32imc) (Known Espressif) operating_system.Espidf e f joined n room short = omega arith
 special-short a v s e f joined n room short = short
+
+after_system-short : (b : Bool) (t : Values) → length (environment_name t.environment) ≤ 21 → length (binary_format_name t.binary_format) ≤ 21 → weight (after_system b t) ≤ 44
+after_system-short true t e f = omega (arith, e, f)
+after_system-short false t e f =
+    let format = cons_if (shows_binary_format t) (binary_format_name t.binary_format) [] in
+    omega (arith, e, f, weight-cons_if (shows_environment t) (environment_name t.environment) format, weight-cons_if (shows_binary_format t) (binary_format_name t.binary_format) [])
+
+-- a text has at most 88 bytes more than its vendor's name: four other names and as many dashes
+pub text_with-max_length : (b : Bool) (t : Values) → length (architecture_name t.architecture) ≤ 21 → length (operating_system_name t.operating_system) ≤ 21
+    → length (environment_name t.environment) ≤ 21 → length (binary_format_name t.binary_format) ≤ 21 → length (text_with b t) ≤ 88 + length (vendor_name t.vendor)
+text_with-max_length b t a s e f =
+    special-short t.architecture t.vendor t.operating_system t.environment t.binary_format _ _ (omega arith)
+    (omega (arith, a, s, after_system-short b t e f, weight-parts t b, weight-shown t b))
 
 final_reading-ok : (t : Values) (last : Field) (left : List (List ℕ)) (u : Values) → final_reading t last left ≡ Ok u → (left ≡ []) × (t ≡ u)
 final_reading-ok t last [] u is = (refl, cc)

@@ -1,7 +1,7 @@
 -- The pieces that are written are the text of the triple.
-use Rattle.std.proofs.Common.{◌≡◌, ℕ, Bool, true, false, List, [], ◌∷◌, ◌++◌, ◌||◌, refl, sym, ap, append_assoc, Some, None}
+use Rattle.std.proofs.Common.{◌≡◌, ℕ, ◌+◌, Bool, true, false, List, [], ◌∷◌, ◌++◌, ◌||◌, length, refl, sym, ap, append_assoc, arith, Some, None}
 use Rattle.std.specs.List.{join_with_byte}
-use Rattle.std.proofs.{lemmas.List.append-nil, Math.Bool.and-false}
+use Rattle.std.proofs.{lemmas.List.append-nil, lemmas.List.length-append, Math.Bool.and-false}
 use Rattle.lexicon_fields.specs.Names.{dash}
 use Rattle.lexicon_fields.specs.{Architecture.architecture_name, Vendor.vendor_name, OperatingSystem.operating_system_name, Environment.environment_name, BinaryFormat.binary_format_name}
 use Rattle.target_lexicon.specs.{Values.Values, Values.Environment, Values.is_unknown_environment, Values.is_newlib, Values.implies_newlib, Private.part_text, Put.text_with, SpecialTexts.special_text}
@@ -84,3 +84,25 @@ other_than_newlib _ n = refl
 pub other_environment_shown : (t : Values) → (t.environment ≡ environment.Unknown → ⊥) → (t.environment ≡ environment.Newlib → ⊥) → true ≡ shows_environment t
 unfolding shows_environment
 other_environment_shown t unknown newlib = rw (other_than_unknown t.environment unknown, other_than_newlib t.environment newlib, and-false (implies_newlib t.vendor t.operating_system)) refl
+
+-- without a special text it is as long as its pieces
+pub shown_length : (unknowns : Bool) (t : Values) → None ≡ special_text t
+    → length (architecture_name t.architecture) + length (part_text (shows_vendor t) (vendor_name t.vendor))
+    + length (part_text (unknowns || shows_operating_system t) (operating_system_name t.operating_system))
+    + length (part_text (unknowns || shows_environment t) (environment_name t.environment))
+    + length (part_text (unknowns || shows_binary_format t) (binary_format_name t.binary_format)) ≡ length (text_with unknowns t)
+shown_length unknowns t none =
+    omega (
+      arith,
+      ap length (shown_pieces unknowns t none),
+      length-append (((architecture_name t.architecture ++ part_text (shows_vendor t) (vendor_name t.vendor))
+          ++ part_text (unknowns || shows_operating_system t) (operating_system_name t.operating_system))
+          ++ part_text (unknowns || shows_environment t) (environment_name t.environment))
+          (part_text (unknowns || shows_binary_format t) (binary_format_name t.binary_format)),
+      length-append ((architecture_name t.architecture ++ part_text (shows_vendor t) (vendor_name t.vendor))
+          ++ part_text (unknowns || shows_operating_system t) (operating_system_name t.operating_system))
+          (part_text (unknowns || shows_environment t) (environment_name t.environment)),
+      length-append (architecture_name t.architecture ++ part_text (shows_vendor t) (vendor_name t.vendor))
+          (part_text (unknowns || shows_operating_system t) (operating_system_name t.operating_system)),
+      length-append (architecture_name t.architecture) (part_text (shows_vendor t) (vendor_name t.vendor)),
+    )

@@ -73,7 +73,7 @@ impl fmt::Display for Triple {
 }
 
 #[inline(always)]
-fn either(first: bool, second: bool) -> bool
+pub(crate) fn either(first: bool, second: bool) -> bool
     ensures { result ≡ (first || second) }
 {
     first || second
@@ -164,17 +164,19 @@ impl<'a> TripleRef<'a> {
 
     /// Writes the printed text at the front of the buffer if it fits there, and returns its length. If it doesn't fit,
     /// the buffer is unchanged: compare the result with `out.len()`. Nothing is allocated.
+    #[tactic(auto, unfolding(crate::specs::Printing::text_of))]
     pub fn write_to(&self, out: &mut [u8]) -> usize
         ensures { IsWritten (text_of (values_of_ref self.now)) out.old out.new result }
     {
-        self.pieces().write_to(out)
+        self.write_with(self.shows_unknowns(), out)
     }
 
     /// Writes the text that upstream prints for the triple, as [`TripleRef::write_to`] writes the printed one.
+    #[tactic(auto, unfolding(crate::specs::Printing::upstream_text_of))]
     pub fn write_upstream_to(&self, out: &mut [u8]) -> usize
         ensures { IsWritten (upstream_text_of (values_of_ref self.now)) out.old out.new result }
     {
-        self.upstream_pieces().write_to(out)
+        self.write_with(false, out)
     }
 
     /// The pieces of the printed text.
@@ -197,7 +199,7 @@ impl<'a> TripleRef<'a> {
 
     /// The pieces by upstream's rules, or with an unknown environment and an unknown format shown.
     #[inline(always)]
-    fn pieces_with(&self, unknowns: bool) -> Pieces<'a>
+    pub(crate) fn pieces_with(&self, unknowns: bool) -> Pieces<'a>
         ensures { pieces_text result ≡ text_with unknowns (values_of_ref self.now) }
     {
         names_are_short();
@@ -218,7 +220,7 @@ impl<'a> TripleRef<'a> {
 
     /// Whether the vendor is shown.
     #[tactic(auto, unfolding(crate::specs::Printing::shows_vendor))]
-    fn shows_vendor(&self) -> bool
+    pub(crate) fn shows_vendor(&self) -> bool
         ensures { result ≡ shows_vendor (values_of_ref self.now) }
     {
         match (self.vendor, self.environment) {
@@ -265,7 +267,7 @@ impl<'a> TripleRef<'a> {
 
     /// Whether the environment is shown.
     #[tactic(auto, unfolding(crate::specs::Printing::shows_environment))]
-    fn shows_environment(&self) -> bool
+    pub(crate) fn shows_environment(&self) -> bool
         ensures { result ≡ shows_environment (values_of_ref self.now) }
     {
         match self.environment {
@@ -293,7 +295,7 @@ impl<'a> TripleRef<'a> {
 
     /// Whether the binary format is shown: if it isn't the implied one, or `shows_implied_format` holds.
     #[tactic(auto, unfolding(crate::specs::Printing::shows_binary_format))]
-    fn shows_binary_format(&self) -> bool
+    pub(crate) fn shows_binary_format(&self) -> bool
         ensures { result ≡ shows_binary_format (values_of_ref self.now) }
     {
         self.binary_format != self.default_binary_format() || self.shows_implied_format()

@@ -33,6 +33,7 @@ mod settles_as;
 mod special;
 mod triple;
 mod triple_ref;
+mod write;
 
 pub use calling_convention::CallingConvention;
 pub use data_model::{CDataModel, Size};

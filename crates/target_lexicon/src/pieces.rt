@@ -1,13 +1,12 @@
-//! The pieces of a printed text, and writing them into a buffer.
+//! The pieces of a printed text.
 ghost use Rattle.std.specs.Prelude.{◌≡◌, ◌+◌, ◌<◌, ◌≤◌, ◌^◌, ◌++◌, List, ℕ, IfOk, Some, length, string_bytes};
 ghost use Rattle.std.specs.Fmt.{WritesStyledOnOk, decimal};
 ghost use Rattle.std.specs.Option.{ForSome};
 ghost use Rattle.lexicon_fields.specs.Laws.{max_name_length};
 ghost use Rattle.lexicon_fields.specs.OperatingSystem.{operating_system_name};
 ghost use Rattle.lexicon_fields.specs.Version.{version_name};
-ghost use Rattle.target_lexicon.specs.Put.{IsPut, dashed_piece, dashed_system};
+ghost use Rattle.target_lexicon.specs.Put.{dashed_piece, dashed_system};
 
-use crate::put::{put, put_system};
 use crate::settle::version_fits;
 use lexicon_fields::laws::names_are_short;
 use lexicon_fields::{DeploymentTarget, OperatingSystem};
@@ -29,19 +28,6 @@ pub(crate) struct Pieces<'a> {
 
 impl Pieces<'_> {
     ghost use Rattle.target_lexicon.specs.Pieces.{pieces_text};
-    ghost use Rattle.target_lexicon.specs.Written.{IsWritten};
-
-    /// Writes the text at the front of the buffer, if it fits, and returns its length.
-    #[inline(always)]
-    pub(crate) fn write_to(&self, out: &mut [u8]) -> usize
-        ensures { IsWritten (pieces_text self.now) out.old out.new result }
-    {
-        let length = self.text_length();
-        if length <= out.len() {
-            self.put(out);
-        }
-        length
-    }
 
     /// The text. `Err` if the allocation for it fails.
     pub(crate) fn to_text(&self, alloc: Global) -> Result<String, AllocError>
@@ -54,7 +40,7 @@ impl Pieces<'_> {
 
     /// The length of the text.
     #[inline(always)]
-    fn text_length(&self) -> usize
+    pub(crate) fn text_length(&self) -> usize
         ensures { result ≡ length (pieces_text self.now) }
     {
         self.first.len()
@@ -62,18 +48,6 @@ impl Pieces<'_> {
             + system_length(self.operating_system)
             + short_piece_length(self.environment)
             + short_piece_length(self.binary_format)
-    }
-
-    /// Writes each piece that still fits, and returns the end of the text.
-    #[inline(always)]
-    fn put(&self, out: &mut [u8]) -> usize
-        ensures { IsPut (pieces_text self.now) out.old out.new result }
-    {
-        let at = put(out, 0, self.first.as_bytes());
-        let at = put_piece(out, at, self.vendor);
-        let at = put_dashed_system(out, at, self.operating_system);
-        let at = put_piece(out, at, self.environment);
-        put_piece(out, at, self.binary_format)
     }
 }
 
@@ -122,38 +96,6 @@ fn write_system<W: fmt::Write>(
             fmt::Display::fmt(&system, f)
         }
         None => Ok(()),
-    }
-}
-
-/// Writes a dash and a piece, if there is one, as [`put`] does.
-#[inline(always)]
-fn put_piece(out: &mut [u8], at: usize, piece: Option<&str>) -> usize
-    ensures { (before first : List ℕ) →
-        IsPut before first out.old at →
-        IsPut (before ++ dashed_piece piece.entry) first out.new result }
-{
-    match piece {
-        Some(text) => {
-            let at = put(out, at, b"-");
-            put(out, at, text.as_bytes())
-        }
-        None => at,
-    }
-}
-
-/// Writes a dash and the name of a system, if there is one, as [`put`] does.
-#[inline(always)]
-fn put_dashed_system(out: &mut [u8], at: usize, system: Option<OperatingSystem>) -> usize
-    ensures { (before first : List ℕ) →
-        IsPut before first out.old at →
-        IsPut (before ++ dashed_system system) first out.new result }
-{
-    match system {
-        Some(system) => {
-            let at = put(out, at, b"-");
-            put_system(out, at, system)
-        }
-        None => at,
     }
 }
 

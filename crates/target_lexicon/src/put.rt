@@ -1,69 +1,143 @@
-//! Texts written one after the other at the front of a buffer.
-ghost use Rattle.std.specs.Prelude.{◌≡◌, ◌+◌, ◌<◌, ◌≤◌, ◌++◌, ◌∷◌, List, ℕ};
+//! Texts written one after the other at the front of a buffer that has room for them.
+ghost use Rattle.std.specs.Prelude.{◌≡◌, ◌+◌, ◌≤◌, ◌∷◌, [], length};
 ghost use Rattle.std.specs.Fmt.{decimal};
 ghost use Rattle.lexicon_fields.specs.OperatingSystem.{operating_system_name};
 ghost use Rattle.lexicon_fields.specs.Version.{dot, version_name};
-ghost use Rattle.target_lexicon.specs.Put.{IsPut};
+ghost use Rattle.lexicon_fields.specs.Names.{dash};
+ghost use Rattle.target_lexicon.specs.Put.{Puts};
 
 use lexicon_fields::{DeploymentTarget, OperatingSystem};
+use std::simd::Simd;
 
-/// Writes a text after what ends at `at`, if both fit. Returns the end of both.
+/// Copies a text. Most are names of four to eight bytes, which two moves copy that may overlap.
+#[inline(always)]
+fn copy_text(to: &mut [u8], text: &[u8])
+    requires { length to.old ≡ length text.now }
+    ensures { to.new ≡ text.now }
+{
+    let length = text.len();
+    if length < 4 {
+        copy_few(to, text);
+    } else if length <= 8 {
+        copy_ends::<4>(to, text);
+    } else if length <= 16 {
+        copy_ends::<8>(to, text);
+    } else {
+        copy_many(to, text);
+    }
+}
+
+/// Copies the first N bytes and the last N bytes, which are all.
+#[inline(always)]
+fn copy_ends<const N: usize>(to: &mut [u8], text: &[u8])
+    requires fits { length to.old ≡ length text.now }
+    requires covers { (N ≤ length text.now) × (length text.now ≤ N + N) }
+    ensures { to.new ≡ text.now }
+{
+    let last = text.len() - N;
+    let (first_bytes, last_bytes) = (
+        Simd::<u8, N>::from_slice(text),
+        Simd::<u8, N>::from_slice(&text[last..]),
+    );
+    first_bytes.copy_to_slice(to);
+    last_bytes.copy_to_slice(&mut to[last..]);
+}
+
+/// Copies at most three bytes.
+#[inline(always)]
+fn copy_few(to: &mut [u8], text: &[u8])
+    requires fits { length to.old ≡ length text.now }
+    requires few { length text.now ≤ 3 }
+    ensures { to.new ≡ text.now }
+{
+    if 2 <= text.len() {
+        copy_ends::<2>(to, text);
+    } else if text.len() == 1 {
+        to[0] = text[0];
+    }
+}
+
+/// Copies a long text, such as that of a custom vendor.
+#[inline(never)]
+fn copy_many(to: &mut [u8], text: &[u8])
+    requires { length to.old ≡ length text.now }
+    ensures { to.new ≡ text.now }
+{
+    to.copy_from_slice(text);
+}
+
+/// Writes a text after what ends at `at`. Returns the end of both.
 #[inline(always)]
 pub(crate) fn put(out: &mut [u8], at: usize, text: &[u8]) -> usize
-    ensures { (before first : List ℕ) →
-        IsPut before first out.old at →
-        IsPut (before ++ text.now) first out.new result }
+    requires { at + length text.now ≤ length out.old }
+    ensures { Puts text.now out.old at out.new result }
 {
-    let end = at.saturating_add(text.len());
-    if end <= out.len() {
-        out[at..end].copy_from_slice(text);
-    }
+    let end = at + text.len();
+    copy_text(&mut out[at..end], text);
     end
 }
 
-/// Writes the name of a system, as [`put`] does.
-pub(crate) fn put_system(out: &mut [u8], at: usize, system: OperatingSystem) -> usize
-    ensures { (before first : List ℕ) →
-        IsPut before first out.old at →
-        IsPut (before ++ operating_system_name system) first out.new result }
+/// Writes a byte, as [`put`] writes a text.
+#[inline(always)]
+fn put_byte(out: &mut [u8], at: usize, byte: u8) -> usize
+    requires { at + 1 ≤ length out.old }
+    ensures { Puts (byte ∷ []) out.old at out.new result }
 {
-    let at = put(out, at, system.prefix().as_bytes());
+    out[at] = byte;
+    at + 1
+}
+
+/// Writes a dash and a text, as [`put`] writes a text.
+#[inline(always)]
+pub(crate) fn put_dashed(out: &mut [u8], at: usize, text: &str) -> usize
+    requires { at + length (dash ∷ text.now) ≤ length out.old }
+    ensures { Puts (dash ∷ text.now) out.old at out.new result }
+{
+    let at = put_byte(out, at, b'-');
+    put(out, at, text.as_bytes())
+}
+
+/// Writes a dash and the name of a system, as [`put`] writes a text.
+#[inline(always)]
+pub(crate) fn put_dashed_system(out: &mut [u8], at: usize, system: OperatingSystem) -> usize
+    requires { at + length (dash ∷ operating_system_name system) ≤ length out.old }
+    ensures { Puts (dash ∷ operating_system_name system) out.old at out.new result }
+{
+    let at = put_dashed(out, at, system.prefix());
     match system.version() {
         Some(version) => put_version(out, at, version),
         None => at,
     }
 }
 
-/// Writes a version, as [`put`] does.
+/// Writes a version, as [`put`] writes a text.
+#[inline(never)]
 fn put_version(out: &mut [u8], at: usize, version: DeploymentTarget) -> usize
-    ensures { (before first : List ℕ) →
-        IsPut before first out.old at →
-        IsPut (before ++ version_name version) first out.new result }
+    requires { at + length (version_name version) ≤ length out.old }
+    ensures { Puts (version_name version) out.old at out.new result }
 {
     let at = put_decimal(out, at, usize::from(version.major));
     let at = put_dotted(out, at, version.minor);
     put_dotted(out, at, version.patch)
 }
 
-/// Writes a dot and a number, as [`put`] does.
+/// Writes a dot and a number, as [`put`] writes a text.
 fn put_dotted(out: &mut [u8], at: usize, n: u8) -> usize
-    ensures { (before first : List ℕ) →
-        IsPut before first out.old at →
-        IsPut (before ++ (dot ∷ decimal n)) first out.new result }
+    requires { at + length (dot ∷ decimal n) ≤ length out.old }
+    ensures { Puts (dot ∷ decimal n) out.old at out.new result }
 {
-    let at = put(out, at, b".");
+    let at = put_byte(out, at, b'.');
     put_decimal(out, at, usize::from(n))
 }
 
-/// Writes a number in decimal, as [`put`] does.
+/// Writes a number in decimal, as [`put`] writes a text.
 fn put_decimal(out: &mut [u8], at: usize, n: usize) -> usize
-    ensures { (before first : List ℕ) →
-        IsPut before first out.old at →
-        IsPut (before ++ decimal n) first out.new result }
+    requires { at + length (decimal n) ≤ length out.old }
+    ensures { Puts (decimal n) out.old at out.new result }
 {
     if n < 10 {
-        return put(out, at, &[b'0' + n as u8]);
+        return put_byte(out, at, b'0' + n as u8);
     }
     let at = put_decimal(out, at, n / 10);
-    put(out, at, &[b'0' + (n % 10) as u8])
+    put_byte(out, at, b'0' + (n % 10) as u8)
 }

@@ -1,15 +1,29 @@
-use Rattle.std.proofs.Common.{arith, ◌++◌, List, ℕ, sym, subst, ap, ◌∙◌, append_assoc}
+use Rattle.std.proofs.Common.{arith, ◌≡◌, ◌+◌, ◌/◌, ◌≤◌, ◌<◌, ◌^◌, List, ℕ, length, sym, subst, ap, ◌∙◌}
+use Rattle.std.specs.Fmt.{decimal}
 use Rattle.std.proofs.lemmas.Fmt.{decimal_step, decimal_digit}
-use Rattle.target_lexicon.specs.Put.{IsPut}
+use Rattle.std.proofs.lemmas.List.{length-append}
+use Rattle.target_lexicon.specs.Put.{Puts}
+use Rattle.target_lexicon.proofs.Puts.{puts_then}
 use Rattle.target_lexicon.proofs.put.+put_decimal.Goals as goal
 
+one_more : (n : ℕ) → 10 ≤ n → n < 2 ^ 64 → length (decimal n) ≡ length (decimal (n / 10)) + 1
+one_more n is fits = ap length (decimal_step n is fits) ∙ length-append (decimal (n / 10)) _
+
+pub put_byte-requires : goal.put_byte-requires
+put_byte-requires t c = omega (arith, c.requires, ap length (decimal_digit c.args.n c.if-n-lt10.true))
+
+pub put_decimal-at-requires : goal.put_decimal-at-requires
+put_decimal-at-requires t c = omega (arith, c.requires, one_more c.args.n c.if-n-lt10.false (omega arith))
+
+pub put_byte-requires-2 : goal.put_byte-requires-2
+put_byte-requires-2 t c =
+    omega (arith, c.requires, one_more c.args.n c.if-n-lt10.false (omega arith), c.put_decimal-at.ensures.end_is, c.put_decimal-at.ensures.same_length)
+
 pub returns-then-n-lt10 : goal.returns-then-n-lt10
-returns-then-n-lt10 t c = λ before first was.
-    subst (λ (text : List ℕ). IsPut (before ++ text) first c.put.new.out c.put.result) (sym (decimal_digit c.args.n (omega (arith, c.if-n-lt10.true))))
-    (c.put.ensures before first was)
+returns-then-n-lt10 t c =
+    subst (λ (text : List ℕ). Puts text c.args.out.now c.args.at c.put_byte.new.out c.put_byte.result) (sym (decimal_digit c.args.n c.if-n-lt10.true)) c.put_byte.ensures
 
 pub returns : goal.returns
-returns t c = λ before first was.
-    subst (λ (text : List ℕ). IsPut text first c.put-2.new.out c.put-2.result)
-    (append_assoc before _ _ ∙ ap (λ (text : List ℕ). before ++ text) (sym (decimal_step c.args.n (omega arith) (omega arith))))
-    (c.put-2.ensures _ first (c.put_decimal-at.ensures before first was))
+returns t c =
+    subst (λ (text : List ℕ). Puts text c.args.out.now c.args.at c.put_byte-2.new.out c.put_byte-2.result)
+    (sym (decimal_step c.args.n c.if-n-lt10.false (omega arith))) (puts_then c.put_decimal-at.ensures c.put_byte-2.ensures)
