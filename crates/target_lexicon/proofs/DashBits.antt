@@ -152,7 +152,7 @@ module _ (bytes : List ℕ) (at n bits more : ℕ) (room : at + n ≤ length byt
 pub bits_of_few : (text : List ℕ) (last : ℕ) → AreLastDashBits last text → length text ≤ 16 → AreDashBits (last / 2 ^ (16 - length text)) text
 bits_of_few text last are few =
     let whole : length text - 0 ≡ length text = omega arith in
-    record { of_short = λ _. ap (λ k. last / 2 ^ (16 - k)) (sym whole) ∙ are.at_each 0 (omega arith) (omega (arith, few)) }
+    record { of_short = λ _. ap (λ k. last / 2 ^ (16 - k)) (sym whole) ∙ are.at_each 0 (omega arith) (omega (arith, few)); of_long = λ long. absurd (omega (arith, few, long)) }
 
 pub bits_of_two : (bytes text : List ℕ) (first last : ℕ) → bytes ≡ text → 16 ≤ length bytes → length bytes ≤ 32
     → first ≡ mask_l (map is_dash (take 16 (drop 0 bytes))) → last ≡ mask_l (map is_dash (take 16 (drop (length bytes - 16) bytes)))
@@ -169,26 +169,39 @@ bits_of_two bytes text first last same long short is_first is_last =
         of_short = λ _.
             bits-more bytes 16 (length bytes - 16) first (last / 2 ^ (32 - length bytes)) room few is_first next
             ∙ ap (λ xs. mask_l (map is_dash xs)) (ap (λ k. take k bytes) whole ∙ take_all (length bytes) bytes (omega arith) ∙ same);
+        of_long = λ many. absurd (omega (arith, many, short, ap length same));
       },
     )
 
-pub bits_after : (text rest : List ℕ) (bits at : ℕ) → AreDashBits bits text → length text ≤ 32 → rest ≡ drop (at + 1) text → AreDashBits (bits / 2 ^ at / 2) rest
-bits_after text rest bits at are short after = record {
-  of_short = λ _.
-      let next : suc at ≡ at + 1 = omega arith in
-      div-div-eq-div-mul bits (2 ^ at) 2
-      ∙ ap (λ k. bits / k) (sym (pow-suc 2 at))
-      ∙ ap (λ b. b / 2 ^ suc at) (are.of_short short)
-      ∙ mask_l-drop (suc at) (map is_dash text)
-      ∙ ap mask_l (drop-map is_dash (suc at) text ∙ ap (λ n. map is_dash (drop n text)) next ∙ ap (map is_dash) (sym after));
-}
+-- bits are those of a short text
+bits_are_of_short : (text : List ℕ) (bits : ℕ) → AreDashBits bits text → 0 < bits → length text ≤ 32
+bits_are_of_short text bits are some = elim (cases_lt 32 (length text)) [
+  | inl long ↦ absurd (omega (arith, some, are.of_long long))
+  | inr short ↦ omega (arith, short)
+]
 
-module _ (text : List ℕ) (bits : ℕ) (are : AreDashBits bits text) (short : length text ≤ 32) where
-  whole : bits ≡ mask_l (map is_dash (take (length text) (drop 0 text)))
-  whole = are.of_short short ∙ ap (λ xs. mask_l (map is_dash xs)) (sym (take_all (length text) text (omega arith)))
+pub bits_after : (text rest : List ℕ) (bits at : ℕ) → AreDashBits bits text → 0 < bits → rest ≡ drop (at + 1) text → AreDashBits (bits / 2 ^ at / 2) rest
+bits_after text rest bits at are some after =
+    let short : length text ≤ 32 = bits_are_of_short text bits are some in
+    let fewer = ap length after ∙ length-drop (at + 1) text in record {
+      of_short = λ _.
+          let next : suc at ≡ at + 1 = omega arith in
+          div-div-eq-div-mul bits (2 ^ at) 2
+          ∙ ap (λ k. bits / k) (sym (pow-suc 2 at))
+          ∙ ap (λ b. b / 2 ^ suc at) (are.of_short short)
+          ∙ mask_l-drop (suc at) (map is_dash text)
+          ∙ ap mask_l (drop-map is_dash (suc at) text ∙ ap (λ n. map is_dash (drop n text)) next ∙ ap (map is_dash) (sym after));
+      of_long = λ long. absurd (omega (arith, long, short, fewer));
+    }
+
+module _ (text : List ℕ) (bits : ℕ) (are : AreDashBits bits text) where
+  whole : length text ≤ 32 → bits ≡ mask_l (map is_dash (take (length text) (drop 0 text)))
+  whole short = are.of_short short ∙ ap (λ xs. mask_l (map is_dash xs)) (sym (take_all (length text) text (omega arith)))
 
   pub first_dash : 0 < bits → position is_dash text ≡ Some (count_trailing_zeros 64 bits)
-  first_dash some = first_in_bits text 0 (length text) bits (omega arith) (omega (arith, short)) (λ k lt. absurd (omega (arith, lt))) whole some ∙ ap Some (omega arith)
+  first_dash some =
+      let short : length text ≤ 32 = bits_are_of_short text bits are some in
+      first_in_bits text 0 (length text) bits (omega arith) (omega (arith, short)) (λ k lt. absurd (omega (arith, lt))) (whole short) some ∙ ap Some (omega arith)
 
-  pub without_dash : bits ≡ 0 → position is_dash text ≡ None
-  without_dash empty = no_dash text (λ k lt. none_in_bits text 0 (length text) bits (omega arith) (omega (arith, short)) (λ k lt. absurd (omega (arith, lt))) whole empty k (omega (arith, lt)))
+  pub without_dash : length text ≤ 32 → bits ≡ 0 → position is_dash text ≡ None
+  without_dash short empty = no_dash text (λ k lt. none_in_bits text 0 (length text) bits (omega arith) (omega (arith, short)) (λ k lt. absurd (omega (arith, lt))) (whole short) empty k (omega (arith, lt)))

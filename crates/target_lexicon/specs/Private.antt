@@ -1,5 +1,5 @@
 -- Definitions for the contracts of private functions; no public contract cites them.
-use Rattle.std.specs.Prelude.{◌≡◌, ◌≤◌, ◌==◌, ◌+◌, ◌-◌, ◌/◌, ◌^◌, ℕ, ◌∷◌, List, [], length, drop, map, Bool, Option, Some, None, is_some, option_and_then, option_map, if◌then◌else◌}
+use Rattle.std.specs.Prelude.{◌≡◌, ◌<◌, ◌≤◌, ◌==◌, ◌+◌, ◌-◌, ◌/◌, ◌^◌, ℕ, ◌∷◌, List, [], length, drop, map, Bool, Option, Some, None, is_some, option_and_then, option_map, if◌then◌else◌}
 use Rattle.std.specs.Borrow.{Bor}
 use Rattle.std.specs.Simd.Lanes.{mask_l}
 use Rattle.lexicon_fields.specs.Names.{dash}
@@ -17,9 +17,11 @@ parts_after_dash (Some text) = parts_of text.now
 pub record AreLastDashBits (bits : ℕ) (text : List ℕ) : Type 0 where
   pub at_each : (k : ℕ) → k ≤ length text → length text ≤ k + 16 → bits / 2 ^ (16 - (length text - k)) ≡ mask_l (map (λ b. b == dash) (drop k text))
 
--- if a text has at most 32 bytes, the bits are set for its dashes; the lowest is that of the first byte
+-- if a text has at most 32 bytes, the bits are set for its dashes; the lowest is that of the first byte. A longer text
+-- has no bits
 pub record AreDashBits (bits : ℕ) (text : List ℕ) : Type 0 where
   pub of_short : length text ≤ 32 → bits ≡ mask_l (map (λ b. b == dash) text)
+  pub of_long : 32 < length text → bits ≡ 0
 
 -- what the look-up of a text shows: its value in each field; without a row, vendor and operating system remain open
 pub record IsLookedUp (text : List ℕ) (row : Option FixedRow) : Type 0 where

@@ -53,11 +53,12 @@ fn split_at_dash(text: &str, bits: u64) -> (&str, Option<&str>, u64)
     ensures parts { parts_of text.now ≡ result.0.now ∷ parts_after_dash result.1 }
     ensures dash_bits { ForSome result.1 (λ rest. AreDashBits result.2 rest.now) }
 {
-    if 32 < text.len() {
-        return split_long_at_dash(text);
-    }
     if bits == 0 {
-        return (text, None, 0);
+        return if text.len() <= 32 {
+            (text, None, 0)
+        } else {
+            split_long_at_dash(text)
+        };
     }
     let at = bits.trailing_zeros() as usize;
     (&text[..at], Some(&text[at + 1..]), bits >> at >> 1)
