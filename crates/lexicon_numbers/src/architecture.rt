@@ -11,6 +11,7 @@ use lexicon_fields::{
 };
 
 /// The number of an architecture.
+#[inline(always)]
 pub fn architecture_number(architecture: Architecture) -> u16
     ensures { slice_get architecture_values result ≡ Some architecture }
 {
