@@ -38,5 +38,5 @@ pub(crate) fn from_utf8(bytes: &[u8]) -> Result<&str, ()>
 fn is_utf8(bytes: &[u8]) -> bool
     ensures { IsTrue result ↔ IsUtf8 bytes.now }
 {
-    str::from_utf8(bytes).is_ok()
+    bytes.is_ascii() || str::from_utf8(bytes).is_ok()
 }
