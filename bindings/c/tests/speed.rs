@@ -33,33 +33,33 @@ unsafe extern "C" {
 
 // SAFETY, of each call below: pointers and sizes are those of slices and values here, and a triple's line outlives it.
 
-fn our_parse(line: &str) -> Result<Triple, Error> {
-    let (mut triple, mut error) = (MaybeUninit::uninit(), MaybeUninit::uninit());
+/// Parses a line into a triple or an error that the caller has room for, as a C program does.
+fn our_parse<'a>(line: &str, triple: &'a mut MaybeUninit<Triple>, error: &'a mut MaybeUninit<Error>) -> Result<&'a Triple, &'a Error> {
     unsafe {
         match lexicon_parse(line.as_ptr(), line.len(), triple.as_mut_ptr(), error.as_mut_ptr()) {
-            0 => Ok(triple.assume_init()),
-            _ => Err(error.assume_init()),
+            0 => Ok(triple.assume_init_ref()),
+            _ => Err(error.assume_init_ref()),
         }
     }
 }
 
-fn our_write(triple: &Triple, out: &mut [u8]) -> usize {
-    let mut length = 0;
-    unsafe { lexicon_write(triple, out.as_mut_ptr(), out.len(), &mut length) };
-    length
+fn our_write(triple: &Triple, out: &mut [u8]) {
+    let mut length = MaybeUninit::uninit();
+    unsafe { lexicon_write(triple, out.as_mut_ptr(), out.len(), length.as_mut_ptr()) };
+    black_box(&length);
 }
 
-fn our_facts(triple: &Triple) -> Facts {
-    let mut facts = Facts([0; 17]);
-    unsafe { lexicon_facts(triple, &mut facts) };
-    facts
+fn our_facts(triple: &Triple) {
+    let mut facts = MaybeUninit::uninit();
+    unsafe { lexicon_facts(triple, facts.as_mut_ptr()) };
+    black_box(&facts);
 }
 
-fn our_error_line(line: &str, error: &Error, out: &mut [u8]) -> usize {
+fn our_error_line(line: &str, error: &Error, out: &mut [u8]) {
     let part = &line[error.start..error.start + error.size];
-    let mut length = 0;
-    unsafe { lexicon_error_line(error.expected, part.as_ptr(), part.len(), out.as_mut_ptr(), out.len(), &mut length) };
-    length
+    let mut length = MaybeUninit::uninit();
+    unsafe { lexicon_error_line(error.expected, part.as_ptr(), part.len(), out.as_mut_ptr(), out.len(), length.as_mut_ptr()) };
+    black_box(&length);
 }
 
 /// Asks what lexicon_facts answers, but for the family, and the format that the others imply, which upstream doesn't export.
@@ -84,19 +84,22 @@ fn copied(text: &str, out: &mut [u8]) {
 
 const WHAT: [&str; 4] = ["parse+write", "parse+facts", "facts", "refused"];
 
-/// Keeps the compiler from leaving out what makes a value.
-fn keep<T>(value: T) {
-    black_box(value);
+/// Parses a line with the library, then asks more of the triple or of the error.
+fn with_ours(line: &str, triple: impl FnOnce(&Triple), error: impl FnOnce(&Error)) {
+    match our_parse(line, &mut MaybeUninit::uninit(), &mut MaybeUninit::uninit()) {
+        Ok(it) => triple(it),
+        Err(it) => error(it),
+    }
 }
 
 /// Runs one of them over the lines, or the triples that they parse as.
 fn run(ours: bool, what: &str, lines: &[&str], our: &[Triple], upstream: &[target_lexicon::Triple], out: &mut [u8]) {
     match (ours, what) {
-        (true, "facts") => our.iter().for_each(|it| keep(our_facts(it))),
+        (true, "facts") => our.iter().for_each(our_facts),
         (false, "facts") => upstream.iter().for_each(upstream_facts),
-        (true, "parse+write") => lines.iter().for_each(|it| keep(our_parse(it).map(|it| our_write(&it, out)))),
-        (true, "parse+facts") => lines.iter().for_each(|it| keep(our_parse(it).map(|it| our_facts(&it)))),
-        (true, _) => lines.iter().for_each(|it| keep(our_parse(it).map_err(|error| our_error_line(it, &error, out)))),
+        (true, "parse+write") => lines.iter().for_each(|it| with_ours(it, |triple| our_write(triple, out), |_| ())),
+        (true, "parse+facts") => lines.iter().for_each(|it| with_ours(it, our_facts, |_| ())),
+        (true, _) => lines.iter().for_each(|it| with_ours(it, |_| (), |error| our_error_line(it, error, out))),
         (false, _) => lines.iter().for_each(|it| match it.parse::<target_lexicon::Triple>() {
             Ok(triple) if what == "parse+write" => copied(&triple.to_string(), out),
             Ok(triple) => upstream_facts(&triple),
@@ -114,8 +117,9 @@ fn main() {
     let words: Vec<String> = std::env::args().collect();
     let text = std::fs::read_to_string(&words[1]).expect("a file of lines");
     let (read, refused): (Vec<&str>, Vec<&str>) = text.lines().partition(|line| line.parse::<target_lexicon::Triple>().is_ok());
-    let our: Vec<Triple> = read.iter().map(|it| our_parse(it).ok().expect("a line that parses")).collect();
-    assert!(refused.iter().all(|it| our_parse(it).is_err()));
+    let parsed = |line: &&str| our_parse(line, &mut MaybeUninit::uninit(), &mut MaybeUninit::uninit()).ok().copied();
+    let our: Vec<Triple> = read.iter().map(|it| parsed(it).expect("a line that parses")).collect();
+    assert!(refused.iter().all(|it| parsed(it).is_none()));
     let upstream: Vec<target_lexicon::Triple> = read.iter().map(|it| it.parse().unwrap()).collect();
     let mut out = vec![0; 4096];
     let mut call = |ours, what: &str| run(ours, what, if what == "refused" { &refused } else { &read }, &our, &upstream, &mut out);
