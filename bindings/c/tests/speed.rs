@@ -31,44 +31,35 @@ unsafe extern "C" {
     fn lexicon_error_line(expected: u32, part: *const u8, size: usize, out: *mut u8, out_size: usize, length: *mut usize) -> u32;
 }
 
-// SAFETY, of each call below: pointers and sizes are those of values and slices here, a struct is read only if the call
-// before it wrote it, and a triple's line outlives it.
+// SAFETY, of each call below: pointers and sizes are those of slices and values here, and a triple's line outlives it.
 
-/// Parses a line into one of two structs, as a C program does; 0 says that it is the triple.
-fn our_parse(line: &str, triple: &mut MaybeUninit<Triple>, error: &mut MaybeUninit<Error>) -> u32 {
-    unsafe { lexicon_parse(line.as_ptr(), line.len(), triple.as_mut_ptr(), error.as_mut_ptr()) }
+/// Parses a line into a triple or an error that the caller has room for, as a C program does.
+fn our_parse<'a>(line: &str, triple: &'a mut MaybeUninit<Triple>, error: &'a mut MaybeUninit<Error>) -> Result<&'a Triple, &'a Error> {
+    unsafe {
+        match lexicon_parse(line.as_ptr(), line.len(), triple.as_mut_ptr(), error.as_mut_ptr()) {
+            0 => Ok(triple.assume_init_ref()),
+            _ => Err(error.assume_init_ref()),
+        }
+    }
 }
 
-fn our_write(triple: *const Triple, out: &mut [u8]) {
-    let mut length = 0;
-    unsafe { lexicon_write(triple, out.as_mut_ptr(), out.len(), &mut length) };
-    black_box((out, length));
+fn our_write(triple: &Triple, out: &mut [u8]) {
+    let mut length = MaybeUninit::uninit();
+    unsafe { lexicon_write(triple, out.as_mut_ptr(), out.len(), length.as_mut_ptr()) };
+    black_box(&length);
 }
 
-fn our_facts(triple: *const Triple) {
-    let mut facts = MaybeUninit::<Facts>::uninit();
+fn our_facts(triple: &Triple) {
+    let mut facts = MaybeUninit::uninit();
     unsafe { lexicon_facts(triple, facts.as_mut_ptr()) };
     black_box(&facts);
 }
 
 fn our_error_line(line: &str, error: &Error, out: &mut [u8]) {
     let part = &line[error.start..error.start + error.size];
-    let mut length = 0;
-    unsafe { lexicon_error_line(error.expected, part.as_ptr(), part.len(), out.as_mut_ptr(), out.len(), &mut length) };
-    black_box((out, length));
-}
-
-/// Parses each line, and does what follows with its triple or its error.
-fn our_run(what: &str, lines: &[&str], out: &mut [u8]) {
-    let writes = what == "parse+write";
-    for line in lines {
-        let (mut triple, mut error) = (MaybeUninit::uninit(), MaybeUninit::uninit());
-        match our_parse(line, &mut triple, &mut error) {
-            0 if writes => our_write(triple.as_ptr(), out),
-            0 => our_facts(triple.as_ptr()),
-            _ => our_error_line(line, unsafe { error.assume_init_ref() }, out),
-        }
-    }
+    let mut length = MaybeUninit::uninit();
+    unsafe { lexicon_error_line(error.expected, part.as_ptr(), part.len(), out.as_mut_ptr(), out.len(), length.as_mut_ptr()) };
+    black_box(&length);
 }
 
 /// Asks what lexicon_facts answers, but for the family, and the format that the others imply, which upstream doesn't export.
@@ -93,12 +84,22 @@ fn copied(text: &str, out: &mut [u8]) {
 
 const WHAT: [&str; 4] = ["parse+write", "parse+facts", "facts", "refused"];
 
+/// Parses a line with the library, then asks more of the triple or of the error.
+fn with_ours(line: &str, triple: impl FnOnce(&Triple), error: impl FnOnce(&Error)) {
+    match our_parse(line, &mut MaybeUninit::uninit(), &mut MaybeUninit::uninit()) {
+        Ok(it) => triple(it),
+        Err(it) => error(it),
+    }
+}
+
 /// Runs one of them over the lines, or the triples that they parse as.
 fn run(ours: bool, what: &str, lines: &[&str], our: &[Triple], upstream: &[target_lexicon::Triple], out: &mut [u8]) {
     match (ours, what) {
-        (true, "facts") => our.iter().for_each(|it| our_facts(it)),
+        (true, "facts") => our.iter().for_each(our_facts),
         (false, "facts") => upstream.iter().for_each(upstream_facts),
-        (true, _) => our_run(what, lines, out),
+        (true, "parse+write") => lines.iter().for_each(|it| with_ours(it, |triple| our_write(triple, out), |_| ())),
+        (true, "parse+facts") => lines.iter().for_each(|it| with_ours(it, our_facts, |_| ())),
+        (true, _) => lines.iter().for_each(|it| with_ours(it, |_| (), |error| our_error_line(it, error, out))),
         (false, _) => lines.iter().for_each(|it| match it.parse::<target_lexicon::Triple>() {
             Ok(triple) if what == "parse+write" => copied(&triple.to_string(), out),
             Ok(triple) => upstream_facts(&triple),
@@ -116,10 +117,7 @@ fn main() {
     let words: Vec<String> = std::env::args().collect();
     let text = std::fs::read_to_string(&words[1]).expect("a file of lines");
     let (read, refused): (Vec<&str>, Vec<&str>) = text.lines().partition(|line| line.parse::<target_lexicon::Triple>().is_ok());
-    let parsed = |line: &&str| {
-        let (mut triple, mut error) = (MaybeUninit::uninit(), MaybeUninit::uninit());
-        (our_parse(line, &mut triple, &mut error) == 0).then(|| unsafe { triple.assume_init() })
-    };
+    let parsed = |line: &&str| our_parse(line, &mut MaybeUninit::uninit(), &mut MaybeUninit::uninit()).ok().copied();
     let our: Vec<Triple> = read.iter().map(|it| parsed(it).expect("a line that parses")).collect();
     assert!(refused.iter().all(|it| parsed(it).is_none()));
     let upstream: Vec<target_lexicon::Triple> = read.iter().map(|it| it.parse().unwrap()).collect();

@@ -92,7 +92,7 @@ shows_unknowns-implied binary_format.Unknown = refl
 shows_unknowns-implied _ = refl
 
 -- the format is shown with an unknown environment that is shown
-unknowns-shown : (t : Values) → shows_unknowns t ≡ true → shows_binary_format t ≡ true
+pub unknowns-shown : (t : Values) → shows_unknowns t ≡ true → shows_binary_format t ≡ true
 unfolding shows_binary_format
 unknowns-shown t shown = let other : is_same_format t.binary_format (default_binary_format t) ≡ false = not-true _ (and_parts _ _ shown).1 in rw other refl
 

@@ -5,7 +5,7 @@ ghost use Rattle.lexicon_fields.specs.OperatingSystem.{operating_system_name};
 ghost use Rattle.lexicon_fields.specs.VendorRef.{ref_value};
 ghost use Rattle.std.specs.Fmt.{DisplaysStyledOnOk, formatter_spec};
 ghost use Rattle.std.specs.Option.{ForSome};
-ghost use Rattle.target_lexicon.specs.Printing.{text_of, upstream_text_of, is_bare_arm, omits_unknown_vendor, shows_vendor, shows_operating_system, shows_environment, shows_binary_format, shows_implied_format, shows_unknowns, architecture_implies_format};
+ghost use Rattle.target_lexicon.specs.Printing.{text_of, upstream_text_of, is_bare_arm, omits_unknown_vendor, shows_vendor, shows_operating_system, shows_environment, shows_binary_format, shows_implied_format, shows_unknowns, names_no_system, architecture_implies_format};
 ghost use Rattle.target_lexicon.specs.Pieces.{pieces_text};
 ghost use Rattle.target_lexicon.specs.Private.{part_text};
 ghost use Rattle.target_lexicon.specs.Put.{dashed_piece, dashed_system, text_with};
@@ -220,20 +220,24 @@ impl<'a> TripleRef<'a> {
 
     /// Whether the vendor is shown.
     #[tactic(auto, unfolding(crate::specs::Printing::shows_vendor))]
+    #[inline(always)]
     pub(crate) fn shows_vendor(&self) -> bool
         ensures { result ≡ shows_vendor (values_of_ref self.now) }
     {
-        match (self.vendor, self.environment) {
-            (
-                VendorRef::Known(KnownVendor::Unknown),
-                Environment::HermitKernel | Environment::LinuxKernel,
-            ) => true,
-            (VendorRef::Known(KnownVendor::Unknown), _) => !self.omits_unknown_vendor(),
+        match self.vendor {
+            VendorRef::Known(KnownVendor::Unknown) => {
+                !self.omits_unknown_vendor()
+                    || matches!(
+                        self.environment,
+                        Environment::HermitKernel | Environment::LinuxKernel
+                    )
+            }
             _ => true,
         }
     }
 
     /// Whether an unknown vendor is omitted.
+    #[inline(always)]
     fn omits_unknown_vendor(&self) -> bool
         ensures { result
             ≡ omits_unknown_vendor self.now.architecture self.now.operating_system
@@ -267,6 +271,7 @@ impl<'a> TripleRef<'a> {
 
     /// Whether the environment is shown.
     #[tactic(auto, unfolding(crate::specs::Printing::shows_environment))]
+    #[inline(always)]
     pub(crate) fn shows_environment(&self) -> bool
         ensures { result ≡ shows_environment (values_of_ref self.now) }
     {
@@ -295,20 +300,24 @@ impl<'a> TripleRef<'a> {
 
     /// Whether the binary format is shown: if it isn't the implied one, or `shows_implied_format` holds.
     #[tactic(auto, unfolding(crate::specs::Printing::shows_binary_format))]
+    #[inline(always)]
     pub(crate) fn shows_binary_format(&self) -> bool
         ensures { result ≡ shows_binary_format (values_of_ref self.now) }
     {
-        self.binary_format != self.default_binary_format() || self.shows_implied_format()
+        if names_no_system(self.operating_system) {
+            self.binary_format != self.default_binary_format() || self.shows_implied_format()
+        } else {
+            self.binary_format != self.default_binary_format()
+        }
     }
 
     /// Whether the binary format is shown even if it is the implied one.
+    #[inline(always)]
     fn shows_implied_format(&self) -> bool
         ensures { result ≡ shows_implied_format (values_of_ref self.now) }
     {
-        matches!(
-            self.operating_system,
-            OperatingSystem::None_ | OperatingSystem::Unknown
-        ) && !architecture_implies_format(self.architecture)
+        names_no_system(self.operating_system)
+            && !architecture_implies_format(self.architecture)
             && !matches!(
                 self.environment,
                 Environment::Eabi | Environment::Eabihf | Environment::Sgx
@@ -317,6 +326,7 @@ impl<'a> TripleRef<'a> {
     }
 
     /// Whether environment and format are both shown as unknown, and the operating system with them.
+    #[inline(always)]
     fn shows_unknowns(&self) -> bool
         ensures { result ≡ shows_unknowns (values_of_ref self.now) }
     {
@@ -325,6 +335,17 @@ impl<'a> TripleRef<'a> {
             (Environment::Unknown, BinaryFormat::Unknown)
         ) && self.binary_format != self.default_binary_format()
     }
+}
+
+/// Whether the system is that of no operating system, or an unknown one.
+#[inline(always)]
+fn names_no_system(operating_system: OperatingSystem) -> bool
+    ensures { result ≡ names_no_system operating_system }
+{
+    matches!(
+        operating_system,
+        OperatingSystem::None_ | OperatingSystem::Unknown
+    )
 }
 
 /// Whether a triple of this architecture omits an implied format even without a system.

@@ -1,5 +1,5 @@
 //! Writing the text of a triple into a buffer.
-ghost use Rattle.std.specs.Prelude.{◌≡◌, ◌+◌, ◌<◌, ◌≤◌, ◌^◌, ◌||◌, Bool, length};
+ghost use Rattle.std.specs.Prelude.{◌≡◌, ◌+◌, ◌<◌, ◌≤◌, ◌^◌, ◌||◌, Bool, true, length};
 ghost use Rattle.lexicon_fields.specs.BinaryFormat.{binary_format_name};
 ghost use Rattle.lexicon_fields.specs.Environment.{environment_name};
 ghost use Rattle.lexicon_fields.specs.OperatingSystem.{operating_system_name};
@@ -26,6 +26,7 @@ impl TripleRef<'_> {
     /// [`TripleRef::write_to`] says. Its length is computed only if the buffer may be too small.
     #[inline(always)]
     pub(crate) fn write_with(&self, unknowns: bool, out: &mut [u8]) -> usize
+        requires { unknowns ≡ true → shows_binary_format (values_of_ref self.now) ≡ true }
         ensures { IsWritten (text_with unknowns (values_of_ref self.now)) out.old out.new result }
     {
         if out.len() < self.max_text_length() {
@@ -51,7 +52,9 @@ impl TripleRef<'_> {
     /// Writes the text at the front of a buffer that has room for it, and returns its end.
     #[inline(always)]
     fn put_with(&self, unknowns: bool, out: &mut [u8]) -> usize
-        requires { length (text_with unknowns (values_of_ref self.now)) ≤ length out.old }
+        requires unknowns { unknowns ≡ true →
+            shows_binary_format (values_of_ref self.now) ≡ true }
+        requires room { length (text_with unknowns (values_of_ref self.now)) ≤ length out.old }
         ensures { IsPut (text_with unknowns (values_of_ref self.now)) out.old out.new result }
     {
         if let Some(text) = self.special_text() {
@@ -61,7 +64,7 @@ impl TripleRef<'_> {
         let at = self.put_vendor(out, at);
         let at = self.put_operating_system(unknowns, out, at);
         let at = self.put_environment(unknowns, out, at);
-        self.put_binary_format(unknowns, out, at)
+        self.put_binary_format(out, at)
     }
 
     /// Writes a dash and the vendor's name, if it is shown, as [`put`] writes a text.
@@ -115,15 +118,13 @@ impl TripleRef<'_> {
 
     /// Writes a dash and the binary format's name, if it is shown, as [`put`] writes a text.
     #[inline(always)]
-    fn put_binary_format(&self, unknowns: bool, out: &mut [u8], at: usize) -> usize
-        requires { at + length (part_text
-            (unknowns || shows_binary_format (values_of_ref self.now))
+    fn put_binary_format(&self, out: &mut [u8], at: usize) -> usize
+        requires { at + length (part_text (shows_binary_format (values_of_ref self.now))
             (binary_format_name self.now.binary_format)) ≤ length out.old }
-        ensures { Puts (part_text
-            (unknowns || shows_binary_format (values_of_ref self.now))
+        ensures { Puts (part_text (shows_binary_format (values_of_ref self.now))
             (binary_format_name self.now.binary_format)) out.old at out.new result }
     {
-        if either(unknowns, self.shows_binary_format()) {
+        if self.shows_binary_format() {
             put_dashed(out, at, self.binary_format.name())
         } else {
             at
