@@ -1,6 +1,6 @@
 -- Triples as numbers.
 use Rattle.std.proofs.Common.{◌≡◌, ◌↔◌, ℕ, ◌<◌, List, [], ◌∷◌, true, false, inl, inr, Option, Some, None, Ok, Err, refl, sym, ◌∙◌, subst, ap, arith, get_or, zero, suc}
-use Rattle.std.specs.Prelude.{◌==◌, MatchResult, if◌then◌else◌, option_and_then, slice_get}
+use Rattle.std.specs.Prelude.{◌==◌, MatchOption, MatchResult, if◌then◌else◌, option_and_then, slice_get}
 use Rattle.std.specs.{Char.is_ascii_lowercase, List.list_all, Str.IsUtf8}
 use Rattle.std.proofs.{lemmas.Bool.and_parts, lemmas.Str.IsUtf8-from_ascii, lemmas.Bool.cases_Bool, lemmas.Bool.Decides.nat_tests}
 use Rattle.lexicon_fields.specs.{Architecture.architecture_values, BinaryFormat.binary_format_values, Environment.environment_values, OperatingSystem.system_version}
@@ -9,7 +9,7 @@ use Rattle.lexicon_fields.specs.declared.deployment_target.DeploymentTarget.{Dep
 use Rattle.lexicon_numbers.specs.Numbers.{operating_system_at}
 use Rattle.target_lexicon.specs.Values.{Architecture, BinaryFormat, Environment, OperatingSystem, Values, VendorValue, values}
 use Rattle.lexicon_c.specs.Outcome.{Outcome, NoSuchValue}
-use Rattle.lexicon_c.specs.Triple.{AreNumbersOf, operating_system_in, triple_in, vendor_text, vendor_with, version_in}
+use Rattle.lexicon_c.specs.Triple.{AreNumbersOf, no_version, operating_system_in, triple_in, vendor_text, vendor_with, version_in}
 use Rattle.lexicon_c.specs.declared.triple.LexiconTriple.{LexiconTriple}
 
 -- the triple of numbers, or the fault of the first field that has one
@@ -52,6 +52,13 @@ on_triple n text P F t is holds = subst (λ r. MatchResult r P F) (sym is) holds
 abbrev pub version_of : ℕ × ℕ × ℕ × ℕ → Option (Option DeploymentTarget)
 version_of q =
     if q.0 == 0 then Some None else if q.0 == 1 then Some (Some (record { major = q.1; minor = q.2; patch = q.3 })) else None
+
+-- the numbers of a version, or none
+pub version_given : (s : Option DeploymentTarget) (h : ℕ) (v : DeploymentTarget)
+    → MatchOption s ((h ≡ 0) × (v ≡ no_version)) (λ w. (h ≡ 1) × (v ≡ w))
+    → (version_of (h, v.major, v.minor, v.patch) ≡ Some s) × (h ≡ 0 → (v.major ≡ 0) × (v.minor ≡ 0) × (v.patch ≡ 0))
+version_given None h v (none, zeros) = (rw none refl, λ _. (ap (λ v. v.major) zeros, ap (λ v. v.minor) zeros, ap (λ v. v.patch) zeros))
+version_given (Some w) h v (one, same) = (rw one (ap (λ v. Some (Some v)) same), λ zero. absurd (omega (arith, zero, one)))
 
 -- the numbers of a triple, field by field
 pub are_numbers : (t : Values) (n : LexiconTriple) → slice_get architecture_values n.architecture ≡ Some t.architecture

@@ -48,6 +48,10 @@ abbrev pub vendor_text : VendorValue → List ℕ
 vendor_text (Known known) = []
 vendor_text (Custom text) = text
 
+-- what stands in the numbers of a triple without a version
+abbrev pub no_version : DeploymentTarget
+no_version = record { major = 0; minor = 0; patch = 0 }
+
 -- the numbers are those of the triple, and 0 where a number isn't read
 pub record AreNumbersOf (t : Values) (numbers : LexiconTriple) : Type 0 where
   pub is_triple : triple_in numbers (vendor_text t.vendor) ≡ Ok t

@@ -1,10 +1,11 @@
 //! Triples as numbers.
-ghost use Rattle.std.specs.Prelude.{◌≡◌, ◌↔◌, true, Ok, Err, [], IfOk, IsTrue, MatchResult};
+ghost use Rattle.std.specs.Prelude.{◌≡◌, ◌↔◌, true, Ok, Err, [], IfOk, IsTrue, MatchOption, MatchResult};
+ghost use Rattle.lexicon_fields.specs.OperatingSystem.{system_version};
 ghost use Rattle.lexicon_fields.specs.Vendor.{is_admitted, is_plain};
 ghost use Rattle.lexicon_fields.specs.VendorRef.{ref_value};
 ghost use Rattle.target_lexicon.specs.ValuesRef.{values_of_ref};
 ghost use Rattle.lexicon_c.specs.Outcome.{outcome_of};
-ghost use Rattle.lexicon_c.specs.Triple.{AreNumbersOf, triple_in, operating_system_in, vendor_text, vendor_with, version_in};
+ghost use Rattle.lexicon_c.specs.Triple.{AreNumbersOf, no_version, triple_in, operating_system_in, vendor_text, vendor_with, version_in};
 
 use crate::output::LexiconText;
 use crate::status::Status;
@@ -132,10 +133,28 @@ pub(crate) fn numbers_of(triple: &TripleRef<'_>) -> LexiconTriple
     requires { is_plain (ref_value triple.now.vendor) ≡ true }
     ensures { AreNumbersOf (values_of_ref triple.now) result }
 {
-    let (has_version, major, minor, patch) = match triple.operating_system.version() {
-        Some(version) => (1, version.major, version.minor, version.patch),
-        None => (0, 0, 0, 0),
-    };
+    match triple.operating_system.version() {
+        Some(version) => numbers_with(triple, 1, version),
+        None => {
+            let none = DeploymentTarget {
+                major: 0,
+                minor: 0,
+                patch: 0,
+            };
+            numbers_with(triple, 0, none)
+        }
+    }
+}
+
+/// The numbers of a triple with these numbers of its version.
+#[inline(always)]
+fn numbers_with(triple: &TripleRef<'_>, has_version: u8, version: DeploymentTarget) -> LexiconTriple
+    requires plain { is_plain (ref_value triple.now.vendor) ≡ true }
+    requires version { MatchOption (system_version triple.now.operating_system)
+        ((has_version ≡ 0) × (version ≡ no_version))
+        (λ v. (has_version ≡ 1) × (version ≡ v)) }
+    ensures { AreNumbersOf (values_of_ref triple.now) result }
+{
     LexiconTriple {
         architecture: architecture_number(triple.architecture),
         vendor: vendor_number(triple.vendor),
@@ -143,9 +162,9 @@ pub(crate) fn numbers_of(triple: &TripleRef<'_>) -> LexiconTriple
         environment: environment_number(triple.environment),
         binary_format: binary_format_number(triple.binary_format),
         has_version,
-        minor,
-        patch,
-        major,
+        minor: version.minor,
+        patch: version.patch,
+        major: version.major,
     }
 }
 

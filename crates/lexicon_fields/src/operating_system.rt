@@ -104,6 +104,7 @@ impl OperatingSystem {
     }
 
     /// The Darwin-like system with whose prefix the text begins. The rest of the text must be empty or a version.
+    #[inline(never)]
     fn parse_by_prefix(s: &str) -> Option<Self>
         ensures { result ≡ darwin_like_system darwin_prefixes s.now }
     {

@@ -65,7 +65,7 @@ pub(crate) fn prefix_key(text: &str) -> u64
 }
 
 /// The prefix key of at most three bytes.
-#[inline(always)]
+#[inline(never)]
 fn prefix_key_of_few(bytes: &[u8]) -> u64
     requires { length bytes.now < 4 }
     ensures { result ≡ prefix_key_of 8 bytes.now }
