@@ -1,7 +1,7 @@
 -- Triples as numbers.
-use Rattle.std.proofs.Common.{◌≡◌, ◌↔◌, ℕ, ◌<◌, List, [], ◌∷◌, true, false, inl, inr, Option, Some, None, Ok, Err, refl, sym, ◌∙◌, subst, ap, arith, get_or, zero, suc}
+use Rattle.std.proofs.Common.{◌≡◌, ◌↔◌, ℕ, ◌<◌, List, [], ◌∷◌, true, false, true≢false, inl, inr, Option, Some, None, Ok, Err, refl, sym, ◌∙◌, subst, ap, arith, get_or, zero, suc}
 use Rattle.std.specs.Prelude.{◌==◌, MatchOption, MatchResult, if◌then◌else◌, option_and_then, slice_get}
-use Rattle.std.specs.{Char.is_ascii_lowercase, List.list_all, Str.IsUtf8}
+use Rattle.std.specs.{Char.is_ascii, Char.is_ascii_lowercase, List.list_all, Str.IsUtf8}
 use Rattle.std.proofs.{lemmas.Bool.and_parts, lemmas.Str.IsUtf8-from_ascii, lemmas.Bool.cases_Bool, lemmas.Bool.Decides.nat_tests}
 use Rattle.lexicon_fields.specs.{Architecture.architecture_values, BinaryFormat.binary_format_values, Environment.environment_values, OperatingSystem.system_version}
 use Rattle.lexicon_fields.specs.Vendor.{has_vendor_form, is_admitted, is_free, is_vendor_character}
@@ -94,13 +94,29 @@ form_ascii [] k form = absurd cc
 form_ascii (c ∷ cs) zero form = letter_ascii c (and_parts (is_ascii_lowercase c) (list_all is_vendor_character cs) form).0
 form_ascii (c ∷ cs) (suc k) form = characters_ascii cs k (and_parts (is_ascii_lowercase c) (list_all is_vendor_character cs) form).1
 
-pub admitted_text : (text : List ℕ) → is_admitted text ≡ true → IsUtf8 text
+admitted_ascii : (text : List ℕ) → is_admitted text ≡ true → (k : ℕ) → get_or text k 0 < 128
 unfolding is_admitted
-admitted_text text admitted = IsUtf8-from_ascii text (λ k. form_ascii text k (and_parts (is_free text) (has_vendor_form text) admitted).1)
+admitted_ascii text admitted = λ k. form_ascii text k (and_parts (is_free text) (has_vendor_form text) admitted).1
 
-pub not_admitted : (text : List ℕ) → (IsUtf8 text → ⊥) → is_admitted text ≡ false
-not_admitted text no_text =
+pub admitted_text : (text : List ℕ) → is_admitted text ≡ true → IsUtf8 text
+admitted_text text admitted = IsUtf8-from_ascii text (admitted_ascii text admitted)
+
+-- whether each byte is ASCII, by the test of each
+
+pub bytes_ascii : (text : List ℕ) → list_all is_ascii text ≡ true → (k : ℕ) → get_or text k 0 < 128
+bytes_ascii [] are k = omega arith
+bytes_ascii (c ∷ cs) are zero = let is = (and_parts (is_ascii c) (list_all is_ascii cs) are).0 in grind (arith, nat_tests)
+bytes_ascii (c ∷ cs) are (suc k) = bytes_ascii cs (and_parts (is_ascii c) (list_all is_ascii cs) are).1 k
+
+tests_ascii : (text : List ℕ) → ((k : ℕ) → get_or text k 0 < 128) → list_all is_ascii text ≡ true
+tests_ascii [] low = refl
+tests_ascii (c ∷ cs) low =
+    let first : is_ascii c ≡ true = let is = low 0 in grind (arith, nat_tests) in
+    rw (first, tests_ascii cs (λ k. low (suc k))) refl
+
+pub not_admitted : (text : List ℕ) → list_all is_ascii text ≡ false → is_admitted text ≡ false
+not_admitted text high =
     elim (cases_Bool (is_admitted text)) [
-      | inl admitted ↦ absurd (no_text (admitted_text text admitted))
+      | inl admitted ↦ absurd (true≢false (sym (tests_ascii text (admitted_ascii text admitted)) ∙ high))
       | inr other ↦ other
     ]

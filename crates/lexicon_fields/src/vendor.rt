@@ -274,5 +274,5 @@ fn are_vendor_characters(bytes: &[u8]) -> bool
 fn is_vendor_character(byte: u8) -> bool
     ensures { result ≡ is_vendor_character byte }
 {
-    matches!(byte, b'a'..=b'z' | b'0'..=b'9' | b'_' | b'.')
+    byte.is_ascii_lowercase() || matches!(byte, b'0'..=b'9' | b'_' | b'.')
 }
