@@ -60,7 +60,11 @@ pub const REPLACED: [(&str, &str, &str); 8] = [
         "UnrecognizedField(String), OutOfMemory,",
         "UnrecognizedField(String),",
     ),
-    ("target_lexicon/parse_error.rt", "ParseError::OutOfMemory => ParseError::OutOfMemory,", ""),
+    (
+        "target_lexicon/parse_error.rt",
+        "None => Ok(ParseError::OutOfMemory),",
+        "None => crate::shim::abort(),",
+    ),
     (
         "target_lexicon/parse_error.rt",
         "(_error: AllocError) -> ParseError { ParseError::OutOfMemory }",

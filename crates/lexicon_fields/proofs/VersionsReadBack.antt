@@ -1,5 +1,5 @@
 -- How version texts are parsed.
-use Rattle.std.proofs.Common.{◌≡◌, ◌≢◌, is_some, ◌∙◌, ℕ, ◌+◌, ◌^◌, ◌<◌, ◌≤◌, nat_eq, nat_lt, nat_le, List, [], ◌∷◌, ◌++◌, length, Bool, true, false, ◌&&◌, cond, Option, Some, None, Result, Ok, Err, Bor, refl, sym, ap, rules, arith}
+use Rattle.std.proofs.Common.{◌≡◌, ◌≢◌, ◌∙◌, ℕ, ◌+◌, ◌^◌, ◌<◌, ◌≤◌, nat_eq, nat_lt, nat_le, List, [], ◌∷◌, ◌++◌, length, Bool, true, false, ◌&&◌, cond, Option, Some, None, Result, Ok, Err, Bor, refl, sym, ap, rules, arith}
 use Rattle.std.specs.{Char.is_ascii_digit, List.list_all, List.before_first, List.after_first, List.position_or_len, Result.OkIff, Result.result_ok}
 use Rattle.std.specs.{Fmt.decimal, Str.Parse.IsNumeral, Str.Parse.ParsesUnsigned, Str.Parse.digits_value, Str.Parse.without_leading_plus}
 use Rattle.std.proofs.lemmas.Bool.{and_parts, and_from, ltb-true, lt-ltb, leb-true, le-leb}
@@ -34,9 +34,8 @@ parse_piece k limit piece r fits parses =
     parses
 
 -- what `parse` gives for a piece
-pub number_read : {E : Type 0} (k limit : ℕ) (piece : List ℕ) (r : Result ℕ E) (o x : Option ℕ)
-    → limit + 1 ≡ 2 ^ k → ParsesUnsigned k 10 piece r → o ≡ result_ok r → o ≡ x → piece_number_within limit piece ≡ x
-number_read k limit piece r o x fits parses taken is = sym (parse_piece k limit piece r fits parses) ∙ sym taken ∙ is
+pub number_read : {E : Type 0} (k limit : ℕ) (piece : List ℕ) (r is : Result ℕ E) → limit + 1 ≡ 2 ^ k → ParsesUnsigned k 10 piece r → r ≡ is → piece_number_within limit piece ≡ result_ok is
+number_read k limit piece r is fits parses same = sym (parse_piece k limit piece r fits parses) ∙ ap result_ok same
 
 -- the pieces of a text after its first dot, and those of a text without a dot
 pub pieces_of-first : (text piece rest : List ℕ) → piece ≡ before_first (λ c. nat_eq c dot) text → rest ≡ after_first (λ c. nat_eq c dot) text → position_or_len (λ c. nat_eq c dot) text < length text → pieces_of text ≡ piece ∷ pieces_of rest
@@ -46,17 +45,15 @@ pub pieces_of-whole : (text : List ℕ) → position_or_len (λ c. nat_eq c dot)
 pieces_of-whole text none = slice_split_none (λ c. nat_eq c dot) text (λ k d h. fails_before_first (λ c. nat_eq c dot) text k d (omega (arith, none, h)))
 
 -- a last piece, and a piece that others follow
-pub pieces-last : (pieces : List (List ℕ)) (p : List ℕ) (rest : Option (Bor (List ℕ))) → pieces ≡ p ∷ remaining_pieces rest → is_some rest ≡ false → pieces ≡ p ∷ []
-pieces-last pieces p None is none = is
-pieces-last pieces p (Some others) is none = absurd cc
+pub pieces-last : (pieces : List (List ℕ)) (p : List ℕ) (rest : Option (Bor (List ℕ))) → pieces ≡ p ∷ remaining_pieces rest → rest ≡ None → pieces ≡ p ∷ []
+pieces-last pieces p rest is none = is ∙ ap (λ x. p ∷ remaining_pieces x) none
 
 pub pieces-more : (pieces : List (List ℕ)) (p : List ℕ) (rest : Option (Bor (List ℕ))) (others : Bor (List ℕ)) (ps : List (List ℕ)) → pieces ≡ p ∷ remaining_pieces rest → rest ≡ Some others → pieces_of others.now ≡ ps → pieces ≡ p ∷ ps
 pieces-more pieces p rest others ps is some more = is ∙ ap (λ x. p ∷ remaining_pieces x) some ∙ ap (λ x. p ∷ x) more
 
--- the rest of a text has a piece
-pub remaining_pieces-some : (rest : Option (Bor (List ℕ))) → is_some rest ≡ true → remaining_pieces rest ≢ []
-remaining_pieces-some None some none = cc
-remaining_pieces-some (Some others) some none = let e = length-slice_split (λ c. nat_eq c dot) others.now in let k = ap length none in omega arith
+-- a text has a piece
+pub pieces_of-some : (text : List ℕ) → pieces_of text ≢ []
+pieces_of-some text none = let e = length-slice_split (λ c. nat_eq c dot) text in let k = ap length none in omega arith
 
 -- a version with no second number, and one with no third
 no_second : (major patch : Option ℕ) → version_of_numbers major None patch ≡ None

@@ -21,7 +21,9 @@ impl DeploymentTarget {
         ensures { result ≡ version_of text.now }
     {
         let (major, rest) = first_piece(text);
-        let major = major.parse::<u16>().ok()?;
+        let Ok(major) = major.parse::<u16>() else {
+            return None;
+        };
         let Some(rest) = rest else {
             return Some(DeploymentTarget {
                 major,
@@ -30,7 +32,9 @@ impl DeploymentTarget {
             });
         };
         let (minor, rest) = first_piece(rest);
-        let minor = minor.parse::<u8>().ok()?;
+        let Ok(minor) = minor.parse::<u8>() else {
+            return None;
+        };
         let Some(rest) = rest else {
             return Some(DeploymentTarget {
                 major,
@@ -39,15 +43,17 @@ impl DeploymentTarget {
             });
         };
         let (patch, rest) = first_piece(rest);
-        let patch = patch.parse::<u8>().ok()?;
-        if rest.is_some() {
+        let Ok(patch) = patch.parse::<u8>() else {
             return None;
+        };
+        match rest {
+            Some(_) => None,
+            None => Some(DeploymentTarget {
+                major,
+                minor,
+                patch,
+            }),
         }
-        Some(DeploymentTarget {
-            major,
-            minor,
-            patch,
-        })
     }
 
     /// Writes `major.minor.patch` and ignores the formatter's options.

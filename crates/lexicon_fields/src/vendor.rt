@@ -162,26 +162,7 @@ impl Vendor {
     pub fn as_str(&self) -> &str
         ensures { result.now ≡ vendor_name (vendor_value self.now) }
     {
-        match self {
-            // written by tools/names/write: the names of Vendor
-            Vendor::Unknown => "unknown",
-            Vendor::Amd => "amd",
-            Vendor::Apple => "apple",
-            Vendor::Espressif => "espressif",
-            Vendor::Experimental => "experimental",
-            Vendor::Fortanix => "fortanix",
-            Vendor::Ibm => "ibm",
-            Vendor::Kmc => "kmc",
-            Vendor::Nintendo => "nintendo",
-            Vendor::Nvidia => "nvidia",
-            Vendor::Pc => "pc",
-            Vendor::Rumprun => "rumprun",
-            Vendor::Sun => "sun",
-            Vendor::Uwp => "uwp",
-            Vendor::Wrs => "wrs",
-            // end of what is written
-            Vendor::Custom(custom) => custom.as_str(),
-        }
+        self.as_vendor_ref().as_str()
     }
 
     /// Whether parsing can produce the vendor: it is known, or custom with a text that [`Vendor::Custom`] admits.

@@ -221,7 +221,6 @@ pub fn second_step_changes_one()
 {}
 
 /// The canonical form of a triple with a plain vendor comes back, and no other canonical triple has its text.
-#[tactic(auto, using(crate::proofs::SettleLemmas::settled_are_keys))]
 pub fn settled_texts_are_keys()
     ensures { SettledTextsAreKeys }
 {

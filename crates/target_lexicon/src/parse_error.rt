@@ -32,27 +32,13 @@ impl ParseError {
         ensures same { IfOk result (λ copy. refusal_of copy ≡ refusal_of self.now) }
         ensures succeeds { refusal_of self.now ≡ None → IsOk result }
     {
-        Ok(match self {
-            ParseError::UnrecognizedArchitecture(part) => {
-                ParseError::UnrecognizedArchitecture(String::from_str(alloc, part.as_str())?)
+        match self.as_parse_error_ref() {
+            Some(refusal) => {
+                let part = String::from_str(alloc, refusal.part())?;
+                Ok(refusal.with_part(part))
             }
-            ParseError::UnrecognizedVendor(part) => {
-                ParseError::UnrecognizedVendor(String::from_str(alloc, part.as_str())?)
-            }
-            ParseError::UnrecognizedOperatingSystem(part) => {
-                ParseError::UnrecognizedOperatingSystem(String::from_str(alloc, part.as_str())?)
-            }
-            ParseError::UnrecognizedEnvironment(part) => {
-                ParseError::UnrecognizedEnvironment(String::from_str(alloc, part.as_str())?)
-            }
-            ParseError::UnrecognizedBinaryFormat(part) => {
-                ParseError::UnrecognizedBinaryFormat(String::from_str(alloc, part.as_str())?)
-            }
-            ParseError::UnrecognizedField(part) => {
-                ParseError::UnrecognizedField(String::from_str(alloc, part.as_str())?)
-            }
-            ParseError::OutOfMemory => ParseError::OutOfMemory,
-        })
+            None => Ok(ParseError::OutOfMemory),
+        }
     }
 }
 

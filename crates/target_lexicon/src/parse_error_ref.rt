@@ -1,6 +1,6 @@
 //! Why a text doesn't parse as a triple, with the refused part borrowed.
-ghost use Rattle.std.specs.Prelude.{◌≡◌, ◌<◌, Some, IfSome, length, option_map};
-ghost use Rattle.target_lexicon.specs.Refusal.{refusal_of, refusal_line, refusal_prefix};
+ghost use Rattle.std.specs.Prelude.{◌≡◌, ◌<◌, Some, IfSome, length, option_map, string_bytes};
+ghost use Rattle.target_lexicon.specs.Refusal.{refusal_of, refusal_with, refusal_line, refusal_prefix};
 ghost use Rattle.target_lexicon.specs.ValuesRef.{refusal_of_ref};
 ghost use Rattle.target_lexicon.specs.Written.{IsWritten};
 
@@ -35,6 +35,14 @@ impl<'a> ParseErrorRef<'a> {
         let Ok(part) = String::from_str(alloc, self.part()) else {
             return ParseError::OutOfMemory;
         };
+        self.with_part(part)
+    }
+
+    /// The same refusal with this part.
+    pub(crate) fn with_part(&self, part: String) -> ParseError
+        ensures { refusal_of result
+            ≡ Some (refusal_with (refusal_of_ref self.now).expected (string_bytes part)) }
+    {
         match *self {
             ParseErrorRef::UnrecognizedArchitecture(_) => {
                 ParseError::UnrecognizedArchitecture(part)
