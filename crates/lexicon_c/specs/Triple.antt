@@ -48,7 +48,7 @@ abbrev pub vendor_text : VendorValue → List ℕ
 vendor_text (Known known) = []
 vendor_text (Custom text) = text
 
--- what stands in the numbers of a triple without a version
+-- the numbers of the version where there is none
 abbrev pub no_version : DeploymentTarget
 no_version = record { major = 0; minor = 0; patch = 0 }
 

@@ -64,9 +64,13 @@ impl Question for IsRefusedAt {
         let Some((part, sources)) = expected.split_once(' ') else {
             return false;
         };
-        match TripleRef::explain(text) {
-            Ok(_) => false,
-            Err(it) => is_source(&Source::Part(it.part), part) && are_sources(&it.sources, sources),
+        match (TripleRef::explain(text), TripleRef::parse_or_locate(text)) {
+            (Err(it), Err((error, located))) => {
+                is_source(&Source::Part(it.part), part)
+                    && are_sources(&it.sources, sources)
+                    && (error, located) == (it.error, it.part)
+            }
+            _ => false,
         }
     }
 }

@@ -48,6 +48,8 @@ pub(crate) fn report_parsed_vendor(rt: &impl Print, alloc: Global, text: &str) {
 /// Reports the calls that borrow the text, and those on the triple or the refusal that it gives.
 fn report_borrowed_triple(rt: &impl Print, text: &str) {
     report(rt, "TripleRef::explain", &text, &TripleRef::explain(text));
+    let located = TripleRef::parse_or_locate(text);
+    report(rt, "TripleRef::parse_or_locate", &text, &located);
     let read = TripleRef::from_str(text);
     report(rt, "TripleRef::from_str", &text, &read);
     match read {

@@ -152,7 +152,7 @@ module _ (bytes : List ℕ) (at n bits more : ℕ) (room : at + n ≤ length byt
 pub bits_of_few : (text : List ℕ) (last : ℕ) → AreLastDashBits last text → length text ≤ 16 → AreDashBits (last / 2 ^ (16 - length text)) text
 bits_of_few text last are few =
     let whole : length text - 0 ≡ length text = omega arith in
-    record { of_short = λ _. ap (λ k. last / 2 ^ (16 - k)) (sym whole) ∙ are.at_each 0 (omega arith) (omega (arith, few)); of_long = λ long. absurd (omega (arith, few, long)) }
+    record { of_short = λ _. ap (λ k. last / 2 ^ (16 - k)) (sym whole) ∙ are.at_each 0 (omega arith) (omega (arith, few)); of_long = λ long. absurd (long (omega (arith, few))) }
 
 pub bits_of_two : (bytes text : List ℕ) (first last : ℕ) → bytes ≡ text → 16 ≤ length bytes → length bytes ≤ 32
     → first ≡ mask_l (map is_dash (take 16 (drop 0 bytes))) → last ≡ mask_l (map is_dash (take 16 (drop (length bytes - 16) bytes)))
@@ -169,14 +169,14 @@ bits_of_two bytes text first last same long short is_first is_last =
         of_short = λ _.
             bits-more bytes 16 (length bytes - 16) first (last / 2 ^ (32 - length bytes)) room few is_first next
             ∙ ap (λ xs. mask_l (map is_dash xs)) (ap (λ k. take k bytes) whole ∙ take_all (length bytes) bytes (omega arith) ∙ same);
-        of_long = λ many. absurd (omega (arith, many, short, ap length same));
+        of_long = λ many. absurd (many (omega (arith, short, ap length same)));
       },
     )
 
 -- bits are those of a short text
 bits_are_of_short : (text : List ℕ) (bits : ℕ) → AreDashBits bits text → 0 < bits → length text ≤ 32
 bits_are_of_short text bits are some = elim (cases_lt 32 (length text)) [
-  | inl long ↦ absurd (omega (arith, some, are.of_long long))
+  | inl long ↦ (let none = are.of_long (λ short. omega (arith, short, long)) in absurd (omega (arith, some, none)))
   | inr short ↦ omega (arith, short)
 ]
 
@@ -191,7 +191,7 @@ bits_after text rest bits at are some after =
           ∙ ap (λ b. b / 2 ^ suc at) (are.of_short short)
           ∙ mask_l-drop (suc at) (map is_dash text)
           ∙ ap mask_l (drop-map is_dash (suc at) text ∙ ap (λ n. map is_dash (drop n text)) next ∙ ap (map is_dash) (sym after));
-      of_long = λ long. absurd (omega (arith, long, short, fewer));
+      of_long = λ long. absurd (long (omega (arith, short, fewer)));
     }
 
 module _ (text : List ℕ) (bits : ℕ) (are : AreDashBits bits text) where

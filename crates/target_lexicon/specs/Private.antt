@@ -1,5 +1,5 @@
 -- Definitions for the contracts of private functions; no public contract cites them.
-use Rattle.std.specs.Prelude.{◌≡◌, ◌<◌, ◌≤◌, ◌==◌, ◌+◌, ◌-◌, ◌/◌, ◌^◌, ℕ, ◌∷◌, List, [], length, drop, map, Bool, Option, Some, None, is_some, option_and_then, option_map, if◌then◌else◌}
+use Rattle.std.specs.Prelude.{◌≡◌, ◌≤◌, ◌==◌, ◌+◌, ◌-◌, ◌/◌, ◌^◌, ℕ, ◌∷◌, List, [], length, drop, map, Bool, Option, Some, None, is_some, option_and_then, option_map, if◌then◌else◌}
 use Rattle.std.specs.Borrow.{Bor}
 use Rattle.std.specs.Simd.Lanes.{mask_l}
 use Rattle.lexicon_fields.specs.Names.{dash}
@@ -21,7 +21,7 @@ pub record AreLastDashBits (bits : ℕ) (text : List ℕ) : Type 0 where
 -- has no bits
 pub record AreDashBits (bits : ℕ) (text : List ℕ) : Type 0 where
   pub of_short : length text ≤ 32 → bits ≡ mask_l (map (λ b. b == dash) text)
-  pub of_long : 32 < length text → bits ≡ 0
+  pub of_long : (length text ≤ 32 → ⊥) → bits ≡ 0
 
 -- what the look-up of a text shows: its value in each field; without a row, vendor and operating system remain open
 pub record IsLookedUp (text : List ℕ) (row : Option FixedRow) : Type 0 where

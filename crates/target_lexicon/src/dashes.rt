@@ -32,8 +32,8 @@ fn dashes_at_end(text: &str) -> u64
     dashes_from(&last, 0)
 }
 
-/// A bit for each byte of a text of at most 32 bytes, set for a dash. The lowest bit is that of the first byte. A longer
-/// text has no bits.
+/// A bit for each byte of a text of at most 32 bytes, set for a dash. The lowest bit is that of the first byte. A
+/// longer text has no bits.
 #[inline(always)]
 pub(crate) fn dash_bits(text: &str) -> u64
     ensures { AreDashBits result text.now }
