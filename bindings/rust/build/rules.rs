@@ -34,9 +34,8 @@ pub const RENAMED: [&str; 2] = ["normal", "settle"];
 
 /// Small functions that rustc otherwise calls instead of inlining. Written in the proved text, the attribute would make
 /// the proved program slower, which another compiler builds.
-pub const INLINED: [(&str, &str, &str); 10] = [
+pub const INLINED: [(&str, &str, &str); 9] = [
     ("target_lexicon/display.rt", "", "write_part"),
-    ("target_lexicon/display.rt", "TripleRef", "shows_binary_format"),
     ("target_lexicon/part.rt", "", "row_of"),
     ("target_lexicon/part.rt", "", "split_at_dash"),
     ("target_lexicon/part.rt", "Part", "first"),
@@ -49,7 +48,7 @@ pub const INLINED: [(&str, &str, &str); 10] = [
 
 /// An allocation that fails ends the process in Rust, so that `ParseError` has upstream's six variants only. With the
 /// feature, printing goes by upstream's rule.
-pub const REPLACED: [(&str, &str, &str); 8] = [
+pub const REPLACED: [(&str, &str, &str); 9] = [
     (
         "lexicon_fields/table/prefix_key.rt",
         "#[inline(never)] fn prefix_key_of_few",
@@ -85,5 +84,10 @@ pub const REPLACED: [(&str, &str, &str); 8] = [
         "target_lexicon/display.rt",
         "self.pieces_with(self.shows_unknowns())",
         "self.pieces_with(!cfg!(feature = \"upstream_printing\") && self.shows_unknowns())",
+    ),
+    (
+        "target_lexicon/display.rt",
+        "self.write_with(self.shows_unknowns(), out)",
+        "self.write_with(!cfg!(feature = \"upstream_printing\") && self.shows_unknowns(), out)",
     ),
 ];

@@ -64,6 +64,24 @@ pub(crate) mod std {
     }
 
     pub mod simd {
+        /// N values side by side.
+        #[derive(Clone, Copy)]
+        pub struct Simd<T, const N: usize>([T; N]);
+
+        impl<T: Copy, const N: usize> Simd<T, N> {
+            /// The first N values of a slice.
+            #[inline(always)]
+            pub fn from_slice(values: &[T]) -> Self {
+                Simd(*values.first_chunk().expect("N values"))
+            }
+
+            /// Writes the values over the first N of a slice.
+            #[inline(always)]
+            pub fn copy_to_slice(self, values: &mut [T]) {
+                *values.first_chunk_mut().expect("N values") = self.0;
+            }
+        }
+
         pub mod prelude {
             /// Sixteen bytes as two numbers, of which the first byte is the lowest.
             #[allow(non_camel_case_types)]
