@@ -75,16 +75,25 @@ is_same_format-self _ = refl
 unknown-hidden : (t : Values) → is_same_format t.binary_format binary_format.Unknown ≡ true → shows_implied_format t ≡ false
 unknown-hidden t unknown = rw (unknown, and-false) refl
 
-implied_format-shown : (a : Architecture) (v : VendorValue) (s : OperatingSystem) (e : Environment)
-    → weight (cons_if (shows_implied_format (values a v s e (implied_format a s e))) (binary_format_name (implied_format a s e)) []) ≤ 4
+abbrev ShowsAtMostElf : Architecture → VendorValue → OperatingSystem → Environment → Type 0
+ShowsAtMostElf a v s e = weight (cons_if (shows_implied_format (values a v s e (implied_format a s e))) (binary_format_name (implied_format a s e)) []) ≤ 4
+
+without_system-shown : (a : Architecture) (v : VendorValue) (e : Environment) → ShowsAtMostElf a v operating_system.None_ e
 unfolding implied_format
-implied_format-shown a v operating_system.None_ environment.Eabi = weight-cons_if _ (codes "elf") []
-implied_format-shown a v operating_system.None_ environment.Eabihf = weight-cons_if _ (codes "elf") []
-implied_format-shown a v operating_system.None_ e = rw (unknown-hidden (values a v operating_system.None_ e binary_format.Unknown) refl) (omega arith)
-implied_format-shown architecture.Wasm32 v operating_system.Unknown e = omega arith
-implied_format-shown architecture.Wasm64 v operating_system.Unknown e = omega arith
-implied_format-shown architecture.Unknown v operating_system.Unknown e = rw (unknown-hidden (values architecture.Unknown v operating_system.Unknown e binary_format.Unknown) refl) (omega arith)
-implied_format-shown a v operating_system.Unknown e = weight-cons_if (shows_implied_format (values a v operating_system.Unknown e binary_format.Elf)) (codes "elf") []
+without_system-shown a v environment.Eabi = weight-cons_if _ (codes "elf") []
+without_system-shown a v environment.Eabihf = weight-cons_if _ (codes "elf") []
+without_system-shown a v e = rw (unknown-hidden (values a v operating_system.None_ e binary_format.Unknown) refl) (omega arith)
+
+unknown_system-shown : (a : Architecture) (v : VendorValue) (e : Environment) → ShowsAtMostElf a v operating_system.Unknown e
+unfolding implied_format
+unknown_system-shown architecture.Wasm32 v e = omega arith
+unknown_system-shown architecture.Wasm64 v e = omega arith
+unknown_system-shown architecture.Unknown v e = rw (unknown-hidden (values architecture.Unknown v operating_system.Unknown e binary_format.Unknown) refl) (omega arith)
+unknown_system-shown a v e = weight-cons_if (shows_implied_format (values a v operating_system.Unknown e binary_format.Elf)) (codes "elf") []
+
+implied_format-shown : (a : Architecture) (v : VendorValue) (s : OperatingSystem) (e : Environment) → ShowsAtMostElf a v s e
+implied_format-shown a v operating_system.None_ e = without_system-shown a v e
+implied_format-shown a v operating_system.Unknown e = unknown_system-shown a v e
 implied_format-shown a v s e = rw (with_system (values a v s e (implied_format a s e)) refl) (omega arith)
 
 shows_unknowns-implied : (f : BinaryFormat) → (is_same_format f binary_format.Unknown && not (is_same_format f f)) ≡ false
