@@ -1,10 +1,11 @@
 -- How the names of systems are parsed.
-use Rattle.std.proofs.Common.{[], ◌∷◌, Option, Some, IfSome, option_map, ◌≡◌, ◌≢◌, ◌∙◌, ℕ, List, ◌++◌, take, drop, length, nat_eq, None, refl, sym, ap}
+use Rattle.std.proofs.Common.{[], ◌∷◌, Option, Some, IfSome, option_map, option_and_then, ◌≡◌, ◌≢◌, ◌∙◌, ℕ, List, ◌++◌, take, drop, length, nat_eq, None, refl, sym, ap}
 use Rattle.std.specs.List.{starts_with}
 use Rattle.std.proofs.{lemmas.Bool.false_from_ne_true, lemmas.Bool.cond-false, lemmas.Bool.cond-true, Math.Seq.take-append_seam, Math.Seq.drop-append_seam, lemmas.List.take-append-drop, lemmas.Slice.Eq.bytes_eq-Decides}
-use Rattle.lexicon_fields.specs.{declared.deployment_target.DeploymentTarget.DeploymentTarget, declared.operating_system.OperatingSystem.OperatingSystem, Laws.IsVersionInRange, Laws.HasVersionInRange}
+use Rattle.lexicon_fields.specs.{declared.deployment_target.DeploymentTarget.DeploymentTarget, declared.operating_system.OperatingSystem.OperatingSystem, Laws.IsVersionInRange, Laws.HasVersionInRange, Names.Pair}
 use Rattle.lexicon_fields.specs.Version.{version_of, version_name}
-use Rattle.lexicon_fields.specs.OperatingSystem.{operating_system_name, fixed_operating_system_of, operating_system_of, optional_version_of, version_suffix, text_after_prefix}
+use Rattle.lexicon_fields.specs.OperatingSystem.{operating_system_name, fixed_operating_system_of, operating_system_of, optional_version_of, version_suffix, text_after_prefix, system_with_version, darwin_like_system}
+use Rattle.lexicon_fields.specs.Private.{version_after, first_system}
 use Rattle.lexicon_fields.proofs.VersionsReadBack.{version_of-name}
 use Rattle.lexicon_fields.specs.declared.operating_system.OperatingSystem.TheVariants as operating_system
 
@@ -18,6 +19,18 @@ pub has_no_prefix : (prefix text : List ℕ) → ((rest : List ℕ) → text ≢
 has_no_prefix prefix text differs = cond-false (starts_with nat_eq text prefix) _ _ (false_from_ne_true _ (λ begins.
     let prefix_key = (bytes_eq-Decides prefix (take (length prefix) text)).0 begins in
     differs (drop (length prefix) text) (sym (take-append-drop (length prefix) text) ∙ ap (λ xs. xs ++ drop (length prefix) text) (sym prefix_key))))
+
+-- the first system by the versions after the prefixes is the one by the rests after them
+
+system_after : (system : Option DeploymentTarget → OperatingSystem) (rest : Option (List ℕ))
+    → option_map system (option_and_then optional_version_of rest) ≡ option_and_then (system_with_version system) rest
+system_after system None = refl
+system_after system (Some rest) = refl
+
+pub first_system-is : (rows : List (Pair (Option DeploymentTarget → OperatingSystem))) (text : List ℕ) → first_system rows text ≡ darwin_like_system rows text
+unfolding version_after
+first_system-is [] text = refl
+first_system-is (row ∷ rows) text = rw (system_after row.1 (text_after_prefix row.0 text), first_system-is rows text) refl
 
 -- every system parses back from its name
 

@@ -1,13 +1,25 @@
 -- Definitions for the contracts of private functions; no public contract cites them.
-use Rattle.std.specs.Prelude.{ℕ, zero, suc, ◌+◌, ◌*◌, ◌/◌, ◌%◌, ◌^◌, ◌&&◌, Bool, true, nat_lt, nat_le, List, [], ◌∷◌, Option, Some, None, slice_index_or}
+use Rattle.std.specs.Prelude.{ℕ, zero, suc, ◌+◌, ◌*◌, ◌/◌, ◌%◌, ◌^◌, ◌&&◌, Bool, true, nat_lt, nat_le, List, [], ◌∷◌, Option, Some, None, option_map, option_and_then, slice_index_or}
 use Rattle.std.specs.Borrow.{Bor}
 use Rattle.lexicon_fields.specs.FixedRow.{row_count}
+use Rattle.std.specs.Option.{option_or}
+use Rattle.lexicon_fields.specs.{declared.deployment_target.DeploymentTarget.DeploymentTarget, declared.operating_system.OperatingSystem.OperatingSystem, Names.Pair}
+use Rattle.lexicon_fields.specs.OperatingSystem.{optional_version_of, text_after_prefix}
 use Rattle.lexicon_fields.specs.Version.{pieces_of}
 
 -- the pieces of the rest of a version text, if there is a rest
 abbrev pub remaining_pieces : Option (Bor (List ℕ)) → List (List ℕ)
 remaining_pieces None = []
 remaining_pieces (Some rest) = pieces_of rest.now
+
+-- the version after a prefix, if the text begins with the prefix and the rest is empty or a version
+unfoldable pub version_after : List ℕ → List ℕ → Option (Option DeploymentTarget)
+version_after prefix text = option_and_then optional_version_of (text_after_prefix prefix text)
+
+-- the system like Darwin of the first of these prefixes with which the text has a version
+abbrev pub first_system : List (Pair (Option DeploymentTarget → OperatingSystem)) → List ℕ → Option OperatingSystem
+first_system [] text = None
+first_system (row ∷ rows) text = option_or (option_map row.1 (version_after row.0 text)) (first_system rows text)
 
 abbrev pub zero_digit : ℕ
 zero_digit = 48

@@ -1,10 +1,11 @@
 //! The operating systems.
-ghost use Rattle.std.specs.Prelude.{◌≡◌, ◌++◌, false, Some, None, IfOk, IsNone, IsOkAnd, option_and_then};
+ghost use Rattle.std.specs.Prelude.{◌≡◌, ◌++◌, false, Some, None, IfOk, IsNone, IsOkAnd};
 ghost use Rattle.std.specs.Cow.{cow_str_bytes, IsBorrowedStr};
 ghost use Rattle.lexicon_fields.specs.FixedRow.{has_row};
 ghost use Rattle.lexicon_fields.specs.Names.{MatchesLookup};
 ghost use Rattle.lexicon_fields.specs.Version.{version_name};
-ghost use Rattle.lexicon_fields.specs.OperatingSystem.{operating_system_name, operating_system_of, system_version, version_suffix, optional_version_of, text_after_prefix, darwin_like_system, darwin_prefixes, is_like_darwin};
+ghost use Rattle.lexicon_fields.specs.Private.{version_after, first_system};
+ghost use Rattle.lexicon_fields.specs.OperatingSystem.{operating_system_name, operating_system_of, system_version, version_suffix, optional_version_of, darwin_like_system, darwin_prefixes, is_like_darwin};
 
 use crate::deployment_target::DeploymentTarget;
 use crate::steps::Steps;
@@ -106,7 +107,7 @@ impl OperatingSystem {
     /// The Darwin-like system with whose prefix the text begins. The rest of the text must be empty or a version.
     #[inline(never)]
     fn parse_by_prefix(s: &str) -> Option<Self>
-        ensures { result ≡ darwin_like_system darwin_prefixes s.now }
+        ensures { result ≡ first_system darwin_prefixes s.now }
     {
         // written by tools/names/write: the prefixes of systems like Darwin
         if let Some(version) = version_after("darwin", s) {
@@ -237,7 +238,7 @@ impl OperatingSystem {
 /// if what follows is no version.
 #[inline(always)]
 fn version_after(prefix: &str, text: &str) -> Option<Option<DeploymentTarget>>
-    ensures { result ≡ option_and_then optional_version_of (text_after_prefix prefix.now text.now) }
+    ensures { result ≡ version_after prefix.now text.now }
 {
     optional_version_of(text.strip_prefix(prefix)?)
 }
