@@ -6,8 +6,6 @@ mod field;
 mod known_names;
 mod laws;
 mod nearest;
-#[cfg(test)]
-mod tests;
 
 pub use distance::distance_up_to;
 pub use field::Field;

@@ -1,5 +1,5 @@
-//! Tests of the public calls of `target_lexicon` and `uses`. They are a crate of their own, so that those crates aren't
-//! proved a second time for them.
+//! Tests of the public calls of `target_lexicon`, `lexicon_names` and `uses`. They are a crate of their own, so that
+//! those crates aren't proved a second time for them.
 #![tactic(auto)]
 
 #[cfg(test)]
@@ -26,3 +26,5 @@ mod reading;
 mod round_trips;
 #[cfg(test)]
 mod same_targets;
+#[cfg(test)]
+mod suggestions;

@@ -2,8 +2,6 @@
 //! written or hashed.
 #![tactic(auto)]
 
-#[cfg(test)]
-mod row_tests;
 mod rows;
 
 pub use rows::{

@@ -1,9 +1,7 @@
 //! Suggestions, and texts that have none.
 
-use crate::distance::distance_up_to;
-use crate::field::Field;
-use crate::known_names::names;
-use crate::nearest::nearest_name;
+use lexicon_names::{Field, distance_up_to, names, nearest_name};
+use std::process::Abort;
 
 /// Fields, texts, and the names that should be suggested for them.
 const ROWS: [(Field, &str, Option<&str>); 12] = [

@@ -1,14 +1,14 @@
 //! The walks over rows name the row that fails, and each question about a value can fail.
 
-use crate::rows::{
-    Question, check_rows, check_words, hash_alike, lengthened_rows, order_word, prints,
-    reports_each_failure, shows, width_word, writes,
-};
 use lexicon_fields::{Endianness, PointerWidth, Vendor};
 use std::alloc::Global;
 use std::fmt;
 use std::fmt::{Display, Formatter, Write};
 use std::process::Abort;
+use test_support::{
+    Question, check_rows, check_words, hash_alike, lengthened_rows, order_word, prints,
+    reports_each_failure, shows, width_word, writes,
+};
 
 /// The text is what follows it in its row.
 struct IsSame;
