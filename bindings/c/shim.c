@@ -1,7 +1,7 @@
 /* The calls of lexicon.h, each over the proved call of the same name. A proved call takes a custom vendor as a text of its
    own, beside the numbers, which are the first 12 bytes of struct lexicon_triple; and it takes no null. So all that this adds
-   is: the vendor goes from the struct into arguments and back, and a text or a buffer of size 0 is passed on with some valid
-   address. Not proved itself. `install` gives the proved calls the names below.
+   is: the vendor goes from the struct into arguments, and is written into the struct; and a text or a buffer of size 0 is
+   passed on with some valid address. Not proved itself. `install` gives the proved calls the names below.
 
    SPDX-License-Identifier: Apache-2.0 WITH LLVM-exception */
 #include "lexicon.h"
