@@ -1,7 +1,7 @@
 -- Triples as numbers.
-use Rattle.std.proofs.Common.{◌≡◌, ◌↔◌, ℕ, ◌<◌, List, [], ◌∷◌, true, false, true≢false, inl, inr, Option, Some, None, Ok, Err, refl, sym, ◌∙◌, subst, ap, arith, get_or, zero, suc}
+use Rattle.std.proofs.Common.{◌≡◌, ◌↔◌, ℕ, ◌<◌, List, [], ◌∷◌, true, false, inl, inr, Option, Some, None, Ok, Err, refl, sym, ◌∙◌, subst, ap, arith, get_or, zero, suc}
 use Rattle.std.specs.Prelude.{◌==◌, MatchOption, MatchResult, if◌then◌else◌, option_and_then, slice_get}
-use Rattle.std.specs.{Char.is_ascii, Char.is_ascii_lowercase, List.list_all, Str.IsUtf8}
+use Rattle.std.specs.{Char.is_ascii_lowercase, List.list_all, Str.IsAscii, Str.IsUtf8}
 use Rattle.std.proofs.{lemmas.Bool.and_parts, lemmas.Str.IsUtf8-from_ascii, lemmas.Bool.cases_Bool, lemmas.Bool.Decides.nat_tests}
 use Rattle.lexicon_fields.specs.{Architecture.architecture_values, BinaryFormat.binary_format_values, Environment.environment_values, OperatingSystem.system_version}
 use Rattle.lexicon_fields.specs.Vendor.{has_vendor_form, is_admitted, is_free, is_vendor_character}
@@ -101,22 +101,9 @@ admitted_ascii text admitted = λ k. form_ascii text k (and_parts (is_free text)
 pub admitted_text : (text : List ℕ) → is_admitted text ≡ true → IsUtf8 text
 admitted_text text admitted = IsUtf8-from_ascii text (admitted_ascii text admitted)
 
--- whether each byte is ASCII, by the test of each
-
-pub bytes_ascii : (text : List ℕ) → list_all is_ascii text ≡ true → (k : ℕ) → get_or text k 0 < 128
-bytes_ascii [] are k = omega arith
-bytes_ascii (c ∷ cs) are zero = let is = (and_parts (is_ascii c) (list_all is_ascii cs) are).0 in grind (arith, nat_tests)
-bytes_ascii (c ∷ cs) are (suc k) = bytes_ascii cs (and_parts (is_ascii c) (list_all is_ascii cs) are).1 k
-
-tests_ascii : (text : List ℕ) → ((k : ℕ) → get_or text k 0 < 128) → list_all is_ascii text ≡ true
-tests_ascii [] low = refl
-tests_ascii (c ∷ cs) low =
-    let first : is_ascii c ≡ true = let is = low 0 in grind (arith, nat_tests) in
-    rw (first, tests_ascii cs (λ k. low (suc k))) refl
-
-pub not_admitted : (text : List ℕ) → list_all is_ascii text ≡ false → is_admitted text ≡ false
+pub not_admitted : (text : List ℕ) → ¬ (IsAscii text) → is_admitted text ≡ false
 not_admitted text high =
     elim (cases_Bool (is_admitted text)) [
-      | inl admitted ↦ absurd (true≢false (sym (tests_ascii text (admitted_ascii text admitted)) ∙ high))
+      | inl admitted ↦ absurd (high (admitted_ascii text admitted))
       | inr other ↦ other
     ]

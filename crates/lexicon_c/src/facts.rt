@@ -57,18 +57,18 @@ pub struct LexiconFacts {
 pub(crate) fn facts_of(triple: &TripleRef<'_>) -> LexiconFacts
     ensures { AreFactsOf (values_of_ref triple.now) result }
 {
-    let model = model_of(triple);
+    let (data_model, types) = model_facts(model_of(triple));
     LexiconFacts {
         endianness: endianness_number(triple),
         pointer_bits: pointer_bits(triple),
         calling_convention: convention_number(triple),
-        data_model: model_number(model),
+        data_model,
         implied_format: binary_format_number(triple.default_binary_format()),
         family: family_number(triple.architecture),
         is_thumb: u8::from(is_thumb(triple.architecture)),
         is_like_darwin: u8::from(triple.operating_system.is_like_darwin()),
         has_custom_vendor: u8::from(is_custom(triple.vendor)),
-        types: type_bits(model),
+        types,
     }
 }
 
@@ -135,12 +135,14 @@ fn model_number(model: Option<CDataModel>) -> u8
     }
 }
 
-/// The bits of C's types in a data model.
+/// The number of a data model of C, and the bits of C's types in it; 0 without one.
 #[inline(always)]
-fn type_bits(model: Option<CDataModel>) -> LexiconTypeBits
-    ensures { result ≡ type_bits model }
+fn model_facts(model: Option<CDataModel>) -> (u8, LexiconTypeBits)
+    ensures number { result.0 ≡ model_number model }
+    ensures types { result.1 ≡ type_bits model }
 {
-    all_type_bits()[usize::from(model_number(model))]
+    let number = model_number(model);
+    (number, all_type_bits()[usize::from(number)])
 }
 
 /// The bits of C's types without a data model, and then in each model, in the order of their numbers.

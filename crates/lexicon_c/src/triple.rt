@@ -1,7 +1,5 @@
 //! Triples as numbers.
 ghost use Rattle.std.specs.Prelude.{◌≡◌, ◌↔◌, true, Ok, Err, [], IfOk, IsTrue, MatchOption, MatchResult};
-ghost use Rattle.std.specs.Char.{is_ascii};
-ghost use Rattle.std.specs.List.{list_all};
 ghost use Rattle.lexicon_fields.specs.OperatingSystem.{system_version};
 ghost use Rattle.lexicon_fields.specs.Vendor.{is_admitted, is_plain};
 ghost use Rattle.lexicon_fields.specs.VendorRef.{ref_value};
@@ -11,6 +9,7 @@ ghost use Rattle.lexicon_c.specs.Triple.{AreNumbersOf, no_version, triple_in, op
 
 use crate::output::LexiconText;
 use crate::status::Status;
+use crate::utf8::is_ascii;
 use lexicon_numbers::{
     architecture_at, architecture_number, binary_format_at, binary_format_number, environment_at,
     environment_number, known_vendor_at, known_vendor_number, operating_system_at,
@@ -105,18 +104,11 @@ fn vendor_with<'a>(number: u8, text: &'a [u8]) -> Result<VendorRef<'a>, Status>
 fn is_custom_vendor(bytes: &[u8]) -> bool
     ensures { result ≡ is_admitted bytes.now }
 {
-    if !are_ascii(bytes) {
+    if !is_ascii(bytes) {
         return false;
     }
     let text = unsafe { str::from_utf8_unchecked(bytes) };
     VendorRef::Custom(text).is_plain()
-}
-
-/// Whether the bytes are ASCII.
-fn are_ascii(bytes: &[u8]) -> bool
-    ensures { result ≡ list_all is_ascii bytes.now }
-{
-    bytes.iter().all(|byte| byte.is_ascii())
 }
 
 /// The system of these numbers, with its version, if there is one.
