@@ -1,5 +1,5 @@
 -- JSON objects made of fields, and that they have no floating-point number.
-use Rattle.std.proofs.Common.{◌≡◌, ◌∙◌, ℕ, Bool, true, false, ◌||◌, List, [], ◌∷◌, Option, Some, None, unwrap_or, if◌then◌else◌, Result, Ok, Err, OnOk, refl, ap}
+use Rattle.std.proofs.Common.{◌≡◌, ℕ, Bool, true, false, ◌||◌, List, [], ◌∷◌, Option, Some, None, unwrap_or, if◌then◌else◌, refl}
 use Rattle.std.specs.{Ordering.nat_cmp, Ordering.match_ordering, Cmp.Lexicographic.slice_cmp, List.list_any, Str.bytes_eq}
 use Rattle.std.specs.declared.cmp.Ordering.TheVariants.{Less, Equal, Greater}
 use Rattle.lexicon_fields.specs.Names.{Pair, value_named}
@@ -8,29 +8,6 @@ use Rattle.target_lexicon.specs.{Explanation.SourceValue, Explanation.SourceValu
 use Rattle.target_reports.specs.{declared.views.Report.Report}
 use Rattle.target_reports.specs.declared.views.Report.TheVariants as report
 use Rattle.target_reports.specs.JsonReports.{Field, with_field, fields_onto, word_values, word_data, optional_data, origin_fields, origin_data, source_part, explained_fields, value_fields, answer_fields, size_fields, text_fields, facts_onto, with_report, target_members}
-
--- three fields, one after the other
-pub three-fields : {T E : Type 0} (done : Result T E) (m0 m1 m2 m3 : Members) (k1 k2 k3 : List ℕ) (d1 d2 d3 : Data) → m1 ≡ with_field k1 d1 m0
-    → m2 ≡ with_field k2 d2 m1 → OnOk done (m3 ≡ with_field k3 d3 m2) → OnOk done (m3 ≡ fields_onto m0 ((k1, d1) ∷ (k2, d2) ∷ (k3, d3) ∷ []))
-three-fields (Ok _) m0 m1 m2 m3 k1 k2 k3 d1 d2 d3 e1 e2 e3 =
-    e3 ∙ ap (λ (m : Members). with_field k3 d3 m) (e2 ∙ ap (λ (m : Members). with_field k2 d2 m) e1)
-three-fields (Err _) m0 m1 m2 m3 k1 k2 k3 d1 d2 d3 e1 e2 e3 = tt
-
--- six and seven fields, one after the other
-module _ {T E : Type 0} (m0 m1 m2 m3 m4 m5 : Members) (k1 k2 k3 k4 k5 : List ℕ) (d1 d2 d3 d4 d5 : Data)
-    (e1 : m1 ≡ with_field k1 d1 m0) (e2 : m2 ≡ with_field k2 d2 m1) (e3 : m3 ≡ with_field k3 d3 m2) (e4 : m4 ≡ with_field k4 d4 m3) where
-  pub six-fields : (m6 : Members) (k6 : List ℕ) (d6 : Data) (done : Result T E) → m5 ≡ with_field k5 d5 m4 → OnOk done (m6 ≡ with_field k6 d6 m5)
-      → OnOk done (m6 ≡ fields_onto m0 ((k1, d1) ∷ (k2, d2) ∷ (k3, d3) ∷ (k4, d4) ∷ (k5, d5) ∷ (k6, d6) ∷ []))
-  six-fields m6 k6 d6 (Ok _) e5 e6 =
-      e6 ∙ ap (λ (m : Members). with_field k6 d6 m) (e5 ∙ ap (λ (m : Members). with_field k5 d5 m) (e4 ∙ ap (λ (m : Members). with_field k4 d4 m)
-      (e3 ∙ ap (λ (m : Members). with_field k3 d3 m) (e2 ∙ ap (λ (m : Members). with_field k2 d2 m) e1))))
-  six-fields m6 k6 d6 (Err _) e5 e6 = tt
-
-  pub seven-fields : (m6 m7 : Members) (k6 k7 : List ℕ) (d6 d7 : Data) (done : Result T E) → m5 ≡ with_field k5 d5 m4 → m6 ≡ with_field k6 d6 m5
-      → OnOk done (m7 ≡ with_field k7 d7 m6)
-      → OnOk done (m7 ≡ fields_onto m0 ((k1, d1) ∷ (k2, d2) ∷ (k3, d3) ∷ (k4, d4) ∷ (k5, d5) ∷ (k6, d6) ∷ (k7, d7) ∷ []))
-  seven-fields m6 m7 k6 k7 d6 d7 (Ok of) e5 e6 e7 = e7 ∙ ap (λ (m : Members). with_field k7 d7 m) (six-fields m6 k6 d6 (Ok of) e5 e6)
-  seven-fields m6 m7 k6 k7 d6 d7 (Err _) e5 e6 e7 = tt
 
 pub neither : (a b : Bool) → a ≡ false → b ≡ false → (a || b) ≡ false
 neither a b x y = rw x y
@@ -85,6 +62,7 @@ optional-floatless None = refl
 optional-floatless (Some text) = refl
 
 origin-floatless : (name : List ℕ) (source : SourceValue) → has_float (origin_data name source) ≡ false
+unfolding origin_data
 origin-floatless name source = fields-floatless (origin_fields name source) no_members (rw (optional-floatless (source_part source)) refl) refl
 
 facts-floatless : (t : Values) (ms : Members) → members_have_float ms ≡ false → members_have_float (facts_onto t ms) ≡ false

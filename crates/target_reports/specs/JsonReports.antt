@@ -61,7 +61,7 @@ abbrev pub origin_fields : List ℕ → SourceValue → List Field
 origin_fields name source =
     (codes "value", string name) ∷ (codes "origin", string (origin_word name source)) ∷ (codes "part", optional_data (source_part source)) ∷ []
 
-abbrev pub origin_data : List ℕ → SourceValue → Data
+unfoldable pub origin_data : List ℕ → SourceValue → Data
 origin_data name source = object_of (origin_fields name source)
 
 -- whether the vendor is a custom one

@@ -1,5 +1,6 @@
 //! What is written of a target as JSON.
-ghost use Rattle.std.specs.Prelude.{◌≡◌, [], ◌∷◌, true, option_map, IfOk, OnOk};
+ghost use Rattle.std.specs.Prelude.{◌≡◌, [], ◌∷◌, true, codes, option_map, IfOk, OnOk};
+ghost use Rattle.lexicon_fields.specs.OperatingSystem.{operating_system_name, system_version};
 ghost use Rattle.lexicon_fields.specs.Vendor.{is_plain};
 ghost use Rattle.lexicon_fields.specs.VendorRef.{ref_value};
 ghost use Rattle.serde_json.specs.Data.{object, string};
@@ -7,6 +8,7 @@ ghost use Rattle.serde_json.specs.View.{members_view, view};
 ghost use Rattle.target_lexicon.specs.Explanation.{source_value, sources_of};
 ghost use Rattle.target_lexicon.specs.ValuesRef.{values_of_ref};
 ghost use Rattle.target_reports.specs.JsonReports.{answer_fields, custom_field, explained_fields, facts_onto, fields_onto, first_explained_fields, optional_data, origin_data, origin_word, other_explained_fields, size_fields, source_part, target_members, text_fields, value_fields, with_field, with_report, word_data};
+ghost use Rattle.target_reports.specs.Reports.{version_word};
 
 use crate::reports::{is_custom, version_word};
 use crate::sizes::{CType, size_in};
@@ -14,7 +16,7 @@ use crate::views::Report;
 use lexicon_programs::{convention_word, endianness_word, model_word, width_word};
 use serde_json::{Map, Value, put};
 use std::alloc::{AllocError, Global};
-use target_lexicon::{CDataModel, Explanation, Source, TripleRef};
+use target_lexicon::{CDataModel, Explanation, OperatingSystem, Source, TripleRef};
 
 /// The members of a JSON object.
 pub type Members = Map<String, Value>;
@@ -115,6 +117,7 @@ fn source_part<'a>(source: &Source<'a>) -> Option<&'a str>
 }
 
 /// Adds a field's value, how it came, and from which part.
+#[tactic(auto, unfolding(crate::specs::JsonReports::origin_data))]
 fn put_origin(
     alloc: Global,
     members: &mut Members,
@@ -149,6 +152,23 @@ fn put_custom(
     put_value(alloc, members, "has_custom_vendor", value)
 }
 
+/// Adds a system, and how it came.
+fn put_system_origin(
+    alloc: Global,
+    members: &mut Members,
+    system: OperatingSystem,
+    source: &Source<'_>,
+) -> Result<(), AllocError>
+    ensures { OnOk result
+        (members_view members.new.entries
+        ≡ with_field (codes "operating_system")
+        (origin_data (operating_system_name system) (source_value source.now))
+        (members_view members.old.entries)) }
+{
+    let name = system.into_str(alloc)?;
+    put_origin(alloc, members, "operating_system", name.as_str(), source)
+}
+
 /// Adds the first fields, their values, and how they came.
 fn put_first_explained(
     alloc: Global,
@@ -163,7 +183,6 @@ fn put_first_explained(
     let (triple, sources) = (&it.triple, &it.sources);
     let architecture = triple.architecture.name();
     let vendor = triple.vendor.as_str();
-    let system = triple.operating_system.into_str(alloc)?;
     put_origin(
         alloc,
         members,
@@ -172,13 +191,8 @@ fn put_first_explained(
         &sources.architecture,
     )?;
     put_origin(alloc, members, "vendor", vendor, &sources.vendor)?;
-    put_origin(
-        alloc,
-        members,
-        "operating_system",
-        system.as_str(),
-        &sources.operating_system,
-    )
+    let source = &sources.operating_system;
+    put_system_origin(alloc, members, triple.operating_system, source)
 }
 
 /// Adds the other fields, their values, how they came, and whether the vendor is a custom one.
@@ -227,6 +241,36 @@ fn put_explained(
     put_other_explained(alloc, members, it)
 }
 
+/// Adds the name of a system.
+fn put_system(
+    alloc: Global,
+    members: &mut Members,
+    system: OperatingSystem,
+) -> Result<(), AllocError>
+    ensures { OnOk result
+        (members_view members.new.entries
+        ≡ with_field (codes "operating_system") (string (operating_system_name system))
+        (members_view members.old.entries)) }
+{
+    let name = system.into_str(alloc)?;
+    put_text(alloc, members, "operating_system", name.as_str())
+}
+
+/// Adds the version of a system.
+fn put_version(
+    alloc: Global,
+    members: &mut Members,
+    system: OperatingSystem,
+) -> Result<(), AllocError>
+    ensures { OnOk result
+        (members_view members.new.entries
+        ≡ with_field (codes "version") (word_data (version_word (system_version system)))
+        (members_view members.old.entries)) }
+{
+    let version = version_word(alloc, system.version())?;
+    put_word(alloc, members, "version", version.as_str())
+}
+
 /// Adds the fields, the version, and whether the vendor is a custom one.
 pub fn put_values(
     alloc: Global,
@@ -238,12 +282,10 @@ pub fn put_values(
         ≡ fields_onto (members_view members.old.entries)
         (value_fields (values_of_ref triple.now))) }
 {
-    let system = triple.operating_system.into_str(alloc)?;
-    let version = version_word(alloc, triple.operating_system.version())?;
     put_text(alloc, members, "architecture", triple.architecture.name())?;
     put_text(alloc, members, "vendor", triple.vendor.as_str())?;
-    put_text(alloc, members, "operating_system", system.as_str())?;
-    put_word(alloc, members, "version", version.as_str())?;
+    put_system(alloc, members, triple.operating_system)?;
+    put_version(alloc, members, triple.operating_system)?;
     put_text(alloc, members, "environment", triple.environment.name())?;
     put_text(alloc, members, "binary_format", triple.binary_format.name())?;
     put_custom(alloc, members, triple)
