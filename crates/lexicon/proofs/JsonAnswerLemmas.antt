@@ -3,9 +3,8 @@ use Rattle.std.proofs.Common.{◌≡◌, ℕ, Bool, ◌||◌, List, [], ◌∷�
 use Rattle.std.proofs.{lemmas.List.append-nil, Math.Bool.or-false, lemmas.List.Folds.list_any-append}
 use Rattle.serde_json.specs.{Data.Data, View.view, declared.value.Value.Value}
 use Rattle.std.specs.List.{AllZip}
-use Rattle.lexicon.specs.declared.command.Report.{Report}
-use Rattle.lexicon.specs.JsonReports.{JsonAnswer, JsonValues, IsJsonAnswer, AreJsonValuesFor, answer_data, is_rejected, json_values}
-use Rattle.lexicon.specs.JsonAnswers.{IsJsonObject}
+use Rattle.target_reports.specs.declared.views.Report.{Report}
+use Rattle.lexicon.specs.JsonAnswers.{JsonAnswer, JsonValues, IsJsonAnswer, IsJsonObject, AreJsonValuesFor, answer_data, is_rejected, json_values}
 
 abbrev AreJson : Report → List (List ℕ) → List JsonAnswer → Type 0
 AreJson report targets answers = AllZip (IsJsonAnswer report) targets answers

@@ -1,5 +1,4 @@
--- AnswerLemmas: the answers to targets. JsonLemmas: JSON objects. LayoutLemmas: lines below a text.
+-- AnswerLemmas: the answers to targets. JsonAnswerLemmas and FloatlessLemmas: JSON objects.
 pub mod AnswerLemmas
+pub mod FloatlessLemmas
 pub mod JsonAnswerLemmas
-pub mod JsonLemmas
-pub mod LayoutLemmas

@@ -1,8 +1,49 @@
--- The answers to targets as JSON, for the contracts of the functions that make them.
-use Rattle.std.specs.Prelude.{◌≡◌, ℕ, Bool, List, Option, map}
-use Rattle.serde_json.specs.{Data.Data, Data.object, View.view}
-use Rattle.lexicon.specs.{declared.command.Report.Report, declared.json.TargetList.TargetList, Problem.ProblemValue, Problem.IsSuggested}
-use Rattle.lexicon.specs.JsonReports.{JsonAnswer, JsonValues, IsJsonAnswer, answer_data, is_rejected, fields_onto, problem_fields, target_members}
+-- The answers to targets as JSON.
+use Rattle.std.specs.Prelude.{◌≡◌, ℕ, Bool, true, false, List, [], ◌∷◌, map, codes, Option}
+use Rattle.std.specs.List.{AllZip, list_any}
+use Rattle.serde_json.specs.{Data.Data, Data.string, Data.number, Data.unsigned, Data.object, View.view}
+use Rattle.target_lexicon.specs.{Explanation.SourceValues, Values.Values}
+use Rattle.target_reports.specs.{declared.views.Report.Report, JsonReports.Field, JsonReports.fields_onto, JsonReports.optional_data, JsonReports.target_members, JsonReports.with_report}
+use Rattle.lexicon.specs.{declared.json.TargetList.TargetList, Problem.ProblemValue, Problem.IsSuggested, TargetAnswers.IsReading, TargetAnswers.IsProblemOf}
+use Rattle.lexicon.specs.declared.command.Vendors.TheVariants as vendors
+
+-- the members of an error
+abbrev pub problem_fields : ProblemValue → Option (List ℕ) → List Field
+problem_fields p suggestion =
+    (codes "error", string p.words) ∷ (codes "part", string p.part) ∷ (codes "start", number (unsigned p.start))
+    ∷ (codes "suggestion", optional_data suggestion) ∷ []
+
+-- the answer to a target: an object with the report, or one with what is wrong
+pub data JsonAnswer : Type 0 where
+  Reported : Data → JsonAnswer
+  Rejected : Data → JsonAnswer
+
+abbrev pub IsJsonAnswer : Report → List ℕ → JsonAnswer → Type 0
+IsJsonAnswer report text (Reported value) =
+    (t : Values) × ((s : SourceValues) × IsReading vendors.Any text t s × (value ≡ object (with_report report t s (target_members text))))
+IsJsonAnswer report text (Rejected value) =
+    (p : ProblemValue) × ((suggestion : Option (List ℕ)) × IsProblemOf vendors.Any text p × IsSuggested p.field p.part suggestion
+    × (value ≡ object (fields_onto (target_members text) (problem_fields p suggestion))))
+
+abbrev pub answer_data : JsonAnswer → Data
+answer_data (Reported value) = value
+answer_data (Rejected value) = value
+
+abbrev pub is_rejected : JsonAnswer → Bool
+is_rejected (Reported value) = false
+is_rejected (Rejected value) = true
+
+-- the values of answers, and whether one is an error
+pub record JsonValues : Type 0 where
+  pub values : List Data
+  pub has_rejected : Bool
+
+abbrev pub json_values : List JsonAnswer → JsonValues
+json_values answers = record { values = map answer_data answers; has_rejected = list_any is_rejected answers }
+
+-- the values are those of the answers to these targets
+abbrev pub AreJsonValuesFor : Report → List (List ℕ) → JsonValues → Type 0
+AreJsonValuesFor report targets values = (answers : List JsonAnswer) × AllZip (IsJsonAnswer report) targets answers × (values ≡ json_values answers)
 
 -- an object of what is wrong with a target
 abbrev pub IsProblemObject : List ℕ → ProblemValue → Data → Type 0

@@ -5,7 +5,7 @@ use Rattle.lexicon_names.specs.{declared.field.Field.Field, KnownNames.known_nam
 use Rattle.lexicon_names.specs.declared.field.Field.TheVariants as field
 use Rattle.serde_json.specs.{Data.array, View.items_of, Written.compact_text}
 use Rattle.lexicon_programs.specs.{Lines.lines_of, Streams.AppendsBeginning}
-use Rattle.lexicon.specs.{declared.command.Command.Command, declared.outcome.Outcome.Outcome, TargetAnswers.AreTextsFor, TargetAnswers.Texts, JsonReports.JsonValues, JsonReports.AreJsonValuesFor, Request.RequestValue, Request.argument_request}
+use Rattle.lexicon.specs.{declared.command.Command.Command, declared.outcome.Outcome.Outcome, TargetAnswers.AreTextsFor, TargetAnswers.Texts, JsonAnswers.JsonValues, JsonAnswers.AreJsonValuesFor, Request.RequestValue, Request.argument_request}
 use Rattle.lexicon.specs.declared.command.Command.TheVariants as command
 use Rattle.lexicon.specs.declared.run_error.RunError.{RunError}
 use Rattle.lexicon.specs.declared.run_error.RunError.TheVariants as run_error

@@ -6,7 +6,8 @@ use Rattle.lexicon_names.specs.{declared.field.Field.Field, KnownNames.known_nam
 use Rattle.lexicon_names.specs.declared.field.Field.TheVariants as name_field
 use Rattle.target_lexicon.specs.{Explanation.SourceValue, Explanation.FromPart, Explanation.NotGiven, Explanation.Implied, Refusal.Expected, Refusal.Expects, Refusal.ExpectsNone, Refusal.Refusal}
 use Rattle.target_lexicon.specs.Field as field
-use Rattle.lexicon.specs.{declared.command.Vendors.Vendors, declared.problem.Problem.Problem, Layout.columns, Layout.spaces}
+use Rattle.target_reports.specs.Layout.{columns, spaces}
+use Rattle.lexicon.specs.{declared.command.Vendors.Vendors, declared.problem.Problem.Problem}
 use Rattle.lexicon.specs.declared.command.Vendors.TheVariants as vendors
 
 -- what is wrong, the field whose name was expected, if any, the part, and the index at which it begins

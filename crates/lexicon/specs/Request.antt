@@ -4,13 +4,14 @@ use Rattle.std.specs.List.{list_any}
 use Rattle.std.specs.Str.{bytes_eq}
 use Rattle.lexicon_fields.specs.Names.{dash, value_named}
 use Rattle.lexicon_names.specs.declared.field.Field.{Field}
-use Rattle.lexicon.specs.{declared.command.Command.Command, declared.command.Verb.Verb, declared.command.View.View, declared.request.Request.Request}
+use Rattle.target_reports.specs.declared.views.View.{View}
+use Rattle.lexicon.specs.{declared.command.Command.Command, declared.command.Verb.Verb, declared.request.Request.Request}
 use Rattle.lexicon_names.specs.declared.field.Field.TheVariants as field
 use Rattle.lexicon.specs.declared.command.Command.TheVariants as command
 use Rattle.lexicon.specs.declared.command.Verb.TheVariants as verb
-use Rattle.lexicon.specs.declared.command.Report.TheVariants as report
+use Rattle.target_reports.specs.declared.views.Report.TheVariants as report
 use Rattle.lexicon.specs.declared.command.Vendors.TheVariants as vendors
-use Rattle.lexicon.specs.declared.command.View.TheVariants as view
+use Rattle.target_reports.specs.declared.views.View.TheVariants as view
 
 -- a command, and the targets that the arguments give, of which there may be none
 pub record RequestValue : Type 0 where

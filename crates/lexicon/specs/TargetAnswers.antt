@@ -2,7 +2,8 @@
 use Rattle.std.specs.Prelude.{◌≡◌, ◌⊎◌, ◌||◌, ℕ, Bool, true, false, List, [], ◌∷◌, ◌++◌, Some, None, string_bytes}
 use Rattle.std.specs.List.{AllZip, list_any}
 use Rattle.target_lexicon.specs.{Explanation.SourceValues, Explanation.FromPart, Explanation.AreSourcesOf, Explanation.IsRefusedAfter, Reading.ReadsAs, Reading.IsRefusedAs, Refusal.Refusal, Values.Values}
-use Rattle.lexicon.specs.{declared.answers.TargetTexts.TargetTexts, declared.command.Vendors.Vendors, declared.command.View.View, Problem.ProblemValue, Problem.IsRefusalText, Problem.refusal_problem, Problem.vendor_problem, Reports.shown_text}
+use Rattle.target_reports.specs.{declared.views.View.View, Reports.shown_text}
+use Rattle.lexicon.specs.{declared.answers.TargetTexts.TargetTexts, declared.command.Vendors.Vendors, Problem.ProblemValue, Problem.IsRefusalText, Problem.refusal_problem, Problem.vendor_problem}
 
 -- the target reads as these values from these sources, and its vendor is one that is read
 pub record IsReading (vendors : Vendors) (text : List ℕ) (t : Values) (s : SourceValues) : Type 0 where

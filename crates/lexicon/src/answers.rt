@@ -7,11 +7,12 @@ ghost use Rattle.target_lexicon.specs.ValuesRef.{values_of_ref};
 ghost use Rattle.lexicon.specs.TargetAnswers.{AddsAnswer, AreTextsFor, IsProblemOf, IsReading, answer_texts};
 ghost use Rattle.lexicon.specs.Problem.{problem_value};
 
-use crate::command::{Vendors, View};
+use crate::command::Vendors;
 use crate::problem::{Problem, push_refusal, vendor_problem};
-use crate::reports::push_shown;
+use crate::shown::push_shown;
 use std::alloc::{AllocError, Global};
 use target_lexicon::{Explanation, TripleRef};
+use target_reports::View;
 
 /// What is shown of targets, why others are refused, and whether any is.
 #[derive(Drop)]

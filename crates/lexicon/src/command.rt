@@ -3,28 +3,7 @@ ghost use Rattle.std.specs.Prelude.{◌≡◌};
 ghost use Rattle.lexicon.specs.Request.{verb_of, field_of};
 
 use lexicon_names::Field;
-
-/// What is written of a target as JSON.
-#[derive(Clone, Copy)]
-pub enum Report {
-    /// The value of each field, and how it came.
-    Explain,
-    /// The fields and what follows from them.
-    Facts,
-}
-
-/// What is written of a target as text.
-#[derive(Clone, Copy)]
-pub enum View {
-    /// The value of each field, and how it came.
-    Explain,
-    /// The fields and what follows from them.
-    Facts,
-    /// The canonical text.
-    Settle,
-    /// Nothing.
-    Check,
-}
+use target_reports::{Report, View};
 
 /// The vendors that are read.
 #[derive(Clone, Copy)]

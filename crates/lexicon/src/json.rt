@@ -1,23 +1,18 @@
 //! The answers to targets as a JSON array.
-ghost use Rattle.std.specs.Prelude.{◌≡◌, ◌++◌, ◌||◌, false, true, codes, map, IfOk, string_bytes};
-ghost use Rattle.lexicon_fields.specs.Vendor.{is_plain};
-ghost use Rattle.lexicon_fields.specs.VendorRef.{ref_value};
-ghost use Rattle.serde_json.specs.Data.{array, object};
-ghost use Rattle.serde_json.specs.View.{items_view, view};
+ghost use Rattle.std.specs.Prelude.{◌≡◌, ◌++◌, ◌||◌, false, codes, map, option_map, IfOk, OnOk, string_bytes};
+ghost use Rattle.serde_json.specs.Data.{array};
+ghost use Rattle.serde_json.specs.View.{items_view, members_view, view};
 ghost use Rattle.serde_json.specs.Written.{compact_text, items_have_float};
-ghost use Rattle.target_lexicon.specs.Explanation.{sources_of};
-ghost use Rattle.target_lexicon.specs.ValuesRef.{values_of_ref};
-ghost use Rattle.lexicon.specs.JsonAnswers.{IsJsonObject, IsProblemObject, list_values};
-ghost use Rattle.lexicon.specs.JsonReports.{AreJsonValuesFor, target_members, with_report};
+ghost use Rattle.target_reports.specs.JsonReports.{fields_onto};
+ghost use Rattle.lexicon.specs.JsonAnswers.{AreJsonValuesFor, IsJsonObject, IsProblemObject, list_values, problem_fields};
 ghost use Rattle.lexicon.specs.Problem.{problem_value};
 
 use crate::answers::reading;
-use crate::command::{Report, Vendors};
-use crate::json_reports::{put_problem, put_report, put_text};
+use crate::command::Vendors;
 use crate::problem::{Problem, suggestion};
 use serde_json::{Map, Value};
 use std::alloc::{AllocError, Global};
-use target_lexicon::Explanation;
+use target_reports::{Members, Report, put_optional, put_text, put_value, report_object};
 
 /// The object for a target, and whether it is an error.
 #[derive(Drop)]
@@ -33,24 +28,23 @@ pub(crate) struct TargetList {
     pub(crate) has_rejected: bool,
 }
 
-/// The object of a report.
-fn report_object(
+/// Adds what is wrong, with a suggestion.
+fn put_problem(
     alloc: Global,
-    report: Report,
-    text: &str,
-    it: &Explanation<'_>,
-) -> Result<Value, AllocError>
-    requires { is_plain (ref_value it.now.triple.vendor) ≡ true }
-    ensures { IfOk result
-        (λ value.
-        view value
-        ≡ object (with_report report (values_of_ref it.now.triple) (sources_of it.now.sources)
-        (target_members text.now))) }
+    members: &mut Members,
+    problem: &Problem<'_>,
+    suggestion: Option<&str>,
+) -> Result<(), AllocError>
+    ensures { OnOk result
+        (members_view members.new.entries
+        ≡ fields_onto (members_view members.old.entries)
+        (problem_fields (problem_value problem.now)
+        (option_map (λ name. name.now) suggestion.entry))) }
 {
-    let mut members = Map::new(alloc);
-    put_text(alloc, &mut members, "target", text)?;
-    put_report(alloc, &mut members, report, it)?;
-    Ok(Value::Object(members))
+    put_text(alloc, members, "error", problem.words)?;
+    put_text(alloc, members, "part", problem.part)?;
+    put_value(alloc, members, "start", Value::from(problem.start))?;
+    put_optional(alloc, members, "suggestion", suggestion)
 }
 
 /// The object of what is wrong.

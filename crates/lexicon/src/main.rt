@@ -5,15 +5,12 @@ mod answers;
 mod command;
 mod conclude;
 mod json;
-mod json_reports;
-mod layout;
 mod outcome;
 mod problem;
-mod reports;
 mod request;
 mod run;
 mod run_error;
-mod sizes;
+mod shown;
 
 use conclude::conclude;
 use lexicon_programs::Counted;

@@ -3,11 +3,11 @@ ghost use Rattle.std.specs.Prelude.{◌≡◌, ◌++◌, [], map, IfOk, OnOk, st
 ghost use Rattle.lexicon.specs.Outcome.{IsOutcome, all_names_text, names_after, names_text, outcome, outcome_value, status_for, titled_names, usage_outcome, usage_text, version_text};
 
 use crate::answers::{TargetTexts, target_answers};
-use crate::command::{Command, Report, Vendors, View};
+use crate::command::{Command, Vendors};
 use crate::json::{TargetList, array_line, target_list};
-use crate::layout::push_three;
 use lexicon_names::{Field, names};
 use std::alloc::{AllocError, Global};
+use target_reports::{Report, View, push_three};
 
 /// What is written to the output and to the error output, and the status.
 #[derive(Drop)]

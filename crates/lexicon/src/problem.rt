@@ -3,14 +3,14 @@ ghost use Rattle.std.specs.Prelude.{◌≡◌, ◌++◌, Some, take, option_map,
 ghost use Rattle.lexicon_fields.specs.VendorRef.{ref_value};
 ghost use Rattle.target_lexicon.specs.Explanation.{source_value};
 ghost use Rattle.target_lexicon.specs.ValuesRef.{refusal_of_ref};
-ghost use Rattle.lexicon.specs.Layout.{columns, spaces};
+ghost use Rattle.target_reports.specs.Layout.{columns, spaces};
 ghost use Rattle.lexicon.specs.Problem.{AddsRefusal, IsSuggested, caret_line, problem_line, problem_value, refusal_problem, source_start, suggestion_words, target_line, vendor_problem};
 
 use crate::command::Vendors;
-use crate::layout::{columns, push_copies, push_three};
 use lexicon_names::{Field, nearest_name};
 use std::alloc::AllocError;
 use target_lexicon::{ExplainedError, Explanation, ParseErrorRef, Source, VendorRef};
+use target_reports::{columns, push_copies, push_three};
 
 /// What is wrong with a part of a target.
 #[derive(Clone, Copy)]
@@ -158,7 +158,7 @@ fn columns_before(text: &str, start: usize) -> usize
 }
 
 /// Appends the line with the carets and the suggestion.
-#[tactic(auto, unfolding(crate::specs::Layout::spaces))]
+#[tactic(auto, unfolding(target_reports::specs::Layout::spaces))]
 fn push_caret_line(
     out: &mut String,
     text: &str,

@@ -3,7 +3,8 @@ ghost use Rattle.std.specs.Prelude.{◌≡◌, map, option_map, string_bytes};
 ghost use Rattle.std.specs.List.{list_any};
 ghost use Rattle.lexicon.specs.Request.{argument_request, begins_with_dash, names_request, optional_request, request_value, request_with, request_without_words, strict_request, targets_of, verb_request};
 
-use crate::command::{Command, Report, Vendors, Verb, View, field_of, verb_of};
+use crate::command::{Command, Vendors, Verb, field_of, verb_of};
+use target_reports::{Report, View};
 
 /// A command, and the targets that the arguments give, of which there may be none.
 #[derive(Clone, Copy)]

@@ -2,7 +2,7 @@
 use Rattle.std.proofs.Common.{refl}
 use Rattle.serde_json.specs.View.{view}
 use Rattle.target_lexicon.specs.{Explanation.sources_of, ValuesRef.values_of_ref}
-use Rattle.lexicon.specs.{JsonReports.Reported, JsonReports.Rejected, Problem.problem_value}
+use Rattle.lexicon.specs.{JsonAnswers.Reported, JsonAnswers.Rejected, Problem.problem_value}
 use Rattle.lexicon.proofs.json.target_object.Goals as goal
 
 pub returns-in_ok-value-in-Ok : goal.returns-in_ok-value-in-Ok

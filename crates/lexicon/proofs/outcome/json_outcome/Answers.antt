@@ -1,8 +1,8 @@
 -- No object has a floating-point number.
 use Rattle.std.proofs.Common.{◌∙◌, ap, rules}
 use Rattle.serde_json.specs.{View.items_of, Written.items_have_float}
-use Rattle.lexicon.specs.{JsonAnswers.list_values, JsonReports.JsonValues}
-use Rattle.lexicon.proofs.JsonLemmas.{answers-floatless}
+use Rattle.lexicon.specs.{JsonAnswers.list_values, JsonAnswers.JsonValues}
+use Rattle.lexicon.proofs.FloatlessLemmas.{answers-floatless}
 use Rattle.lexicon.proofs.outcome.json_outcome.Goals as goal
 
 pub array_line-requires : goal.array_line-requires

@@ -1,4 +1,4 @@
-use Rattle.lexicon.proofs.LayoutLemmas.{five-pieces}
+use Rattle.target_reports.proofs.LayoutLemmas.{five-pieces}
 use Rattle.lexicon.proofs.outcome.push_all_names.Goals as goal
 
 pub returns : goal.returns

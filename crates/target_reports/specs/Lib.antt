@@ -1,0 +1,3 @@
+pub mod JsonReports
+pub mod Layout
+pub mod Reports
