@@ -31,7 +31,8 @@ pub(crate) fn order(own_key: u64, own: &str, key: u64, text: &str) -> Ordering
 /// Whether two texts have eight to sixteen bytes, of which the last eight are the same.
 #[inline(always)]
 fn end_alike(own: &str, text: &str) -> bool
-    ensures { IsTrue result → (8 ≤ length own.now) × (length own.now ≤ 16) × (8 ≤ length text.now)
+    ensures { IsTrue result → (8 ≤ length own.now) × (length own.now ≤ 16)
+        × (8 ≤ length text.now)
         × (drop (length own.now - 8) own.now ≡ drop (length text.now - 8) text.now) }
 {
     match (
