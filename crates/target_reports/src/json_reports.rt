@@ -272,7 +272,7 @@ fn put_version(
 }
 
 /// Adds the fields, the version, and whether the vendor is a custom one.
-pub fn put_values(
+fn put_values(
     alloc: Global,
     members: &mut Members,
     triple: &TripleRef<'_>,
