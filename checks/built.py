@@ -1,4 +1,4 @@
-"""The programs of the crates: those of the tree that `bindings/c/install` made, if BUILT names one, or else as `rt run` builds them."""
+"""The programs of the crates: those of the tree BUILT, as `bindings/c/install` makes one, or else as `rt run` builds them."""
 import os
 import subprocess
 import sys
@@ -11,8 +11,9 @@ def program(check, crate, status=1, words=()):
 
     If that fails, the check ends with the status.
     """
-    if os.environ.get("BUILT"):
-        return f"{os.environ['BUILT']}/bin/{crate}"
+    path = f"{os.environ.get('BUILT')}/bin/{crate}"
+    if os.path.exists(path):
+        return path
     folder = f"{ROOT}/crates/{crate}"
     print(f"{check}: rt run in crates/{crate}", flush=True)
     ran = subprocess.run(["rt", "run", "--", *words], cwd=folder, stdin=subprocess.DEVNULL, stdout=subprocess.DEVNULL)
