@@ -1,4 +1,4 @@
-"""The programs of the crates: those of the tree BUILT, as `bindings/c/install` makes one, or else as `rt run` builds them."""
+"""The programs of the crates: those of the tree BUILT, which `bindings/c/install` made, or as `rt run` builds them."""
 import os
 import subprocess
 import sys
