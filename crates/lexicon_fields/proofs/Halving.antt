@@ -9,7 +9,7 @@ pub record IsHalved (old new left : ℕ) : Type 0 where
   pub halved : left < 2 ^ (old + 8 - new)
 
 -- before the first step
-pub halved-first : (old left : ℕ) → 0 < left → left < 8 → IsHalved old old left
+pub halved-first : (old left : ℕ) → 0 < left → left < 256 → IsHalved old old left
 halved-first old left some few =
     let eight : old + 8 - old ≡ 8 = omega arith in
     record { counted = omega arith; few = omega arith; some = omega (arith, some); halved = rw eight (omega (arith, few)) }

@@ -1,7 +1,7 @@
 -- Prefix keys are ordered as their texts are.
 use Rattle.std.proofs.Common.{◌≡◌, ℕ, zero, suc, ◌+◌, ◌*◌, ◌^◌, ◌<◌, ◌≤◌, List, [], ◌∷◌, arith, refl, sym, ap, ◌∙◌, Less, Equal, Greater, nat_cmp, inl, inr, get_or, length, take, drop, ◌-◌, ◌%◌, w32}
 use Rattle.std.specs.{Cmp.Lexicographic.slice_cmp, Cmp.nat_cmp_is, Int.from_be_bytes, Ordering.ordering_reverse}
-use Rattle.std.proofs.{lemmas.Bool.cases_order, lemmas.Cmp.nat_list_cmp_total, lemmas.List.drop-drop, Math.Nat.mul-le-mul_right, Math.Nat.pow-suc}
+use Rattle.std.proofs.{lemmas.Bool.cases_order, lemmas.Cmp.nat_list_cmp_total, Math.Nat.mul-le-mul_right, Math.Nat.pow-suc}
 use Rattle.lexicon_fields.specs.Private.{prefix_key_of}
 
 abbrev pub AreBytes : List ℕ → Type 0
@@ -58,36 +58,6 @@ order_of_same_key (suc k) (x ∷ xs) (y ∷ ys) p q n h = elim (cases_order x y)
     | inr more ↦ absurd (omega (arith, h, prefix_key_below k ys (λ i. q (suc i)), mul-le-mul_right {m = y + 1} {n = x} (256 ^ k) (omega (arith, more))))
   ]
 ]
-
--- two texts with the same key, of at least that many bytes, are ordered by what follows
-order_after_same_key : (k : ℕ) (a b : List ℕ) → AreBytes a → AreBytes b → k ≤ length a → k ≤ length b → prefix_key_of k a ≡ prefix_key_of k b
-    → slice_cmp nat_cmp a b ≡ slice_cmp nat_cmp (drop k a) (drop k b)
-order_after_same_key zero a b _ _ _ _ h = refl
-order_after_same_key (suc k) [] b _ _ n _ h = absurd (omega (arith, n))
-order_after_same_key (suc k) (x ∷ xs) [] _ _ _ m h = absurd (omega (arith, m))
-order_after_same_key (suc k) (x ∷ xs) (y ∷ ys) p q n m h = elim (cases_order x y) [
-  | inl same ↦ rw (is_equal x y same) (order_after_same_key k xs ys (λ i. p (suc i)) (λ i. q (suc i)) (omega (arith, n)) (omega (arith, m)) (omega (arith, h, ap (λ n. n * 256 ^ k) same)))
-  | inr other ↦ elim other [
-    | inl less ↦ absurd (omega (arith, h, prefix_key_below k xs (λ i. p (suc i)), mul-le-mul_right {m = x + 1} {n = y} (256 ^ k) (omega (arith, less))))
-    | inr more ↦ absurd (omega (arith, h, prefix_key_below k ys (λ i. q (suc i)), mul-le-mul_right {m = y + 1} {n = x} (256 ^ k) (omega (arith, more))))
-  ]
-]
-
-same_text : (s : List ℕ) → slice_cmp nat_cmp s s ≡ Equal
-same_text [] = refl
-same_text (x ∷ xs) = rw (is_equal x x refl) (same_text xs)
-
--- two texts of one length with the same first and last eight bytes, which are all
-pub same_by_ends : (a b : List ℕ) → AreBytes a → AreBytes b → 8 ≤ length a → length a ≤ 16 → length a ≡ length b → prefix_key_of 8 a ≡ prefix_key_of 8 b
-    → drop (length a - 8) a ≡ drop (length b - 8) b → slice_cmp nat_cmp a b ≡ Equal
-same_by_ends a b p q long short lengths key ends =
-    let more = 16 - length a in
-    let sum_a : length a - 8 + more ≡ 8 = omega (arith, long, short) in
-    let sum_b : length b - 8 + more ≡ 8 = omega (arith, long, short, lengths) in
-    let after_a : drop more (drop (length a - 8) a) ≡ drop 8 a = drop-drop more (length a - 8) a ∙ ap (λ i. drop i a) sum_a in
-    let after_b : drop more (drop (length b - 8) b) ≡ drop 8 b = drop-drop more (length b - 8) b ∙ ap (λ i. drop i b) sum_b in
-    let same : drop 8 a ≡ drop 8 b = sym after_a ∙ ap (drop more) ends ∙ after_b in
-    order_after_same_key 8 a b p q long (omega (arith, long, lengths)) key ∙ ap (λ s. slice_cmp nat_cmp s (drop 8 b)) same ∙ same_text (drop 8 b)
 
 -- the key of four to eight bytes, from the first four and the last four; bytes in both are shifted out of the last
 pub prefix_key_of_ends : (s head tail : List ℕ) (x y : ℕ) → AreBytes s → 4 ≤ length s → length s ≤ 8 → head ≡ take 4 s → tail ≡ drop (length s - 4) s

@@ -1,9 +1,15 @@
 -- Definitions for the contracts of private functions; no public contract cites them.
-use Rattle.std.specs.Prelude.{ℕ, zero, suc, ◌+◌, ◌*◌, ◌/◌, ◌%◌, ◌^◌, ◌&&◌, Bool, true, nat_lt, nat_le, List, [], ◌∷◌, Option, Some, None, option_map, option_and_then, slice_index_or}
+use Rattle.std.specs.Prelude.{ℕ, zero, suc, ◌+◌, ◌*◌, ◌^◌, ◌&&◌, ◌||◌, not, Bool, true, false, nat_eq, nat_lt, nat_le, List, [], ◌∷◌, Option, Some, None, option_map, option_and_then}
 use Rattle.std.specs.Borrow.{Bor}
-use Rattle.lexicon_fields.specs.FixedRow.{row_count}
 use Rattle.std.specs.Option.{option_or}
 use Rattle.lexicon_fields.specs.{declared.deployment_target.DeploymentTarget.DeploymentTarget, declared.operating_system.OperatingSystem.OperatingSystem, Names.Pair}
+use Rattle.lexicon_fields.specs.{declared.architecture.Architecture.Architecture, declared.known_vendor.KnownVendor.KnownVendor, declared.environment.Environment.Environment, declared.binary_format.BinaryFormat.BinaryFormat, declared.table.rows.Meaning.Meaning}
+use Rattle.lexicon_fields.specs.declared.architecture.Architecture.TheVariants as architecture
+use Rattle.lexicon_fields.specs.declared.known_vendor.KnownVendor.TheVariants as known_vendor
+use Rattle.lexicon_fields.specs.declared.operating_system.OperatingSystem.TheVariants as operating_system
+use Rattle.lexicon_fields.specs.declared.environment.Environment.TheVariants as environment
+use Rattle.lexicon_fields.specs.declared.binary_format.BinaryFormat.TheVariants as binary_format
+use Rattle.lexicon_fields.specs.declared.table.rows.Meaning.TheVariants as meaning
 use Rattle.lexicon_fields.specs.OperatingSystem.{optional_version_of, text_after_prefix}
 use Rattle.lexicon_fields.specs.Version.{pieces_of}
 
@@ -34,23 +40,44 @@ prefix_key_of zero text = 0
 prefix_key_of (suc k) [] = 0
 prefix_key_of (suc k) (c ∷ cs) = c * 256 ^ k + prefix_key_of k cs
 
--- the slot of a prefix key in the index of the table: the eleven highest bits of its product with a fixed number
-abbrev pub slot_of : ℕ → ℕ
--- written by tools/names/write: slot_of
-slot_of key = key * 1222796868377974413 % 2 ^ 64 / 2 ^ 53
+-- whether this is the first byte of the text, which has none if it is empty
+abbrev pub is_first_byte : Option ℕ → List ℕ → Bool
+is_first_byte (Some byte) (c ∷ cs) = nat_eq c byte
+is_first_byte (Some byte) [] = false
+is_first_byte None (c ∷ cs) = false
+is_first_byte None [] = true
 
--- end of what is written
+-- of texts that are counted from `i` on, whether each with this first byte has a number from `start` to before `end`
+abbrev pub are_within : Option ℕ → ℕ → ℕ → ℕ → List (List ℕ) → Bool
+are_within byte start end i [] = true
+are_within byte start end i (text ∷ texts) =
+    ((nat_le start i && nat_lt i end) || not (is_first_byte byte text)) && are_within byte start end (suc i) texts
 
--- an entry of the index is eight times the number of a row, plus how many rows it leads to from there on
-abbrev pub leads_to : ℕ → ℕ → Bool
-leads_to entry i = nat_le (entry / 8) i && nat_lt i (entry / 8 + entry % 8)
+-- the value that a row's text has in each field, by what it means
 
--- whether an entry leads to some rows, all of them in the table
-abbrev pub is_entry : ℕ → Bool
-is_entry entry = nat_lt 0 (entry % 8) && nat_le (entry / 8 + entry % 8) row_count
+abbrev pub architecture_meant : Meaning → Option Architecture
+architecture_meant (meaning.Architecture it) = Some it
+architecture_meant meaning.Unknown = Some architecture.Unknown
+architecture_meant _ = None
 
--- whether the prefix key of each text leads to its row, where the first text is that of row i
-abbrev pub lead_to_rows : List ℕ → ℕ → List (List ℕ) → Bool
-lead_to_rows index i [] = true
-lead_to_rows index i (text ∷ texts) =
-    leads_to (slice_index_or index (slot_of (prefix_key_of 8 text)) 0) i && lead_to_rows index (suc i) texts
+abbrev pub vendor_meant : Meaning → Option KnownVendor
+vendor_meant (meaning.Vendor it) = Some it
+vendor_meant meaning.Unknown = Some known_vendor.Unknown
+vendor_meant _ = None
+
+abbrev pub operating_system_meant : Meaning → Option OperatingSystem
+operating_system_meant (meaning.OperatingSystem it) = Some it
+operating_system_meant meaning.None = Some operating_system.None_
+operating_system_meant meaning.Unknown = Some operating_system.Unknown
+operating_system_meant _ = None
+
+abbrev pub environment_meant : Meaning → Option Environment
+environment_meant (meaning.Environment it) = Some it
+environment_meant meaning.None = Some environment.None
+environment_meant meaning.Unknown = Some environment.Unknown
+environment_meant _ = None
+
+abbrev pub binary_format_meant : Meaning → Option BinaryFormat
+binary_format_meant (meaning.BinaryFormat it) = Some it
+binary_format_meant meaning.Unknown = Some binary_format.Unknown
+binary_format_meant _ = None

@@ -1,10 +1,10 @@
 //! The table of the fixed names, and of the alias `arm64`.
-ghost use Rattle.std.specs.Prelude.{◌≡◌, ◌+◌, ◌<◌, ◌≤◌, false, Some, MatchOption};
+ghost use Rattle.std.specs.Prelude.{◌≡◌, ◌+◌, ◌<◌, ◌≤◌, true, false, MatchOption};
 ghost use Rattle.std.specs.Cmp.Lexicographic.{slice_cmp};
 ghost use Rattle.std.specs.Ordering.{nat_cmp};
-ghost use Rattle.lexicon_fields.specs.FixedRow.{has_row, IsRowOf, row_count, row_text};
+ghost use Rattle.lexicon_fields.specs.FixedRow.{has_row, IsRowOf, row_count, row_text, row_texts};
+ghost use Rattle.lexicon_fields.specs.Private.{are_within, architecture_meant, binary_format_meant, environment_meant, operating_system_meant, vendor_meant};
 
-mod index;
 mod prefix_key;
 mod rows;
 
@@ -14,8 +14,9 @@ use crate::environment::Environment;
 use crate::known_vendor::KnownVendor;
 use crate::operating_system::OperatingSystem;
 use crate::steps::Steps;
-use rows::row;
+use rows::{Meaning, row};
 use std::cmp::Ordering;
+use std::ops::Range;
 
 /// The number of rows.
 // written by tools/names/write: the number of rows
@@ -35,7 +36,6 @@ pub struct FixedRow {
 
 /// The row of the text, or `None` if the text is neither a fixed name nor the alias `arm64`. `steps` ticks once for
 /// each row that is compared with the text: at least once, and at most eight times.
-#[inline(always)]
 pub fn fixed_row(text: &str, steps: &mut Steps) -> Option<FixedRow>
     ensures row { MatchOption result (has_row text.now ≡ false) (IsRowOf text.now) }
     ensures counted { steps.old.count < steps.new.count }
@@ -55,87 +55,130 @@ pub fn row_order(i: usize, text: &str, steps: &mut Steps) -> Ordering
     ensures count { steps.new.count ≡ steps.old.count + 1 }
 {
     steps.tick();
-    let row = row(i);
-    prefix_key::order(row.1, row.0, prefix_key::prefix_key(text), text)
+    let (own, own_key, _) = row(i);
+    prefix_key::order(own_key, own, prefix_key::prefix_key(text), text)
 }
 
-/// The number of the text's row. Texts of these three lengths have a search each, so that the compiler computes the
-/// text's prefix key once. Most texts have four to eight bytes, and their search calls no function.
-#[inline(never)]
+/// The number of the text's row, by a binary search among the rows that begin with the text's first byte.
 fn row_number(text: &str, steps: &mut Steps) -> Option<usize>
     ensures row { MatchOption result (has_row text.now ≡ false)
         (λ i. (i < row_count) × (row_text i ≡ text.now)) }
     ensures counted { steps.old.count < steps.new.count }
     ensures few { steps.new.count ≤ steps.old.count + 8 }
 {
-    if text.len() > 8 {
-        row_number_of_long(text, steps)
-    } else if text.len() >= 4 {
-        search(text, steps)
-    } else {
-        row_number_of_short(text, steps)
-    }
-}
-
-/// [`row_number`] of a text of more than eight bytes.
-#[inline(never)]
-fn row_number_of_long(text: &str, steps: &mut Steps) -> Option<usize>
-    ensures row { MatchOption result (has_row text.now ≡ false)
-        (λ i. (i < row_count) × (row_text i ≡ text.now)) }
-    ensures counted { steps.old.count < steps.new.count }
-    ensures few { steps.new.count ≤ steps.old.count + 8 }
-{
-    search(text, steps)
-}
-
-/// [`row_number`] of a text of at most three bytes.
-#[inline(never)]
-fn row_number_of_short(text: &str, steps: &mut Steps) -> Option<usize>
-    ensures row { MatchOption result (has_row text.now ≡ false)
-        (λ i. (i < row_count) × (row_text i ≡ text.now)) }
-    ensures counted { steps.old.count < steps.new.count }
-    ensures few { steps.new.count ≤ steps.old.count + 8 }
-{
-    search(text, steps)
-}
-
-/// The binary search for the text's row, among the rows that can have its prefix key.
-#[inline(always)]
-fn search(text: &str, steps: &mut Steps) -> Option<usize>
-    ensures row { MatchOption result (has_row text.now ≡ false)
-        (λ i. (i < row_count) × (row_text i ≡ text.now)) }
-    ensures counted { steps.old.count < steps.new.count }
-    ensures few { steps.new.count ≤ steps.old.count + 8 }
-{
-    let (mut low, mut left) = index::rows_with_key(prefix_key::prefix_key(text));
-    while left > 0 {
-        let half = left / 2;
-        let middle = low + half;
+    let Range {
+        start: mut low,
+        end: mut high,
+    } = rows_by_first_byte(text.as_bytes().first().copied());
+    while low < high {
+        let middle = low + (high - low) / 2;
         match row_order(middle, text, steps) {
-            Ordering::Less => {
-                low = middle + 1;
-                left -= half + 1;
-            }
-            Ordering::Greater => left = half,
+            Ordering::Less => low = middle + 1,
+            Ordering::Greater => high = middle,
             Ordering::Equal => return Some(middle),
         }
     }
     None
 }
 
+/// The rows that begin with this byte, as the thumb index of a dictionary finds them; all rows, if none begins so.
+#[tactic(auto, unfolding(crate::specs::FixedRow::row_texts))]
+fn rows_by_first_byte(byte: Option<u8>) -> Range<usize>
+    ensures some { result.start < result.end }
+    ensures within { result.end ≤ row_count }
+    ensures whole { are_within byte result.start result.end 0 row_texts ≡ true }
+{
+    match byte {
+        // written by tools/names/write: the rows by first byte
+        Some(b'a') => 0..45,
+        Some(b'b') => 45..48,
+        Some(b'c') => 48..54,
+        Some(b'd') => 54..55,
+        Some(b'e') => 55..63,
+        Some(b'f') => 63..66,
+        Some(b'g') => 66..74,
+        Some(b'h') => 74..81,
+        Some(b'i') => 81..86,
+        Some(b'k') => 86..88,
+        Some(b'l') => 88..92,
+        Some(b'm') => 92..109,
+        Some(b'n') => 109..116,
+        Some(b'o') => 116..118,
+        Some(b'p') => 118..127,
+        Some(b'r') => 127..146,
+        Some(b's') => 146..158,
+        Some(b't') => 158..170,
+        Some(b'u') => 170..176,
+        Some(b'v') => 176..177,
+        Some(b'w') => 177..185,
+        Some(b'x') => 185..189,
+        Some(b'z') => 189..192,
+        // end of what is written
+        _ => 0..ROW_COUNT,
+    }
+}
+
 /// Row `i`, counted from 0.
-#[inline(always)]
 fn row_at(i: usize) -> FixedRow
     requires { i < row_count }
     ensures { IsRowOf (row_text i) result }
 {
-    let row = row(i);
-    FixedRow {
-        text: row.0,
-        architecture: row.2,
-        vendor: row.3,
-        operating_system: row.4,
-        environment: row.5,
-        binary_format: row.6,
+    let (text, _, meaning) = row(i);
+    FixedRow::new(text, meaning)
+}
+
+impl FixedRow {
+    /// The row of a text with this meaning.
+    fn new(text: &'static str, meaning: Meaning) -> FixedRow
+        ensures text { result.text.now ≡ text.now }
+        ensures architecture { result.architecture ≡ architecture_meant meaning }
+        ensures vendor { result.vendor ≡ vendor_meant meaning }
+        ensures operating_system { result.operating_system ≡ operating_system_meant meaning }
+        ensures environment { result.environment ≡ environment_meant meaning }
+        ensures binary_format { result.binary_format ≡ binary_format_meant meaning }
+    {
+        let empty = FixedRow {
+            text,
+            architecture: None,
+            vendor: None,
+            operating_system: None,
+            environment: None,
+            binary_format: None,
+        };
+        match meaning {
+            Meaning::Architecture(it) => FixedRow {
+                architecture: Some(it),
+                ..empty
+            },
+            Meaning::Vendor(it) => FixedRow {
+                vendor: Some(it),
+                ..empty
+            },
+            Meaning::OperatingSystem(it) => FixedRow {
+                operating_system: Some(it),
+                ..empty
+            },
+            Meaning::Environment(it) => FixedRow {
+                environment: Some(it),
+                ..empty
+            },
+            Meaning::BinaryFormat(it) => FixedRow {
+                binary_format: Some(it),
+                ..empty
+            },
+            Meaning::None => FixedRow {
+                operating_system: Some(OperatingSystem::None_),
+                environment: Some(Environment::None),
+                ..empty
+            },
+            Meaning::Unknown => FixedRow {
+                text,
+                architecture: Some(Architecture::Unknown),
+                vendor: Some(KnownVendor::Unknown),
+                operating_system: Some(OperatingSystem::Unknown),
+                environment: Some(Environment::Unknown),
+                binary_format: Some(BinaryFormat::Unknown),
+            },
+        }
     }
 }

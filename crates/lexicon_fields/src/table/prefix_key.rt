@@ -1,5 +1,5 @@
 //! The prefix key of a text: its first eight bytes as a number, by which texts are compared first.
-ghost use Rattle.std.specs.Prelude.{◌≡◌, ◌<◌, ◌≤◌, ◌-◌, IsTrue, drop, length};
+ghost use Rattle.std.specs.Prelude.{◌≡◌, ◌<◌, length};
 ghost use Rattle.std.specs.Cmp.Lexicographic.{slice_cmp};
 ghost use Rattle.std.specs.Ordering.{nat_cmp};
 ghost use Rattle.lexicon_fields.specs.Private.{prefix_key_of};
@@ -21,32 +21,14 @@ pub(crate) fn order(own_key: u64, own: &str, key: u64, text: &str) -> Ordering
     }
     if text.len() <= 8 {
         own.len().cmp(&text.len())
-    } else if own.len() == text.len() && end_alike(own, text) {
-        Ordering::Equal
     } else {
         own.cmp(text)
     }
 }
 
-/// Whether two texts have eight to sixteen bytes, of which the last eight are the same.
-#[inline(always)]
-fn end_alike(own: &str, text: &str) -> bool
-    ensures { IsTrue result → (8 ≤ length own.now) × (length own.now ≤ 16)
-        × (8 ≤ length text.now)
-        × (drop (length own.now - 8) own.now ≡ drop (length text.now - 8) text.now) }
-{
-    match (
-        own.as_bytes().last_chunk::<8>(),
-        text.as_bytes().last_chunk::<8>(),
-    ) {
-        (Some(own_end), Some(end)) => own.len() <= 16 && own_end == end,
-        _ => false,
-    }
-}
-
-/// The first eight bytes as a big-endian number; a missing byte is zero. If the caller has tested that the length is
-/// above eight, or from four to eight, no branch is left, so that a search computes the key once.
-#[inline(always)]
+/// The first eight bytes as a big-endian number; a missing byte is zero. It is not inlined, so that a search computes it
+/// once: the compiler moves the call out of the loop.
+#[inline(never)]
 pub(crate) fn prefix_key(text: &str) -> u64
     ensures { result ≡ prefix_key_of 8 text.now }
 {

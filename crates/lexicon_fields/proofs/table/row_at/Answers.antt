@@ -6,15 +6,18 @@ use Rattle.lexicon_fields.proofs.table.row_at.Goals as goal
 pub returns : goal.returns
 returns c =
     let exists = row-exists _ c.requires in
-    let row = c.row-row.ensures in
+    let row = c.row-meaning.ensures in
+    let new = c.new.ensures in
+    let vendor = new.vendor ∙ row.vendor in
+    let operating_system = new.operating_system ∙ row.operating_system in
     record {
       exists = exists;
-      text = row.text;
-      architecture = row.architecture;
-      vendor = row.vendor;
-      operating_system = row.operating_system;
-      environment = row.environment;
-      binary_format = row.binary_format;
-      no_other_vendor = ap (option_map Known) row.vendor ∙ row_read _ exists;
-      no_other_operating_system = row.operating_system ∙ sym (row-parses_by_name _ exists);
+      text = new.text ∙ row.text;
+      architecture = new.architecture ∙ row.architecture;
+      vendor = vendor;
+      operating_system = operating_system;
+      environment = new.environment ∙ row.environment;
+      binary_format = new.binary_format ∙ row.binary_format;
+      no_other_vendor = ap (option_map Known) vendor ∙ row_read _ exists;
+      no_other_operating_system = operating_system ∙ sym (row-parses_by_name _ exists);
     }

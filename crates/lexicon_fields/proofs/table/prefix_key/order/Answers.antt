@@ -1,5 +1,5 @@
 use Rattle.std.proofs.Common.{arith, sym, ◌∙◌}
-use Rattle.lexicon_fields.proofs.PrefixKeyLemmas.{less_by_key, greater_by_key, order_of_same_key, same_by_ends}
+use Rattle.lexicon_fields.proofs.PrefixKeyLemmas.{less_by_key, greater_by_key, order_of_same_key}
 use Rattle.lexicon_fields.proofs.table.prefix_key.order.Goals as goal
 
 pub returns-then-own_key-key : goal.returns-then-own_key-key
@@ -10,8 +10,3 @@ returns-then-key-own_key c = sym (greater_by_key 8 c.args.own.now c.args.text.no
 
 pub returns-then-text-le8 : goal.returns-then-text-le8
 returns-then-text-le8 c = c.cmp.ensures ∙ sym (order_of_same_key 8 c.args.own.now c.args.text.now (λ i. omega (arith, c.type_inv.own i)) (λ i. omega (arith, c.type_inv.text i)) (omega arith) (omega (arith, c.requires)))
-
-pub returns-then-end_alike : goal.returns-then-end_alike
-returns-then-end_alike c =
-    let alike = c.end_alike.ensures c.if-end_alike.true in
-    sym (same_by_ends c.args.own.now c.args.text.now (λ i. omega (arith, c.type_inv.own i)) (λ i. omega (arith, c.type_inv.text i)) alike.0 alike.1 c.if-own-text.true (omega (arith, c.requires)) alike.3)
