@@ -3,7 +3,7 @@ ghost use Rattle.std.specs.Prelude.{◌≡◌, ◌+◌, ◌<◌, ◌≤◌, true
 ghost use Rattle.std.specs.Cmp.Lexicographic.{slice_cmp};
 ghost use Rattle.std.specs.Ordering.{nat_cmp};
 ghost use Rattle.lexicon_fields.specs.FixedRow.{has_row, IsRowOf, row_count, row_text, row_texts};
-ghost use Rattle.lexicon_fields.specs.Private.{are_within, architecture_meant, binary_format_meant, environment_meant, operating_system_meant, vendor_meant};
+ghost use Rattle.lexicon_fields.specs.Private.{are_within};
 
 mod prefix_key;
 mod rows;
@@ -14,7 +14,7 @@ use crate::environment::Environment;
 use crate::known_vendor::KnownVendor;
 use crate::operating_system::OperatingSystem;
 use crate::steps::Steps;
-use rows::{Meaning, row};
+use rows::row;
 use std::cmp::Ordering;
 use std::ops::Range;
 
@@ -36,6 +36,7 @@ pub struct FixedRow {
 
 /// The row of the text, or `None` if the text is neither a fixed name nor the alias `arm64`. `steps` ticks once for
 /// each row that is compared with the text: at least once, and at most eight times.
+#[inline(always)]
 pub fn fixed_row(text: &str, steps: &mut Steps) -> Option<FixedRow>
     ensures row { MatchOption result (has_row text.now ≡ false) (IsRowOf text.now) }
     ensures counted { steps.old.count < steps.new.count }
@@ -55,11 +56,13 @@ pub fn row_order(i: usize, text: &str, steps: &mut Steps) -> Ordering
     ensures count { steps.new.count ≡ steps.old.count + 1 }
 {
     steps.tick();
+    let key = prefix_key::prefix_key(text);
     let (own, own_key, _) = row(i);
-    prefix_key::order(own_key, own, prefix_key::prefix_key(text), text)
+    prefix_key::order(own_key, own, key, text)
 }
 
 /// The number of the text's row, by a binary search among the rows that begin with the text's first byte.
+#[inline(never)]
 fn row_number(text: &str, steps: &mut Steps) -> Option<usize>
     ensures row { MatchOption result (has_row text.now ≡ false)
         (λ i. (i < row_count) × (row_text i ≡ text.now)) }
@@ -71,7 +74,7 @@ fn row_number(text: &str, steps: &mut Steps) -> Option<usize>
         end: mut high,
     } = rows_by_first_byte(text.as_bytes().first().copied());
     while low < high {
-        let middle = low + (high - low) / 2;
+        let middle = (low + high) / 2;
         match row_order(middle, text, steps) {
             Ordering::Less => low = middle + 1,
             Ordering::Greater => high = middle,
@@ -119,66 +122,18 @@ fn rows_by_first_byte(byte: Option<u8>) -> Range<usize>
 }
 
 /// Row `i`, counted from 0.
+#[inline(always)]
 fn row_at(i: usize) -> FixedRow
     requires { i < row_count }
     ensures { IsRowOf (row_text i) result }
 {
     let (text, _, meaning) = row(i);
-    FixedRow::new(text, meaning)
-}
-
-impl FixedRow {
-    /// The row of a text with this meaning.
-    fn new(text: &'static str, meaning: Meaning) -> FixedRow
-        ensures text { result.text.now ≡ text.now }
-        ensures architecture { result.architecture ≡ architecture_meant meaning }
-        ensures vendor { result.vendor ≡ vendor_meant meaning }
-        ensures operating_system { result.operating_system ≡ operating_system_meant meaning }
-        ensures environment { result.environment ≡ environment_meant meaning }
-        ensures binary_format { result.binary_format ≡ binary_format_meant meaning }
-    {
-        let empty = FixedRow {
-            text,
-            architecture: None,
-            vendor: None,
-            operating_system: None,
-            environment: None,
-            binary_format: None,
-        };
-        match meaning {
-            Meaning::Architecture(it) => FixedRow {
-                architecture: Some(it),
-                ..empty
-            },
-            Meaning::Vendor(it) => FixedRow {
-                vendor: Some(it),
-                ..empty
-            },
-            Meaning::OperatingSystem(it) => FixedRow {
-                operating_system: Some(it),
-                ..empty
-            },
-            Meaning::Environment(it) => FixedRow {
-                environment: Some(it),
-                ..empty
-            },
-            Meaning::BinaryFormat(it) => FixedRow {
-                binary_format: Some(it),
-                ..empty
-            },
-            Meaning::None => FixedRow {
-                operating_system: Some(OperatingSystem::None_),
-                environment: Some(Environment::None),
-                ..empty
-            },
-            Meaning::Unknown => FixedRow {
-                text,
-                architecture: Some(Architecture::Unknown),
-                vendor: Some(KnownVendor::Unknown),
-                operating_system: Some(OperatingSystem::Unknown),
-                environment: Some(Environment::Unknown),
-                binary_format: Some(BinaryFormat::Unknown),
-            },
-        }
+    FixedRow {
+        text,
+        architecture: meaning.architecture(),
+        vendor: meaning.vendor(),
+        operating_system: meaning.operating_system(),
+        environment: meaning.environment(),
+        binary_format: meaning.binary_format(),
     }
 }

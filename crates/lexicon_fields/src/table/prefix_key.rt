@@ -26,18 +26,14 @@ pub(crate) fn order(own_key: u64, own: &str, key: u64, text: &str) -> Ordering
     }
 }
 
-/// The first eight bytes as a big-endian number; a missing byte is zero. It is not inlined, so that a search computes it
-/// once: the compiler moves the call out of the loop.
-#[inline(never)]
+/// The first eight bytes as a big-endian number; a missing byte is zero.
+#[inline(always)]
 pub(crate) fn prefix_key(text: &str) -> u64
     ensures { result ≡ prefix_key_of 8 text.now }
 {
     let bytes = text.as_bytes();
-    if bytes.len() > 8 {
-        return match bytes.first_chunk::<8>() {
-            Some(eight) => u64::from_be_bytes(*eight),
-            None => unreachable!(),
-        };
+    if let Some(eight) = bytes.first_chunk::<8>() {
+        return u64::from_be_bytes(*eight);
     }
     if let (Some(head), Some(tail)) = (bytes.first_chunk::<4>(), bytes.last_chunk::<4>()) {
         let head = u64::from(u32::from_be_bytes(*head));
@@ -48,7 +44,7 @@ pub(crate) fn prefix_key(text: &str) -> u64
 }
 
 /// The prefix key of at most three bytes.
-#[inline(never)]
+#[inline(always)]
 fn prefix_key_of_few(bytes: &[u8]) -> u64
     requires { length bytes.now < 4 }
     ensures { result ≡ prefix_key_of 8 bytes.now }

@@ -33,6 +33,65 @@ pub(crate) enum Meaning {
     Unknown,
 }
 
+impl Meaning {
+    #[inline(always)]
+    pub(crate) fn architecture(self) -> Option<Architecture>
+        ensures { result ≡ Private.architecture_meant self }
+    {
+        match self {
+            Meaning::Architecture(it) => Some(it),
+            Meaning::Unknown => Some(Architecture::Unknown),
+            _ => None,
+        }
+    }
+
+    #[inline(always)]
+    pub(crate) fn vendor(self) -> Option<KnownVendor>
+        ensures { result ≡ Private.vendor_meant self }
+    {
+        match self {
+            Meaning::Vendor(it) => Some(it),
+            Meaning::Unknown => Some(KnownVendor::Unknown),
+            _ => None,
+        }
+    }
+
+    #[inline(always)]
+    pub(crate) fn operating_system(self) -> Option<OperatingSystem>
+        ensures { result ≡ Private.operating_system_meant self }
+    {
+        match self {
+            Meaning::OperatingSystem(it) => Some(it),
+            Meaning::None => Some(OperatingSystem::None_),
+            Meaning::Unknown => Some(OperatingSystem::Unknown),
+            _ => None,
+        }
+    }
+
+    #[inline(always)]
+    pub(crate) fn environment(self) -> Option<Environment>
+        ensures { result ≡ Private.environment_meant self }
+    {
+        match self {
+            Meaning::Environment(it) => Some(it),
+            Meaning::None => Some(Environment::None),
+            Meaning::Unknown => Some(Environment::Unknown),
+            _ => None,
+        }
+    }
+
+    #[inline(always)]
+    pub(crate) fn binary_format(self) -> Option<BinaryFormat>
+        ensures { result ≡ Private.binary_format_meant self }
+    {
+        match self {
+            Meaning::BinaryFormat(it) => Some(it),
+            Meaning::Unknown => Some(BinaryFormat::Unknown),
+            _ => None,
+        }
+    }
+}
+
 /// A text, its prefix key, and what the text means. The key is here since two numbers are compared in a third of the
 /// time of two texts.
 pub(crate) type Row = (&'static str, u64, Meaning);

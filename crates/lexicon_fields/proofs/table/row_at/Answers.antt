@@ -7,17 +7,16 @@ pub returns : goal.returns
 returns c =
     let exists = row-exists _ c.requires in
     let row = c.row-meaning.ensures in
-    let new = c.new.ensures in
-    let vendor = new.vendor ∙ row.vendor in
-    let operating_system = new.operating_system ∙ row.operating_system in
+    let vendor = c.vendor.ensures ∙ row.vendor in
+    let operating_system = c.operating_system.ensures ∙ row.operating_system in
     record {
       exists = exists;
-      text = new.text ∙ row.text;
-      architecture = new.architecture ∙ row.architecture;
+      text = row.text;
+      architecture = c.architecture.ensures ∙ row.architecture;
       vendor = vendor;
       operating_system = operating_system;
-      environment = new.environment ∙ row.environment;
-      binary_format = new.binary_format ∙ row.binary_format;
+      environment = c.environment.ensures ∙ row.environment;
+      binary_format = c.binary_format.ensures ∙ row.binary_format;
       no_other_vendor = ap (option_map Known) vendor ∙ row_read _ exists;
       no_other_operating_system = operating_system ∙ sym (row-parses_by_name _ exists);
     }

@@ -1,4 +1,4 @@
-use Rattle.std.proofs.Common.{rules, arith, sym, ◌≡◌, ◌+◌, ◌-◌, ◌/◌, true, slice_get}
+use Rattle.std.proofs.Common.{rules, arith, sym, ◌≡◌, ◌+◌, ◌/◌, true, slice_get}
 use Rattle.lexicon_fields.proofs.{FirstBytes.row-within, Halving.halved-first, Halving.halved-next, RowLemmas.no_row-outside, RowLemmas.no_row-below, RowLemmas.no_row-above, RowTexts.row_text-is}
 use Rattle.lexicon_fields.specs.{FixedRow.row_texts, Private.are_within}
 use Rattle.lexicon_fields.proofs.table.row_number.Goals as goal
@@ -20,7 +20,7 @@ loop-low-init c =
 pub loop-low-preserved-in-Less : goal.loop-low-preserved-in-Less
 loop-low-preserved-in-Less c =
     let loop = c.loop-low in
-    let middle = loop.low + (loop.high - loop.low) / 2 in
+    let middle = (loop.low + loop.high) / 2 in
     record {
       ordered = omega (arith, c.loop-low-test.true);
       within = loop.invariant.within;
@@ -32,9 +32,9 @@ loop-low-preserved-in-Less c =
 pub loop-low-preserved : goal.loop-low-preserved
 loop-low-preserved c =
     let loop = c.loop-low in
-    let middle = loop.low + (loop.high - loop.low) / 2 in
+    let middle = (loop.low + loop.high) / 2 in
     record {
-      ordered = omega arith;
+      ordered = omega (arith, c.loop-low-test.true);
       within = omega (arith, loop.invariant.within, c.loop-low-test.true);
       below = loop.invariant.below;
       above = no_row-above middle c.args.text.now (sym c.in-Greater.ensures.order);
