@@ -307,29 +307,29 @@ upstream_text! {
     TripleRef<'_>, "let triple = target_lexicon::TripleRef::from_str(\"x86_64-unknown-linux-unknown-unknown\").unwrap();";
 }
 
-/// The triple of the target that the crate is built for.
-macro_rules! host {
-    ($architecture:expr, $vendor:expr, $operating_system:expr, $environment:expr, $binary_format:expr) => {
-        host! { @field Architecture "architecture" $architecture }
-        host! { @field Vendor "vendor" $vendor }
-        host! { @field OperatingSystem "operating system" $operating_system }
-        host! { @field Environment "environment" $environment }
-        host! { @field BinaryFormat "binary format" $binary_format }
-
-        /// The triple of the target that the crate is built for.
-        ///
-        /// # Examples
-        ///
-        /// ```
-        /// assert_eq!(target_lexicon::HOST.architecture, target_lexicon::Architecture::host());
-        /// ```
-        pub const HOST: Triple = Triple {
-            architecture: $architecture,
-            vendor: $vendor,
-            operating_system: $operating_system,
-            environment: $environment,
-            binary_format: $binary_format,
+/// A field of a row of the table of hosts.
+macro_rules! field {
+    (Architecture $name:ident $(($sub:ident))?) => {{
+        #[allow(unused_imports)]
+        use crate::{
+            Aarch64Architecture::*, ArmArchitecture::*, CleverArchitecture::*, Mips32Architecture::*, Mips64Architecture::*,
+            Riscv32Architecture::*, Riscv64Architecture::*, X86_32Architecture::*,
         };
+        Architecture::$name $(($sub))?
+    }};
+    (Vendor $name:ident $(($custom:literal))?) => { Vendor::$name $((CustomVendor::Static($custom)))? };
+    ($field:ident $name:ident $(($version:ident))?) => { $field::$name $(($version))? };
+}
+
+/// The calls `host` of the fields, from the row of the target that the crate is built for.
+macro_rules! host {
+    ($architecture:ident $(($sub:ident))? $vendor:ident $(($custom:literal))? $system:ident $(($version:ident))?
+        $environment:ident $format:ident) => {
+        host! { @field Architecture "architecture" field!(Architecture $architecture $(($sub))?) }
+        host! { @field Vendor "vendor" field!(Vendor $vendor $(($custom))?) }
+        host! { @field OperatingSystem "operating system" field!(OperatingSystem $system $(($version))?) }
+        host! { @field Environment "environment" field!(Environment $environment) }
+        host! { @field BinaryFormat "binary format" field!(BinaryFormat $format) }
     };
     (@field $name:ident $what:literal $value:expr) => {
         impl $name {
@@ -349,6 +349,21 @@ macro_rules! host {
 }
 
 include!(concat!(env!("OUT_DIR"), "/erased/host.rs"));
+
+/// The triple of the target that the crate is built for.
+///
+/// # Examples
+///
+/// ```
+/// assert_eq!(target_lexicon::HOST.architecture, target_lexicon::Architecture::host());
+/// ```
+pub const HOST: Triple = Triple {
+    architecture: Architecture::host(),
+    vendor: Vendor::host(),
+    operating_system: OperatingSystem::host(),
+    environment: Environment::host(),
+    binary_format: BinaryFormat::host(),
+};
 
 impl Triple {
     /// The triple of the target that the crate is built for.
@@ -395,4 +410,31 @@ impl<'de> serde::Deserialize<'de> for Triple {
         let text = <Cow<'de, str> as serde::Deserialize>::deserialize(deserializer)?;
         text.parse().map_err(serde::de::Error::custom)
     }
+}
+
+#[cfg(test)]
+mod tests {
+    use super::*;
+
+    macro_rules! hosts {
+        ($($text:literal $architecture:ident $(($sub:ident))? $vendor:ident $(($custom:literal))?
+            $system:ident $(($version:ident))? $environment:ident $format:ident;)*) => {
+            /// Each row of the table of hosts is what its target parses as.
+            #[test]
+            fn hosts_are_what_their_names_parse_as() {
+                $(assert_eq!(
+                    $text.parse(),
+                    Ok(Triple {
+                        architecture: field!(Architecture $architecture $(($sub))?),
+                        vendor: field!(Vendor $vendor $(($custom))?),
+                        operating_system: field!(OperatingSystem $system $(($version))?),
+                        environment: field!(Environment $environment),
+                        binary_format: field!(BinaryFormat $format),
+                    })
+                );)*
+            }
+        };
+    }
+
+    include!("hosts.rs");
 }
