@@ -11,13 +11,12 @@ use std::path::Path;
 
 fn main() {
     let examples = examples(include_str!("examples.txt"));
-    let mut list = Vec::new();
+    let mut list = rules::RULES.to_vec();
     for (item, attribute) in &examples {
         list.push(Rule::With(item, attribute));
     }
-    list.extend(rules::RULES);
     let top = env::var_os("CARGO_MANIFEST_DIR").expect("cargo sets CARGO_MANIFEST_DIR");
-    let erased = erase_crates(&Path::new(&top).join("crates"), &rules::CRATES, &mut Rules::new(true, list));
+    let erased = erase_crates(&Path::new(&top).join("crates"), rules::CRATES, &mut Rules::new(true, list));
     write(&erased.join("host.rs"), &format!("host! {{ {} }}\n", host()));
 }
 

@@ -16,43 +16,35 @@ pub fn erase_crates(sources: &Path, crates: &[&str], rules: &mut Rules) -> PathB
     for name in crates {
         let source = sources.join(name).join("src");
         println!("cargo:rerun-if-changed={}", source.display());
-        let files = erase_folder(&source, &erased, name, "", rules);
-        let main = if files.contains(&"main.rt".to_string()) { "main" } else { "lib" };
-        root.push_str(&format!("#[path = \"{name}/{main}.rs\"]\n"));
-        root.push_str(&format!("#[allow(unused, irrefutable_let_patterns, clippy::all)]\nmod {name};\n"));
+        erase_folder(&source, &erased.join(name), name, name, rules);
+        let main = if source.join("main.rt").exists() { "main" } else { "lib" };
+        root += &format!("#[path = \"{name}/{main}.rs\"]\n#[allow(unused, irrefutable_let_patterns, clippy::all)]\nmod {name};\n");
     }
     write(&erased.join("root.rs"), &root);
-    for (rule, uses) in rules.list.iter().zip(&rules.uses) {
-        assert!(*uses > 0, "the proved text has nothing that this rule names: {rule:?}");
+    for (number, used) in rules.used.iter().enumerate() {
+        assert!(used, "the proved text has nothing that this rule names: {:?}", rules.list[number]);
     }
     erased
 }
 
-/// Erases the Rattle texts of a folder of a crate, and returns the names of its files.
-fn erase_folder(source: &Path, erased: &Path, name: &str, below: &str, rules: &mut Rules) -> Vec<String> {
-    let mut files = Vec::new();
-    for entry in fs::read_dir(source.join(below)).unwrap_or_else(|error| panic!("{}: {error}", source.display())) {
-        let path = entry.expect("a readable folder").path();
-        let file = path.file_name().expect("a name").to_str().expect("a name in UTF-8");
-        let inner = format!("{below}{file}");
-        if path.is_dir() {
-            if !rules.uses(Rule::Without("mod", file)) {
-                erase_folder(source, erased, name, &format!("{inner}/"), rules);
-            }
-        } else if let Some(module) = file.strip_suffix(".rt") {
-            if !rules.uses(Rule::Without("mod", module)) {
-                let text = fs::read_to_string(&path).unwrap_or_else(|error| panic!("{}: {error}", path.display()));
-                let text = erase(&text, &format!("{name}/{inner}"), name, rules);
-                let text = text.unwrap_or_else(|what| panic!("{}: {what}", path.display()));
-                write(&erased.join(name).join(inner).with_extension("rs"), &text);
-            }
+/// Erases the Rattle texts of a folder of a crate, which is `below` the folder of crates.
+fn erase_folder(from: &Path, to: &Path, crate_name: &str, below: &str, rules: &mut Rules) {
+    fs::create_dir_all(to).expect("a folder for the erased text");
+    for entry in fs::read_dir(from).expect(below) {
+        let name = entry.expect(below).file_name().into_string().expect(below);
+        let module = name.trim_end_matches(".rt");
+        let (path, file) = (from.join(&name), format!("{below}/{name}"));
+        if rules.uses(Rule::Without("mod", module)) {
+            continue;
+        } else if path.is_dir() {
+            erase_folder(&path, &to.join(&name), crate_name, &file, rules);
+        } else if module != name {
+            let text = fs::read_to_string(&path).expect(&file);
+            write(&to.join(format!("{module}.rs")), &erase(&text, &file, crate_name, rules));
         }
-        files.push(file.to_string());
     }
-    files
 }
 
 pub fn write(path: &Path, text: &str) {
-    fs::create_dir_all(path.parent().expect("a folder")).unwrap_or_else(|error| panic!("{}: {error}", path.display()));
-    fs::write(path, text).unwrap_or_else(|error| panic!("{}: {error}", path.display()));
+    fs::write(path, text).expect("a file that can be written");
 }

@@ -2,9 +2,9 @@
 use crate::package::eraser::Rule::{self, Replace, Unchecked, With, Without};
 
 /// The crates that are proved, in the order in which each uses the others.
-pub const CRATES: [&str; 2] = ["lexicon_fields", "target_lexicon"];
+pub const CRATES: &[&str] = &["lexicon_fields", "target_lexicon"];
 
-pub const RULES: [Rule; 30] = [
+pub const RULES: &[Rule] = &[
     // JSON needs Rattle's `serde_json`; the macro has upstream's name and another meaning.
     Without("mod", "json"),
     Without("mod", "macros"),
@@ -31,46 +31,15 @@ pub const RULES: [Rule; 30] = [
     With("CallingConvention", "#[non_exhaustive]"),
     With("CDataModel", "#[non_exhaustive]"),
     // An allocation that fails ends the process in Rust, so that `ParseError` has upstream's six variants only.
-    Replace(
-        "target_lexicon/parse_error.rt",
-        "UnrecognizedField(String), OutOfMemory,",
-        "UnrecognizedField(String),",
-    ),
-    Replace(
-        "target_lexicon/parse_error.rt",
-        "None => Ok(ParseError::OutOfMemory),",
-        "None => crate::shim::abort(),",
-    ),
-    Replace(
-        "target_lexicon/parse_error.rt",
-        "(_error: AllocError) -> ParseError { ParseError::OutOfMemory }",
-        "(error: AllocError) -> ParseError { match error {} }",
-    ),
-    Replace(
-        "target_lexicon/parse_error_ref.rt",
-        "else { return ParseError::OutOfMemory; };",
-        "else { crate::shim::abort() };",
-    ),
+    Replace("target_lexicon/parse_error.rt", "OutOfMemory,", ""),
+    Replace("target_lexicon/parse_error.rt", "ParseError::OutOfMemory", "crate::shim::abort()"),
     Replace("target_lexicon/parse_error_ref.rt", "ParseError::OutOfMemory => None,", ""),
+    Replace("target_lexicon/parse_error_ref.rt", "ParseError::OutOfMemory", "crate::shim::abort()"),
     // With the feature, printing goes by upstream's rule.
     Replace(
         "target_lexicon/display.rt",
-        "let unknowns = self.shows_unknowns();",
-        "let unknowns = !cfg!(feature = \"upstream_printing\") && self.shows_unknowns();",
+        "self.shows_unknowns()",
+        "(!cfg!(feature = \"upstream_printing\") && self.shows_unknowns())",
     ),
-    Replace(
-        "target_lexicon/display.rt",
-        "self.pieces_with(self.shows_unknowns())",
-        "self.pieces_with(!cfg!(feature = \"upstream_printing\") && self.shows_unknowns())",
-    ),
-    Replace(
-        "target_lexicon/display.rt",
-        "self.write_with(self.shows_unknowns(), out)",
-        "self.write_with(!cfg!(feature = \"upstream_printing\") && self.shows_unknowns(), out)",
-    ),
-    Replace(
-        "lexicon_fields/table/prefix_key.rt",
-        "#[inline(never)] fn prefix_key_of_few",
-        "#[inline] fn prefix_key_of_few",
-    ),
+    Replace("lexicon_fields/table/prefix_key.rt", "#[inline(never)]", "#[inline]"),
 ];
