@@ -6,10 +6,15 @@ mod rules;
 
 use package::eraser::{Rule, Rules};
 use package::{erase_crates, write};
-use std::env;
 use std::path::Path;
+use std::time::Duration;
+use std::{env, mem};
 
 fn main() {
+    if has_core_error() {
+        println!("cargo:rustc-check-cfg=cfg(core_error)");
+        println!("cargo:rustc-cfg=core_error");
+    }
     let examples = examples(include_str!("examples.txt"));
     let mut list = rules::RULES.to_vec();
     for (item, attribute) in &examples {
@@ -18,6 +23,21 @@ fn main() {
     let top = env::var_os("CARGO_MANIFEST_DIR").expect("cargo sets CARGO_MANIFEST_DIR");
     let erased = erase_crates(&Path::new(&top).join("crates"), rules::CRATES, &mut Rules::new(true, list));
     write(&erased.join("host.rs"), &format!("host! {{ {} }}\n", host()));
+}
+
+/// A call that `Duration` has of its own since Rust 1.81, in which `core` got `Error`.
+#[allow(dead_code)]
+trait Before1_81 {
+    fn abs_diff(&self, _: Duration) {}
+}
+
+impl Before1_81 for Duration {}
+
+/// Whether this version of Rust has `core::error`. Then the call isn't that of the trait, which returns nothing. To ask the
+/// compiler for its version would take longer.
+#[allow(unstable_name_collisions)]
+fn has_core_error() -> bool {
+    mem::size_of_val(&Duration::ZERO.abs_diff(Duration::ZERO)) > 0
 }
 
 /// The examples of public items, each with the attribute that has it. An example begins with a line `## ITEM`.

@@ -16,7 +16,7 @@
 //! # Ok::<(), target_lexicon::ParseError>(())
 //! ```
 //!
-//! The crate needs Rust 1.85, is `no_std` with `alloc`, and has no dependency but `serde`, with the feature
+//! The crate needs Rust 1.65, is `no_std` with `alloc`, and has no dependency but `serde`, with the feature
 //! `serde_support`. The feature `upstream_printing` prints each triple as upstream does; `std`, `arch_zkasm` and `arch_z80`
 //! change nothing. [`TripleRef`] is a triple that borrows from the text, [`TripleRef::explain`] says where a text is
 //! refused, and [`Triple::settle`] gives a key. The page `bindings/rust/README.md` of the repository says what differs from
@@ -25,6 +25,8 @@
 #![forbid(unsafe_code)]
 
 extern crate alloc;
+#[cfg(all(feature = "std", not(core_error)))]
+extern crate std as rust_std;
 
 mod shim;
 
@@ -151,7 +153,7 @@ impl fmt::Display for NotPlain {
     }
 }
 
-impl core::error::Error for NotPlain {}
+impl shim::std::error::Error for NotPlain {}
 
 impl Triple {
     /// The triple that this triple's printed text parses as. A triple that [`comes_back`](Triple::comes_back) is
@@ -280,7 +282,7 @@ impl ParseErrorRef<'_> {
     }
 }
 
-impl core::error::Error for ParseErrorRef<'_> {}
+impl shim::std::error::Error for ParseErrorRef<'_> {}
 
 /// The text that upstream prints for a triple, whatever the features are.
 macro_rules! upstream_text {

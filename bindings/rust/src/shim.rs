@@ -5,21 +5,32 @@ pub(crate) mod prelude {
     pub(crate) use super::{BoxAlloc as _, StringAlloc as _, ToStringAlloc as _, prove, std};
     pub(crate) use crate::lexicon_fields;
     pub(crate) use alloc::{boxed::Box, string::String};
-    // Links in comments need it.
+    // Older versions of Rust, and links in comments, need these.
     #[allow(unused_imports)]
-    pub(crate) use core::str::FromStr as _;
+    pub(crate) use {super::base::Chunks as _, core::mem::size_of, core::str::FromStr as _};
 }
 
-/// A fact that was proved, in the value of a constant.
-macro_rules! prove {
-    ($fact:expr) => {
-        assert!($fact)
-    };
-}
-pub(crate) use prove;
+#[path = "base.rs"]
+#[allow(dead_code)] // Other packages use more of it.
+mod base;
+
+pub(crate) use base::prove;
 
 pub(crate) mod std {
-    pub use core::{cmp, error, hash, str};
+    pub use super::base::{fmt, marker, simd};
+    pub use core::{cmp, hash, str};
+
+    pub mod error {
+        #[cfg(core_error)]
+        pub use core::error::Error;
+
+        #[cfg(all(feature = "std", not(core_error)))]
+        pub use rust_std::error::Error;
+
+        /// Rust before 1.81 has `Error` in `std` only.
+        #[cfg(not(any(feature = "std", core_error)))]
+        pub trait Error {}
+    }
 
     pub mod alloc {
         /// The allocator. It is Rust's own, which ends the process if an allocation fails.
@@ -33,133 +44,6 @@ pub(crate) mod std {
 
     pub mod borrow {
         pub type CowStr<'a> = alloc::borrow::Cow<'a, str>;
-    }
-
-    pub mod fmt {
-        pub use core::fmt::{Result, Write};
-
-        /// A formatter that writes to a writer. It has no options, so that nothing is padded.
-        pub struct Formatter<W>(pub W);
-
-        impl<W: Write> Formatter<W> {
-            #[inline(always)]
-            pub fn write_str(&mut self, text: &str) -> Result {
-                self.0.write_str(text)
-            }
-
-            #[inline(always)]
-            pub fn write_char(&mut self, character: char) -> Result {
-                self.0.write_char(character)
-            }
-        }
-
-        pub trait Display {
-            fn fmt<W: Write>(&self, f: &mut Formatter<W>) -> Result;
-        }
-    }
-
-    pub mod marker {
-        /// What a contract sees of a type.
-        pub trait Model {}
-    }
-
-    pub mod simd {
-        /// N values side by side.
-        #[derive(Clone, Copy)]
-        pub struct Simd<T, const N: usize>([T; N]);
-
-        impl<T: Copy, const N: usize> Simd<T, N> {
-            /// The first N values of a slice.
-            #[inline(always)]
-            pub fn from_slice(values: &[T]) -> Self {
-                Simd(*values.first_chunk().expect("N values"))
-            }
-
-            /// Writes the values over the first N of a slice.
-            #[inline(always)]
-            pub fn copy_to_slice(self, values: &mut [T]) {
-                *values.first_chunk_mut().expect("N values") = self.0;
-            }
-        }
-
-        pub mod prelude {
-            /// Sixteen bytes as two numbers, of which the first byte is the lowest.
-            #[allow(non_camel_case_types)]
-            #[derive(Clone, Copy)]
-            pub struct u8x16(u64, u64);
-
-            impl u8x16 {
-                /// The first sixteen bytes of a slice.
-                #[inline(always)]
-                pub fn from_slice(bytes: &[u8]) -> Self {
-                    let sixteen = bytes.first_chunk::<16>().expect("sixteen bytes");
-                    let number = u128::from_le_bytes(*sixteen);
-                    u8x16(number as u64, (number >> 64) as u64)
-                }
-
-                #[inline(always)]
-                pub fn splat(byte: u8) -> Self {
-                    let eight = u64::from_ne_bytes([byte; 8]);
-                    u8x16(eight, eight)
-                }
-
-                /// For each byte, whether both have the same.
-                #[inline(always)]
-                pub fn simd_eq(self, other: Self) -> Mask {
-                    Mask(equal_bytes(self.0, other.0), equal_bytes(self.1, other.1))
-                }
-            }
-
-            /// A byte 0x80 for each byte that both have, and a byte 0 for every other.
-            #[inline(always)]
-            fn equal_bytes(x: u64, y: u64) -> u64 {
-                let low_bits = u64::from_ne_bytes([0x7f; 8]);
-                let difference = x ^ y;
-                let differs = ((difference & low_bits) + low_bits) | difference;
-                !differs & u64::from_ne_bytes([0x80; 8])
-            }
-
-            /// Sixteen answers, each a byte.
-            #[derive(Clone, Copy)]
-            pub struct Mask(u64, u64);
-
-            impl Mask {
-                /// A bit for each answer, of which the first is the lowest.
-                #[inline(always)]
-                pub fn to_bitmask(self) -> u64 {
-                    gathered_bits(self.0) | gathered_bits(self.1) << 8
-                }
-            }
-
-            /// The highest bit of each byte, if all other bits are 0. The product has no carries, and bit 8 * i + 7 moves to
-            /// 56 + i.
-            #[inline(always)]
-            fn gathered_bits(answers: u64) -> u64 {
-                answers.wrapping_mul(0x0002_0408_1020_4081) >> 56
-            }
-
-            #[cfg(test)]
-            mod tests {
-                use super::*;
-                use alloc::vec::Vec;
-
-                /// The bits are those of a comparison of each byte, for each two bytes side by side at each place.
-                #[test]
-                fn equal_bytes_have_a_bit() {
-                    for pair in 0..=u16::MAX {
-                        let [x, y] = pair.to_ne_bytes();
-                        for at in 0..16 {
-                            let mut bytes = [b'-' ^ 1; 16];
-                            bytes[at] = x;
-                            bytes[(at + 1) % 16] = y;
-                            let bits: Vec<u64> = (0..16).map(|i| u64::from(bytes[i] == b'-') << i).collect();
-                            let found = u8x16::from_slice(&bytes).simd_eq(u8x16::splat(b'-')).to_bitmask();
-                            assert_eq!(found, bits.iter().sum());
-                        }
-                    }
-                }
-            }
-        }
     }
 }
 
@@ -244,7 +128,7 @@ impl Collected<'_, '_> {
     #[inline(always)]
     fn flush(&mut self) -> core::fmt::Result {
         // The zeros after the text are UTF-8 too, and whole blocks of sixteen bytes are validated faster.
-        let blocks = self.bytes.get(..self.length.next_multiple_of(16)).unwrap_or(&self.bytes);
+        let blocks = self.bytes.get(..(self.length + 15) / 16 * 16).unwrap_or(&self.bytes);
         let text = core::str::from_utf8(blocks).ok().and_then(|it| it.get(..self.length));
         self.length = 0;
         self.f.write_str(text.ok_or(core::fmt::Error)?)
