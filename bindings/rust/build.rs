@@ -54,11 +54,9 @@ fn examples(text: &str) -> Vec<(&str, String)> {
 fn host() -> &'static str {
     println!("cargo:rerun-if-env-changed=TARGET_LEXICON_HOST");
     let target = env::var("TARGET_LEXICON_HOST").or_else(|_| env::var("TARGET")).expect("cargo sets TARGET");
-    let begin = format!("    \"{target}\" ");
-    for line in include_str!("src/hosts.rs").lines() {
-        if let Some(row) = line.strip_prefix(&begin) {
-            return row.trim_end_matches(';');
-        }
+    let after = include_str!("src/hosts.rs").split_once(&format!("\n    \"{target}\" "));
+    if let Some((row, _)) = after.and_then(|(_, rest)| rest.split_once(';')) {
+        return row;
     }
     panic!(
         "bindings/rust/src/hosts.rs has no triple for the target {target}. For a target of your own, set the variable \

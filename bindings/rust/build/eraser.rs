@@ -38,7 +38,9 @@ pub struct Rules<'a> {
 
 impl<'a> Rules<'a> {
     pub fn new(has_layer: bool, list: Vec<Rule<'a>>) -> Self {
-        Rules { has_layer, used: vec![false; list.len()], list }
+        let mut used = Vec::new();
+        used.resize(list.len(), false);
+        Rules { has_layer, list, used }
     }
 
     /// Whether there is this rule. It counts as used.
@@ -85,7 +87,7 @@ struct Source<'a> {
 impl Source<'_> {
     /// Ends the build, because of what is at a place.
     fn fail(&self, at: usize, what: &str) -> ! {
-        panic!("{}, line {}: {what}", self.file, 1 + self.text[..at].matches('\n').count())
+        panic!("{}, line {}: {what}", self.file, 1 + line_ends(&self.text[..at]))
     }
 
     fn tokens(&self) -> Vec<Token> {
@@ -176,6 +178,15 @@ impl Source<'_> {
         }
         end + 1
     }
+}
+
+/// The number of line ends in a text.
+fn line_ends(text: &str) -> usize {
+    let mut count = 0;
+    for byte in text.bytes() {
+        count += (byte == b'\n') as usize;
+    }
+    count
 }
 
 fn is_of_word(byte: u8) -> bool {
@@ -504,10 +515,8 @@ impl<'a> Eraser<'a, '_> {
         let source = self.source.text;
         self.text.push_str(&source[self.copied..start]);
         self.text.push_str(new);
-        for byte in source[start..end].bytes() {
-            if byte == b'\n' {
-                self.text.push('\n');
-            }
+        for _ in 0..line_ends(&source[start..end]) {
+            self.text.push('\n');
         }
         self.copied = end;
     }

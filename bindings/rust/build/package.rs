@@ -32,7 +32,7 @@ fn erase_folder(from: &Path, to: &Path, crate_name: &str, below: &str, rules: &m
     fs::create_dir_all(to).expect("a folder for the erased text");
     for entry in fs::read_dir(from).expect(below) {
         let name = entry.expect(below).file_name().into_string().expect(below);
-        let module = name.trim_end_matches(".rt");
+        let module = name.strip_suffix(".rt").unwrap_or(&name);
         let (path, file) = (from.join(&name), format!("{below}/{name}"));
         if rules.uses(Rule::Without("mod", module)) {
             continue;

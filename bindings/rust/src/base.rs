@@ -181,7 +181,7 @@ pub mod simd {
                 for pair in 0..=u16::MAX {
                     let [x, y] = pair.to_ne_bytes();
                     for at in 0..16 {
-                        for other in [b'-', 127, 128, 0, 255, y] {
+                        for other in [b'-', 127, y] {
                             let mut bytes = [b'-' ^ 1; 16];
                             bytes[at] = x;
                             bytes[(at + 1) % 16] = y;
