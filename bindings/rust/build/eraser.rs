@@ -21,8 +21,8 @@ pub enum Rule<'a> {
     With(&'a str, &'a str),
     /// A function gets the suffix `_unchecked` in its definition and its calls, because the layer has one of the same name.
     Unchecked(&'a str),
-    /// In a file, below the folder of crates, one text becomes another, wherever a token begins with it. If the other one
-    /// is empty, the doc comment before it goes too. Where two rules fit, the first one counts.
+    /// In the files whose names, below the folder of crates, begin so, one text becomes another, wherever a token begins with
+    /// it. If the other one is empty, the doc comment before it goes too. Where two rules fit, the first one counts.
     Replace(&'a str, &'a str, &'a str),
 }
 
@@ -214,7 +214,7 @@ pub fn erase(text: &str, file: &str, module: &str, rules: &mut Rules) -> String 
     let tokens = source.tokens();
     let mut replacements = Vec::new();
     for (number, rule) in rules.list.iter().enumerate() {
-        if matches!(rule, Rule::Replace(of, _, _) if *of == file) {
+        if matches!(rule, Rule::Replace(begin, _, _) if file.starts_with(begin)) {
             replacements.push(number);
         }
     }

@@ -31,15 +31,13 @@ pub const RULES: &[Rule] = &[
     With("CallingConvention", "#[non_exhaustive]"),
     With("CDataModel", "#[non_exhaustive]"),
     // An allocation that fails ends the process in Rust, so that `ParseError` has upstream's six variants only.
-    Replace("target_lexicon/parse_error.rt", "OutOfMemory,", ""),
-    Replace("target_lexicon/parse_error.rt", "ParseError::OutOfMemory", "crate::shim::abort()"),
-    Replace("target_lexicon/parse_error_ref.rt", "ParseError::OutOfMemory => None,", ""),
-    Replace("target_lexicon/parse_error_ref.rt", "ParseError::OutOfMemory", "crate::shim::abort()"),
+    Replace("target_lexicon/parse_error", "OutOfMemory,", ""),
+    Replace("target_lexicon/parse_error", "ParseError::OutOfMemory => None,", ""),
+    Replace("target_lexicon/parse_error", "ParseError::OutOfMemory", "crate::shim::abort()"),
     // With the feature, printing goes by upstream's rule.
     Replace(
         "target_lexicon/display.rt",
         "self.shows_unknowns()",
         "(!cfg!(feature = \"upstream_printing\") && self.shows_unknowns())",
     ),
-    Replace("lexicon_fields/table/prefix_key.rt", "#[inline(never)]", "#[inline]"),
 ];

@@ -116,62 +116,6 @@ impl<D: Display> ToStringAlloc for D {
     }
 }
 
-/// A writer that collects pieces of text, and passes them to a formatter in one call if they fit in `bytes`.
-struct Collected<'a, 'b> {
-    f: &'a mut core::fmt::Formatter<'b>,
-    bytes: [u8; 64],
-    length: usize,
-}
-
-impl Collected<'_, '_> {
-    /// Passes on what was collected. It is UTF-8, since each piece is.
-    #[inline(always)]
-    fn flush(&mut self) -> core::fmt::Result {
-        // The zeros after the text are UTF-8 too, and whole blocks of sixteen bytes are validated faster.
-        let blocks = self.bytes.get(..(self.length + 15) / 16 * 16).unwrap_or(&self.bytes);
-        let text = core::str::from_utf8(blocks).ok().and_then(|it| it.get(..self.length));
-        self.length = 0;
-        self.f.write_str(text.ok_or(core::fmt::Error)?)
-    }
-
-    #[cold]
-    #[inline(never)]
-    fn write_long(&mut self, text: &str) -> core::fmt::Result {
-        self.flush()?;
-        self.bytes = [0; 64];
-        self.f.write_str(text)
-    }
-}
-
-impl core::fmt::Write for Collected<'_, '_> {
-    #[inline(always)]
-    fn write_str(&mut self, text: &str) -> core::fmt::Result {
-        let end = self.length.saturating_add(text.len());
-        match self.bytes.get_mut(self.length..end) {
-            Some(free) => {
-                free.copy_from_slice(text.as_bytes());
-                self.length = end;
-                Ok(())
-            }
-            None => self.write_long(text),
-        }
-    }
-}
-
-impl core::fmt::Display for crate::target_lexicon::TripleRef<'_> {
-    fn fmt(&self, f: &mut core::fmt::Formatter<'_>) -> core::fmt::Result {
-        let mut pieces = Formatter(Collected { f, bytes: [0; 64], length: 0 });
-        Display::fmt(self, &mut pieces)?;
-        pieces.0.flush()
-    }
-}
-
-impl core::fmt::Display for crate::target_lexicon::Triple {
-    fn fmt(&self, f: &mut core::fmt::Formatter<'_>) -> core::fmt::Result {
-        core::fmt::Display::fmt(&self.as_triple_ref(), f)
-    }
-}
-
 /// Rust's `Display` by the proved one.
 macro_rules! display {
     ($($krate:ident: $($name:ident $(<$lifetime:lifetime>)?)*;)*) => {
@@ -187,5 +131,5 @@ display! {
     lexicon_fields: Architecture ArmArchitecture Aarch64Architecture X86_32Architecture Mips32Architecture Mips64Architecture
         Riscv32Architecture Riscv64Architecture CleverArchitecture Z80Architecture Vendor VendorRef<'_> OperatingSystem Environment
         BinaryFormat;
-    target_lexicon: ParseError ParseErrorRef<'_>;
+    target_lexicon: Triple TripleRef<'_> ParseError ParseErrorRef<'_>;
 }
