@@ -1,5 +1,5 @@
-// The triple of each target of rustc that parses as one. The build script looks for the line of its target, and a test
-// compares each line with what its text parses as.
+// The triple of each target of rustc, older ones too, that parses as one. The build script looks for the line of its target,
+// and a test compares each line with what its text parses as.
 hosts! {
     "aarch64-apple-darwin" Aarch64(Aarch64) Apple Darwin(None) Unknown Macho;
     "aarch64-apple-ios" Aarch64(Aarch64) Apple IOS(None) Unknown Macho;
@@ -11,6 +11,7 @@ hosts! {
     "aarch64-apple-visionos-sim" Aarch64(Aarch64) Apple VisionOS(None) Sim Macho;
     "aarch64-apple-watchos" Aarch64(Aarch64) Apple WatchOS(None) Unknown Macho;
     "aarch64-apple-watchos-sim" Aarch64(Aarch64) Apple WatchOS(None) Sim Macho;
+    "aarch64-fuchsia" Aarch64(Aarch64) Unknown Fuchsia Unknown Elf;
     "aarch64-kmc-solid_asp3" Aarch64(Aarch64) Kmc SolidAsp3 Unknown Elf;
     "aarch64-linux-android" Aarch64(Aarch64) Unknown Linux Android Elf;
     "aarch64-pc-windows-gnullvm" Aarch64(Aarch64) Pc Windows GnuLlvm Coff;
@@ -57,6 +58,7 @@ hosts! {
     "armv6-unknown-freebsd" Arm(Armv6) Unknown Freebsd Unknown Elf;
     "armv6-unknown-netbsd-eabihf" Arm(Armv6) Unknown Netbsd Eabihf Elf;
     "armv6k-nintendo-3ds" Arm(Armv6k) Nintendo Horizon Newlib Elf;
+    "armv7-apple-ios" Arm(Armv7) Apple IOS(None) Unknown Macho;
     "armv7-linux-androideabi" Arm(Armv7) Unknown Linux Androideabi Elf;
     "armv7-rtems-eabihf" Arm(Armv7) Custom("rtems") Unknown Eabihf Elf;
     "armv7-unknown-freebsd" Arm(Armv7) Unknown Freebsd Unknown Elf;
@@ -80,12 +82,14 @@ hosts! {
     "armv7r-none-eabihf" Arm(Armv7r) Unknown None_ Eabihf Elf;
     "armv7s-apple-ios" Arm(Armv7s) Apple IOS(None) Unknown Macho;
     "armv8r-none-eabihf" Arm(Armv8r) Unknown None_ Eabihf Elf;
+    "asmjs-unknown-emscripten" Asmjs Unknown Emscripten Unknown Elf;
     "avr-none" Avr Unknown None_ Unknown Unknown;
     "bpfeb-unknown-none" Bpfeb Unknown None_ Unknown Unknown;
     "bpfel-unknown-none" Bpfel Unknown None_ Unknown Unknown;
     "hexagon-unknown-linux-musl" Hexagon Unknown Linux Musl Elf;
     "hexagon-unknown-none-elf" Hexagon Unknown None_ Unknown Elf;
     "i386-apple-ios" X86_32(I386) Apple IOS(None) Unknown Macho;
+    "i586-pc-windows-msvc" X86_32(I586) Pc Windows Msvc Coff;
     "i586-unknown-linux-gnu" X86_32(I586) Unknown Linux Gnu Elf;
     "i586-unknown-linux-musl" X86_32(I586) Unknown Linux Musl Elf;
     "i586-unknown-netbsd" X86_32(I586) Unknown Netbsd Unknown Elf;
@@ -102,6 +106,7 @@ hosts! {
     "i686-unknown-linux-musl" X86_32(I686) Unknown Linux Musl Elf;
     "i686-unknown-netbsd" X86_32(I686) Unknown Netbsd Unknown Elf;
     "i686-unknown-openbsd" X86_32(I686) Unknown Openbsd Unknown Elf;
+    "i686-unknown-redox" X86_32(I686) Unknown Redox Unknown Elf;
     "i686-unknown-uefi" X86_32(I686) Unknown Uefi Unknown Elf;
     "i686-uwp-windows-gnu" X86_32(I686) Uwp Windows Gnu Coff;
     "i686-uwp-windows-msvc" X86_32(I686) Uwp Windows Msvc Coff;
@@ -216,6 +221,7 @@ hosts! {
     "wasm32-unknown-emscripten" Wasm32 Unknown Emscripten Unknown Wasm;
     "wasm32-unknown-unknown" Wasm32 Unknown Unknown Unknown Wasm;
     "wasm32-wali-linux-musl" Wasm32 Custom("wali") Linux Musl Elf;
+    "wasm32-wasi" Wasm32 Unknown Wasi Unknown Wasm;
     "wasm32-wasip1" Wasm32 Unknown WasiP1 Unknown Elf;
     "wasm32-wasip1-threads" Wasm32 Unknown WasiP1 Threads Elf;
     "wasm32-wasip2" Wasm32 Unknown WasiP2 Unknown Elf;
@@ -227,12 +233,14 @@ hosts! {
     "x86_64-apple-tvos" X86_64 Apple TvOS(None) Unknown Macho;
     "x86_64-apple-watchos-sim" X86_64 Apple WatchOS(None) Sim Macho;
     "x86_64-fortanix-unknown-sgx" X86_64 Fortanix Unknown Sgx Elf;
+    "x86_64-fuchsia" X86_64 Unknown Fuchsia Unknown Elf;
     "x86_64-linux-android" X86_64 Unknown Linux Android Elf;
     "x86_64-pc-cygwin" X86_64 Pc Cygwin Unknown Elf;
     "x86_64-pc-solaris" X86_64 Pc Solaris Unknown Elf;
     "x86_64-pc-windows-gnu" X86_64 Pc Windows Gnu Coff;
     "x86_64-pc-windows-gnullvm" X86_64 Pc Windows GnuLlvm Coff;
     "x86_64-pc-windows-msvc" X86_64 Pc Windows Msvc Coff;
+    "x86_64-sun-solaris" X86_64 Sun Solaris Unknown Elf;
     "x86_64-unikraft-linux-musl" X86_64 Custom("unikraft") Linux Musl Elf;
     "x86_64-unknown-dragonfly" X86_64 Unknown Dragonfly Unknown Elf;
     "x86_64-unknown-freebsd" X86_64 Unknown Freebsd Unknown Elf;
@@ -249,6 +257,7 @@ hosts! {
     "x86_64-unknown-linux-ohos" X86_64 Unknown Linux Ohos Elf;
     "x86_64-unknown-netbsd" X86_64 Unknown Netbsd Unknown Elf;
     "x86_64-unknown-none" X86_64 Unknown None_ Unknown Unknown;
+    "x86_64-unknown-none-linuxkernel" X86_64 Unknown None_ LinuxKernel Unknown;
     "x86_64-unknown-openbsd" X86_64 Unknown Openbsd Unknown Elf;
     "x86_64-unknown-redox" X86_64 Unknown Redox Unknown Elf;
     "x86_64-unknown-uefi" X86_64 Unknown Uefi Unknown Elf;
