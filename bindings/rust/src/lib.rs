@@ -17,10 +17,10 @@
 //! ```
 //!
 //! The crate needs Rust 1.65, is `no_std` with `alloc`, and has no dependency but `serde`, with the feature
-//! `serde_support`. The feature `upstream_printing` prints each triple as upstream does; `std`, `arch_zkasm` and `arch_z80`
-//! change nothing. [`TripleRef`] is a triple that borrows from the text, [`TripleRef::explain`] says where a text is
-//! refused, and [`Triple::settle`] gives a key. The page `bindings/rust/README.md` of the repository says what differs from
-//! upstream, and what is proved.
+//! `serde_support`. The feature `upstream_printing` prints each triple as upstream does. Before Rust 1.81 the errors
+//! implement `Error` with the feature `std` only. `arch_zkasm` and `arch_z80` change nothing. [`TripleRef`] is a triple that
+//! borrows from the text, [`TripleRef::explain`] says where a text is refused, and [`Triple::settle`] gives a key. The page
+//! `bindings/rust/README.md` of the repository says what differs from upstream, and what is proved.
 #![no_std]
 #![forbid(unsafe_code)]
 
