@@ -1,6 +1,7 @@
 """Builds the wheel and the sdist of the package `lexicon`: the backend, by PEP 517, that pyproject.toml names.
 
-The wheel has the shared library that the variable LEXICON_LIBRARY names. The same files give the same wheel and sdist,
+The wheel has the shared library that the variable LEXICON_LIBRARY names. Without that variable cargo builds the library,
+from the sources in the repository or, in an sdist, below the folder `native`. The same files give the same wheel and sdist,
 to the byte: names are sorted, and times are that of SOURCE_DATE_EPOCH, or else the first of January 1980. The
 wheel isn't compressed, so that its bytes don't depend on the version of zlib.
 """
@@ -11,7 +12,10 @@ import io
 import os
 import re
 import struct
+import subprocess
+import sysconfig
 import tarfile
+import tempfile
 import time
 import zipfile
 
@@ -20,8 +24,8 @@ NAME = "target_lexicon"
 FIRST_TIME = 315532800  # The first one that a zip file can have.
 LIBRARY = "lexicon/liblexicon.so.0"
 
-NEEDED = """LEXICON_LIBRARY isn't set. A wheel of target-lexicon has a shared library in it, which this source hasn't.
-Build it with LEXICON_LIBRARY=PATH/liblexicon.so, from an installation of the library for C (liblexicon 0.2)."""
+NEEDED = """the shared library of this package isn't built: {why}.
+Install Rust, which has cargo, or set the variable LEXICON_LIBRARY to PATH/liblexicon.so of a built library for C (liblexicon 0.2)."""
 
 METADATA = """\
 Metadata-Version: 2.1
@@ -56,11 +60,8 @@ def prepare_metadata_for_build_wheel(metadata_directory, config_settings=None):
 
 
 def build_wheel(wheel_directory, config_settings=None, metadata_directory=None):
-    library = os.environ.get("LEXICON_LIBRARY")
-    if not library:
-        raise SystemExit(NEEDED)
-    content = read(library)
-    tag = f"py3-none-{platform_of(content)}"
+    content, platform = given_library() if os.environ.get("LEXICON_LIBRARY") else built_library()
+    tag = f"py3-none-{platform}"
     info = f"{NAME}-{version()}.dist-info"
     files = {**package(), LIBRARY: content}
     files[f"{info}/METADATA"] = metadata("")
@@ -82,7 +83,8 @@ def build_sdist(sdist_directory, config_settings=None):
     folder = f"{NAME}-{version()}"
     files = {f"src/{path}": content for path, content in package().items()}
     files |= {name: read(os.path.join(HERE, name)) for name in ("README.md", "build_backend.py", "pyproject.toml")}
-    files |= {"LICENSE": licence(), "PKG-INFO": metadata("Requires-External: liblexicon (0.2)\n")}
+    files |= {"LICENSE": licence(), "PKG-INFO": metadata("Requires-External: cargo\n")}
+    files |= {f"native/{path}": read(os.path.join(native(), path)) for path in native_files()}
     unpacked = io.BytesIO()
     with tarfile.open(fileobj=unpacked, mode="w", format=tarfile.USTAR_FORMAT) as archive:
         for path in sorted(files):
@@ -97,6 +99,53 @@ def build_sdist(sdist_directory, config_settings=None):
 def read(path):
     with open(path, "rb") as it:
         return it.read()
+
+
+def native():
+    """The folder with the sources of the library: `native` in an sdist, otherwise the top of the repository."""
+    found = os.path.join(HERE, "native")
+    return found if os.path.isdir(found) else os.path.normpath(os.path.join(HERE, "..", ".."))
+
+
+def native_files():
+    """The files that cargo builds the library from, below `native`."""
+    script = read(os.path.join(native(), "bindings", "cargo", "c", "build.rs")).decode()
+    crates = re.findall(r'"(\w+)"', re.search(r"const CRATES: .*? = (\[.*?\]);", script, re.S)[1])
+    parts = ["bindings/cargo/c", "bindings/cargo/shim", "bindings/rust/build", *(f"crates/{it}/src" for it in crates)]
+    for part in parts:
+        for folder, folders, names in os.walk(os.path.join(native(), part)):
+            folders[:] = sorted(it for it in folders if it != "target")
+            below = os.path.relpath(folder, native()).replace(os.sep, "/")
+            yield from (f"{below}/{name}" for name in sorted(names))
+
+
+def given_library():
+    """The library that the variable names, and the platform that it is for."""
+    content = read(os.environ["LEXICON_LIBRARY"])
+    platform = linux_platform(content)
+    if not platform:
+        raise SystemExit("LEXICON_LIBRARY isn't a shared library for Linux on x86-64 or 64-bit Arm")
+    return content, platform
+
+
+def built_library():
+    """The library that cargo builds, and the platform that it is for: this one, or that of the variable CARGO_BUILD_TARGET."""
+    target = os.environ.get("CARGO_BUILD_TARGET", "")
+    with tempfile.TemporaryDirectory() as work:
+        words = [os.environ.get("CARGO", "cargo"), "build", "--quiet", "--release", "--locked", "--target-dir", work, "--manifest-path",
+                 os.path.join(native(), "bindings", "cargo", "c", "Cargo.toml")]
+        try:
+            status = subprocess.run(words, check=False).returncode
+        except OSError as error:
+            raise SystemExit(NEEDED.format(why=f"cargo doesn't run ({error})")) from None
+        if status:
+            raise SystemExit(NEEDED.format(why=f"cargo ended with status {status}"))
+        paths = [os.path.join(work, target, "release", it) for it in ("liblexicon.so", "liblexicon.dylib", "lexicon.dll")]
+        content = read(next(it for it in paths if os.path.exists(it)))
+    platform = linux_platform(content)
+    if not platform and target:
+        raise SystemExit(f"there is no name for the platform of {target}: build the wheel on such a machine")
+    return content, platform or re.sub(r"\W", "_", sysconfig.get_platform())
 
 
 def package():
@@ -131,25 +180,27 @@ def digest(content):
 
 # ---- the platform that a library is for
 
-X86_64 = 62
+MACHINES = {62: "x86_64", 183: "aarch64"}
 DYNAMIC, DYNAMIC_SYMBOLS, NEEDED_VERSIONS = 6, 11, 0x6FFFFFFE
 DT_NEEDED, DT_SONAME = 1, 14
 MANYLINUX_LIBRARIES = {"libc.so.6", "libgcc_s.so.1", "libm.so.6", "libpthread.so.0", "libdl.so.2", "librt.so.1",
-                       "ld-linux-x86-64.so.2"}
+                       "ld-linux-x86-64.so.2", "ld-linux-aarch64.so.1"}
 
 
-def platform_of(content):
-    """The tag of the platforms that a shared library is for, by what it needs of the C library.
+def linux_platform(content):
+    """The tag of the Linux platforms that a shared library is for, by what it needs of the C library; nothing for another.
 
     A library that needs other ones than the C library is for `linux_x86_64`, for which nothing is promised.
     """
-    if content[:6] != b"\x7fELF\x02\x01" or struct.unpack_from("<H", content, 18)[0] != X86_64:
-        raise SystemExit("LEXICON_LIBRARY isn't a shared library for x86-64 Linux")
+    machine = MACHINES.get(struct.unpack_from("<H", content, 18)[0]) if content[:6] == b"\x7fELF\x02\x01" else None
+    if machine is None:
+        return None
     libraries, versions = needs_of(content)
     glibc = [tuple(map(int, it[6:].split(".")[:2])) for it in versions if re.fullmatch(r"GLIBC_[\d.]+", it)]
     if not libraries <= MANYLINUX_LIBRARIES or "GLIBC_PRIVATE" in versions:
-        return "linux_x86_64"
-    return "manylinux_%d_%d_x86_64" % max([*glibc, (2, 17)])
+        return f"linux_{machine}"
+    major, minor = max([*glibc, (2, 17)])
+    return f"manylinux_{major}_{minor}_{machine}"
 
 
 def needs_of(content):

@@ -15,6 +15,7 @@ import sys
 import tarfile
 import tempfile
 import unittest
+import venv
 import zipfile
 
 import lexicon
@@ -22,6 +23,9 @@ import lists
 
 SOURCE = os.path.join(lists.ROOT, "bindings", "python")
 PRINTS = "from lexicon import Triple; print(Triple('arm64-linux'))"
+PIP = [sys.executable, "-m", "pip", "--disable-pip-version-check"]
+# Where Rust's programs have what they need.
+HOMES = {name: value for name, value in os.environ.items() if name in ("HOME", "RUSTUP_HOME", "RUSTUP_TOOLCHAIN", "CARGO_HOME")}
 
 
 def built(suffix):
@@ -79,22 +83,39 @@ class Built(Folder):
         with zipfile.ZipFile(os.path.join(self.folder, os.path.basename(built(".whl")))) as wheel:
             self.assertEqual({it.date_time for it in wheel.infolist()}, {(2023, 11, 14, 22, 13, 20)})
 
-    def test_sdist_gives_the_same_wheel(self):
+    def unpacked(self):
+        """The folder of the sdist, unpacked."""
         with tarfile.open(built(".tar.gz")) as archive:
             for member in archive.getmembers():
                 self.assertTrue(member.isfile() and ".." not in member.name and not member.name.startswith("/"))
             archive.extractall(self.folder)
         source, = (os.path.join(self.folder, it) for it in os.listdir(self.folder))
-        self.assertIn("Requires-External: liblexicon", open(os.path.join(source, "PKG-INFO"), encoding="utf-8").read())
-        command = [sys.executable, "-m", "pip", "wheel", "--no-deps", "--no-build-isolation", "--no-index", "-w", self.folder, source]
-        ran = run(*command)
+        self.assertIn("Requires-External: cargo", open(os.path.join(source, "PKG-INFO"), encoding="utf-8").read())
+        return source
+
+    def test_sdist_gives_the_same_wheel(self):
+        command = [*PIP, "wheel", "--no-deps", "--no-build-isolation", "--no-index", "-w", self.folder, self.unpacked()]
+        ran = run(*command, PATH=self.folder)
         self.assertNotEqual(ran.returncode, 0)
-        self.assertIn("LEXICON_LIBRARY isn't set", ran.stdout + ran.stderr)
+        self.assertRegex(ran.stdout + ran.stderr, "the shared library of this package isn't built: cargo doesn't run")
         ran = run(*command, LEXICON_LIBRARY=os.path.join(SOURCE, "README.md"))
-        self.assertIn("isn't a shared library for x86-64 Linux", ran.stdout + ran.stderr)
+        self.assertIn("isn't a shared library for Linux", ran.stdout + ran.stderr)
         ran = run(*command, LEXICON_LIBRARY=lists.LIBRARY)
         self.assertEqual(ran.returncode, 0, ran.stderr)
         self.assertTrue(filecmp.cmp(os.path.join(self.folder, os.path.basename(built(".whl"))), built(".whl"), shallow=False))
+
+    @unittest.skipUnless(shutil.which("cargo"), "no cargo")
+    def test_pip_installs_sources_by_cargo(self):
+        """Of the folder and of the sdist, `pip install` makes a package with a library of its own."""
+        for source in SOURCE, built(".tar.gz"):
+            environment = tempfile.mkdtemp(dir=self.folder)
+            venv.create(environment, with_pip=True)
+            python = os.path.join(environment, "bin", "python")
+            ran = run(python, *PIP[1:], "install", "--no-index", "--no-cache-dir", source, **HOMES)
+            self.assertEqual(ran.returncode, 0, ran.stdout + ran.stderr)
+            ran = run(python, "-I", "-c", f"{PRINTS}; import lexicon; print(lexicon.LIBRARY_PATH)")
+            printed, library = ran.stdout.split()
+            self.assertEqual((printed, library.startswith(environment)), ("aarch64-unknown-linux", True), ran.stderr)
 
 
 class FindsTheLibrary(Folder):
@@ -158,11 +179,10 @@ class Samples(unittest.TestCase):
     @unittest.skipUnless(shutil.which("rustc"), "no rustc")
     def test_counts_of_the_page(self):
         """Which targets of rustc come back, have another canonical text, and have an unknown system."""
-        home = {name: value for name, value in os.environ.items() if name in ("HOME", "RUSTUP_HOME", "RUSTUP_TOOLCHAIN", "CARGO_HOME")}
-        if not run("rustc", "--version", **home).stdout.startswith("rustc 1.95."):
+        if not run("rustc", "--version", **HOMES).stdout.startswith("rustc 1.95."):
             self.skipTest("another version of rustc than the page's")
         triples = {}
-        for text in run("rustc", "--print", "target-list", **home).stdout.split():
+        for text in run("rustc", "--print", "target-list", **HOMES).stdout.split():
             with contextlib.suppress(lexicon.ParseError):
                 triples[text] = lexicon.Triple(text)
         self.assertEqual(len(triples), 263)
