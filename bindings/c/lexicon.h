@@ -24,7 +24,8 @@
    In C++ cast a status to lexicon_status, and a uint8_t to unsigned before it goes to a stream, which would print it as a
    character.
 
-   The library is machine code for x86-64 Linux, level x86-64-v2 (SSE4.2 and POPCNT, as in processors since 2009).
+   What Rattle's kit builds is machine code for x86-64 Linux, level x86-64-v2 (SSE4.2 and POPCNT, as in processors since 2009).
+   What cargo builds is for the machine that it was asked for.
 
    SPDX-License-Identifier: Apache-2.0 WITH LLVM-exception */
 #ifndef LEXICON_H
