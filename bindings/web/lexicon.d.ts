@@ -120,8 +120,5 @@ export function namesOf(field: Field): readonly string[];
 /** The number of the value that a text is in a field, outside any triple; 255 for a custom vendor, and null for no value. */
 export function numberOf(field: Field, text: string): number | null;
 
-/** Whether this engine runs modules with a 64-bit memory. If not, load lexicon32.wasm. */
-export function hasMemory64(): boolean;
-
 /** Loads the module, from its bytes. What was loaded before is replaced. The package's own entry has done so. */
 export function load(bytes: ArrayBuffer | ArrayBufferView): Promise<void>;

@@ -28,10 +28,11 @@ const cBitsOf = ([char, short, int, long, longLong, float, double, pointer]) => 
   char, short, int, long, longLong, float, double, pointer,
 });
 
-// Where the structs are, after the module's own data. Texts and buffers follow them. In a triple the numbers are at 0 (16
-// bits), 2, 3, 4, 5, 6, 7, 8 (8 bits each) and 10 (16 bits).
-const FIRST = 0, SECOND = 16, VENDOR = 32, LENGTH = 48, ANSWER = 56, ERROR = 64, FACTS = 88, SOURCE_TABLE = 112, TEXTS = 240;
-const SOURCE_SIZE = 24;
+// Where the structs of lexicon.h are, after the module's own data, with pointers and sizes of 32 bits. Texts and buffers follow
+// them. In a triple the numbers are at 0 (16 bits), 2, 3, 4, 5, 6, 7, 8 (8 bits each) and 10 (16 bits); the text of a custom
+// vendor and its size are at 12 and 16.
+const FIRST = 0, SECOND = 20, LENGTH = 40, ANSWER = 44, ERROR = 48, FACTS = 60, SOURCE_TABLE = 80, TEXTS = 140;
+const VENDOR = 12, SOURCE_SIZE = 12;
 const PAGE = 65536;
 const SHORT = 64; // up to here a loop over ASCII is faster than the encoder and the decoder
 const ROOM = 128; // the first try for a text that the module writes, beside a custom vendor
@@ -44,14 +45,12 @@ const LONE_SURROGATE = /\p{Surrogate}/u;
 /** An instance of the module: its calls and its memory, in which one call at a time has its arguments. */
 class Module {
   constructor(compiled, instance) {
-    const { memory, __heap_base: base, ...calls } = instance.exports;
+    const { memory, __heap_base: base, ...others } = instance.exports;
     this.compiled = compiled;
     this.isSpent = false; // an instance is replaced after an exception in a call, and when its memory is large
-    this.calls = Object.fromEntries(Object.entries(calls).map(([name, call]) => [name.replace("lexicon_", ""), call]));
+    this.calls = Object.fromEntries(Object.entries(others).map(([name, call]) => [name.replace("lexicon_", ""), call]));
     this.memory = memory;
-    this.base = (Number(base.value) + 15) & ~15;
-    this.at = new Map(); // the places of the structs as the calls take them
-    for (const place of [FIRST, SECOND, VENDOR, LENGTH, ANSWER, ERROR, FACTS, SOURCE_TABLE]) this.at.set(place, BigInt(this.base + place));
+    this.base = (base.value + 15) & ~15;
     this.hold(ROOM);
     this.names = FIELDS.map((_, field) => Object.freeze([...this.namesIn(field)]));
     this.numbers = this.names.map((names) => new Map(names.map((name, number) => [name, number])));
@@ -68,14 +67,11 @@ class Module {
     }
   }
 
-  /** Engines differ in whether the size of a 64-bit memory is a number or a BigInt. */
   grow(pages) {
-    for (const size of [pages, BigInt(pages)]) {
-      try {
-        return this.memory.grow(size);
-      } catch (error) {
-        if (!(error instanceof TypeError)) throw new RangeError("the text is too long for the memory", { cause: error });
-      }
+    try {
+      this.memory.grow(pages);
+    } catch (error) {
+      throw new RangeError("the text is too long for the memory", { cause: error });
     }
   }
 
@@ -89,7 +85,7 @@ class Module {
   }
 
   number(place) {
-    return Number(this.view.getBigUint64(this.base + place, true));
+    return this.view.getUint32(this.base + place, true);
   }
 
   /** Writes a text at a place after the structs; its bytes as the calls take them, a pointer and a size. */
@@ -104,10 +100,10 @@ class Module {
         all |= unit;
         bytes[start + i] = unit;
       }
-      if (all < 128) return [BigInt(start), BigInt(length)];
+      if (all < 128) return [start, length];
     }
     const { written } = encoder.encodeInto(text, this.bytes.subarray(start));
-    return [BigInt(start), BigInt(written)];
+    return [start, written];
   }
 
   read(start, size) {
@@ -128,27 +124,21 @@ class Module {
     for (let room = used + ROOM; ; room = this.number(LENGTH)) {
       this.hold(used + room);
       const out = this.base + TEXTS + used;
-      const status = this.call(name, ...values, BigInt(out), BigInt(room), this.at.get(LENGTH));
+      const status = this.call(name, ...values, out, room, this.base + LENGTH);
       if (status === OK) return this.read(out, this.number(LENGTH));
       if (status !== TOO_SMALL) throw failure(status);
     }
   }
 
-  /** Gives the struct of a text some valid value, as the calls require. */
-  clear(place) {
-    this.view.setBigUint64(this.base + place, this.at.get(place), true);
-    this.view.setBigUint64(this.base + place + 8, 0n, true);
-  }
-
   *namesIn(field) {
     for (let number = 0; ; number++) {
-      this.clear(VENDOR);
-      if (this.call("name", field, number, this.at.get(VENDOR)) !== OK) return;
-      yield this.read(this.number(VENDOR), this.number(VENDOR + 8));
+      const name = this.call("name", field, number, this.base + LENGTH);
+      if (name === 0) return;
+      yield this.read(name, this.number(LENGTH));
     }
   }
 
-  /** Writes a triple; its numbers and its custom vendor as the calls take them, and the bytes of texts that this used. */
+  /** Writes a triple. Where it is, and the bytes of texts that this used. */
   triple({ numbers, version, vendor, hasCustomVendor }, place = FIRST, at = 0) {
     const { bytes, view } = this, start = this.base + place;
     view.setUint16(start, numbers.architecture, true);
@@ -160,12 +150,14 @@ class Module {
     bytes[start + 7] = version === null ? 0 : version.minor;
     bytes[start + 8] = version === null ? 0 : version.patch;
     view.setUint16(start + 10, version === null ? 0 : version.major, true);
-    const text = this.text(hasCustomVendor ? vendor : "", at);
-    return { values: [this.at.get(place), ...text], used: at + Number(text[1]) };
+    const [text, size] = hasCustomVendor ? this.text(vendor, at) : [0, 0];
+    this.view.setUint32(start + VENDOR, text, true);
+    this.view.setUint32(start + VENDOR + 4, size, true);
+    return { start, used: at + size };
   }
 
-  /** The triple in the first struct, with this custom vendor if it has one. */
-  tripleAt(customVendor) {
+  /** The triple in the first struct. */
+  tripleAt() {
     const { bytes, names, view } = this, start = this.base + FIRST;
     const numbers = {
       architecture: view.getUint16(start, true),
@@ -176,7 +168,7 @@ class Module {
     };
     const values = {
       architecture: names[0][numbers.architecture],
-      vendor: numbers.vendor === CUSTOM ? customVendor : names[1][numbers.vendor],
+      vendor: numbers.vendor === CUSTOM ? this.read(this.number(VENDOR), this.number(VENDOR + 4)) : names[1][numbers.vendor],
       operatingSystem: names[2][numbers.operatingSystem],
       environment: names[3][numbers.environment],
       binaryFormat: names[4][numbers.binaryFormat],
@@ -187,9 +179,9 @@ class Module {
 
   answer(name, first, second) {
     const one = this.triple(first);
-    const more = second ? this.triple(second, SECOND, one.used).values : [];
+    const more = second ? [this.triple(second, SECOND, one.used).start] : [];
     // The second's text may have grown the memory, but it moved nothing.
-    const status = this.call(name, ...one.values, ...more, this.at.get(ANSWER));
+    const status = this.call(name, one.start, ...more, this.base + ANSWER);
     if (status !== OK) throw failure(status);
     return this.bytes[this.base + ANSWER] === 1;
   }
@@ -206,11 +198,6 @@ function module() {
   if (!loaded) throw new Error("the module is not loaded: await load(..) first");
   if (loaded.isSpent) loaded = new Module(loaded.compiled, new WebAssembly.Instance(loaded.compiled));
   return loaded;
-}
-
-/** Whether this engine runs modules with a 64-bit memory. If not, load lexicon32.wasm. */
-export function hasMemory64() {
-  return WebAssembly.validate(Uint8Array.of(0, 97, 115, 109, 1, 0, 0, 0, 5, 3, 1, 4, 0));
 }
 
 /** Loads the module, from its bytes. What was loaded before is replaced. */
@@ -257,7 +244,7 @@ export class ParseError extends Error {
 
 /** The range of a text at a place in the memory, in units of UTF-16. */
 function rangeAt(it, place, text, bytes) {
-  const start = it.number(place), end = start + it.number(place + 8), from = it.base + TEXTS;
+  const start = it.number(place), end = start + it.number(place + 4), from = it.base + TEXTS;
   if (bytes === text.length) return [start, end];
   const units = (at, to) => decoder.decode(it.bytes.subarray(from + at, from + to)).length;
   const first = units(0, start);
@@ -265,14 +252,9 @@ function rangeAt(it, place, text, bytes) {
 }
 
 function errorAt(it, status, text, bytes) {
-  const [start, end] = rangeAt(it, ERROR + 8, text, bytes), part = text.slice(start, end);
+  const [start, end] = rangeAt(it, ERROR + 4, text, bytes), part = text.slice(start, end);
   const given = it.text(part);
-  return new ParseError(it.written("error_line", Number(given[1]), status, ...given), KINDS[status - 1], text, start, end);
-}
-
-function customVendorAt(it) {
-  const size = it.number(VENDOR + 8);
-  return size ? it.read(it.number(VENDOR), size) : null;
+  return new ParseError(it.written("error_line", given[1], status, ...given), KINDS[status - 1], text, start, end);
 }
 
 const SECRET = Symbol();
@@ -297,10 +279,9 @@ export class Triple {
   /** The triple of a text. Throws a ParseError if the text is refused. */
   static parse(text) {
     const it = module(), given = it.text(textOf(text));
-    it.clear(VENDOR);
-    const status = it.call("parse", ...given, it.at.get(FIRST), it.at.get(VENDOR), it.at.get(ERROR));
-    if (status === OK) return it.tripleAt(customVendorAt(it));
-    throw status <= REFUSED ? errorAt(it, status, text, Number(given[1])) : failure(status);
+    const status = it.call("parse", ...given, it.base + FIRST, it.base + ERROR);
+    if (status === OK) return it.tripleAt();
+    throw status <= REFUSED ? errorAt(it, status, text, given[1]) : failure(status);
   }
 
   /** The triple or the error of a text, and where each field comes from. */
@@ -312,13 +293,12 @@ export class Triple {
       if (!(error instanceof ParseError)) throw error;
       return { text, triple: null, error, sources: Object.fromEntries(FIELDS.map((field) => [field, { kind: SOURCES[0] }])) };
     }
-    const given = it.text(text), size = Number(given[1]);
-    it.clear(VENDOR);
-    const status = it.call("explain", ...given, it.at.get(FIRST), it.at.get(VENDOR), it.at.get(SOURCE_TABLE), it.at.get(ERROR));
+    const given = it.text(text), size = given[1];
+    const status = it.call("explain", ...given, it.base + FIRST, it.base + SOURCE_TABLE, it.base + ERROR);
     if (status > REFUSED) throw failure(status);
     const sources = Object.fromEntries(FIELDS.map((field, index) => [field, sourceAt(it, SOURCE_TABLE + index * SOURCE_SIZE, text, size)]));
     if (status !== OK) return { text, triple: null, error: errorAt(it, status, text, size), sources };
-    return { text, triple: it.tripleAt(customVendorAt(it)), error: null, sources };
+    return { text, triple: it.tripleAt(), error: null, sources };
   }
 
   /** The triple of these values, by their names; a field that is left out is unknown. */
@@ -343,8 +323,8 @@ export class Triple {
 
   /** The printed text. */
   toString() {
-    const it = module(), { values, used } = it.triple(this);
-    return it.written("write", used, ...values);
+    const it = module(), { start, used } = it.triple(this);
+    return it.written("write", used, start);
   }
 
   toJSON() {
@@ -353,9 +333,9 @@ export class Triple {
 
   /** The canonical form: two canonical triples with the same printed text are equal. */
   settled() {
-    const it = module(), { values } = it.triple(this), status = it.call("settle", ...values);
+    const it = module(), status = it.call("settle", it.triple(this).start);
     if (status !== OK) throw failure(status);
-    return it.tripleAt(this.vendor);
+    return it.tripleAt();
   }
 
   /** Whether printing and parsing give this triple again. */
@@ -374,7 +354,7 @@ export class Triple {
 
   /** What a compiler asks of a triple; null where there is no answer. */
   facts() {
-    const it = module(), { values } = it.triple(this), status = it.call("facts", ...values, it.at.get(FACTS));
+    const it = module(), status = it.call("facts", it.triple(this).start, it.base + FACTS);
     if (status !== OK) throw failure(status);
     const at = it.base + FACTS, n = it.bytes.subarray(at, at + 17);
     return {
@@ -395,7 +375,7 @@ export class Triple {
 function sourceAt(it, place, text, bytes) {
   const kind = SOURCES[it.view.getUint32(it.base + place, true)];
   if (kind !== "given") return { kind };
-  const [start, end] = rangeAt(it, place + 8, text, bytes);
+  const [start, end] = rangeAt(it, place + 4, text, bytes);
   return { kind, start, end, part: text.slice(start, end) };
 }
 
@@ -414,6 +394,6 @@ export function numberOf(field, text) {
   if (LONE_SURROGATE.test(text)) return null;
   const known = it.numbers[index].get(text);
   if (known !== undefined) return known;
-  const status = it.call("number", index, ...it.text(text), it.at.get(ANSWER));
+  const status = it.call("number", index, ...it.text(text), it.base + ANSWER);
   return status === OK ? it.view.getUint32(it.base + ANSWER, true) : null;
 }

@@ -1,5 +1,5 @@
 // The page: shows the targets of the text field in the table. `build` puts lexicon.js and this file into one.
-import { FIELDS, Triple, hasMemory64, load, namesOf } from "../lexicon.js";
+import { FIELDS, Triple, load, namesOf } from "../lexicon.js";
 
 const LABELS = {
   architecture: "Architecture", vendor: "Vendor", operatingSystem: "System", environment: "Environment", binaryFormat: "Format",
@@ -254,8 +254,8 @@ async function copyMatrix() {
 // ---- the beginning
 
 async function begin() {
-  const name = hasMemory64() ? "lexicon.wasm" : "lexicon32.wasm", response = await fetch(name);
-  if (!response.ok) throw new Error(`${name}: ${response.status} ${response.statusText}`);
+  const response = await fetch("lexicon.wasm");
+  if (!response.ok) throw new Error(`lexicon.wasm: ${response.status} ${response.statusText}`);
   await load(await response.arrayBuffer());
   let waiting;
   field.addEventListener("input", () => {

@@ -70,10 +70,10 @@ def opened(url, before, test):
         return said
 
 
-def asks_for_two_files(page, module):
+def asks_for_two_files(page):
     page.size(1280, 900)
     holds(page.run(ROWS + ".length") > 3, "there are no rows at the beginning")
-    same([it.rsplit("/", 1)[1] for it in page.requests if not it.startswith("data:")], ["", "page.js", module])
+    same([it.rsplit("/", 1)[1] for it in page.requests if not it.startswith("data:")], ["", "page.js", "lexicon.wasm"])
 
 
 def shows_fields(page):
@@ -214,15 +214,8 @@ def stays_responsive(page):
 
 def page_tests(url):
     """The name of each test of the page at a URL, and the test."""
-    lowered = "WebAssembly.validate = () => false"
     tests = [asks_for_two_files, shows_fields, shows_special_text, refuses_and_suggests, is_a_card, is_accessible, has_a_link,
              copies_the_matrix, stays_responsive]
     for test in tests:
-        if test is asks_for_two_files:
-            for before, module in ("", "lexicon.wasm"), (lowered, "lexicon32.wasm"):
-                each = functools.partial(asks_for_two_files, module=module)
-                yield f"it asks for two files, {module}", functools.partial(opened, f"{url}/", before, each)
-        else:
-            yield test.__name__.replace("_", " "), functools.partial(opened, f"{url}/", "", test)
-    yield "fields by lexicon32.wasm", functools.partial(opened, f"{url}/", lowered, shows_fields)
+        yield test.__name__.replace("_", " "), functools.partial(opened, f"{url}/", "", test)
     yield "opens a link", functools.partial(opens_a_link, url)

@@ -65,7 +65,10 @@ const NO_TEXT: LexiconText<'static> = LexiconText { text: &[] };
 /// A struct of integers, for which all zeros are a value.
 unsafe trait Integers: Sized {
     /// What a local has before a call writes to it.
-    const ZEROS: Self = unsafe { core::mem::zeroed() };
+    fn zeros() -> Self {
+        // SAFETY: what implements this says so.
+        unsafe { core::mem::zeroed() }
+    }
 }
 
 unsafe impl Integers for LexiconTriple {}
@@ -94,7 +97,7 @@ unsafe fn numbers_at(triple: *const Triple) -> LexiconTriple {
             environment: (*from).environment,
             binary_format: (*from).binary_format,
             has_version: (*from).has_version,
-            ..Integers::ZEROS
+            ..Integers::zeros()
         };
         if numbers.has_version == 1 {
             numbers.minor = (*from).minor;
@@ -169,7 +172,7 @@ unsafe fn write_text(out: *mut u8, out_size: usize, length: *mut usize, call: im
 
 #[no_mangle]
 pub unsafe extern "C" fn lexicon_parse(text: *const u8, text_size: usize, triple: *mut Triple, error: *mut LexiconError) -> u32 {
-    let (mut numbers, mut vendor, mut refusal) = (LexiconTriple::ZEROS, NO_TEXT, LexiconError::ZEROS);
+    let (mut numbers, mut vendor, mut refusal) = (LexiconTriple::zeros(), NO_TEXT, LexiconError::zeros());
     // SAFETY: the arguments of the caller, here and below.
     let text = unsafe { text_at(text, text_size) };
     let status = lexicon_c::lexicon_parse(text, &mut numbers, &mut vendor, &mut refusal);
@@ -185,7 +188,7 @@ pub unsafe extern "C" fn lexicon_explain(
     sources: *mut LexiconSources,
     error: *mut LexiconError,
 ) -> u32 {
-    let (mut numbers, mut vendor, mut found, mut refusal) = (LexiconTriple::ZEROS, NO_TEXT, LexiconSources::ZEROS, LexiconError::ZEROS);
+    let (mut numbers, mut vendor, mut found, mut refusal) = (LexiconTriple::zeros(), NO_TEXT, LexiconSources::zeros(), LexiconError::zeros());
     let text = unsafe { text_at(text, text_size) };
     let status = lexicon_c::lexicon_explain(text, &mut numbers, &mut vendor, &mut found, &mut refusal);
     unsafe { write_parsed(status, (numbers, vendor, refusal), triple, error) }
@@ -251,7 +254,7 @@ unsafe fn compared(
 pub unsafe extern "C" fn lexicon_facts(triple: *const Triple, facts: *mut LexiconFacts) -> u32 {
     let numbers = unsafe { numbers_at(triple) };
     let vendor = unsafe { vendor_at(triple, &numbers) };
-    let mut found = LexiconFacts::ZEROS;
+    let mut found = LexiconFacts::zeros();
     let status = lexicon_c::lexicon_facts(&numbers, vendor, &mut found);
     unsafe { write_answer(status, found, facts) }
 }
