@@ -4,7 +4,7 @@ import json
 import time
 import urllib.parse
 
-from devtools import Page
+from browser import Keys, Page
 
 ROWS = "[...document.querySelectorAll('tbody tr')]"
 STATUS = "document.getElementById('status').textContent"
@@ -14,7 +14,6 @@ CELLS = ROWS + """.map((row) => [...row.cells].map((cell) => {
   while (walker.nextNode()) texts.push(walker.currentNode.data);
   return texts.join(row.className ? "" : " ").replace(/\\s+/g, " ").replace(/ ,/g, ",");
 }))"""
-CONTROL = 2
 
 # Counts the milliseconds of the longest time without a chance for input.
 WATCH = """(() => {
@@ -51,13 +50,13 @@ def loaded(page):
 def typed(page, text):
     """Replaces what is in the text field, by the keyboard."""
     page.run("document.getElementById('targets').focus()")
-    page.press("a", 65, modifiers=CONTROL)
-    page.press("Delete", 46)
+    page.control("a")
+    page.keys(Keys.DELETE)
     page.until(f"{STATUS}.startsWith('0 targets')")
     if len(text) > 500:
         page.paste(text)
     else:
-        page.type(text)
+        page.keys(text)
     count = len([it for it in text.split("\n") if it.strip()])
     page.until(f"{STATUS}.startsWith('{count:,} target')")
 
@@ -66,14 +65,14 @@ def opened(url, before, test):
     with Page(url, before) as page:
         loaded(page)
         said = test(page)
-        same(page.errors, [])
+        same(page.errors(), [])
         return said
 
 
 def asks_for_two_files(page):
     page.size(1280, 900)
     holds(page.run(ROWS + ".length") > 3, "there are no rows at the beginning")
-    same([it.rsplit("/", 1)[1] for it in page.requests if not it.startswith("data:")], ["", "page.js", "lexicon.wasm"])
+    same([it.rsplit("/", 1)[1] for it in page.requests() if not it.startswith("data:")], ["", "page.js", "lexicon.wasm"])
 
 
 def shows_fields(page):
@@ -108,7 +107,7 @@ def refuses_and_suggests(page):
     same(page.run("document.querySelector('tbody b')"), None)
     same(rows[4][1].split("Did you mean ")[1], "gnu?")
     page.run("document.querySelector('tbody button').focus()")
-    page.press("Enter", 13, "\r")
+    page.keys(Keys.ENTER)
     page.until(f"{STATUS} === '5 targets: 1 parsed, 4 refused.'")
     same(page.run("document.getElementById('targets').value.split('\\n')[0]"), "x86_64-pc-windows-msvc")
     same(page.run("document.activeElement.textContent"), "x86_64-pc-windows-msvc")
@@ -152,7 +151,7 @@ def is_accessible(page):
     page.run("document.getElementById('targets').focus()")
     reached = []
     for _ in range(3):
-        page.press("Tab", 9)
+        page.keys(Keys.TAB)
         reached.append(page.run("document.activeElement.textContent"))
     same(reached, ["Copy as JSON", "Link to these targets", "windows"])
 
@@ -179,9 +178,8 @@ def opens_a_link(url):
 
 def copies_the_matrix(page):
     typed(page, "arm64-linux-gnu\nx86_64-foo-bar")
-    page.call("Browser.grantPermissions", permissions=["clipboardReadWrite", "clipboardSanitizedWrite"])
     page.run("document.getElementById('copy').focus()")
-    page.press("Enter", 13, "\r")
+    page.keys(Keys.ENTER)
     page.until(f"{STATUS}.startsWith('Copied')")
     same(page.run(STATUS), "Copied 2 targets as JSON.")
     first, second = json.loads(page.run("navigator.clipboard.readText()"))
@@ -203,7 +201,7 @@ def stays_responsive(page):
         same(page.run(STATUS), "10,000 targets: 7,500 parsed, 2,500 refused.")
         same(page.run(ROWS + ".length"), 10000)
         page.run("document.getElementById('targets').setSelectionRange(0, 0)")
-        page.type("arm64\n")
+        page.keys("arm64\n")
         page.until(f"{STATUS}.startsWith('10,001 targets')")
         same(page.run(ROWS + "[0].target + " + ROWS + "[1].target"), f"arm64{lines[0]}")
         waits.append(page.run("Math.round(longest)"))

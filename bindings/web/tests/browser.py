@@ -1,0 +1,101 @@
+"""Chromium without a window, by Selenium; and a server of a folder on this machine."""
+import contextlib
+import functools
+import http.server
+import json
+import threading
+
+from selenium import webdriver
+from selenium.webdriver.chrome.service import Service
+from selenium.webdriver.common.action_chains import ActionChains
+from selenium.webdriver.common.keys import Keys
+from selenium.webdriver.support.ui import WebDriverWait
+
+FLAGS = ["--headless=new", "--no-sandbox", "--disable-gpu", "--hide-scrollbars"]
+
+
+class Page:
+    """A page in a Chromium of its own."""
+
+    def __init__(self, url, before=""):
+        options = webdriver.ChromeOptions()
+        options.binary_location = "/usr/bin/chromium"
+        for flag in FLAGS:
+            options.add_argument(flag)
+        options.set_capability("goog:loggingPrefs", {"performance": "ALL", "browser": "SEVERE"})
+        self.driver = webdriver.Chrome(service=Service("/usr/bin/chromedriver"), options=options)
+        self.call("Browser.grantPermissions", permissions=["clipboardReadWrite", "clipboardSanitizedWrite"])
+        self.driver.set_script_timeout(600)
+        if before:
+            self.call("Page.addScriptToEvaluateOnNewDocument", source=before)
+        self.driver.get(url)
+
+    def call(self, method, **params):
+        return self.driver.execute_cdp_cmd(method, params)
+
+    def run(self, script):
+        """The value of an expression, which may be a promise."""
+        return self.driver.execute_script(f"return {script}")
+
+    def until(self, script, seconds=60):
+        WebDriverWait(self.driver, seconds, 0.05).until(lambda _: self.run(script), f"it never came: {script}")
+
+    def requests(self):
+        """The URL of each request since the last look."""
+        messages = [json.loads(it["message"])["message"] for it in self.driver.get_log("performance")]
+        return [it["params"]["request"]["url"] for it in messages if it["method"] == "Network.requestWillBeSent"]
+
+    def errors(self):
+        """Each exception and error message since the last look."""
+        return [it["message"] for it in self.driver.get_log("browser")]
+
+    def size(self, width, height, scheme="light"):
+        self.call("Emulation.setDeviceMetricsOverride", width=width, height=height, deviceScaleFactor=1, mobile=False)
+        self.call("Emulation.setEmulatedMedia", features=[{"name": "prefers-color-scheme", "value": scheme}])
+
+    def keys(self, *keys):
+        """Types at the focus."""
+        ActionChains(self.driver).send_keys(*(it.replace("\n", Keys.ENTER) for it in keys)).perform()
+
+    def control(self, key):
+        ActionChains(self.driver).key_down(Keys.CONTROL).send_keys(key).key_up(Keys.CONTROL).perform()
+
+    def paste(self, text):
+        """Pastes at the focus, over the clipboard."""
+        self.run(f"navigator.clipboard.writeText({json.dumps(text)})")
+        self.control("v")
+
+    def roles(self):
+        """The role and the name of each node of the accessibility tree."""
+        nodes = self.call("Accessibility.getFullAXTree")["nodes"]
+        return [(it["role"]["value"], it.get("name", {}).get("value", "")) for it in nodes if not it.get("ignored")]
+
+    def picture(self, path):
+        """A picture of the viewport."""
+        self.driver.save_screenshot(path)
+
+    def __enter__(self):
+        return self
+
+    def __exit__(self, *_):
+        self.driver.quit()
+
+
+class Handler(http.server.SimpleHTTPRequestHandler):
+    extensions_map = {**http.server.SimpleHTTPRequestHandler.extensions_map, ".js": "text/javascript", ".mjs": "text/javascript",
+                      ".wasm": "application/wasm"}
+
+    def log_message(self, *_):
+        pass
+
+
+@contextlib.contextmanager
+def served(folder):
+    """The URL of a folder."""
+    server = http.server.ThreadingHTTPServer(("127.0.0.1", 0), functools.partial(Handler, directory=folder))
+    threading.Thread(target=server.serve_forever, daemon=True).start()
+    try:
+        yield f"http://127.0.0.1:{server.server_port}"
+    finally:
+        server.shutdown()
+        server.server_close()
