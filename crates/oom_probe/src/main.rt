@@ -2,7 +2,7 @@
 //! after the call, and its result. So a call that changed its argument would show.
 //!
 //! The program makes the calls on texts of its own, and then on each line of its input. `checks/fail_allocations` gives
-//! it no input, and makes each of its allocations fail in turn; `checks/large` gives it large lines.
+//! it no input, and makes each of its allocations fail in turn; checks/rows/oom_probe.t gives it large lines.
 #![tactic(auto)]
 
 mod clones;

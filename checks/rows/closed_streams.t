@@ -1,0 +1,47 @@
+# Streams that are closed before a program starts
+
+A program with Rust's runtime finds `/dev/null` instead, so these rows are only for the proved programs.
+
+  $ ! grep -q RUST_BACKTRACE "$(type -P triples)" || exit 80
+
+## `triples`
+
+A closed input can't be read, in no mode:
+
+  $ for mode in print show settle json matrix; do triples $mode <&-; echo "status $?"; done | sort | uniq -c
+        5 fault: Read failed
+        5 status 1
+
+If something can't be written, the status is 1, or 2 without a mode; if there is nothing to write, it is 0.
+
+  $ echo x86_64 | triples print >&-
+  [1]
+  $ echo foo | triples matrix >&-
+  [1]
+  $ printf '[]' | triples json >&-
+  [1]
+  $ printf '{}' | triples json >&-
+  [1]
+  $ printf '\xff' | triples print >&-
+  [1]
+  $ triples no < /dev/null >&-
+  [2]
+  $ triples print < /dev/null >&-
+
+## `lexicon`
+
+  $ lexicon settle <&-
+  fault: Read failed
+  [3]
+
+If one output is closed, the other is still written:
+
+  $ lexicon settle z80 x >&- < /dev/null
+  error: unrecognized architecture `x`
+    x
+    ^
+  fault: Write failed
+  [3]
+  $ lexicon settle z80 x 2>&- < /dev/null
+  z80-unknown-unknown-elf
+  [3]

@@ -1,0 +1,210 @@
+# The program `triples`
+
+Nothing goes to the error output: the last row shows it.
+
+  $ exec 2> errors
+
+Without an argument its mode is `print`. A refused line is no fault. `answers` shows what a mode writes for `lines`, and
+that it writes the same if the last line has no line feed:
+
+  $ answers() (
+  >   set -o pipefail
+  >   triples "$@" < lines && head -c -1 lines | triples "$@" | cmp - <(triples "$@" < lines)
+  > )
+  $ cat > lines << 'END'
+  > arm64-apple-ios
+  > x86_64-customvendor-linux
+  > x86_64-apple-darwin23.6
+  > 
+  > x86_64-é-linux
+  > x86_64-foo-bar
+  > x86_64-linux-foo
+  > x86_64-gnu-linux
+  > x86_64-elf-linux
+  > END
+  $ answers
+  aarch64-apple-ios
+  x86_64-customvendor-linux
+  x86_64-apple-darwin23.6.0
+  error: Unrecognized architecture:  (esc)
+  error: Unrecognized vendor: é
+  error: Unrecognized operating system: bar
+  error: Unrecognized environment: foo
+  error: Unrecognized binary format: linux
+  error: Unrecognized field: linux
+  $ answers print > printed && triples < lines | cmp - printed
+
+Byte order, pointer width, calling convention and data model follow:
+
+  $ cat > lines << 'END'
+  > wasm32-wasip1
+  > wasm32-unknown-wasi
+  > aarch64-apple-ios-gnu_ilp32
+  > s390x-unknown-linux-gnu
+  > x86_64-foo-bar
+  > END
+  $ answers show
+  wasm32-wasip1 little 32 - ILP32
+  wasm32-wasi little 32 WasmBasicCAbi ILP32
+  aarch64-apple-ios-gnu_ilp32 little 32 AppleAarch64 -
+  s390x-unknown-linux-gnu big 64 SystemV LP64
+  error: Unrecognized operating system: bar
+
+The canonical texts:
+
+  $ cat > lines << 'END'
+  > riscv32imc-esp-espidf-unknown
+  > clever-unknown-unknown-none
+  > x86_64-unknown-linux-unknown
+  > x86_64-customvendor-linux
+  > END
+  $ answers settle
+  riscv32imc-esp-espidf
+  clever-unknown-none-elf
+  x86_64-unknown-linux
+  x86_64-customvendor-linux
+
+These once each, but each refusal:
+
+  $ cat > lines << 'END'
+  > x86_64-linux-gnu
+  > arm64-apple-ios
+  > foo
+  > x86_64-unknown-linux-gnu
+  > x86_64-b-linux
+  > x86_64-a-linux
+  > x86_64-b-linux
+  > x86_64-c-linux
+  > error: Unrecognized architecture: foo
+  > foo
+  > END
+  $ answers matrix
+  x86_64-unknown-linux-gnu
+  aarch64-apple-ios
+  error: Unrecognized architecture: foo
+  x86_64-b-linux
+  x86_64-a-linux
+  x86_64-c-linux
+  error: Unrecognized architecture: error: Unrecognized architecture: foo
+  error: Unrecognized architecture: foo
+
+One JSON text:
+
+  $ echo '["arm64-apple-ios","x86_64"]' > lines
+  $ answers json
+  ["aarch64-apple-ios","x86_64-unknown-unknown-elf"]
+  $ printf '\n[ ]\n ' | triples json
+  []
+  $ printf '["x86_64",]' | triples json
+  fault: Input is not JSON
+  [1]
+  $ printf '{}' | triples json
+  fault: Input is not a JSON list
+  [1]
+
+The known triples print and settle as themselves. The crate of tests, which can't read a file, has the same list:
+
+  $ known=$TESTDIR/../known_triples
+  $ triples print < $known > printed && cmp printed $known
+  $ triples settle < $known > settled && cmp settled $known
+  $ sed -n '/KNOWN_TRIPLES: &str = /,/";/p' $TESTDIR/../../crates/lexicon_tests/src/known_triples.rt |
+  >   sed '1d; s/";//' | tr ' ' '\n' | cmp - $known
+
+## Lines
+
+Any character but a line feed is part of a line, and an empty input has no line. `agreed` shows what the four line modes
+write for refused lines, which must be the same:
+
+  $ agreed() (
+  >   set -o pipefail
+  >   triples print < lines || echo "print: $?"
+  >   for mode in show settle matrix; do triples $mode < lines | cmp - <(triples print < lines) || echo "$mode: $?"; done
+  > )
+  $ printf 'x86_64-unknown-linux\r\n\r\na\rb\nc\0d\ne\302\205f\342\200\250g\vh\fi' > lines
+  $ agreed | cat -v
+  error: Unrecognized operating system: linux^M
+  error: Unrecognized architecture: ^M
+  error: Unrecognized architecture: a^Mb
+  error: Unrecognized architecture: c^@d
+  error: Unrecognized architecture: eM-BM-^EfM-bM-^@M-(g^Kh^Li
+  $ : > lines
+  $ agreed
+  $ yes '' | head -n 1000 > lines
+  $ agreed | uniq -c
+     1000 error: Unrecognized architecture:  (esc)
+
+Digits of two bytes each, so many that a read ends within one of them:
+
+  $ printf 'ios'"$(printf '\331\241%.0s' {1..9001})" > part
+  $ { printf x86_64-apple-; cat part; } > lines
+  $ agreed | cmp - <(printf 'error: Unrecognized operating system: '; cat part; echo)
+
+Input that is not UTF-8, in each mode:
+
+  $ printf '\xff' | triples print
+  fault: Input is not UTF-8
+  [1]
+  $ for text in '\xff' 'x86_64\n\xc3' 'x86_64-unknown-linux\n\xed\xa0\x80'; do
+  >   for mode in print show settle json matrix; do printf "$text" | triples $mode; echo "status $?"; done
+  > done | sort | uniq -c
+       15 fault: Input is not UTF-8
+       15 status 1
+
+## Arguments
+
+  $ for words in unsettle shows --help '""' '"print "' Print PRINT 'print print' 'print ""' 'print print print' "$'print\n'" \
+  >   '" print"' --print "$'\xff'"; do
+  >   echo x86_64 | eval triples "$words"; echo "status $?"
+  > done | sort | uniq -c
+       14 status 2
+       14 usage: triples [MODE]
+
+## Readers and writers that fail
+
+A folder can't be read:
+
+  $ for mode in print show settle json matrix; do triples $mode < /; echo "status $?"; done | sort | uniq -c
+        5 fault: Read failed
+        5 status 1
+
+If something can't be written, the status is 1, or 2 without a mode. Here the output is full, and then has no reader: the
+signal for that, which would end a C program, is blocked or not.
+
+  $ mkfifo pipe && exec 3<> pipe 4> pipe 3<&-
+  $ statuses() {
+  >   triples $1 < lines > /dev/full; first=$?
+  >   triples $1 < lines >&4; second=$?
+  >   (trap '' PIPE; triples $1 < lines >&4); echo $first $second $?
+  > }
+  $ echo x86_64 > lines; statuses print
+  1 1 1
+  $ echo foo > lines; statuses matrix
+  1 1 1
+  $ printf '[]' > lines; statuses json
+  1 1 1
+  $ printf '{}' > lines; statuses json
+  1 1 1
+  $ printf '\xff' > lines; statuses print
+  1 1 1
+  $ : > lines; statuses no
+  2 2 2
+  $ triples print < lines > /dev/full
+
+A reader closes after a hundred bytes, and a file may have 64 kB. Both get the beginning of the output:
+
+  $ yes arm64-apple-ios | head -n 50000 > lines
+  $ { triples print < lines; echo "status $?" > status; } | head -c 100; echo; cat status
+  aarch64-apple-ios
+  aarch64-apple-ios
+  aarch64-apple-ios
+  aarch64-apple-ios
+  aarch64-apple-ios
+  aarch64-ap
+  status 1
+  $ (ulimit -f 64; trap '' XFSZ; triples print < lines > written); echo "status $?"
+  status 1
+  $ yes aarch64-apple-ios | head -c 65536 | cmp - written
+
+## The error output
+
+  $ cat errors
