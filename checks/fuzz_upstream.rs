@@ -94,14 +94,14 @@ fn shown(text: &str) -> String {
     format!("{our_text} {order} {width} {convention} {}", word(theirs.data_model().ok().map(|it| format!("{it:?}"))))
 }
 
-/// The answer of the library for C to a line, as in mode `show`; it is that of checks/exhaust.c.
+/// The answer of the library for C to a line, as in mode `show`; it is that of checks/lines.c.
 #[cfg(c_library)]
 fn answer_in_c(line: &[u8]) -> Vec<u8> {
     unsafe extern "C" {
-        fn answer(line: *const u8, size: usize, settles: i32, out: *mut u8, room: usize) -> usize;
+        fn answer(line: *const u8, size: usize, mode: i32, out: *mut u8, room: usize) -> usize;
     }
     let mut out = vec![0; 4096];
-    let length = unsafe { answer(line.as_ptr(), line.len(), 0, out.as_mut_ptr(), out.len()) };
+    let length = unsafe { answer(line.as_ptr(), line.len(), 1, out.as_mut_ptr(), out.len()) };
     out.truncate(length);
     out
 }

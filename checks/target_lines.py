@@ -1,8 +1,32 @@
-"""Makes the lines and the JSON lists that `compare_upstream` gives to both programs, from a seed."""
+#!/usr/bin/env python3
+"""The words of the comparisons, and lines that are made of them from a seed.
+
+usage: checks/target_lines.py COUNT [--table]
+
+It writes COUNT lines of the names of tools/names/names.tsv. With `--table` each architecture with each system and each
+environment follows.
+"""
+import collections
 import itertools
 import json
+import os
 import random
 import string
+import sys
+
+ROOT = os.path.dirname(os.path.dirname(os.path.realpath(__file__)))
+sys.path.append(f"{ROOT}/tools/names")
+from names_table import FIELDS, table_of
+
+# The names by their fields, systems that may have a version, all names and texts that are none, and known triples.
+Names = collections.namedtuple("Names", "architectures vendors systems environments formats versioned each foreign known")
+
+# Versions at the limits 65535 and 255, beyond them, and in another spelling.
+VERSIONS = ["0", "10.4", "65535.255.255", "65536", "1.256", "1.2.256", "1.2.3.4", "007.+1"]
+CUSTOM_VENDORS = ["acme", "esp", "x86_65"]
+# Texts that are neither a name nor a custom vendor, two of them after a custom vendor's beginning; the end of a special
+# text; and the empty text.
+NO_NAMES = ["", "X86_64", "7up", "e\u0301", "gnu!", "+elf", "3ds"]
 
 VENDOR_CHARACTERS = string.ascii_lowercase + string.digits + "_."
 
@@ -22,10 +46,26 @@ FAMILIES = ["armv6k-nintendo-horizon", "armv6k-nintendo-3ds", "ANY-nintendo-hori
             "clever1.0-ONE", "clever-ONE-none", "ANY-ONE-unknown", "ANY-unknown-unknown", "ANY-ONE-none",
             "wasm32-wasi", "ANY-ONE-wasip1", "ANY-linux", "unknown-ONE"]
 
-# Elements of JSON lists, and texts that are no JSON.
-ELEMENTS = ["7", "-0", "1.5e308", "1E400", "-1e999", "9" * 400, "null", "true", "{}", "[]", '{"a":["b",1]}',
-            '"\\ud83d"', '"\\ude00\\ud83d"', '"\\ud83d\\ude00"', '{"\\udc00":1}', '"x86_64\\u002dlinux"', '"\\n"',
-            '"\\u0000"', '"\\x"', "01", "+1", ".5", "1.", "NaN", "'a'", ""]
+
+def read(path):
+    with open(f"{ROOT}/{path}", encoding="utf-8") as it:
+        return it.read()
+
+
+def table():
+    """The lines of the table of names: a field, a variant, a name, a number and a family each. An alias is one of them."""
+    values, wrong = table_of(read("tools/names/names.tsv"))
+    assert not wrong, wrong
+    return values
+
+
+def table_names():
+    """The names of the table, some texts that are none, and the known triples."""
+    fields = {field: [it.name for it in table() if it.field == field] for field in (*FIELDS, "alias")}
+    fields["architecture"] += fields.pop("alias")
+    versioned = [it.name for it in table() if it.family == "Darwin"]
+    each = [name for names in fields.values() for name in names]
+    return Names(*fields.values(), versioned, each, ["zilog", "bar", "gnux"], read("checks/known_triples").split())
 
 
 def changed_text(rng, text):
@@ -150,36 +190,20 @@ def lines(names, n, seed):
 
 
 def json_string(rng, text):
-    """The text as a JSON string, in some cases with escapes."""
+    """The text as a JSON string, in some cases with escapes: for checks/fuzz_json."""
     if rng.random() < 0.7:
         return json.dumps(text, ensure_ascii=rng.random() < 0.5)
     characters = (f"\\u{ord(it):04x}" if ord(it) < 0x10000 and rng.random() < 0.3 else json.dumps(it)[1:-1] for it in text)
     return '"' + "".join(characters) + '"'
 
 
-def json_text(rng, any_lines, good_lines):
-    """A text that is JSON, or similar to it.
-
-    Most are lists of texts. Some have another element or deeply nested lists, are cut, or have a change.
-    """
-    elements = [json_string(rng, it) for it in rng.choices(good_lines, k=rng.randrange(7))]
-    at, choice = rng.randrange(len(elements) + 1), rng.random()
-    if choice < 0.2:
-        elements.insert(at, json_string(rng, rng.choice(any_lines)))
-    elif choice < 0.5:
-        elements.insert(at, rng.choice(ELEMENTS))
-    elif choice < 0.6:
-        depth = rng.choice([5, 100, 125, 126, 127, 128, 129, 200])
-        opening = rng.choice(["[", '{"a":'])
-        elements.insert(at, opening * depth + "1" + {"[": "]", "{": "}"}[opening[0]] * depth)
-    text = "[" + rng.choice([",", ", ", " ,\n\t"]).join(elements) + "]"
-    if choice > 0.9:
-        text = rng.choice([text[:rng.randrange(len(text))], changed_text(rng, text), text + text, "\ufeff" + text,
-                           " \r\n" + text + "\n", "", '{"a":' + text + "}", *elements, *ELEMENTS])
-    given = text.encode()
-    return given + b"\xff" if choice > 0.998 else given
+def main():
+    names, wanted = table_names(), sys.argv[1:]
+    found = lines(names, int(wanted[0]), 1)
+    if wanted[1:] == ["--table"]:
+        found += table_lines(random.Random("table"), names, sys.maxsize)
+    sys.stdout.buffer.write("".join(f"{it}\n" for it in found).encode())
 
 
-def json_texts(any_lines, good_lines, n, seed):
-    rng = random.Random(f"json {seed}")
-    return [json_text(rng, any_lines, good_lines) for _ in range(n)]
+if __name__ == "__main__":
+    main()

@@ -9,7 +9,6 @@ ROOT, LIBRARY, BUILT = (os.environ[f"LEXICON_TEST_{it}"] for it in ("ROOT", "LIB
 PROGRAM = os.environ.get("LEXICON_TEST_PROGRAM")
 
 FIELDS = ("architecture", "vendor", "operating_system", "environment", "binary_format")
-Names = collections.namedtuple("Names", "architectures vendors systems environments formats versioned each foreign known")
 Row = collections.namedtuple("Row", "field variant name family")
 
 
@@ -46,9 +45,4 @@ def generated_lines(count):
     sys.path.append(os.path.join(ROOT, "checks"))
     import target_lines
 
-    named = {field: [it.name for it in table() if it.field == field] for field in (*FIELDS, "alias")}
-    named["architecture"] += named.pop("alias")
-    versioned = [it.name for it in table() if it.family == "Darwin"]
-    each = [name for names in named.values() for name in names]
-    names = Names(*named.values(), versioned, each, ["zilog", "bar", "gnux", "win7"], known_triples())
-    return target_lines.lines(names, count, 1)
+    return target_lines.lines(target_lines.table_names(), count, 1)

@@ -53,9 +53,26 @@ pub fn compare_text(text: &str) -> Option<(ours::Triple, upstream::Triple)> {
     }
 }
 
+/// What a triple's architecture and data model answer, in either crate.
+macro_rules! answers {
+    ($triple:ident, $library:ident) => {{
+        let is_thumb = match $triple.architecture {
+            $library::Architecture::Arm(it) => it.is_thumb(),
+            $library::Architecture::Aarch64(it) => it.is_thumb(),
+            _ => false,
+        };
+        let sizes = $triple.data_model().map(|it| {
+            let integers = [it.short_size(), it.int_size(), it.long_size(), it.long_long_size()];
+            (integers, it.pointer_width(), it.float_size(), it.double_size())
+        });
+        (is_thumb, $triple.architecture.is_clever(), sizes)
+    }};
+}
+
 pub fn compare_queries(ours: &ours::Triple, theirs: &upstream::Triple) {
     same(ours.endianness(), theirs.endianness(), ours);
     same(ours.pointer_width(), theirs.pointer_width(), ours);
     same(ours.default_calling_convention(), theirs.default_calling_convention(), ours);
     same(ours.data_model(), theirs.data_model(), ours);
+    same(answers!(ours, ours), answers!(theirs, upstream), ours);
 }

@@ -13,10 +13,8 @@ use std::fmt::Write;
 use std::io::Read;
 use std::str::FromStr;
 
-/// The systems like Darwin, which the table of names has not.
-const DARWIN_LIKE: [&str; 11] = [
-    "darwin", "ios", "macosx", "tvos", "visionos", "watchos", "xros", "darwin23.6.0", "ios1", "macosx10.7", "xros65535.255.255",
-];
+/// Systems like Darwin with versions.
+const VERSIONED: [&str; 4] = ["darwin23.6.0", "ios1", "macosx10.7", "xros65535.255.255"];
 const CUSTOM_VENDORS: [&str; 6] = ["esp", "foo", "", "a-b", "X", "linux"];
 
 /// Custom vendors that no text parses as: empty, with a dash, a capital, another character or at the beginning a digit; and
@@ -68,7 +66,7 @@ fn comes_not_back(ours: &ours::Triple, theirs: &upstream::Triple, their_text: &s
 
 fn compare_tables(names: &str, unread: bool) {
     let mut names: Vec<&str> = names.split_whitespace().collect();
-    names.extend(DARWIN_LIKE);
+    names.extend(VERSIONED);
     let architectures = values::<ours::Architecture, upstream::Architecture>(&names);
     let mut vendors = values::<ours::Vendor, upstream::Vendor>(&names);
     if unread {

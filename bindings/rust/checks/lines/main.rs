@@ -2,7 +2,11 @@
 //!
 //! usage: lines MODE
 //!
-//! The modes are `print`, `show`, `settle` and `matrix`, and `parse`, which writes only how many lines parse.
+//! The modes are `print`, `show`, `settle` and `matrix`, and `parse`, which writes only how many lines parse. Over upstream's
+//! crate an unknown environment and an unknown format are both shown if another format is implied, as this crate does. There
+//! are three more modes then: `own` is `print` by upstream's rules only; `fields` writes the first letters of the fields that
+//! can parse the line, or `-`; `names` reads a field and a text in each line, and writes the value that the text parses as, its
+//! name, and where its variants are declared, or `-`.
 use std::collections::HashSet;
 use std::fmt::Write as _;
 use std::io::{self, Read, Write as _};
@@ -51,7 +55,7 @@ fn model_word(triple: &Triple) -> &'static str {
 }
 
 fn show(output: &mut String, triple: &Triple) {
-    write!(output, "{triple}").expect("memory");
+    print(output, triple);
     for word in [order_word(triple), width_word(triple), convention_word(triple), model_word(triple)] {
         output.push(' ');
         output.push_str(word);
@@ -59,14 +63,109 @@ fn show(output: &mut String, triple: &Triple) {
 }
 
 #[cfg(not(upstream))]
-fn canonical(triple: Triple) -> Triple {
-    triple.settle().expect("a triple that was parsed has a plain vendor")
+mod crate_calls {
+    use super::*;
+
+    pub fn print(output: &mut String, triple: &Triple) {
+        write!(output, "{triple}").expect("memory");
+    }
+
+    pub fn canonical(triple: Triple) -> Option<Triple> {
+        triple.settle().ok()
+    }
+
+    pub fn other_answer(_mode: &str, _line: &str) -> Option<String> {
+        None
+    }
 }
 
 #[cfg(upstream)]
-fn canonical(triple: Triple) -> Triple {
-    triple
+mod crate_calls {
+    use super::*;
+    use std::fmt::{Debug, Display};
+    use std::hash::{Hash, Hasher};
+    use target_lexicon::{Architecture, BinaryFormat, Environment, OperatingSystem, Vendor};
+
+    pub fn print(output: &mut String, triple: &Triple) {
+        write!(output, "{triple}").expect("memory");
+        let both_unknown = triple.environment == Environment::Unknown && triple.binary_format == BinaryFormat::Unknown;
+        // A special text doesn't end with an unknown part.
+        if both_unknown && triple.implied_format() != BinaryFormat::Unknown && output.ends_with("-unknown") {
+            let omits_system = triple.architecture.is_clever() && triple.operating_system == OperatingSystem::Unknown;
+            output.push_str(if omits_system { "-unknown-unknown" } else { "-unknown" });
+        }
+    }
+
+    /// Prints and parses the triple until that changes nothing. Returns none if a printed text is refused, or if ten round
+    /// trips aren't enough.
+    pub fn canonical(mut triple: Triple) -> Option<Triple> {
+        for _ in 0..10 {
+            let mut text = String::new();
+            print(&mut text, &triple);
+            let next = text.parse().ok()?;
+            if next == triple {
+                return Some(triple);
+            }
+            triple = next;
+        }
+        None
+    }
+
+    pub fn other_answer(mode: &str, line: &str) -> Option<String> {
+        match mode {
+            "own" => Some(line.parse::<Triple>().map_or_else(|error| format!("error: {error}"), |it| it.to_string())),
+            "fields" => Some(fields(line)),
+            "names" => Some(name(line)),
+            _ => None,
+        }
+    }
+
+    fn fields(text: &str) -> String {
+        let parses = [
+            ('a', text.parse::<Architecture>().is_ok()),
+            ('v', matches!(text.parse::<Vendor>(), Ok(it) if !matches!(it, Vendor::Custom(_)))),
+            ('o', text.parse::<OperatingSystem>().is_ok()),
+            ('e', text.parse::<Environment>().is_ok()),
+            ('b', text.parse::<BinaryFormat>().is_ok()),
+        ];
+        let letters: String = parses.iter().filter(|it| it.1).map(|it| it.0).collect();
+        if letters.is_empty() { "-".to_string() } else { letters }
+    }
+
+    /// The numbers of a value's variants, in the order of their declarations: these are what it feeds a hasher first.
+    #[derive(Default)]
+    struct Variants(Vec<u8>);
+
+    impl Hasher for Variants {
+        fn finish(&self) -> u64 {
+            0
+        }
+
+        fn write(&mut self, bytes: &[u8]) {
+            self.0.push(bytes[0]);
+        }
+    }
+
+    fn named<T: FromStr + Debug + Display + Hash>(text: &str) -> String {
+        text.parse::<T>().map_or("-".to_string(), |it| {
+            let mut variants = Variants::default();
+            it.hash(&mut variants);
+            format!("{it:?} {it} {:?}", variants.0)
+        })
+    }
+
+    fn name(line: &str) -> String {
+        match line.split_once(' ').expect("a field and a text") {
+            ("architecture", text) => named::<Architecture>(text),
+            ("vendor", text) => named::<Vendor>(text),
+            ("operating_system", text) => named::<OperatingSystem>(text),
+            ("environment", text) => named::<Environment>(text),
+            (_, text) => named::<BinaryFormat>(text),
+        }
+    }
 }
+
+use crate_calls::{other_answer, canonical, print};
 
 fn parsed_count(lines: &[&str]) -> usize {
     lines.iter().filter(|line| Triple::from_str(line).is_ok()).count()
@@ -85,17 +184,25 @@ fn main() -> io::Result<()> {
     let mut output = String::with_capacity(input.len() + 16);
     let mut seen = HashSet::new();
     for line in lines {
+        if let Some(answer) = other_answer(&mode, line) {
+            output.push_str(&answer);
+            output.push('\n');
+            continue;
+        }
         match (mode.as_str(), Triple::from_str(line)) {
             (_, Err(error)) => write!(output, "error: {error}").expect("memory"),
-            ("print", Ok(triple)) => write!(output, "{triple}").expect("memory"),
+            ("print", Ok(triple)) => print(&mut output, &triple),
             ("show", Ok(triple)) => show(&mut output, &triple),
-            ("settle", Ok(triple)) => write!(output, "{}", canonical(triple)).expect("memory"),
+            ("settle", Ok(triple)) => match canonical(triple) {
+                Some(triple) => print(&mut output, &triple),
+                None => output.push_str("does not settle"),
+            },
             ("matrix", Ok(triple)) => {
-                let triple = canonical(triple);
+                let triple = canonical(triple).expect("it settles");
                 if seen.contains(&triple) {
                     continue;
                 }
-                write!(output, "{triple}").expect("memory");
+                print(&mut output, &triple);
                 seen.insert(triple);
             }
             _ => panic!("no mode {mode}"),

@@ -1,6 +1,6 @@
-/* The modes `show` and `settle` of the program `triples`, over the library for C.
+/* The modes `print`, `show` and `settle` of the program `triples`, over the library for C.
 
-   usage: exhaust_c show | settle < LINES */
+   usage: lines_c print | show | settle < LINES */
 #include <lexicon.h>
 #include <stdio.h>
 #include <stdlib.h>
@@ -9,10 +9,12 @@
 static const char *const byte_orders[] = {"-", "little", "big"};
 static const char *const widths[] = {"-", "16", "32", "64"};
 static const char *const conventions[] = {"-", "SystemV", "WasmBasicCAbi", "WindowsFastcall", "AppleAarch64"};
+enum { PRINT, SHOW, SETTLE, MODES };
+static const char *const modes[] = {"print", "show", "settle"};
 static const char *const models[] = {"-", "LP32", "ILP32", "LLP64", "LP64", "ILP64"};
 
 static void stop(const char *why) {
-  fprintf(stderr, "exhaust_c: %s\n", why);
+  fprintf(stderr, "lines_c: %s\n", why);
   exit(2);
 }
 
@@ -34,18 +36,18 @@ static size_t write_refused(const char *line, const struct lexicon_error *error,
 }
 
 /* Writes the answer to a line, without a line feed, and returns its length. checks/fuzz_upstream.rs calls it too. */
-size_t answer(const char *line, size_t size, int settles, char *out, size_t room);
+size_t answer(const char *line, size_t size, int mode, char *out, size_t room);
 
-size_t answer(const char *line, size_t size, int settles, char *out, size_t room) {
+size_t answer(const char *line, size_t size, int mode, char *out, size_t room) {
   size_t length;
   struct lexicon_triple triple;
   struct lexicon_error error;
   uint32_t status = lexicon_parse(line, size, &triple, &error);
   if (status >= LEXICON_NO_ARCHITECTURE && status <= LEXICON_NO_FIELD) return write_refused(line, &error, out, room);
   if (status != LEXICON_OK) return (size_t)snprintf(out, room, "status %u", status);
-  if (settles && lexicon_settle(&triple) != LEXICON_OK) stop("a parsed triple can't be settled");
+  if (mode == SETTLE && lexicon_settle(&triple) != LEXICON_OK) stop("a parsed triple can't be settled");
   if (lexicon_write(&triple, out, room, &length) != LEXICON_OK) stop("a parsed triple can't be written");
-  return settles ? length : length + write_facts(&triple, out + length, room - length);
+  return mode == SHOW ? length + write_facts(&triple, out + length, room - length) : length;
 }
 
 #ifndef NO_MAIN
@@ -67,13 +69,14 @@ int main(int count, char **words) {
   size_t size;
   const char *text, *end;
   static char line[1 << 16];
-  int settles = count == 2 && strcmp(words[1], "settle") == 0;
-  if (!settles && (count != 2 || strcmp(words[1], "show") != 0)) stop("usage: exhaust_c show | settle");
+  int mode = PRINT;
+  while (mode < MODES && (count != 2 || strcmp(words[1], modes[mode]) != 0)) mode++;
+  if (mode == MODES) stop("usage: lines_c print | show | settle");
   text = input(&size);
   for (; size > 0; text = end + 1) {
     end = (const char *)memchr(text, '\n', size);
     if (end == NULL) stop("the last line has no line feed");
-    size_t length = answer(text, (size_t)(end - text), settles, line, sizeof line);
+    size_t length = answer(text, (size_t)(end - text), mode, line, sizeof line);
     line[length] = '\n';
     fwrite(line, 1, length + 1, stdout);
     size -= (size_t)(end - text) + 1;
