@@ -1,13 +1,12 @@
 //! The walks over rows name the row that fails, and each question about a value can fail.
 
-use lexicon_fields::{Endianness, PointerWidth, Vendor};
+use lexicon_fields::Vendor;
 use std::alloc::Global;
 use std::fmt;
 use std::fmt::{Display, Formatter, Write};
 use std::process::Abort;
 use test_support::{
-    Question, check_rows, check_words, hash_alike, lengthened_rows, order_word, prints,
-    reports_each_failure, shows, width_word, writes,
+    Question, check_rows, check_words, hash_alike, prints, reports_each_failure, shows, writes,
 };
 
 /// The text is what follows it in its row.
@@ -68,27 +67,4 @@ fn what_isnt_so_is_seen(rt: HostRuntime) {
 fn a_print_of_another_text_or_of_the_asked_width_is_seen(rt: HostRuntime) {
     assert!(rt; prints(&Vendor::Apple, "apple") && !prints(&Vendor::Apple, "pc"));
     assert!(rt; reports_each_failure(&1u8) && writes(&1u8, "1") && !prints(&1u8, "1"));
-}
-
-#[test]
-fn rows_are_lengthened(rt: HostRuntime) {
-    let rows = lengthened_rows(rt.alloc(), "a*=b", "-").expect(&rt, "memory");
-    assert!(rt; rows.len() == 1003 && rows.starts_with("a---") && rows.ends_with("--=b"));
-}
-
-#[test]
-fn answers_have_their_words(rt: HostRuntime) {
-    let orders = [
-        order_word(Ok(Endianness::Little)),
-        order_word(Ok(Endianness::Big)),
-        order_word(Err(())),
-    ];
-    assert!(rt; orders == ["little", "big", "-"]);
-    let widths = [
-        width_word(Ok(PointerWidth::U16)),
-        width_word(Ok(PointerWidth::U32)),
-        width_word(Ok(PointerWidth::U64)),
-        width_word(Err(())),
-    ];
-    assert!(rt; widths == ["16", "32", "64", "-"]);
 }

@@ -1,4 +1,4 @@
-//! The table of names, compared with a plain scan of the names.
+//! The table of names: its rows, their values and their order.
 
 ghost use Rattle.std.specs.Prelude.{◌<◌};
 ghost use Rattle.lexicon_fields.specs.FixedRow.{row_count};
@@ -15,41 +15,21 @@ use std::cmp::Ordering;
 use std::process::Abort;
 use test_support::{Question, check_rows, check_words};
 
-fn has_name(row: &str, text: &str) -> bool {
-    matches!(row.split_once("="), Some((name, _)) if name == text)
-}
+/// The text has a row.
+struct HasRow;
 
-fn is_in(rows: &str, text: &str) -> bool {
-    rows.lines().any(|row| has_name(row, text))
-}
-
-/// Which of the five fields the row has.
-fn fields(row: &FixedRow) -> [bool; 5] {
-    [
-        row.architecture.is_some(),
-        row.vendor.is_some(),
-        row.operating_system.is_some(),
-        row.environment.is_some(),
-        row.binary_format.is_some(),
-    ]
-}
-
-/// The row of the text has the fields in which a plain scan finds it.
-struct IsAsScanned;
-
-impl Question for IsAsScanned {
+impl Question for HasRow {
     fn holds(_alloc: Global, text: &str, _expected: &str) -> bool {
-        let scanned = [
-            is_in(ARCHITECTURES, text) || is_in(ALIASES, text),
-            is_in(VENDORS, text),
-            is_in(OPERATING_SYSTEMS, text),
-            is_in(ENVIRONMENTS, text),
-            is_in(BINARY_FORMATS, text),
-        ];
-        match fixed_row(text, &mut Steps::new()) {
-            Some(row) => row.text == text && fields(&row) == scanned,
-            None => scanned == [false; 5],
-        }
+        matches!(fixed_row(text, &mut Steps::new()), Some(row) if row.text == text)
+    }
+}
+
+/// The text has no row.
+struct HasNoRow;
+
+impl Question for HasNoRow {
+    fn holds(_alloc: Global, text: &str, _expected: &str) -> bool {
+        fixed_row(text, &mut Steps::new()).is_none()
     }
 }
 
@@ -57,7 +37,7 @@ impl Question for IsAsScanned {
 const TEXTS_WITHOUT_ROW: &str = "\0 a A zz é ios17 darwin AARCH64 aarch6 aarch64~ pc~ zkasm~ zkasn";
 
 #[test]
-fn holds_what_a_scan_finds(rt: HostRuntime) {
+fn each_name_has_its_row(rt: HostRuntime) {
     for rows in [
         ARCHITECTURES,
         ALIASES,
@@ -66,11 +46,11 @@ fn holds_what_a_scan_finds(rt: HostRuntime) {
         ENVIRONMENTS,
         BINARY_FORMATS,
     ] {
-        assert_eq!(rt; check_rows::<IsAsScanned>(rt.alloc(), rows), Ok(()));
+        assert_eq!(rt; check_rows::<HasRow>(rt.alloc(), rows), Ok(()));
     }
-    let words = check_words::<IsAsScanned>(rt.alloc(), TEXTS_WITHOUT_ROW);
+    let words = check_words::<HasNoRow>(rt.alloc(), TEXTS_WITHOUT_ROW);
     assert_eq!(rt; words, Ok(13));
-    assert!(rt; IsAsScanned::holds(rt.alloc(), "", ""));
+    assert!(rt; HasNoRow::holds(rt.alloc(), "", ""));
 }
 
 /// A row for a text without a value in any field.

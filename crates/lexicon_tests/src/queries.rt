@@ -1,9 +1,9 @@
-//! The queries of triples and data models.
+//! The queries of triples.
 
 use crate::fixtures::{OfTriple, QuestionOf, convention_word, model_word};
 use std::alloc::Global;
 use std::process::Abort;
-use target_lexicon::{Architecture, CDataModel, OperatingSystem, Size, Triple};
+use target_lexicon::{Architecture, OperatingSystem, Triple};
 use test_support::{check_rows, order_word, width_word, writes};
 
 /// A text, and after `=` the byte order, pointer width, calling convention and data model of its triple; `-` for no
@@ -87,45 +87,4 @@ fn the_unknown_triple_answers_nothing(rt: HostRuntime) {
 fn hosts_are_fixed(rt: HostRuntime) {
     assert!(rt; matches!(OperatingSystem::host(), OperatingSystem::Linux));
     assert!(rt; width_word(Architecture::host().pointer_width()) == "64");
-}
-
-/// The bits of short, int, long, long long, pointer, float and double.
-fn check_sizes(rt: &impl Abort, model: CDataModel, bits: [u8; 7]) {
-    let sizes = [
-        model.short_size().bits(),
-        model.int_size().bits(),
-        model.long_size().bits(),
-        model.long_long_size().bits(),
-        model.pointer_width().bits(),
-        model.float_size().bits(),
-        model.double_size().bits(),
-    ];
-    assert!(rt; sizes == bits);
-}
-
-#[test]
-fn models_have_sizes(rt: HostRuntime) {
-    check_sizes(&rt, CDataModel::LP32, [16, 16, 32, 64, 32, 32, 64]);
-    check_sizes(&rt, CDataModel::ILP32, [16, 32, 32, 64, 32, 32, 64]);
-    check_sizes(&rt, CDataModel::LLP64, [16, 32, 32, 64, 64, 32, 64]);
-    check_sizes(&rt, CDataModel::LP64, [16, 32, 64, 64, 64, 32, 64]);
-    check_sizes(&rt, CDataModel::ILP64, [16, 64, 64, 64, 64, 32, 64]);
-}
-
-#[test]
-fn sizes_in_bits_and_bytes(rt: HostRuntime) {
-    let bits = [
-        Size::U8.bits(),
-        Size::U16.bits(),
-        Size::U32.bits(),
-        Size::U64.bits(),
-    ];
-    assert!(rt; bits == [8, 16, 32, 64]);
-    let bytes = [
-        Size::U8.bytes(),
-        Size::U16.bytes(),
-        Size::U32.bytes(),
-        Size::U64.bytes(),
-    ];
-    assert!(rt; bytes == [1, 2, 4, 8]);
 }
