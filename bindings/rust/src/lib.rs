@@ -278,7 +278,7 @@ impl ParseErrorRef<'_> {
     /// assert_eq!("x86_64-foo-bar".parse::<Triple>(), Err(error.to_error()));
     /// ```
     pub fn to_error(&self) -> ParseError {
-        self.to_error_alloc(Global)
+        allocated(self.to_error_alloc(Global))
     }
 }
 

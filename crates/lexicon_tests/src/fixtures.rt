@@ -39,7 +39,7 @@ pub(crate) fn is_found<Q: QuestionOf<T>, T: Drop, E: Drop>(
 pub(crate) fn owned_reading(alloc: Global, text: &str) -> Result<Triple, ParseError> {
     match TripleRef::from_str(text) {
         Ok(triple) => Ok(triple.to_triple(alloc)?),
-        Err(error) => Err(error.to_error(alloc)),
+        Err(error) => Err(error.to_error(alloc)?),
     }
 }
 

@@ -33,10 +33,7 @@ impl ParseError {
         ensures succeeds { refusal_of self.now ≡ None → IsOk result }
     {
         match self.as_parse_error_ref() {
-            Some(refusal) => {
-                let part = String::from_str(alloc, refusal.part())?;
-                Ok(refusal.with_part(part))
-            }
+            Some(refusal) => refusal.to_error(alloc),
             None => Ok(ParseError::OutOfMemory),
         }
     }

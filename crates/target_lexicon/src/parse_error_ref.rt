@@ -1,12 +1,12 @@
 //! Why a text doesn't parse as a triple, with the refused part borrowed.
-ghost use Rattle.std.specs.Prelude.{◌≡◌, ◌<◌, Some, IfSome, length, option_map, string_bytes};
-ghost use Rattle.target_lexicon.specs.Refusal.{refusal_of, refusal_with, refusal_line, refusal_prefix};
+ghost use Rattle.std.specs.Prelude.{◌≡◌, ◌<◌, Some, IfOk, length, option_map};
+ghost use Rattle.target_lexicon.specs.Refusal.{refusal_of, refusal_line, refusal_prefix};
 ghost use Rattle.target_lexicon.specs.ValuesRef.{refusal_of_ref};
 ghost use Rattle.target_lexicon.specs.Written.{IsWritten};
 
 use crate::parse_error::ParseError;
 use crate::put::put;
-use std::alloc::Global;
+use std::alloc::{AllocError, Global};
 use std::fmt;
 
 /// Why a text doesn't parse as a triple: the first part that has no place, and the field that was expected there. The
@@ -28,22 +28,12 @@ pub enum ParseErrorRef<'a> {
 }
 
 impl<'a> ParseErrorRef<'a> {
-    /// The same refusal with a copy of the part, or `OutOfMemory` if the allocation for that copy fails.
-    pub fn to_error(&self, alloc: Global) -> ParseError
-        ensures { IfSome (refusal_of result) (λ refusal. refusal ≡ refusal_of_ref self.now) }
+    /// The same refusal with a copy of the part. `Err` if the allocation for that copy fails.
+    pub fn to_error(&self, alloc: Global) -> Result<ParseError, AllocError>
+        ensures { IfOk result (λ error. refusal_of error ≡ Some (refusal_of_ref self.now)) }
     {
-        let Ok(part) = String::from_str(alloc, self.part()) else {
-            return ParseError::OutOfMemory;
-        };
-        self.with_part(part)
-    }
-
-    /// The same refusal with this part.
-    pub(crate) fn with_part(&self, part: String) -> ParseError
-        ensures { refusal_of result
-            ≡ Some (refusal_with (refusal_of_ref self.now).expected (string_bytes part)) }
-    {
-        match *self {
+        let part = String::from_str(alloc, self.part())?;
+        Ok(match *self {
             ParseErrorRef::UnrecognizedArchitecture(_) => {
                 ParseError::UnrecognizedArchitecture(part)
             }
@@ -56,7 +46,7 @@ impl<'a> ParseErrorRef<'a> {
                 ParseError::UnrecognizedBinaryFormat(part)
             }
             ParseErrorRef::UnrecognizedField(_) => ParseError::UnrecognizedField(part),
-        }
+        })
     }
 
     /// The refused part.

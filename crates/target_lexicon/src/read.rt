@@ -269,7 +269,7 @@ impl Triple {
     {
         match TripleRef::from_str(text) {
             Ok(triple) => Ok(triple.to_triple(alloc)?),
-            Err(error) => Err(error.to_error(alloc)),
+            Err(error) => Err(error.to_error(alloc)?),
         }
     }
 }
