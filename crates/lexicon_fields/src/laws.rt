@@ -177,7 +177,7 @@ pub fn values_hash_by_variant_and_fields()
 {}
 
 /// A copy of a value is that value, and copying allocates nothing.
-pub fn copies_equal_their_sources()
+pub fn copies_of_fields_equal_their_sources()
     ensures architecture { CopiesEqualTheirSources ⟦<Architecture as Clone>⟧.is_clone
         ⟦<Architecture as Clone>⟧.is_infallible }
     ensures arm { CopiesEqualTheirSources ⟦<ArmArchitecture as Clone>⟧.is_clone

@@ -38,7 +38,14 @@ use crate::parse_error::ParseError;
 use crate::parse_error_ref::ParseErrorRef;
 use crate::triple::Triple;
 use crate::triple_ref::TripleRef;
-pub use lexicon_fields::laws::names_read_back;
+pub use lexicon_fields::laws::{
+    copies_of_fields_equal_their_sources, custom_vendors_are_equal_by_text,
+    custom_vendors_hash_by_text, names_are_short, names_grow_at_most, names_read_back,
+    read_versions_are_in_range, rows_are_sorted_and_complete,
+    values_are_equal_by_variant_and_fields, values_hash_by_variant_and_fields,
+    vendor_refs_are_equal_by_value, vendor_refs_hash_by_value, vendors_are_equal_by_value,
+    versions_are_ordered,
+};
 use std::hash::Hash;
 
 /// Parts that have a placement have exactly one least placement, and so does each prefix of them.
@@ -79,7 +86,7 @@ pub fn read_vendors_are_plain()
 pub fn read_triples_are_plain()
     ensures { ReadTriplesArePlain }
 {
-    lexicon_fields::laws::read_versions_are_in_range();
+    read_versions_are_in_range();
 }
 
 /// The printed text of a triple is at most 22 bytes longer than each text that parses as it, and so is the text of the
@@ -91,7 +98,7 @@ pub fn printed_texts_grow_at_most()
     ensures refused { RefusedPartsDoNotGrow }
 {
     reading_is_computed();
-    lexicon_fields::laws::names_grow_at_most();
+    names_grow_at_most();
 }
 
 /// Two triples that come back are equal exactly if their printed texts are.
@@ -104,8 +111,8 @@ pub fn triples_are_equal_by_value()
     ensures { (x y : Triple) →
         IsTrue (⟦<Triple as PartialEq>⟧.eq x y) ↔ (values_of x ≡ values_of y) }
 {
-    lexicon_fields::laws::values_are_equal_by_variant_and_fields();
-    lexicon_fields::laws::vendors_are_equal_by_value();
+    values_are_equal_by_variant_and_fields();
+    vendors_are_equal_by_value();
 }
 
 /// Two borrowed triples are equal exactly if their five values are.
@@ -113,8 +120,8 @@ pub fn triple_refs_are_equal_by_value()
     ensures { (x y : TripleRef) →
         IsTrue (⟦<TripleRef<'static> as PartialEq>⟧.eq x y) ↔ (values_of_ref x ≡ values_of_ref y) }
 {
-    lexicon_fields::laws::values_are_equal_by_variant_and_fields();
-    lexicon_fields::laws::vendor_refs_are_equal_by_value();
+    values_are_equal_by_variant_and_fields();
+    vendor_refs_are_equal_by_value();
 }
 
 /// Two errors are equal exactly if both are the same refusal, or both are `OutOfMemory`.
@@ -311,7 +318,7 @@ pub fn triples_hash_by_value()
     ensures unknown { HashInjectiveOn (λ t. HasVersionInRange t.0.operating_system)
         (λ t. values_of t.0) ⟦<DefaultToUnknown as Hash>⟧.hash_input }
 {
-    lexicon_fields::laws::values_hash_by_variant_and_fields();
+    values_hash_by_variant_and_fields();
 }
 
 /// Two borrowed triples feed a hasher the same exactly if their five values are the same, as [`triples_hash_by_value`]
@@ -320,8 +327,8 @@ pub fn triple_refs_hash_by_value()
     ensures { HashInjectiveOn (λ t. HasVersionInRange t.operating_system) values_of_ref
         ⟦<TripleRef<'static> as Hash>⟧.hash_input }
 {
-    lexicon_fields::laws::values_hash_by_variant_and_fields();
-    lexicon_fields::laws::vendor_refs_hash_by_value();
+    values_hash_by_variant_and_fields();
+    vendor_refs_hash_by_value();
 }
 
 /// Two borrowed errors feed a hasher the same exactly if they are the same refusal, and what is fed after an error can

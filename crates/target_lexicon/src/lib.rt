@@ -47,7 +47,7 @@ pub use lexicon_fields::{
     CustomVendor, DeploymentTarget, Endianness, Environment, FixedRow, KnownVendor,
     Mips32Architecture, Mips64Architecture, OperatingSystem, PointerWidth, ROW_COUNT,
     Riscv32Architecture, Riscv64Architecture, Steps, Vendor, VendorError, VendorRef,
-    X86_32Architecture, Z80Architecture, fixed_row, row_order,
+    X86_32Architecture, Z80Architecture, fixed_row, row_order, write_decimal,
 };
 pub use list_error::ListError;
 pub use parse_error::ParseError;
