@@ -116,9 +116,12 @@ pub fn reports_each_failure<T: Display>(value: &T) -> bool {
     false
 }
 
-/// Whether the value prints this text at any width, and reports each failure of the target that it is printed to.
+/// Whether the value prints this text at any width (40 and 60 are tried), and reports each failure of the target that
+/// it is printed to.
 pub fn prints<T: Display>(value: &T, text: &str) -> bool {
-    writes(&format_args!("{value:*>60}"), text) && reports_each_failure(value)
+    writes(&format_args!("{value:*>40}"), text)
+        && writes(&format_args!("{value:*>60}"), text)
+        && reports_each_failure(value)
 }
 
 /// The word for a byte order in rows, `-` for no answer.
