@@ -21,6 +21,12 @@ pub(crate) fn report_versioned_system(rt: &impl Print, alloc: Global) {
 pub(crate) fn report_triple(rt: &impl Print, alloc: Global, triple: Triple) {
     report_triple_clone(rt, alloc, &triple);
     report(rt, "Triple::to_text", &triple, &triple.to_text(alloc));
+    report(
+        rt,
+        "Triple::to_upstream_text",
+        &triple,
+        &triple.to_upstream_text(alloc),
+    );
     report(rt, "Triple::to_json", &triple, &triple.to_json(alloc));
     report_vendor_clone(rt, alloc, &triple.vendor);
     if let Vendor::Custom(custom) = &triple.vendor {

@@ -4,7 +4,7 @@ ghost use Rattle.lexicon_fields.specs.{Vendor.is_plain, VendorRef.ref_value};
 
 use crate::report::report;
 use std::alloc::Global;
-use target_lexicon::{ParseErrorRef, Triple, TripleRef, Vendor, VendorRef};
+use target_lexicon::{ParseErrorRef, Steps, Triple, TripleRef, Vendor, VendorRef, fixed_row};
 
 /// A capacity that is enough for most texts.
 const CAPACITY: usize = 64;
@@ -26,7 +26,7 @@ pub(crate) fn report_parsing(rt: &impl Print, alloc: Global) {
 }
 
 pub(crate) fn report_parsed_triple(rt: &impl Print, alloc: Global, text: &str) {
-    report_borrowed_triple(rt, text);
+    report_borrowed_triple(rt, alloc, text);
     report(
         rt,
         "Triple::from_str",
@@ -43,19 +43,55 @@ pub(crate) fn report_parsed_vendor(rt: &impl Print, alloc: Global, text: &str) {
         &text,
         &Vendor::from_str(alloc, text),
     );
+    if fixed_row(text, &mut Steps::new()).is_none() {
+        report(
+            rt,
+            "Vendor::custom_from_str",
+            &text,
+            &Vendor::custom_from_str(alloc, text),
+        );
+    }
 }
 
 /// Reports the calls that borrow the text, and those on the triple or the refusal that it gives.
-fn report_borrowed_triple(rt: &impl Print, text: &str) {
+fn report_borrowed_triple(rt: &impl Print, alloc: Global, text: &str) {
     report(rt, "TripleRef::explain", &text, &TripleRef::explain(text));
     let located = TripleRef::parse_or_locate(text);
     report(rt, "TripleRef::parse_or_locate", &text, &located);
     let read = TripleRef::from_str(text);
     report(rt, "TripleRef::from_str", &text, &read);
     match read {
-        Ok(triple) => report_triple_ref(rt, triple),
-        Err(error) => report_error_ref(rt, error),
+        Ok(triple) => {
+            report_triple_ref(rt, triple);
+            report_owned_results(rt, alloc, triple);
+        }
+        Err(error) => report_error_ref(rt, alloc, error),
     }
+}
+
+/// Reports the calls of a borrowed triple, and of its vendor, that return an owned value.
+fn report_owned_results(rt: &impl Print, alloc: Global, triple: TripleRef<'_>) {
+    report(
+        rt,
+        "TripleRef::to_triple",
+        &triple,
+        &triple.to_triple(alloc),
+    );
+    report(rt, "TripleRef::to_text", &triple, &triple.to_text(alloc));
+    report(
+        rt,
+        "TripleRef::to_upstream_text",
+        &triple,
+        &triple.to_upstream_text(alloc),
+    );
+    report(rt, "TripleRef::to_json", &triple, &triple.to_json(alloc));
+    let vendor = triple.vendor;
+    report(
+        rt,
+        "VendorRef::to_vendor",
+        &vendor,
+        &vendor.to_vendor(alloc),
+    );
 }
 
 fn report_triple_ref(rt: &impl Print, triple: TripleRef<'_>)
@@ -106,7 +142,7 @@ fn report_triple_ref(rt: &impl Print, triple: TripleRef<'_>)
     );
 }
 
-fn report_error_ref(rt: &impl Print, error: ParseErrorRef<'_>) {
+fn report_error_ref(rt: &impl Print, alloc: Global, error: ParseErrorRef<'_>) {
     let mut out = [0; CAPACITY];
     report(rt, "ParseErrorRef::part", &error, &error.part());
     report(
@@ -114,5 +150,11 @@ fn report_error_ref(rt: &impl Print, error: ParseErrorRef<'_>) {
         "ParseErrorRef::write_to",
         &error,
         &error.write_to(&mut out),
+    );
+    report(
+        rt,
+        "ParseErrorRef::to_error",
+        &error,
+        &error.to_error(alloc),
     );
 }
