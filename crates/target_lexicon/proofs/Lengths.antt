@@ -1,5 +1,4 @@
--- Printed texts are at most so much longer than the vendor's name, and than the text that was parsed, and the
--- canonical form makes no text longer.
+-- Printed texts are at most so much longer than the text that was parsed, and the canonical form makes no text longer.
 use Rattle.std.proofs.Common.{◌≡◌, ℕ, zero, suc, ◌+◌, ◌≤◌, List, [], ◌∷◌, length, codes, Bool, true, false, true≢false, not, ◌&&◌, ◌||◌, cond, Option, Some, None, Ok, ◌⊎◌, inl, inr, unwrap_or, refl, sym, ap, subst, arith}
 use Rattle.std.specs.List.{join_with_byte, slice_get}
 use Rattle.std.proofs.{lemmas.List.length-append, lemmas.List.Splits.join_with_byte-slice_split, lemmas.Option.MatchOption-at_some, lemmas.Bool.and_parts, lemmas.Bool.not-true, Math.Bool.and-false, Math.Bool.or-true}
@@ -7,15 +6,15 @@ use Rattle.lexicon_fields.specs.Names.{dash}
 use Rattle.target_lexicon.specs.Values.{Architecture, OperatingSystem, Environment, BinaryFormat, VendorValue, Known, Values, values, is_unknown_vendor, is_clever_without_system, is_same_format}
 use Rattle.target_lexicon.specs.{Field.Field, ImpliedFormat.default_binary_format, ImpliedFormat.implied_format, Laws.ReadingIsComputed, Placement.parts_of, NormalStep.normal_step, NormalStep.elf_if_unknown}
 use Rattle.target_lexicon.specs.{FixedPoints.PrintedTextsGrowAtMost, FixedPoints.CanonicalTextsGrowAtMost, FixedPoints.RefusedPartsDoNotGrow}
-use Rattle.target_lexicon.specs.{SpecialTexts.special_text, SpecialTexts.special_values, Put.text_with}
+use Rattle.target_lexicon.specs.{SpecialTexts.special_text, SpecialTexts.special_values}
 use Rattle.target_lexicon.specs.Families.{IsNintendo3ds, IsEspIdf, HidesNewlib, PrintsTheEspIdfText, ShowsOnlyNone}
-use Rattle.target_lexicon.specs.Printing.{architecture_implies_format, shows_vendor, shows_operating_system, shows_environment, shows_implied_format, shows_binary_format, shows_unknowns, upstream_parts, parts_with_unknowns, shown_parts, cons_if, text_of}
+use Rattle.target_lexicon.specs.Printing.{architecture_implies_format, shows_vendor, shows_operating_system, shows_environment, shows_implied_format, shows_binary_format, shows_unknowns, shown_names, cons_if, text_of}
 use Rattle.target_lexicon.specs.GreedyReading.{FieldReading, field_reading_by, field_reading, final_reading, reading_after_architecture, reading_of_parts, reading_unless_special, reading}
 use Rattle.lexicon_fields.specs.{declared.architecture.clever.CleverArchitecture.CleverArchitecture, Architecture.architecture_name, Architecture.architecture_of, Laws.TextsAreNames, Laws.NamesGrowAtMost, Vendor.vendor_name, Vendor.vendor_of}
 use Rattle.lexicon_fields.specs.declared.known_vendor.KnownVendor.TheVariants.{Unknown, Nintendo, Espressif}
 use Rattle.lexicon_fields.specs.{OperatingSystem.operating_system_name, OperatingSystem.operating_system_of, Environment.environment_name, Environment.environment_of, ArchitectureQueries.is_clever}
 use Rattle.lexicon_fields.specs.BinaryFormat.{binary_format_name, binary_format_of}
-use Rattle.target_lexicon.proofs.{NamesAcross.environment_of-format, ReadValues.special-holds, RoundTrips.with_system, RoundTrips.without_system, StepCases.step_cases}
+use Rattle.target_lexicon.proofs.{NamesAcross.environment_of-format, PrintingLemmas.printed_names, ReadValues.special-holds, RoundTrips.with_system, RoundTrips.without_system, StepCases.step_cases}
 use Rattle.target_lexicon.specs.Values.architecture
 use Rattle.target_lexicon.specs.Values.arm
 use Rattle.target_lexicon.specs.Values.riscv32
@@ -39,21 +38,18 @@ weight-cons_if false part parts = omega arith
 
 -- the parts that are shown after the system
 abbrev after_system : Bool → Values → List (List ℕ)
-after_system b t = cond b (environment_name t.environment ∷ binary_format_name t.binary_format ∷ [])
-    (cons_if (shows_environment t) (environment_name t.environment) (cons_if (shows_binary_format t) (binary_format_name t.binary_format) []))
+after_system b t = cons_if (b || shows_environment t) (environment_name t.environment) (cons_if (b || shows_binary_format t) (binary_format_name t.binary_format) [])
 
-weight-parts : (t : Values) (b : Bool) → weight (cond b (parts_with_unknowns t) (upstream_parts t))
+weight-parts : (t : Values) (b : Bool) → weight (shown_names b t)
     ≤ suc (length (architecture_name t.architecture)) + (suc (length (vendor_name t.vendor)) + (suc (length (operating_system_name t.operating_system)) + weight (after_system b t)))
-unfolding parts_with_unknowns upstream_parts
-weight-parts t true = omega (arith, weight-cons_if (shows_vendor t) (vendor_name t.vendor) (operating_system_name t.operating_system ∷ after_system true t))
-weight-parts t false =
-    let system = cons_if (shows_operating_system t) (operating_system_name t.operating_system) (after_system false t) in
-    omega (arith, weight-cons_if (shows_vendor t) (vendor_name t.vendor) system, weight-cons_if (shows_operating_system t) (operating_system_name t.operating_system) (after_system false t))
+unfolding shown_names
+weight-parts t b =
+    let system = cons_if (b || shows_operating_system t) (operating_system_name t.operating_system) (after_system b t) in
+    omega (arith, weight-cons_if (shows_vendor t) (vendor_name t.vendor) system, weight-cons_if (b || shows_operating_system t) (operating_system_name t.operating_system) (after_system b t))
 
-weight-shown : (t : Values) (b : Bool) → let parts = cond b (parts_with_unknowns t) (upstream_parts t) in weight parts ≡ suc (length (join_with_byte dash parts))
-unfolding parts_with_unknowns upstream_parts
-weight-shown t true = weight-joined _ _
-weight-shown t false = weight-joined _ _
+weight-shown : (t : Values) (b : Bool) → weight (shown_names b t) ≡ suc (length (join_with_byte dash (shown_names b t)))
+unfolding shown_names
+weight-shown t b = weight-joined _ _
 
 -- the name of a field's value, and the parts that are left
 field_reading-max_growth : {A : Type 0} (f : Field) (name : A → List ℕ) (find : List ℕ → Option A) (unfilled : A) (bytes : ℕ) (last : Field) (parts : List (List ℕ))
@@ -113,19 +109,6 @@ unfolding special_text
 special-short (architecture.Arm arm.Armv6k) (Known Nintendo) operating_system.Horizon e f joined n room short = omega arith
 special-short (architecture.Riscv32 riscv32.Riscv32imc) (Known Espressif) operating_system.Espidf e f joined n room short = omega arith
 special-short a v s e f joined n room short = short
-
-after_system-short : (b : Bool) (t : Values) → length (environment_name t.environment) ≤ 21 → length (binary_format_name t.binary_format) ≤ 21 → weight (after_system b t) ≤ 44
-after_system-short true t e f = omega (arith, e, f)
-after_system-short false t e f =
-    let format = cons_if (shows_binary_format t) (binary_format_name t.binary_format) [] in
-    omega (arith, e, f, weight-cons_if (shows_environment t) (environment_name t.environment) format, weight-cons_if (shows_binary_format t) (binary_format_name t.binary_format) [])
-
--- a text has at most 88 bytes more than its vendor's name: four other names and as many dashes
-pub text_with-max_length : (b : Bool) (t : Values) → length (architecture_name t.architecture) ≤ 21 → length (operating_system_name t.operating_system) ≤ 21
-    → length (environment_name t.environment) ≤ 21 → length (binary_format_name t.binary_format) ≤ 21 → length (text_with b t) ≤ 88 + length (vendor_name t.vendor)
-text_with-max_length b t a s e f =
-    special-short t.architecture t.vendor t.operating_system t.environment t.binary_format _ _ (omega arith)
-    (omega (arith, a, s, after_system-short b t e f, weight-parts t b, weight-shown t b))
 
 final_reading-ok : (t : Values) (last : Field) (left : List (List ℕ)) (u : Values) → final_reading t last left ≡ Ok u → (left ≡ []) × (t ≡ u)
 final_reading-ok t last [] u is = (refl, cc)
@@ -239,11 +222,11 @@ abbrev DoesNotGrow : Values → Values → Type 0
 DoesNotGrow u t = length (text_of u) ≤ length (text_of t)
 
 -- if both print the same special text or none
-by_weight : (u t : Values) → special_text u ≡ special_text t → weight (shown_parts u) ≤ weight (shown_parts t) → DoesNotGrow u t
+by_weight : (u t : Values) → special_text u ≡ special_text t → weight (printed_names u) ≤ weight (printed_names t) → DoesNotGrow u t
 unfolding text_of
 by_weight u t special lighter = rw special (by_option (special_text t))
   where
-    by_option : (o : Option (List ℕ)) → length (unwrap_or o (join_with_byte dash (shown_parts u))) ≤ length (unwrap_or o (join_with_byte dash (shown_parts t)))
+    by_option : (o : Option (List ℕ)) → length (unwrap_or o (join_with_byte dash (printed_names u))) ≤ length (unwrap_or o (join_with_byte dash (printed_names t)))
     by_option (Some text) = omega arith
     by_option None = omega (arith, weight-shown u (shows_unknowns u), weight-shown t (shows_unknowns t))
 
@@ -253,7 +236,7 @@ special-does_not_grow t (inl is) = rw (is.architecture, is.vendor, is.operating_
 special-does_not_grow t (inr is) = rw (is.architecture, is.vendor, is.operating_system) (omega arith)
 
 esp-does_not_grow : (t : Values) → PrintsTheEspIdfText t → DoesNotGrow (values t.architecture (Known Espressif) t.operating_system environment.Newlib binary_format.Elf) t
-unfolding text_of upstream_parts shows_vendor shows_operating_system shows_environment shows_binary_format implied_format special_text
+unfolding text_of shown_names shows_vendor shows_operating_system shows_environment shows_binary_format implied_format special_text
 esp-does_not_grow t is = rw is (omega arith)
 
 -- Clever is the architecture of no special text
@@ -262,8 +245,8 @@ never_clever (architecture.Clever sub) = (refl, refl)
 never_clever _ = (refl, refl)
 
 newlib-lighter : (t : Values) (f : BinaryFormat) → t.binary_format ≡ f → HidesNewlib t
-    → weight (shown_parts (values t.architecture t.vendor t.operating_system environment.Unknown (elf_if_unknown t.binary_format))) ≤ weight (shown_parts t)
-unfolding upstream_parts shows_vendor shows_operating_system shows_environment shows_binary_format implied_format
+    → weight (printed_names (values t.architecture t.vendor t.operating_system environment.Unknown (elf_if_unknown t.binary_format))) ≤ weight (printed_names t)
+unfolding shown_names shows_vendor shows_operating_system shows_environment shows_binary_format implied_format
 newlib-lighter t binary_format.Unknown format (newlib, inl on) = rw (format, newlib, on.0, on.1, (never_clever t.architecture).0, and-false (not (architecture_implies_format t.architecture))) (omega arith)
 newlib-lighter t binary_format.Unknown format (newlib, inr on) = rw (format, newlib, on.0, on.1, (never_clever t.architecture).1, and-false (not (architecture_implies_format t.architecture))) (omega arith)
 newlib-lighter t binary_format.Elf format (newlib, inl on) = rw (format, newlib, on.0, on.1, (never_clever t.architecture).0, and-false (not (architecture_implies_format t.architecture))) (omega arith)
@@ -272,8 +255,8 @@ newlib-lighter t _ format (newlib, inl on) = rw (format, newlib, on.0, on.1, (ne
 newlib-lighter t _ format (newlib, inr on) = rw (format, newlib, on.0, on.1, (never_clever t.architecture).1) (omega arith)
 
 clever-lighter : (c : CleverArchitecture) (v : VendorValue) (f : BinaryFormat) → let a = architecture.Clever c in
-    weight (shown_parts (values a v operating_system.None_ environment.Unknown f)) ≤ weight (shown_parts (values a v operating_system.Unknown environment.None f))
-unfolding upstream_parts shows_vendor shows_operating_system shows_environment shows_binary_format implied_format
+    weight (printed_names (values a v operating_system.None_ environment.Unknown f)) ≤ weight (printed_names (values a v operating_system.Unknown environment.None f))
+unfolding shown_names shows_vendor shows_operating_system shows_environment shows_binary_format implied_format
 clever-lighter c v binary_format.Unknown = rw (or-true (not (is_unknown_vendor v) || false), without_system v) (omega arith)
 clever-lighter c v f = rw (or-true (not (is_unknown_vendor v) || false), without_system v) (omega arith)
 

@@ -30,4 +30,3 @@ pub mod TextRoundTrips
 pub mod UniqueReading
 pub mod Upstream
 pub mod Vendors
-pub mod Writes

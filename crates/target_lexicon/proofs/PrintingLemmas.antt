@@ -1,12 +1,16 @@
 -- The pieces that are written are the text of the triple.
-use Rattle.std.proofs.Common.{◌≡◌, ℕ, ◌+◌, Bool, true, false, List, [], ◌∷◌, ◌++◌, ◌||◌, length, refl, sym, ap, append_assoc, arith, Some, None}
+use Rattle.std.proofs.Common.{◌≡◌, ℕ, ◌+◌, Bool, true, false, List, [], ◌∷◌, ◌++◌, ◌||◌, refl, sym, ap, append_assoc, arith, Some, None}
 use Rattle.std.specs.List.{join_with_byte}
 use Rattle.std.proofs.{lemmas.List.append-nil, lemmas.List.length-append, Math.Bool.and-false}
 use Rattle.lexicon_fields.specs.Names.{dash}
 use Rattle.lexicon_fields.specs.{Architecture.architecture_name, Vendor.vendor_name, OperatingSystem.operating_system_name, Environment.environment_name, BinaryFormat.binary_format_name}
-use Rattle.target_lexicon.specs.{Values.Values, Values.Environment, Values.is_unknown_environment, Values.is_newlib, Values.implies_newlib, Private.part_text, Put.text_with, SpecialTexts.special_text}
+use Rattle.target_lexicon.specs.{Values.Values, Values.Environment, Values.is_unknown_environment, Values.is_newlib, Values.implies_newlib, Private.part_text, SpecialTexts.special_text}
 use Rattle.target_lexicon.specs.Values.environment
-use Rattle.target_lexicon.specs.Printing.{shows_vendor, shows_operating_system, shows_environment, shows_binary_format, cons_if, upstream_parts, shows_unknowns, parts_with_unknowns, text_of}
+use Rattle.target_lexicon.specs.Printing.{shows_vendor, shows_operating_system, shows_environment, shows_binary_format, shows_unknowns, cons_if, shown_names, text_with}
+
+-- the names that are shown
+abbrev pub printed_names : Values → List (List ℕ)
+printed_names t = shown_names (shows_unknowns t) t
 
 -- each part after a dash
 unfoldable pub dashed : List (List ℕ) → List ℕ
@@ -35,16 +39,7 @@ five_parts a p q r s w x y z =
       append-nil (part_text z s),
     ) (simp append_assoc)
 
--- without a special text the pieces are these, with an unknown environment and an unknown format or without
-pub shown_pieces : (unknowns : Bool) (t : Values) → None ≡ special_text t
-    → (((architecture_name t.architecture ++ part_text (shows_vendor t) (vendor_name t.vendor))
-    ++ part_text (unknowns || shows_operating_system t) (operating_system_name t.operating_system))
-    ++ part_text (unknowns || shows_environment t) (environment_name t.environment))
-    ++ part_text (unknowns || shows_binary_format t) (binary_format_name t.binary_format) ≡ text_with unknowns t
-unfolding upstream_parts parts_with_unknowns
-shown_pieces true t none = rw (sym none) (five_parts _ _ _ _ _ _ true true true)
-shown_pieces false t none = rw (sym none) (five_parts _ _ _ _ _ _ _ _ _)
-
+-- without a special text these pieces are the text
 pub text_of_pieces : (unknowns : Bool) (t : Values) (first vendor system environment format v e f : List ℕ) (w x y z : Bool) → None ≡ special_text t
     → first ≡ architecture_name t.architecture
     → vendor ≡ part_text w v → w ≡ shows_vendor t → v ≡ vendor_name t.vendor
@@ -52,24 +47,12 @@ pub text_of_pieces : (unknowns : Bool) (t : Values) (first vendor system environ
     → environment ≡ part_text y e → y ≡ (unknowns || shows_environment t) → e ≡ environment_name t.environment
     → format ≡ part_text z f → z ≡ (unknowns || shows_binary_format t) → f ≡ binary_format_name t.binary_format
     → (((first ++ vendor) ++ system) ++ environment) ++ format ≡ text_with unknowns t
+unfolding shown_names
 text_of_pieces unknowns t first vendor system environment format v e f w x y z none first_is vendor_is w_is v_is system_is x_is environment_is y_is e_is format_is z_is f_is =
-    rw (first_is, vendor_is, w_is, v_is, system_is, x_is, environment_is, y_is, e_is, format_is, z_is, f_is) (shown_pieces unknowns t none)
+    rw (first_is, vendor_is, w_is, v_is, system_is, x_is, environment_is, y_is, e_is, format_is, z_is, f_is, sym none) (five_parts _ _ _ _ _ _ _ _ _)
 
 pub special_pieces : (unknowns : Bool) (t : Values) (text : List ℕ) → Some text ≡ special_text t → text ≡ text_with unknowns t
 special_pieces unknowns t text special = rw (sym special) refl
-
--- so is the text that is printed part by part
-pub prints_parts : (t : Values) → None ≡ special_text t
-    → (((architecture_name t.architecture ++ part_text (shows_vendor t) (vendor_name t.vendor))
-    ++ part_text (shows_unknowns t || shows_operating_system t) (operating_system_name t.operating_system))
-    ++ part_text (shows_unknowns t || shows_environment t) (environment_name t.environment))
-    ++ part_text (shows_unknowns t || shows_binary_format t) (binary_format_name t.binary_format) ≡ text_of t
-unfolding text_of
-prints_parts t none = shown_pieces (shows_unknowns t) t none
-
-pub prints_special : (t : Values) (text : List ℕ) → Some text ≡ special_text t → text ≡ text_of t
-unfolding text_of
-prints_special t text special = special_pieces (shows_unknowns t) t text special
 
 -- an environment other than these two is always shown
 
@@ -84,25 +67,3 @@ other_than_newlib _ n = refl
 pub other_environment_shown : (t : Values) → (t.environment ≡ environment.Unknown → ⊥) → (t.environment ≡ environment.Newlib → ⊥) → true ≡ shows_environment t
 unfolding shows_environment
 other_environment_shown t unknown newlib = rw (other_than_unknown t.environment unknown, other_than_newlib t.environment newlib, and-false (implies_newlib t.vendor t.operating_system)) refl
-
--- without a special text it is as long as its pieces
-pub shown_length : (unknowns : Bool) (t : Values) → None ≡ special_text t
-    → length (architecture_name t.architecture) + length (part_text (shows_vendor t) (vendor_name t.vendor))
-    + length (part_text (unknowns || shows_operating_system t) (operating_system_name t.operating_system))
-    + length (part_text (unknowns || shows_environment t) (environment_name t.environment))
-    + length (part_text (unknowns || shows_binary_format t) (binary_format_name t.binary_format)) ≡ length (text_with unknowns t)
-shown_length unknowns t none =
-    omega (
-      arith,
-      ap length (shown_pieces unknowns t none),
-      length-append (((architecture_name t.architecture ++ part_text (shows_vendor t) (vendor_name t.vendor))
-          ++ part_text (unknowns || shows_operating_system t) (operating_system_name t.operating_system))
-          ++ part_text (unknowns || shows_environment t) (environment_name t.environment))
-          (part_text (unknowns || shows_binary_format t) (binary_format_name t.binary_format)),
-      length-append ((architecture_name t.architecture ++ part_text (shows_vendor t) (vendor_name t.vendor))
-          ++ part_text (unknowns || shows_operating_system t) (operating_system_name t.operating_system))
-          (part_text (unknowns || shows_environment t) (environment_name t.environment)),
-      length-append (architecture_name t.architecture ++ part_text (shows_vendor t) (vendor_name t.vendor))
-          (part_text (unknowns || shows_operating_system t) (operating_system_name t.operating_system)),
-      length-append (architecture_name t.architecture) (part_text (shows_vendor t) (vendor_name t.vendor)),
-    )

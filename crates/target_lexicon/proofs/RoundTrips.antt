@@ -3,11 +3,12 @@ use Rattle.std.proofs.Common.{◌≡◌, ◌∙◌, ℕ, Bool, true, false, not,
 use Rattle.target_lexicon.specs.Values.{Architecture, Environment, OperatingSystem, BinaryFormat, VendorValue, Known, Values, values, implies_newlib, is_same_format}
 use Rattle.target_lexicon.specs.{Field.Field, ImpliedFormat.default_binary_format, ImpliedFormat.implied_format, Families.PrintsAsSpecial, Families.HidesNewlib, Refusal.Refusal, SpecialTexts.special_text}
 use Rattle.target_lexicon.specs.NormalStep.{normal_step, hides_newlib, prints_the_esp_idf_text, shows_only_none, elf_if_unknown}
-use Rattle.target_lexicon.specs.Printing.{shows_vendor, omits_unknown_vendor, shows_operating_system, shows_environment, names_no_system, shows_implied_format, shows_binary_format, shows_unknowns, upstream_parts, parts_with_unknowns, shown_parts, cons_if}
+use Rattle.target_lexicon.specs.Printing.{shows_vendor, omits_unknown_vendor, shows_operating_system, shows_environment, names_no_system, shows_implied_format, shows_binary_format, shows_unknowns, shown_names, cons_if}
 use Rattle.target_lexicon.specs.GreedyReading.{reading_of_parts, reading_from_vendor, reading_from_operating_system, reading_from_environment}
 use Rattle.lexicon_fields.specs.{declared.architecture.clever.CleverArchitecture.CleverArchitecture, Architecture.architecture_name, Laws.HasVersionInRange, Vendor.vendor_name, Vendor.is_plain, OperatingSystem.operating_system_name, Environment.environment_name, BinaryFormat.binary_format_name}
 use Rattle.lexicon_fields.specs.declared.known_vendor.KnownVendor.TheVariants.{Unknown, Nintendo, Espressif}
 use Rattle.std.proofs.{lemmas.Bool.not-false, lemmas.Bool.not-true, Math.Bool.and-false, lemmas.Bool.false≢true, lemmas.Bool.true≢false, lemmas.Bool.Decides.not_from_Decides}
+use Rattle.target_lexicon.proofs.PrintingLemmas.{printed_names}
 use Rattle.target_lexicon.proofs.NamesAcross.{NamesAreRead, environment_of-format, operating_system_of-format, operating_system_of-environment, vendor_of-operating_system, system_as_vendor}
 use Rattle.target_lexicon.proofs.StepCases.{step_cases, hides_newlib-decides, prints_the_esp_idf_text-decides, shows_only_none-decides}
 use Rattle.target_lexicon.specs.Values.architecture
@@ -192,8 +193,8 @@ module _ (names : NamesAreRead) where
       ∙ ap (λ x. Ok (values (architecture.Clever c) v operating_system.Unknown e x)) (shown_or_implied (values (architecture.Clever c) v operating_system.Unknown e f)))
 
   clever-round : (c : CleverArchitecture) (v : VendorValue) (e : Environment) (f : BinaryFormat) → is_plain v ≡ true → shows_unknowns (values (architecture.Clever c) v operating_system.Unknown e f) ≡ false
-      → reading_of_parts (upstream_parts (values (architecture.Clever c) v operating_system.Unknown e f)) ≡ Ok (normal_step (values (architecture.Clever c) v operating_system.Unknown e f))
-  unfolding upstream_parts shows_operating_system
+      → reading_of_parts (shown_names false (values (architecture.Clever c) v operating_system.Unknown e f)) ≡ Ok (normal_step (values (architecture.Clever c) v operating_system.Unknown e f))
+  unfolding shown_names shows_operating_system
   clever-round c v e f plain hidden =
       prefix (architecture.Clever c) v _ _ _ plain
       (λ h. absurd (let is = (hidden_vendor (architecture.Clever c) v operating_system.Unknown e f h).1 in cc)) (λ last. clever-read c v e f last hidden)
@@ -201,12 +202,12 @@ module _ (names : NamesAreRead) where
   module _ (a : Architecture) (v : VendorValue) (s : OperatingSystem) (e : Environment) (f : BinaryFormat) (plain : is_plain v ≡ true) (range : HasVersionInRange s)
       (none : special_text (values a v s e f) ≡ None) (apart : prints_the_esp_idf_text (values a v s e f) ≡ false) where
     clever_by : (c : CleverArchitecture) → a ≡ architecture.Clever c → s ≡ operating_system.Unknown → shows_unknowns (values a v s e f) ≡ false
-        → reading_of_parts (upstream_parts (values a v s e f)) ≡ Ok (normal_step (values a v s e f))
+        → reading_of_parts (shown_names false (values a v s e f)) ≡ Ok (normal_step (values a v s e f))
     clever_by c is_a is_s hidden = rw (is_a, is_s) (clever-round c v e f plain (rw (is_a, is_s) at hidden))
 
     upstream-round : (b : Bool) → shows_operating_system (values a v s e f) ≡ b → shows_unknowns (values a v s e f) ≡ false
-        → reading_of_parts (upstream_parts (values a v s e f)) ≡ Ok (normal_step (values a v s e f))
-    unfolding upstream_parts
+        → reading_of_parts (shown_names false (values a v s e f)) ≡ Ok (normal_step (values a v s e f))
+    unfolding shown_names
     upstream-round true shown hidden = rw shown (after_system a v s e f _ _ plain range
         (tail-round a v s e f none hidden field.OperatingSystem apart (shown_system (values a v s e f) shown)))
     upstream-round false none_shown hidden = let is = hidden_system a v s e f none_shown in clever_by is.1.0 is.1.1 is.0 hidden
@@ -218,14 +219,14 @@ module _ (names : NamesAreRead) where
         (λ is. absurd (not_from_Decides _ (prints_the_esp_idf_text-decides (values a v s e f)) apart is))
         (λ is. absurd (let only_none = is.environment in cc)) (λ outside. refl)
 
-    unknowns-round : (e ≡ environment.Unknown) × (f ≡ binary_format.Unknown) → reading_of_parts (parts_with_unknowns (values a v s e f)) ≡ Ok (normal_step (values a v s e f))
-    unfolding parts_with_unknowns
+    unknowns-round : (e ≡ environment.Unknown) × (f ≡ binary_format.Unknown) → reading_of_parts (shown_names true (values a v s e f)) ≡ Ok (normal_step (values a v s e f))
+    unfolding shown_names
     unknowns-round is = after_system a v s e f _ _ plain range (shown-read a v s e f true field.OperatingSystem ∙ ap Ok (sym (unknowns-step is)))
 
-    parts_by : (b : Bool) → shows_unknowns (values a v s e f) ≡ b → reading_of_parts (cond b (parts_with_unknowns (values a v s e f)) (upstream_parts (values a v s e f))) ≡ Ok (normal_step (values a v s e f))
+    parts_by : (b : Bool) → shows_unknowns (values a v s e f) ≡ b → reading_of_parts (shown_names b (values a v s e f)) ≡ Ok (normal_step (values a v s e f))
     parts_by true shown = unknowns-round (are_unknown a v s e f shown)
     parts_by false hidden = upstream-round _ refl hidden
 
     -- if no special text is printed, the shown parts parse as the step
-    pub parts-round : reading_of_parts (shown_parts (values a v s e f)) ≡ Ok (normal_step (values a v s e f))
+    pub parts-round : reading_of_parts (printed_names (values a v s e f)) ≡ Ok (normal_step (values a v s e f))
     parts-round = parts_by (shows_unknowns (values a v s e f)) refl

@@ -5,14 +5,14 @@ use Rattle.std.proofs.lemmas.Slice.Eq.{bytes_eq-Decides}
 use Rattle.lexicon_fields.specs.Names.{dash}
 use Rattle.target_lexicon.specs.Values.{Architecture, OperatingSystem, Environment, BinaryFormat, VendorValue, Known, Custom, Values, values}
 use Rattle.target_lexicon.specs.{FixedPoints.RoundIsNormalStep, ImpliedFormat.implied_format, NormalStep.normal_step, NormalStep.prints_the_esp_idf_text, Placement.parts_of}
-use Rattle.target_lexicon.specs.Printing.{shows_vendor, shows_operating_system, shows_environment, shows_binary_format, shows_unknowns, upstream_parts, parts_with_unknowns, shown_parts, text_of, cons_if}
+use Rattle.target_lexicon.specs.Printing.{shows_vendor, shows_operating_system, shows_environment, shows_binary_format, shows_unknowns, shown_names, text_of, cons_if}
 use Rattle.target_lexicon.specs.{Reading.ReadsAs, GreedyReading.reading_of_parts, GreedyReading.reading_unless_special, GreedyReading.reading, Refusal.Expects, Refusal.refusal_with}
 use Rattle.target_lexicon.specs.SpecialTexts.{special_text, special_values, nintendo_3ds, nintendo_3ds_text, esp_idf, esp_idf_text}
 use Rattle.lexicon_fields.specs.{Names.is_dash_free, Architecture.architecture_name, Architecture.architecture_of, Laws.HasVersionInRange, Environment.environment_name, Environment.environment_of}
 use Rattle.lexicon_fields.specs.declared.known_vendor.KnownVendor.TheVariants.{Nintendo, Espressif}
 use Rattle.lexicon_fields.specs.{Vendor.vendor_of, Vendor.known_vendor_of, Vendor.is_admitted, Vendor.is_plain, BinaryFormat.binary_format_name, BinaryFormat.binary_format_of}
 use Rattle.lexicon_fields.specs.OperatingSystem.{operating_system_name, operating_system_of, fixed_operating_system_of}
-use Rattle.target_lexicon.proofs.{ComputedReading.reading_computed, PartLemmas.parts_of-joined, NamesAcross.NamesAreRead, RoundTrips.parts-round, StepCases.step_cases, StepCases.prints_the_esp_idf_text-decides}
+use Rattle.target_lexicon.proofs.{ComputedReading.reading_computed, PartLemmas.parts_of-joined, NamesAcross.NamesAreRead, PrintingLemmas.printed_names, RoundTrips.parts-round, StepCases.step_cases, StepCases.prints_the_esp_idf_text-decides}
 use Rattle.target_lexicon.specs.Values.architecture
 use Rattle.target_lexicon.specs.Values.arm
 use Rattle.target_lexicon.specs.Values.riscv32
@@ -47,7 +47,7 @@ abbrev custom_esp : Values
 custom_esp = values (architecture.Riscv32 riscv32.Riscv32imc) (Custom (codes "esp")) operating_system.Espidf environment.Unknown binary_format.Elf
 
 custom_esp-round : reading (text_of custom_esp) ≡ Ok (normal_step custom_esp)
-unfolding reading text_of special_text special_values upstream_parts shows_vendor shows_operating_system shows_environment shows_binary_format implied_format normal_step
+unfolding reading text_of special_text special_values shown_names shows_vendor shows_operating_system shows_environment shows_binary_format implied_format normal_step
 custom_esp-round = refl
 
 -- the special texts, parsed by their parts
@@ -70,7 +70,7 @@ by_tests text ps t false false is_x is_y are reads apart = ap reading_of_parts a
 
 module _ (names : NamesAreRead) (a : Architecture) (v : VendorValue) (s : OperatingSystem) (e : Environment) (f : BinaryFormat) (plain : is_plain v ≡ true) (range : HasVersionInRange s)
     (none : special_text (values a v s e f) ≡ None) (apart : prints_the_esp_idf_text (values a v s e f) ≡ false) where
-  parts-apart : shown_parts (values a v s e f) ≢ parts_of esp_idf_text
+  parts-apart : printed_names (values a v s e f) ≢ parts_of esp_idf_text
   parts-apart same =
       let reads : Ok (normal_step (values a v s e f)) ≡ Ok custom_esp = sym (parts-round names a v s e f plain range none apart) ∙ ap reading_of_parts same ∙ esp_idf-parts in
       step_cases (λ u. u ≡ custom_esp → ⊥) (values a v s e f)
@@ -80,8 +80,8 @@ module _ (names : NamesAreRead) (a : Architecture) (v : VendorValue) (s : Operat
       (λ is step. let of = ap (λ x. x.operating_system) step in cc)
       (λ outside. outside.esp) cc
 
-  joined-parts : (b : Bool) → let parts = cond b (parts_with_unknowns (values a v s e f)) (upstream_parts (values a v s e f)) in parts_of (join_with_byte dash parts) ≡ parts
-  unfolding upstream_parts parts_with_unknowns
+  joined-parts : (b : Bool) → let parts = shown_names b (values a v s e f) in parts_of (join_with_byte dash parts) ≡ parts
+  unfolding shown_names
   joined-parts true = parts_of-join (architecture_name a) _ (names.architecture.name_dash_free a tt)
       (cons_if-free (shows_vendor (values a v s e f)) _ _ (names.vendor.name_dash_free v plain)
       (rw (names.operating_system.name_dash_free s range, names.environment.name_dash_free e tt, names.binary_format.name_dash_free f tt) refl))
@@ -95,7 +95,7 @@ module _ (names : NamesAreRead) (a : Architecture) (v : VendorValue) (s : Operat
   unfolding reading text_of special_values
   shown-round =
       let t = values a v s e f in
-      rw none (by_tests (join_with_byte dash (shown_parts t)) (shown_parts t) (normal_step t) _ _ refl refl
+      rw none (by_tests (join_with_byte dash (printed_names t)) (printed_names t) (normal_step t) _ _ refl refl
       (joined-parts (shows_unknowns t)) (parts-round names a v s e f plain range none apart) parts-apart)
 
 round_by : NamesAreRead → (t : Values) (special : Option (List ℕ)) (b : Bool) → is_plain t.vendor ≡ true → HasVersionInRange t.operating_system → special_text t ≡ special

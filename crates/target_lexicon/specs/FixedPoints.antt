@@ -27,7 +27,8 @@ pub record IsFixedExactlyOutside (t : Values) : Type 0 where
 abbrev pub FixedExactlyOutsideFamilies : Type 0
 FixedExactlyOutsideFamilies = (t : Values) → HasVersionInRange t.operating_system → IsFixedExactlyOutside t
 
--- the canonical form: the normal step, taken twice
+-- the canonical form: the normal step, taken until the triple comes back. Two steps are enough for every triple, and
+-- by the law `OneStepSettles` one is
 abbrev pub settled_values : Values → Values
 settled_values t = normal_step (normal_step t)
 

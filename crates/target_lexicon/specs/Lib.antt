@@ -9,6 +9,7 @@ pub mod Json
 pub mod Laws
 pub mod NormalStep
 pub mod RemainingParts
+pub mod Piece
 pub mod Pieces
 pub mod Put
 pub mod Placement

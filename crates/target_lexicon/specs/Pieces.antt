@@ -1,8 +1,8 @@
 -- The text of pieces.
 use Rattle.std.specs.Prelude.{ℕ, List, ◌++◌}
-use Rattle.target_lexicon.specs.{declared.pieces.Pieces.Pieces, Put.dashed_piece, Put.dashed_system}
+use Rattle.target_lexicon.specs.{declared.pieces.Pieces.Pieces, Piece.piece_text}
 
--- the pieces, with a dash before each but the first
+-- the first name and the other pieces
 abbrev pub pieces_text : Pieces → List ℕ
 pieces_text p =
-    (((p.first.now ++ dashed_piece p.vendor) ++ dashed_system p.operating_system) ++ dashed_piece p.environment) ++ dashed_piece p.binary_format
+    (((p.first.now ++ piece_text p.vendor) ++ piece_text p.operating_system) ++ piece_text p.environment) ++ piece_text p.binary_format

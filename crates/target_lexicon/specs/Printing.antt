@@ -2,7 +2,7 @@
 -- are held to their subject by a comparison with upstream (`checks/compare_upstream`), from which the texts differ
 -- only by that rule (`OnlyUnknownsDifferFromUpstream`), and by the round trip: a printed text reads as the triple or
 -- its normal step (`RoundIsNormalStep`).
-use Rattle.std.specs.Prelude.{◌≡◌, ◌≢◌, ◌↔◌, ℕ, Bool, true, false, not, ◌&&◌, ◌||◌, List, [], ◌∷◌, None, unwrap_or, if◌then◌else◌}
+use Rattle.std.specs.Prelude.{◌≡◌, ◌≢◌, ◌↔◌, ℕ, Bool, true, false, not, ◌&&◌, ◌||◌, List, [], ◌∷◌, None, unwrap_or}
 use Rattle.std.specs.List.{join_with_byte}
 use Rattle.lexicon_fields.specs.Names.{dash}
 use Rattle.target_lexicon.specs.Values.{Architecture, OperatingSystem, Environment, Values, is_unknown_vendor, is_unknown_environment, is_newlib, is_clever_without_system, implies_newlib, is_same_format}
@@ -95,37 +95,30 @@ abbrev pub cons_if : Bool → List ℕ → List (List ℕ) → List (List ℕ)
 cons_if true part parts = part ∷ parts
 cons_if false part parts = parts
 
--- the names of the fields that upstream shows
-unfoldable pub upstream_parts : Values → List (List ℕ)
-upstream_parts t =
+-- the names of the fields that are shown: by upstream's rules, or with the last three fields shown whatever these say
+unfoldable pub shown_names : Bool → Values → List (List ℕ)
+shown_names unknowns t =
     architecture_name t.architecture ∷ cons_if (shows_vendor t) (vendor_name t.vendor)
-    (cons_if (shows_operating_system t) (operating_system_name t.operating_system)
-    (cons_if (shows_environment t) (environment_name t.environment)
-    (cons_if (shows_binary_format t) (binary_format_name t.binary_format) [])))
+    (cons_if (unknowns || shows_operating_system t) (operating_system_name t.operating_system)
+    (cons_if (unknowns || shows_environment t) (environment_name t.environment)
+    (cons_if (unknowns || shows_binary_format t) (binary_format_name t.binary_format) [])))
 
 -- the one addition to upstream's rules: an unknown environment and an unknown format are both shown if another format
--- is implied
+-- is implied, and the operating system with them, so that each of the last three names parses as its own field
 abbrev pub shows_unknowns : Values → Bool
 shows_unknowns t = is_unknown_environment t.environment && is_same_format t.binary_format binary_format.Unknown && not (is_same_format t.binary_format (default_binary_format t))
 
--- the parts if `shows_unknowns` holds: the operating system is shown too, so that each of the last three parts parses
--- as the field whose name it is
-unfoldable pub parts_with_unknowns : Values → List (List ℕ)
-parts_with_unknowns t =
-    architecture_name t.architecture ∷ cons_if (shows_vendor t) (vendor_name t.vendor)
-    (operating_system_name t.operating_system ∷ environment_name t.environment ∷ binary_format_name t.binary_format ∷ [])
+-- the special text of a triple, or else these names joined by dashes
+abbrev pub text_with : Bool → Values → List ℕ
+text_with unknowns t = unwrap_or (special_text t) (join_with_byte dash (shown_names unknowns t))
 
--- the names of the fields that are shown
-abbrev pub shown_parts : Values → List (List ℕ)
-shown_parts t = if shows_unknowns t then parts_with_unknowns t else upstream_parts t
-
--- the printed text of a triple: its special text, or else these names joined by dashes
+-- the printed text of a triple
 unfoldable pub text_of : Values → List ℕ
-text_of t = unwrap_or (special_text t) (join_with_byte dash (shown_parts t))
+text_of t = text_with (shows_unknowns t) t
 
 -- the text that upstream prints for the triple
 unfoldable pub upstream_text_of : Values → List ℕ
-upstream_text_of t = unwrap_or (special_text t) (join_with_byte dash (upstream_parts t))
+upstream_text_of t = text_with false t
 
 -- environment and format are unknown, another format is implied, and no special text is printed
 pub record ShowsUnknowns (t : Values) : Type 0 where

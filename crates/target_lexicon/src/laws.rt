@@ -38,6 +38,7 @@ use crate::parse_error::ParseError;
 use crate::parse_error_ref::ParseErrorRef;
 use crate::triple::Triple;
 use crate::triple_ref::TripleRef;
+use lexicon_fields::OperatingSystem;
 pub use lexicon_fields::laws::{
     copies_of_fields_equal_their_sources, custom_vendors_are_equal_by_text,
     custom_vendors_hash_by_text, names_are_short, names_grow_at_most, names_read_back,
@@ -254,6 +255,11 @@ pub fn round_trips_are_known()
 #[tactic(auto, using(crate::proofs::Upstream::only_unknowns_differ))]
 pub fn only_unknowns_differ_from_upstream()
     ensures { OnlyUnknownsDifferFromUpstream }
+{}
+
+/// The version of a system is in range, by its types.
+pub(crate) fn version_fits(operating_system: OperatingSystem)
+    ensures { HasVersionInRange operating_system }
 {}
 
 /// A list of triples that come back, written as JSON, parses as itself and as no other list.

@@ -33,7 +33,6 @@ mod settles_as;
 mod special;
 mod triple;
 mod triple_ref;
-mod write;
 
 pub use calling_convention::CallingConvention;
 pub use data_model::{CDataModel, Size};

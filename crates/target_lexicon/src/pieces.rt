@@ -1,33 +1,129 @@
-//! The pieces of a printed text.
-ghost use Rattle.std.specs.Prelude.{◌≡◌, ◌+◌, ◌<◌, ◌≤◌, ◌^◌, ◌++◌, List, ℕ, IfOk, Some, length, string_bytes};
-ghost use Rattle.std.specs.Fmt.{WritesStyledOnOk, decimal};
-ghost use Rattle.std.specs.Option.{ForSome};
+//! What is shown of a triple, in pieces, and how it is written.
+ghost use Rattle.std.specs.Prelude.{◌≡◌, ◌+◌, ◌<◌, ◌≤◌, ◌^◌, Some, IfOk, length, string_bytes};
+ghost use Rattle.std.specs.Fmt.{decimal};
 ghost use Rattle.lexicon_fields.specs.Laws.{max_name_length};
 ghost use Rattle.lexicon_fields.specs.OperatingSystem.{operating_system_name};
 ghost use Rattle.lexicon_fields.specs.Version.{version_name};
-ghost use Rattle.target_lexicon.specs.Put.{dashed_piece, dashed_system};
+ghost use Rattle.target_lexicon.specs.Piece.{piece_text};
+ghost use Rattle.target_lexicon.specs.Private.{part_text};
+ghost use Rattle.target_lexicon.specs.Put.{IsPut, Puts};
+ghost use Rattle.target_lexicon.specs.Written.{IsWritten};
 
-use crate::settle::version_fits;
+use crate::laws::version_fits;
+use crate::put::{put, put_dashed, put_dashed_system};
 use lexicon_fields::laws::names_are_short;
 use lexicon_fields::{DeploymentTarget, OperatingSystem};
 use std::alloc::{AllocError, Global};
 use std::fmt;
 
-/// The pieces of a printed text, in order. Each but the first follows a dash.
+/// A dash and a name, or nothing.
+#[derive(Clone, Copy)]
+pub(crate) enum Piece<'a> {
+    Hidden,
+    Name(&'a str),
+    System(OperatingSystem),
+}
+
+impl<'a> Piece<'a> {
+    /// The piece of a name, if it is shown.
+    pub(crate) fn name_if(is_shown: bool, name: &'a str) -> Piece<'a>
+        ensures text { piece_text result ≡ part_text is_shown name.entry.now }
+        ensures bound { length (piece_text result) ≤ 1 + length name.entry.now }
+    {
+        if is_shown {
+            Piece::Name(name)
+        } else {
+            Piece::Hidden
+        }
+    }
+
+    /// The piece of a system's name, if it is shown.
+    pub(crate) fn system_if(is_shown: bool, system: OperatingSystem) -> Piece<'a>
+        ensures text { piece_text result ≡ part_text is_shown (operating_system_name system) }
+        ensures bound { length (piece_text result) ≤ 1 + length (operating_system_name system) }
+    {
+        if is_shown {
+            Piece::System(system)
+        } else {
+            Piece::Hidden
+        }
+    }
+
+    /// The length of the text.
+    fn text_length(self) -> usize
+        ensures { result ≡ length (piece_text self.entry) }
+    {
+        match self {
+            Piece::Hidden => 0,
+            Piece::Name(name) => 1 + name.len(),
+            Piece::System(system) => 1 + name_length(system),
+        }
+    }
+
+    /// Writes the text, as [`put`] writes a text.
+    fn put(self, out: &mut [u8], at: usize) -> usize
+        requires { at + length (piece_text self) ≤ length out.old }
+        ensures { Puts (piece_text self.entry) out.old at out.new result }
+    {
+        match self {
+            Piece::Hidden => at,
+            Piece::Name(name) => put_dashed(out, at, name),
+            Piece::System(system) => put_dashed_system(out, at, system),
+        }
+    }
+}
+
+impl fmt::Display for Piece<'_> {
+    ghost output = { λ it. Some (piece_text it) };
+
+    ghost styled_output = { λ it _. Some (piece_text it) };
+
+    fn fmt<W: fmt::Write>(&self, f: &mut fmt::Formatter<W>) -> fmt::Result {
+        match *self {
+            Piece::Hidden => Ok(()),
+            Piece::Name(name) => {
+                f.write_str("-")?;
+                f.write_str(name)
+            }
+            Piece::System(system) => {
+                f.write_str("-")?;
+                fmt::Display::fmt(&system, f)
+            }
+        }
+    }
+}
+
+/// What is shown of a triple: the name of the architecture, or the special text, and a piece for each of the other
+/// fields.
 #[derive(Clone, Copy)]
 pub(crate) struct Pieces<'a> {
     pub first: &'static str,
-    pub vendor: Option<&'a str>,
-    pub operating_system: Option<OperatingSystem>,
-    pub environment: Option<&'static str>,
-    pub binary_format: Option<&'static str>,
-    ghost short_first: { length first.now ≤ max_name_length },
-    ghost short_environment: { ForSome environment (λ name. length name.now ≤ max_name_length) },
-    ghost short_format: { ForSome binary_format (λ name. length name.now ≤ max_name_length) },
+    pub vendor: Piece<'a>,
+    pub operating_system: Piece<'a>,
+    pub environment: Piece<'a>,
+    pub binary_format: Piece<'a>,
+    ghost fits: { length first.now + length (piece_text vendor)
+        + length (piece_text operating_system)
+        + length (piece_text environment)
+        + length (piece_text binary_format) < 2 ^ 64 },
 }
 
 impl Pieces<'_> {
     ghost use Rattle.target_lexicon.specs.Pieces.{pieces_text};
+
+    /// The pieces of a special text, of which it is the only one.
+    pub(crate) fn of_special_text(text: &'static str) -> Self
+        requires { length text.now ≤ max_name_length }
+        ensures { pieces_text result ≡ text.entry.now }
+    {
+        Pieces {
+            first: text,
+            vendor: Piece::Hidden,
+            operating_system: Piece::Hidden,
+            environment: Piece::Hidden,
+            binary_format: Piece::Hidden,
+        }
+    }
 
     /// The text. `Err` if the allocation for it fails.
     pub(crate) fn to_text(&self, alloc: Global) -> Result<String, AllocError>
@@ -38,16 +134,39 @@ impl Pieces<'_> {
         Ok(text)
     }
 
+    /// Writes the text at the front of the buffer if it fits there, and returns its length. If it doesn't fit, the
+    /// buffer is unchanged.
+    pub(crate) fn write_to(&self, out: &mut [u8]) -> usize
+        ensures { IsWritten (pieces_text self.now) out.old out.new result }
+    {
+        let length = self.text_length();
+        if length <= out.len() {
+            self.put(out);
+        }
+        length
+    }
+
     /// The length of the text.
-    #[inline(always)]
-    pub(crate) fn text_length(&self) -> usize
+    fn text_length(&self) -> usize
         ensures { result ≡ length (pieces_text self.now) }
     {
         self.first.len()
-            + piece_length(self.vendor)
-            + system_length(self.operating_system)
-            + short_piece_length(self.environment)
-            + short_piece_length(self.binary_format)
+            + self.vendor.text_length()
+            + self.operating_system.text_length()
+            + self.environment.text_length()
+            + self.binary_format.text_length()
+    }
+
+    /// Writes the text at the front of a buffer that has room for it, and returns its end.
+    fn put(&self, out: &mut [u8]) -> usize
+        requires { length (pieces_text self.now) ≤ length out.old }
+        ensures { IsPut (pieces_text self.now) out.old out.new result }
+    {
+        let at = put(out, 0, self.first.as_bytes());
+        let at = self.vendor.put(out, at);
+        let at = self.operating_system.put(out, at);
+        let at = self.environment.put(out, at);
+        self.binary_format.put(out, at)
     }
 }
 
@@ -58,86 +177,16 @@ impl fmt::Display for Pieces<'_> {
 
     ghost styled_output = { λ it _. Some (pieces_text it) };
 
-    #[inline(always)]
     fn fmt<W: fmt::Write>(&self, f: &mut fmt::Formatter<W>) -> fmt::Result {
         f.write_str(self.first)?;
-        write_piece(f, self.vendor)?;
-        write_system(f, self.operating_system)?;
-        write_piece(f, self.environment)?;
-        write_piece(f, self.binary_format)
-    }
-}
-
-/// Writes a dash and a piece, if there is one.
-#[inline(always)]
-fn write_piece<W: fmt::Write>(f: &mut fmt::Formatter<W>, piece: Option<&str>) -> fmt::Result
-    ensures { WritesStyledOnOk W.write_str_gives f.old result (dashed_piece piece.entry) f.new }
-{
-    match piece {
-        Some(text) => {
-            f.write_str("-")?;
-            f.write_str(text)
-        }
-        None => Ok(()),
-    }
-}
-
-/// Writes a dash and the name of a system, if there is one.
-#[inline(always)]
-fn write_system<W: fmt::Write>(
-    f: &mut fmt::Formatter<W>,
-    system: Option<OperatingSystem>,
-) -> fmt::Result
-    ensures { WritesStyledOnOk W.write_str_gives f.old result (dashed_system system) f.new }
-{
-    match system {
-        Some(system) => {
-            f.write_str("-")?;
-            fmt::Display::fmt(&system, f)
-        }
-        None => Ok(()),
-    }
-}
-
-/// The length of a piece and its dash, if there is one.
-#[inline(always)]
-fn piece_length(piece: Option<&str>) -> usize
-    ensures value { result ≡ length (dashed_piece piece.entry) }
-    ensures bound { result ≤ 2 ^ 63 }
-{
-    match piece {
-        Some(text) => 1 + text.len(),
-        None => 0,
-    }
-}
-
-/// The length of a name and its dash, if there is one.
-#[inline(always)]
-fn short_piece_length(piece: Option<&str>) -> usize
-    requires { ForSome piece (λ name. length name.now ≤ max_name_length) }
-    ensures value { result ≡ length (dashed_piece piece.entry) }
-    ensures bound { result ≤ 1 + max_name_length }
-{
-    match piece {
-        Some(text) => 1 + text.len(),
-        None => 0,
-    }
-}
-
-/// The length of a system's name and its dash, if there is one.
-#[inline(always)]
-fn system_length(system: Option<OperatingSystem>) -> usize
-    ensures value { result ≡ length (dashed_system system) }
-    ensures bound { result ≤ 1 + max_name_length }
-{
-    match system {
-        Some(system) => 1 + name_length(system),
-        None => 0,
+        self.vendor.fmt(f)?;
+        self.operating_system.fmt(f)?;
+        self.environment.fmt(f)?;
+        self.binary_format.fmt(f)
     }
 }
 
 /// The length of a system's name.
-#[inline(always)]
 fn name_length(system: OperatingSystem) -> usize
     ensures value { result ≡ length (operating_system_name system) }
     ensures bound { result ≤ max_name_length }

@@ -7,78 +7,18 @@ ghost use Rattle.lexicon_fields.specs.Names.{dash};
 ghost use Rattle.target_lexicon.specs.Put.{Puts};
 
 use lexicon_fields::{DeploymentTarget, OperatingSystem};
-use std::simd::Simd;
-
-/// Copies a text. Most are names of four to eight bytes, which two moves copy that may overlap.
-#[inline(always)]
-fn copy_text(to: &mut [u8], text: &[u8])
-    requires { length to.old ≡ length text.now }
-    ensures { to.new ≡ text.now }
-{
-    let length = text.len();
-    if length < 4 {
-        copy_few(to, text);
-    } else if length <= 8 {
-        copy_ends::<4>(to, text);
-    } else if length <= 16 {
-        copy_ends::<8>(to, text);
-    } else {
-        copy_many(to, text);
-    }
-}
-
-/// Copies the first N bytes and the last N bytes, which are all.
-#[inline(always)]
-fn copy_ends<const N: usize>(to: &mut [u8], text: &[u8])
-    requires fits { length to.old ≡ length text.now }
-    requires covers { (N ≤ length text.now) × (length text.now ≤ N + N) }
-    ensures { to.new ≡ text.now }
-{
-    let last = text.len() - N;
-    let (first_bytes, last_bytes) = (
-        Simd::<u8, N>::from_slice(text),
-        Simd::<u8, N>::from_slice(&text[last..]),
-    );
-    first_bytes.copy_to_slice(to);
-    last_bytes.copy_to_slice(&mut to[last..]);
-}
-
-/// Copies at most three bytes.
-#[inline(always)]
-fn copy_few(to: &mut [u8], text: &[u8])
-    requires fits { length to.old ≡ length text.now }
-    requires few { length text.now ≤ 3 }
-    ensures { to.new ≡ text.now }
-{
-    if 2 <= text.len() {
-        copy_ends::<2>(to, text);
-    } else if text.len() == 1 {
-        to[0] = text[0];
-    }
-}
-
-/// Copies a long text, such as that of a custom vendor.
-#[inline(never)]
-fn copy_many(to: &mut [u8], text: &[u8])
-    requires { length to.old ≡ length text.now }
-    ensures { to.new ≡ text.now }
-{
-    to.copy_from_slice(text);
-}
 
 /// Writes a text after what ends at `at`. Returns the end of both.
-#[inline(always)]
 pub(crate) fn put(out: &mut [u8], at: usize, text: &[u8]) -> usize
     requires { at + length text.now ≤ length out.old }
     ensures { Puts text.now out.old at out.new result }
 {
     let end = at + text.len();
-    copy_text(&mut out[at..end], text);
+    out[at..end].copy_from_slice(text);
     end
 }
 
 /// Writes a byte, as [`put`] writes a text.
-#[inline(always)]
 fn put_byte(out: &mut [u8], at: usize, byte: u8) -> usize
     requires { at + 1 ≤ length out.old }
     ensures { Puts (byte ∷ []) out.old at out.new result }
@@ -88,7 +28,6 @@ fn put_byte(out: &mut [u8], at: usize, byte: u8) -> usize
 }
 
 /// Writes a dash and a text, as [`put`] writes a text.
-#[inline(always)]
 pub(crate) fn put_dashed(out: &mut [u8], at: usize, text: &str) -> usize
     requires { at + length (dash ∷ text.now) ≤ length out.old }
     ensures { Puts (dash ∷ text.now) out.old at out.new result }
@@ -98,7 +37,6 @@ pub(crate) fn put_dashed(out: &mut [u8], at: usize, text: &str) -> usize
 }
 
 /// Writes a dash and the name of a system, as [`put`] writes a text.
-#[inline(always)]
 pub(crate) fn put_dashed_system(out: &mut [u8], at: usize, system: OperatingSystem) -> usize
     requires { at + length (dash ∷ operating_system_name system) ≤ length out.old }
     ensures { Puts (dash ∷ operating_system_name system) out.old at out.new result }
@@ -111,7 +49,6 @@ pub(crate) fn put_dashed_system(out: &mut [u8], at: usize, system: OperatingSyst
 }
 
 /// Writes a version, as [`put`] writes a text.
-#[inline(never)]
 fn put_version(out: &mut [u8], at: usize, version: DeploymentTarget) -> usize
     requires { at + length (version_name version) ≤ length out.old }
     ensures { Puts (version_name version) out.old at out.new result }

@@ -1,6 +1,5 @@
 //! Round trips of a triple: the five families that don't come back, the normal step, and the canonical form.
 ghost use Rattle.std.specs.Prelude.{◌≡◌, ◌↔◌, ◌⊎◌, true, IsTrue};
-ghost use Rattle.lexicon_fields.specs.Laws.{HasVersionInRange};
 ghost use Rattle.lexicon_fields.specs.Vendor.{is_plain, vendor_value};
 ghost use Rattle.lexicon_fields.specs.VendorRef.{ref_value};
 ghost use Rattle.lexicon_fields.specs.declared.known_vendor.KnownVendor.TheVariants as known_vendor;
@@ -14,7 +13,7 @@ ghost use Rattle.target_lexicon.specs.Reading.{ReadsAs};
 ghost use Rattle.target_lexicon.specs.Values.{values_of};
 ghost use Rattle.target_lexicon.specs.ValuesRef.{values_of_ref};
 
-use crate::laws::{round_is_normal_step, settled_texts_are_keys};
+use crate::laws::{round_is_normal_step, settled_texts_are_keys, version_fits};
 use crate::triple::Triple;
 use crate::triple_ref::TripleRef;
 use lexicon_fields::{
@@ -60,8 +59,8 @@ impl Triple {
         self.step()
     }
 
-    /// The canonical form of the triple: the result of `normal`, which comes back. The vendor must be plain, as for
-    /// `normal`. A triple that comes back is unchanged. No other canonical triple has the same text (law
+    /// The canonical form of the triple: the normal step, taken until the triple comes back. One step is enough (law
+    /// `second_step_changes_one`). The vendor must be plain, as for `normal`. A triple that comes back is unchanged. No other canonical triple has the same text (law
     /// `settled_texts_are_keys`), so the text serves as a key. Nothing is allocated.
     pub fn settle(self) -> Triple
         requires { is_plain (vendor_value self.vendor) ≡ true }
@@ -232,8 +231,3 @@ fn elf_if_unknown(binary_format: BinaryFormat) -> BinaryFormat
         _ => binary_format,
     }
 }
-
-/// The version of a system is in range, by its types.
-pub(crate) fn version_fits(operating_system: OperatingSystem)
-    ensures { HasVersionInRange operating_system }
-{}

@@ -1,12 +1,29 @@
-use Rattle.std.proofs.Common.{◌∙◌, ◌||◌, ap}
+use Rattle.std.proofs.Common.{◌||◌, ap, length, arith}
 use Rattle.target_lexicon.specs.ValuesRef.{values_of_ref}
 use Rattle.target_lexicon.proofs.PrintingLemmas.{text_of_pieces}
 use Rattle.target_lexicon.proofs.triple_ref.TripleRef.pieces_with.Goals as goal
 
+pub invariant_of-result : goal.invariant_of-result
+invariant_of-result c =
+    let triple = c.args.self.now in
+    let short = c.names_are_short.ensures in
+    record {
+      fits = omega (
+        arith,
+        ap length c.name.ensures,
+        ap length c.name-2.ensures,
+        ap length c.name-3.ensures,
+        short.architecture triple.architecture,
+        short.operating_system triple.operating_system c.version_fits.ensures,
+        short.environment triple.environment,
+        short.binary_format triple.binary_format,
+      );
+    }
+
 pub returns : goal.returns
 returns c =
     text_of_pieces c.args.unknowns (values_of_ref c.args.self.now) _ _ _ _ _ _ _ _ _ _ _ _ c.in_default.ensures.text c.name.ensures
-    c.piece_if.ensures c.shows_vendor.ensures c.as_str.ensures
-    c.system_if.ensures (c.either-system.ensures ∙ ap (λ b. c.args.unknowns || b) c.shows_operating_system.ensures)
-    c.name_if.ensures.text (c.either-environment.ensures ∙ ap (λ b. c.args.unknowns || b) c.shows_environment.ensures) c.name-2.ensures
-    c.name_if-2.ensures.text (c.either-binary_format.ensures ∙ ap (λ b. c.args.unknowns || b) c.shows_binary_format.ensures) c.name-3.ensures
+    c.name_if.ensures.text c.shows_vendor.ensures c.as_str.ensures
+    c.system_if.ensures.text (ap (λ b. c.args.unknowns || b) c.shows_operating_system.ensures)
+    c.name_if-2.ensures.text (ap (λ b. c.args.unknowns || b) c.shows_environment.ensures) c.name-2.ensures
+    c.name_if-3.ensures.text (ap (λ b. c.args.unknowns || b) c.shows_binary_format.ensures) c.name-3.ensures
