@@ -20,3 +20,4 @@ pub mod RowLemmas
 pub mod ParsedSystems
 pub mod VendorsReadBack
 pub mod VersionsReadBack
+pub mod Puts

@@ -60,7 +60,7 @@ binary_formats_are_short f = leb-true _ _ (binary_format-is_short f)
 pub known_vendors_are_short : NamesAreShort known_vendor_name
 known_vendors_are_short k = leb-true _ _ (known_vendor-is_short k)
 
-version-short : (v : DeploymentTarget) → IsVersionInRange v → length (version_name v) ≤ 13
+pub version-short : (v : DeploymentTarget) → IsVersionInRange v → length (version_name v) ≤ 13
 version-short v (major, minor, patch) =
     omega (
       arith,

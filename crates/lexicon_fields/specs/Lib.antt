@@ -12,3 +12,4 @@ pub mod SubArchitecture
 pub mod Vendor
 pub mod VendorRef
 pub mod Version
+pub mod Put

@@ -1,11 +1,14 @@
 //! The versions of deployment targets.
-ghost use Rattle.std.specs.Prelude.{◌≡◌, ◌+◌, ◌<◌, [], ◌∷◌};
-ghost use Rattle.std.specs.Fmt.{WritesStyledOnOk, decimal};
+ghost use Rattle.std.specs.Prelude.{◌≡◌, ◌+◌, ◌≤◌, ◌∷◌, [], length};
+ghost use Rattle.std.specs.Fmt.{decimal};
+ghost use Rattle.lexicon_fields.specs.Put.{Puts};
 ghost use Rattle.lexicon_fields.specs.Version.{dot, version_of, version_name, pieces_of};
 ghost use Rattle.lexicon_fields.specs.Private.{remaining_pieces};
 
-use crate::decimal::write_decimal;
-use std::fmt;
+use std::str::from_utf8;
+
+/// The length of the longest text of a version.
+pub const MAX_VERSION_LENGTH: usize = 13;
 
 /// The oldest version of a system like Darwin on which a target runs, within the limits of a Mach-O file.
 #[derive(Clone, Copy, Debug, PartialEq, Eq, PartialOrd, Ord, Hash)]
@@ -55,15 +58,6 @@ impl DeploymentTarget {
             }),
         }
     }
-
-    /// Writes `major.minor.patch` and ignores the formatter's options.
-    pub(crate) fn write<W: fmt::Write>(self, f: &mut fmt::Formatter<W>) -> fmt::Result
-        ensures { WritesStyledOnOk W.write_str_gives f.old result (version_name self) f.new }
-    {
-        write_decimal(f, usize::from(self.major))?;
-        write_dotted(f, self.minor)?;
-        write_dotted(f, self.patch)
-    }
 }
 
 /// The text up to the first dot, and the text after it.
@@ -76,9 +70,56 @@ fn first_piece(text: &str) -> (&str, Option<&str>)
     }
 }
 
-fn write_dotted<W: fmt::Write>(f: &mut fmt::Formatter<W>, n: u8) -> fmt::Result
-    ensures { WritesStyledOnOk W.write_str_gives f.old result (dot ∷ decimal n) f.new }
+/// The text of a version, `major.minor.patch`, written into a buffer that has room for the longest.
+pub fn version_text(version: DeploymentTarget, buffer: &mut [u8; MAX_VERSION_LENGTH]) -> &str
+    ensures text { result.now ≡ version_name version }
+    ensures bound { length result.now ≤ 13 }
 {
-    f.write_str(".")?;
-    write_decimal(f, usize::from(n))
+    let end = put_version(buffer, 0, version);
+    let text = &buffer[..end];
+    match from_utf8(text) {
+        Ok(text) => text,
+        // Digits and dots are UTF-8.
+        Err(_) => "",
+    }
+}
+
+/// Writes a version, as [`put_byte`] writes a byte.
+fn put_version(out: &mut [u8], at: usize, version: DeploymentTarget) -> usize
+    requires { at + length (version_name version) ≤ length out.old }
+    ensures { Puts (version_name version) out.old at out.new result }
+{
+    let at = put_decimal(out, at, usize::from(version.major));
+    let at = put_dotted(out, at, version.minor);
+    put_dotted(out, at, version.patch)
+}
+
+/// Writes a dot and a number, as [`put_byte`] writes a byte.
+fn put_dotted(out: &mut [u8], at: usize, n: u8) -> usize
+    requires { at + length (dot ∷ decimal n) ≤ length out.old }
+    ensures { Puts (dot ∷ decimal n) out.old at out.new result }
+{
+    let at = put_byte(out, at, b'.');
+    put_decimal(out, at, usize::from(n))
+}
+
+/// Writes a number in decimal, as [`put_byte`] writes a byte.
+fn put_decimal(out: &mut [u8], at: usize, n: usize) -> usize
+    requires { at + length (decimal n) ≤ length out.old }
+    ensures { Puts (decimal n) out.old at out.new result }
+{
+    if n < 10 {
+        return put_byte(out, at, b'0' + n as u8);
+    }
+    let at = put_decimal(out, at, n / 10);
+    put_byte(out, at, b'0' + (n % 10) as u8)
+}
+
+/// Writes a byte after what ends at `at`. Returns the end of both.
+fn put_byte(out: &mut [u8], at: usize, byte: u8) -> usize
+    requires { at + 1 ≤ length out.old }
+    ensures { Puts (byte ∷ []) out.old at out.new result }
+{
+    out[at] = byte;
+    at + 1
 }

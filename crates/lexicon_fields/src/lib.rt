@@ -23,7 +23,7 @@ pub use architecture::{
 };
 pub use binary_format::BinaryFormat;
 pub use decimal::write_decimal;
-pub use deployment_target::DeploymentTarget;
+pub use deployment_target::{DeploymentTarget, MAX_VERSION_LENGTH, version_text};
 pub use endianness::Endianness;
 pub use environment::Environment;
 pub use known_vendor::KnownVendor;

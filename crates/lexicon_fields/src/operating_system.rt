@@ -7,7 +7,7 @@ ghost use Rattle.lexicon_fields.specs.Version.{version_name};
 ghost use Rattle.lexicon_fields.specs.Private.{version_after, first_system};
 ghost use Rattle.lexicon_fields.specs.OperatingSystem.{operating_system_name, operating_system_of, system_version, version_suffix, optional_version_of, darwin_like_system, darwin_prefixes, is_like_darwin};
 
-use crate::deployment_target::DeploymentTarget;
+use crate::deployment_target::{DeploymentTarget, MAX_VERSION_LENGTH, version_text};
 use crate::steps::Steps;
 use crate::table::fixed_row;
 use std::alloc::{AllocError, Global};
@@ -275,7 +275,7 @@ impl fmt::Display for OperatingSystem {
         f.write_str(self.prefix())?;
         match self.version() {
             None => Ok(()),
-            Some(version) => version.write(f),
+            Some(version) => f.write_str(version_text(version, &mut [0; MAX_VERSION_LENGTH])),
         }
     }
 }

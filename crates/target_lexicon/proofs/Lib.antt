@@ -17,7 +17,6 @@ pub mod ModelsKnown
 pub mod NamesAcross
 pub mod OnLiterals
 pub mod PrintingLemmas
-pub mod Puts
 pub mod QueriesKept
 pub mod ReadValues
 pub mod RefusalLemmas

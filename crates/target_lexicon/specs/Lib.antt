@@ -11,7 +11,6 @@ pub mod NormalStep
 pub mod RemainingParts
 pub mod Piece
 pub mod Pieces
-pub mod Put
 pub mod Placement
 pub mod Printing
 pub mod Private

@@ -1,18 +1,16 @@
 //! What is shown of a triple, in pieces, and how it is written.
 ghost use Rattle.std.specs.Prelude.{◌≡◌, ◌+◌, ◌<◌, ◌≤◌, ◌^◌, Some, IfOk, length, string_bytes};
-ghost use Rattle.std.specs.Fmt.{decimal};
 ghost use Rattle.lexicon_fields.specs.Laws.{max_name_length};
 ghost use Rattle.lexicon_fields.specs.OperatingSystem.{operating_system_name};
-ghost use Rattle.lexicon_fields.specs.Version.{version_name};
 ghost use Rattle.target_lexicon.specs.Piece.{piece_text};
 ghost use Rattle.target_lexicon.specs.Private.{part_text};
-ghost use Rattle.target_lexicon.specs.Put.{IsPut, Puts};
+ghost use Rattle.lexicon_fields.specs.Put.{IsPut, Puts};
 ghost use Rattle.target_lexicon.specs.Written.{IsWritten};
 
 use crate::laws::version_fits;
 use crate::put::{put, put_dashed, put_dashed_system};
 use lexicon_fields::laws::names_are_short;
-use lexicon_fields::{DeploymentTarget, OperatingSystem};
+use lexicon_fields::{MAX_VERSION_LENGTH, OperatingSystem, version_text};
 use std::alloc::{AllocError, Global};
 use std::fmt;
 
@@ -194,30 +192,10 @@ fn name_length(system: OperatingSystem) -> usize
     names_are_short();
     version_fits(system);
     match system.version() {
-        Some(version) => system.prefix().len() + version_length(version),
+        Some(version) => {
+            let mut digits = [0; MAX_VERSION_LENGTH];
+            system.prefix().len() + version_text(version, &mut digits).len()
+        }
         None => system.prefix().len(),
     }
-}
-
-/// The length of a version.
-fn version_length(version: DeploymentTarget) -> usize
-    ensures value { result ≡ length (version_name version) }
-    ensures bound { result < 2 ^ 20 }
-{
-    decimal_length(usize::from(version.major))
-        + 1
-        + decimal_length(usize::from(version.minor))
-        + 1
-        + decimal_length(usize::from(version.patch))
-}
-
-/// The number of digits of a number in decimal.
-fn decimal_length(n: usize) -> usize
-    ensures value { result ≡ length (decimal n) }
-    ensures bound { result ≤ n + 1 }
-{
-    if n < 10 {
-        return 1;
-    }
-    decimal_length(n / 10) + 1
 }

@@ -7,7 +7,7 @@ use Rattle.lexicon_fields.proofs.operating_system.OperatingSystemDisplay.fmt.Goa
 pub returns-in-Some-clause-styled : goal.returns-in-Some-clause-styled
 returns-in-Some-clause-styled g c = λ flush ok.
     let prefix = c.write_str.ensures.styled flush (search rules) in
-    let version = c.write.ensures prefix.flush ok in
+    let version = rw c.version_text.ensures.text at (c.write_str-in-Some.ensures.styled prefix.flush ok) in
     let name = ap (λ v. c.prefix.result.now ++ version_suffix v) (sym c.in-Some.is ∙ c.version.ensures) ∙ c.prefix.ensures in
     has_written_styled_of_eq _ _ _ _ _ name (has_written_styled_append _ _ _ _ _ _ prefix version)
 

@@ -1,7 +1,8 @@
 use Rattle.std.proofs.Common.{◌≡◌, ◌+◌, ◌++◌, ◌≤◌, ◌∙◌, List, ℕ, length, arith, refl, sym, ap, subst}
 use Rattle.std.proofs.lemmas.List.{length-append}
-use Rattle.target_lexicon.specs.{Put.IsPut, Refusal.refusal_line, ValuesRef.refusal_of_ref}
-use Rattle.target_lexicon.proofs.Puts.{puts_first, puts_then}
+use Rattle.lexicon_fields.specs.Put.{IsPut}
+use Rattle.target_lexicon.specs.{Refusal.refusal_line, ValuesRef.refusal_of_ref}
+use Rattle.lexicon_fields.proofs.Puts.{puts_first, puts_then}
 use Rattle.target_lexicon.proofs.parse_error_ref.ParseErrorRef.write_to.Goals as goal
 
 pub returns-then-length-out : goal.returns-then-length-out

@@ -1,6 +1,6 @@
 use Rattle.std.proofs.Common.{List, ℕ, subst}
-use Rattle.target_lexicon.specs.Put.{Puts}
-use Rattle.target_lexicon.proofs.Puts.{puts_first, puts_then}
+use Rattle.lexicon_fields.specs.Put.{Puts}
+use Rattle.lexicon_fields.proofs.Puts.{puts_first, puts_then}
 use Rattle.target_lexicon.proofs.pieces.Pieces.put.Goals as goal
 
 pub returns : goal.returns
