@@ -8,7 +8,6 @@ ghost use Rattle.target_lexicon.specs.Private.{AreDashBits, AreLastDashBits};
 use std::simd::prelude::*;
 
 /// A mask of the dashes in the sixteen bytes from `at`: bit i is set if byte `at + i` is a dash. Higher bits are 0.
-#[inline(always)]
 fn dashes_from(bytes: &[u8], at: usize) -> u64
     requires { at + 16 ≤ length bytes.now }
     ensures { result ≡ mask_l (map (λ b. b == dash) (take 16 (drop at bytes.now))) }
@@ -19,7 +18,6 @@ fn dashes_from(bytes: &[u8], at: usize) -> u64
 }
 
 /// A bit for each of the last sixteen bytes of a text, set for a dash. The highest bit is that of the last byte.
-#[inline(always)]
 fn dashes_at_end(text: &str) -> u64
     ensures { AreLastDashBits result text.now }
 {
@@ -34,7 +32,6 @@ fn dashes_at_end(text: &str) -> u64
 
 /// A bit for each byte of a text of at most 32 bytes, set for a dash. The lowest bit is that of the first byte. A
 /// longer text has no bits.
-#[inline(always)]
 pub(crate) fn dash_bits(text: &str) -> u64
     ensures { AreDashBits result text.now }
 {
@@ -50,7 +47,6 @@ pub(crate) fn dash_bits(text: &str) -> u64
 }
 
 /// The bits of at most sixteen bytes.
-#[inline(never)]
 fn dash_bits_of_few(text: &str) -> u64
     requires { length text.now ≤ 16 }
     ensures { AreDashBits result text.now }
@@ -59,7 +55,6 @@ fn dash_bits_of_few(text: &str) -> u64
 }
 
 /// The bits of what is left of a longer text.
-#[inline(never)]
 pub(crate) fn dash_bits_of_rest(rest: &str) -> u64
     ensures { AreDashBits result rest.now }
 {
@@ -67,7 +62,6 @@ pub(crate) fn dash_bits_of_rest(rest: &str) -> u64
 }
 
 /// The index of the first dash of a text of at least sixteen bytes, searched sixteen bytes a step.
-#[inline(never)]
 pub(crate) fn dash_in_long(text: &str) -> Option<usize>
     requires { 16 ≤ length text.now }
     ensures { result ≡ position (λ b. b == dash) text.now }

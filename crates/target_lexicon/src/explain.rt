@@ -73,7 +73,6 @@ impl<'a> TextPart<'a> {
     ghost use Rattle.target_lexicon.specs.Explanation.{NotGiven, part_value, source_at};
 
     /// The part that begins at this index.
-    #[inline(always)]
     fn starting_at(text: &'a str, start: usize) -> TextPart<'a>
         requires { start + length text.now < 2 ^ 64 }
         ensures { part_value result ≡ source_at NotGiven start (Some text.entry.now) }
@@ -94,7 +93,6 @@ fn length_fits(text: &str)
 }
 
 /// The source of a field with this part, or without one, and where the next part begins.
-#[inline(always)]
 fn next_source<'a>(part: Option<&'a str>, start: usize, unfilled: Source<'a>) -> (Source<'a>, usize)
     requires { start_after start (part_bytes part) < 2 ^ 64 }
     ensures source { source_value result.0
@@ -112,7 +110,6 @@ fn next_source<'a>(part: Option<&'a str>, start: usize, unfilled: Source<'a>) ->
 
 impl<'a> Sources<'a> {
     /// The sources of fields that these parts of one text fill.
-    #[inline(always)]
     fn of_parts(parts: FieldParts<'a>, unfilled_format: Source<'a>) -> Sources<'a>
         requires { next_start (texts_of parts) < 2 ^ 64 }
         ensures { sources_of result
@@ -137,7 +134,6 @@ impl<'a> Sources<'a> {
     }
 
     /// The sources of the fields of a special text.
-    #[inline(always)]
     fn of_special_text(text: &'a str) -> Sources<'a>
         ensures { sources_of result ≡ whole_text_sources text.entry.now }
     {
@@ -155,7 +151,6 @@ impl<'a> Sources<'a> {
 impl<'a> TripleRef<'a> {
     /// The triple that a text parses as; or why it is refused, and the refused part. Nothing is allocated. `explain`
     /// answers this too, and where each field comes from.
-    #[inline(always)]
     pub fn parse_or_locate(
         text: &'a str,
     ) -> Result<TripleRef<'a>, (ParseErrorRef<'a>, TextPart<'a>)>
@@ -186,7 +181,6 @@ impl<'a> TripleRef<'a> {
     /// A part is of the first field that it parses as, of those after the field of the part before it. So `nuttx` in
     /// `armv7a-nuttx-eabi` is the vendor, since it is the name of no field. The whole of a special text gives all five
     /// fields; its parts have none of their own.
-    #[inline(always)]
     pub fn explain(text: &'a str) -> Result<Explanation<'a>, ExplainedError<'a>>
         ensures triple { IfOk result (λ it. ReadsAs text.entry.now (values_of_ref it.triple)) }
         ensures sources { IfOk result (λ it. AreSourcesOf text.entry.now (sources_of it.sources)) }

@@ -16,7 +16,6 @@ impl<'a> FieldParts<'a> {
     ghost use Rattle.target_lexicon.specs.RemainingParts.{texts_of};
 
     /// No field has a part.
-    #[inline(always)]
     pub(crate) fn none() -> FieldParts<'a>
         ensures { texts_of result ≡ no_texts }
     {

@@ -50,7 +50,6 @@ impl<'a> ParseErrorRef<'a> {
     }
 
     /// The refused part.
-    #[inline(always)]
     pub fn part(&self) -> &'a str
         ensures { result.now ≡ (refusal_of_ref self.now).part }
     {
@@ -80,7 +79,6 @@ impl<'a> ParseErrorRef<'a> {
     }
 
     /// The words of the refusal's line before the part, such as `Unrecognized vendor: `.
-    #[inline(always)]
     pub fn prefix(&self) -> &'static str
         ensures words { result.now ≡ refusal_prefix (refusal_of_ref self.now).expected }
         ensures bound { length result.now < 32 }
@@ -131,7 +129,6 @@ impl fmt::Display for ParseErrorRef<'_> {
 
     ghost styled_output = { λ error _. Some (refusal_line (refusal_of_ref error)) };
 
-    #[inline(always)]
     fn fmt<W: fmt::Write>(&self, f: &mut fmt::Formatter<W>) -> fmt::Result {
         f.write_str(self.prefix())?;
         f.write_str(self.part())

@@ -26,7 +26,6 @@ pub(crate) struct Part<'a> {
 }
 
 /// The row of the name `text` in the table of fixed names, or `None` if the table hasn't it. Its steps aren't counted.
-#[inline(always)]
 fn row_of(text: &str) -> Option<FixedRow>
     ensures { IsLookedUp text.now result }
 {
@@ -35,7 +34,6 @@ fn row_of(text: &str) -> Option<FixedRow>
 
 /// The system that a text with this row, or without one, parses as. A text without a row may be a system like Darwin
 /// with a version.
-#[inline(always)]
 fn system_of(text: &str, row: Option<FixedRow>) -> Option<OperatingSystem>
     requires { IsLookedUp text.now row }
     ensures { result ≡ operating_system_of text.now }
@@ -47,7 +45,6 @@ fn system_of(text: &str, row: Option<FixedRow>) -> Option<OperatingSystem>
 }
 
 /// Cuts a text at its first dash, given the bits of its dashes. The bits of what follows the dash are returned too.
-#[inline(always)]
 fn split_at_dash(text: &str, bits: u64) -> (&str, Option<&str>, u64)
     requires { AreDashBits bits text.now }
     ensures parts { parts_of text.now ≡ result.0.now ∷ parts_after_dash result.1 }
@@ -65,7 +62,6 @@ fn split_at_dash(text: &str, bits: u64) -> (&str, Option<&str>, u64)
 }
 
 /// Cuts a long text at its first dash.
-#[inline(always)]
 fn split_long_at_dash(text: &str) -> (&str, Option<&str>, u64)
     requires { 16 ≤ length text.now }
     ensures parts { parts_of text.now ≡ result.0.now ∷ parts_after_dash result.1 }
@@ -81,7 +77,6 @@ fn split_long_at_dash(text: &str) -> (&str, Option<&str>, u64)
 }
 
 /// How many bytes follow a part: a dash and what is after it, if there is one.
-#[inline(always)]
 #[tactic(auto, using(crate::proofs::TextRanges::dashed_length_of))]
 fn length_after_part(after_dash: Option<&str>) -> usize
     ensures value { result ≡ dashed_length (parts_after_dash after_dash.entry) }
@@ -103,7 +98,6 @@ impl<'a> Part<'a> {
     ghost use Rattle.target_lexicon.specs.RemainingParts.{remaining_parts};
 
     /// The first part of a text.
-    #[inline(always)]
     pub(crate) fn first(text: &'a str) -> Self
         ensures { parts_of text.entry.now ≡ result.text.now ∷ parts_after_dash result.after_dash }
     {
@@ -111,7 +105,6 @@ impl<'a> Part<'a> {
     }
 
     /// The part after the dash.
-    #[inline(always)]
     pub(crate) fn next(&self) -> Option<Self>
         ensures { remaining_parts result ≡ parts_after_dash self.now.after_dash }
     {
@@ -122,7 +115,6 @@ impl<'a> Part<'a> {
     }
 
     /// How many bytes the text has from this part on.
-    #[inline(always)]
     pub(crate) fn length_to_end(&self) -> usize
         ensures { dashed_length (remaining_parts (Some self.now)) ≡ result + 1 }
     {
@@ -130,7 +122,6 @@ impl<'a> Part<'a> {
     }
 
     /// The first part of a text, given the bits of its dashes.
-    #[inline(always)]
     fn first_of(text: &'a str, bits: u64) -> Self
         requires { AreDashBits bits text.now }
         ensures { parts_of text.entry.now ≡ result.text.now ∷ parts_after_dash result.after_dash }
@@ -147,7 +138,6 @@ impl<'a> Part<'a> {
     }
 
     /// What the part reads as in each field.
-    #[inline(always)]
     pub(crate) fn architecture(&self) -> Option<Architecture>
         ensures { result ≡ architecture_of self.now.text.now }
     {
@@ -155,7 +145,6 @@ impl<'a> Part<'a> {
     }
 
     /// A part that has no row and is no system may be a custom vendor.
-    #[inline(always)]
     pub(crate) fn vendor(&self) -> Option<VendorRef<'a>>
         ensures { option_map ref_value result ≡ vendor_of self.now.text.now }
     {
@@ -171,21 +160,18 @@ impl<'a> Part<'a> {
         }
     }
 
-    #[inline(always)]
     pub(crate) fn operating_system(&self) -> Option<OperatingSystem>
         ensures { result ≡ operating_system_of self.now.text.now }
     {
         self.operating_system
     }
 
-    #[inline(always)]
     pub(crate) fn environment(&self) -> Option<Environment>
         ensures { result ≡ environment_of self.now.text.now }
     {
         self.row?.environment
     }
 
-    #[inline(always)]
     pub(crate) fn binary_format(&self) -> Option<BinaryFormat>
         ensures { result ≡ binary_format_of self.now.text.now }
     {

@@ -16,7 +16,6 @@ const ESP_IDF: &str = "riscv32imc-esp-espidf";
 
 impl<'a> TripleRef<'a> {
     /// The triple of a special text.
-    #[inline(always)]
     #[tactic(auto, unfolding(crate::specs::SpecialTexts::special_values))]
     pub(crate) fn from_special_text(text: &str) -> Option<TripleRef<'a>>
         ensures { option_map values_of_ref result ≡ special_values text.now }
