@@ -45,6 +45,7 @@ fn system_of(text: &str, row: Option<FixedRow>) -> Option<OperatingSystem>
 }
 
 /// Cuts a text at its first dash, given the bits of its dashes. The bits of what follows the dash are returned too.
+#[inline(always)]
 fn split_at_dash(text: &str, bits: u64) -> (&str, Option<&str>, u64)
     requires { AreDashBits bits text.now }
     ensures parts { parts_of text.now ≡ result.0.now ∷ parts_after_dash result.1 }
@@ -98,6 +99,7 @@ impl<'a> Part<'a> {
     ghost use Rattle.target_lexicon.specs.RemainingParts.{remaining_parts};
 
     /// The first part of a text.
+    #[inline(always)]
     pub(crate) fn first(text: &'a str) -> Self
         ensures { parts_of text.entry.now ≡ result.text.now ∷ parts_after_dash result.after_dash }
     {
@@ -105,6 +107,7 @@ impl<'a> Part<'a> {
     }
 
     /// The part after the dash.
+    #[inline(always)]
     pub(crate) fn next(&self) -> Option<Self>
         ensures { remaining_parts result ≡ parts_after_dash self.now.after_dash }
     {
@@ -122,6 +125,7 @@ impl<'a> Part<'a> {
     }
 
     /// The first part of a text, given the bits of its dashes.
+    #[inline(always)]
     fn first_of(text: &'a str, bits: u64) -> Self
         requires { AreDashBits bits text.now }
         ensures { parts_of text.entry.now ≡ result.text.now ∷ parts_after_dash result.after_dash }
