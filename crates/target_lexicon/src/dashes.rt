@@ -47,6 +47,7 @@ pub(crate) fn dash_bits(text: &str) -> u64
 }
 
 /// The bits of at most sixteen bytes.
+#[inline(never)]
 fn dash_bits_of_few(text: &str) -> u64
     requires { length text.now ≤ 16 }
     ensures { AreDashBits result text.now }
@@ -55,6 +56,7 @@ fn dash_bits_of_few(text: &str) -> u64
 }
 
 /// The bits of what is left of a longer text.
+#[inline(never)]
 pub(crate) fn dash_bits_of_rest(rest: &str) -> u64
     ensures { AreDashBits result rest.now }
 {
@@ -62,6 +64,7 @@ pub(crate) fn dash_bits_of_rest(rest: &str) -> u64
 }
 
 /// The index of the first dash of a text of at least sixteen bytes, searched sixteen bytes a step.
+#[inline(never)]
 pub(crate) fn dash_in_long(text: &str) -> Option<usize>
     requires { 16 ≤ length text.now }
     ensures { result ≡ position (λ b. b == dash) text.now }
