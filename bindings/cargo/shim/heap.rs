@@ -30,7 +30,7 @@ pub(crate) use format;
 
 pub(crate) mod std {
     pub use super::base::{error, fmt, marker, simd};
-    pub use core::{cmp, hash, str};
+    pub use core::{cmp, ops, hash, str};
     pub use rust_std::{io, process};
 
     pub mod alloc {
