@@ -22,7 +22,7 @@ pub(crate) fn order(own_key: u64, own: &str, key: u64, text: &str) -> Ordering
     if text.len() <= 8 {
         own.len().cmp(&text.len())
     } else {
-        own.cmp(text)
+        own.bytes().cmp(text.bytes()) // in place, which saves a search the cost of a call
     }
 }
 
