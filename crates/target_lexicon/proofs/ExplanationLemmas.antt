@@ -7,11 +7,11 @@ use Rattle.lexicon_fields.specs.Names.{dash}
 use Rattle.lexicon_fields.specs.{declared.architecture.Architecture.Architecture as AnyArchitecture, Architecture.architecture_of, Vendor.vendor_of, OperatingSystem.operating_system_of, Environment.environment_of, BinaryFormat.binary_format_of}
 use Rattle.target_lexicon.specs.Field.{Field, Architecture, Vendor, OperatingSystem, Environment, BinaryFormat, field_number, parses_as}
 use Rattle.target_lexicon.specs.FieldTexts.{texts, texts_at, no_texts, taken_part, parts_left, taken_after_architecture, taken_texts, left_after_architecture, left_by_fields, dashed_length}
-use Rattle.target_lexicon.specs.{Placement.ArePartsOf, Placement.IsPlacedAfter, Placement.IsLeastPlacement, Placement.HasPlacement, Placement.parts_of, SpecialTexts.special_values, Values.Values}
+use Rattle.target_lexicon.specs.{Placement.ArePartsOf, Placement.IsLeastPlacement, Placement.HasPlacement, Placement.parts_of, SpecialTexts.special_values, Values.Values}
 use Rattle.target_lexicon.specs.Reading.{part_at, IsRefusal, IsRefusedAs, PartsReadAs, ReadsAs, expected_after, last_field}
 use Rattle.target_lexicon.specs.Refusal.{Expects, Refusal, refusal_with}
 use Rattle.target_lexicon.specs.Explanation.{SourceValue, NotGiven, Implied, source_at, sources_at, next_start, AreSourcesOf, AreTextsOf, IsRefusalAfter, IsRefusedAfter, IsInText, AreInText}
-use Rattle.target_lexicon.proofs.GreedyPlacement.{Follows, filled, unread, after_architecture, filled-placed, greedy-finds, greedy-least, placement_prefix}
+use Rattle.target_lexicon.proofs.GreedyPlacement.{IsPlacedAfter, Follows, filled, unread, after_architecture, filled-placed, greedy-finds, greedy-least, placement_prefix}
 use Rattle.target_lexicon.proofs.{PartLemmas.parts_of-are, PartLemmas.parts-only, RefusalLemmas.stop, RefusalLemmas.refused_first, RefusalLemmas.refused-at, UniqueReading.refusal_at, UniqueReading.refusal_unique}
 use Rattle.target_lexicon.proofs.TextRanges.{AreAt, first-in, all-in, left-length}
 

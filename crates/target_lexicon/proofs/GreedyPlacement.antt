@@ -1,8 +1,16 @@
 -- The greedy placement: each part is assigned to the first remaining field that it parses as.
-use Rattle.std.proofs.Common.{◌≡◌, ◌≢◌, ℕ, zero, suc, ◌+◌, ◌<◌, ◌≤◌, List, [], ◌∷◌, take, true, refl, subst, cond, arith, inl, inr}
+use Rattle.std.proofs.Common.{◌≡◌, ◌≢◌, ℕ, zero, suc, ◌+◌, ◌<◌, ◌≤◌, List, [], ◌∷◌, map, take, get_or, true, refl, subst, cond, arith, inl, inr}
+use Rattle.std.specs.{List.AllZip, List.Sorted.IsStrictlyIncreasing}
 use Rattle.target_lexicon.specs.Field.{Field, Architecture, Vendor, OperatingSystem, Environment, BinaryFormat, field_number, parses_as}
-use Rattle.target_lexicon.specs.{Laws.HasOneLeastPlacement, Placement.IsPlacedAfter, Placement.IsPlacement, Placement.AreNotAfter, Placement.IsLeastPlacement, Placement.HasPlacement}
+use Rattle.target_lexicon.specs.{Laws.HasOneLeastPlacement, Placement.IsPlacement, Placement.AreNotAfter, Placement.IsLeastPlacement, Placement.HasPlacement}
 use Rattle.std.proofs.lemmas.Bool.{cases_Bool}
+
+-- the parts parse as these fields, which strictly increase and all come after `last`
+abbrev pub IsPlacedAfter : Field → List (List ℕ) → List Field → Type 0
+IsPlacedAfter last [] [] = Unit {0}
+IsPlacedAfter last [] (f ∷ fs) = ⊥
+IsPlacedAfter last (p ∷ ps) [] = ⊥
+IsPlacedAfter last (p ∷ ps) (f ∷ fs) = (field_number last < field_number f) × (parses_as f p ≡ true) × IsPlacedAfter f ps fs
 
 -- the fields after `last`, in order
 abbrev pub Follows : Field → List Field → Type 0
@@ -33,6 +41,49 @@ field_number-injective OperatingSystem OperatingSystem e = refl
 field_number-injective Environment Environment e = refl
 field_number-injective BinaryFormat BinaryFormat e = refl
 field_number-injective f g e = cc
+
+-- a list without its first number, and with another before it
+increasing-tail : (n : ℕ) (ns : List ℕ) → IsStrictlyIncreasing (n ∷ ns) → IsStrictlyIncreasing ns
+increasing-tail n ns up k h =
+    let next : suc k + 1 ≡ suc (k + 1) = omega arith in
+    subst (λ i. get_or ns k 0 < get_or (n ∷ ns) i 0) next (up (suc k) (omega (arith, h)))
+
+increasing-cons : (m n : ℕ) (ns : List ℕ) → m < n → IsStrictlyIncreasing (n ∷ ns) → IsStrictlyIncreasing (m ∷ (n ∷ ns))
+increasing-cons m n ns first up zero h = first
+increasing-cons m n ns first up (suc k) h =
+    let next : suc (k + 1) ≡ suc k + 1 = omega arith in
+    subst (λ i. get_or (n ∷ ns) k 0 < get_or (m ∷ (n ∷ ns)) i 0) next (up k (omega (arith, h)))
+
+-- the others of a placement are placed after its first field
+placed-others : (l : Field) (ps : List (List ℕ)) (fs : List Field) → IsStrictlyIncreasing (map field_number (l ∷ fs))
+    → AllZip (λ p f. parses_as f p ≡ true) ps fs → IsPlacedAfter l ps fs
+placed-others l [] [] up parsed = tt
+placed-others l (p ∷ ps) (f ∷ fs) up parsed = (up 0 (omega arith), parsed.0, placed-others f ps fs (increasing-tail (field_number l) (map field_number (f ∷ fs)) up) parsed.1)
+placed-others l _ _ up parsed = absurd parsed
+
+placed-increasing : (l : Field) (ps : List (List ℕ)) (fs : List Field) → IsPlacedAfter l ps fs → IsStrictlyIncreasing (map field_number (l ∷ fs))
+placed-increasing l [] [] w = λ k h. absurd (omega (arith, h))
+placed-increasing l (p ∷ ps) (f ∷ fs) w = increasing-cons (field_number l) (field_number f) (map field_number fs) w.0 (placed-increasing f ps fs w.2)
+placed-increasing l _ _ w = absurd w
+
+placed-parsed : (l : Field) (ps : List (List ℕ)) (fs : List Field) → IsPlacedAfter l ps fs → AllZip (λ p f. parses_as f p ≡ true) ps fs
+placed-parsed l [] [] w = tt
+placed-parsed l (p ∷ ps) (f ∷ fs) w = (w.1, placed-parsed f ps fs w.2)
+placed-parsed l _ _ w = absurd w
+
+-- a placement begins with the architecture, and the others are placed after it
+placement-first : (p : List ℕ) (ps : List (List ℕ)) (f : Field) (fs : List Field) → IsPlacement (p ∷ ps) (f ∷ fs)
+    → (f ≡ Architecture) × (parses_as f p ≡ true) × IsPlacedAfter f ps fs
+placement-first p ps f fs w = let first = w.first in (cc, w.parsed.0, placed-others f ps fs w.increasing w.parsed.1)
+
+placement-of : (p : List ℕ) (ps : List (List ℕ)) (fs : List Field) → parses_as Architecture p ≡ true → IsPlacedAfter Architecture ps fs
+    → IsPlacement (p ∷ ps) (Architecture ∷ fs)
+placement-of p ps fs takes w =
+    record { first = refl; increasing = placed-increasing Architecture ps fs w; parsed = (takes, placed-parsed Architecture ps fs w) }
+
+no-placement : (fs : List Field) → IsPlacement [] fs → ⊥
+no-placement [] w = let first = w.first in cc
+no-placement (f ∷ fs) w = w.parsed
 
 -- a field after another that isn't the next one is after the next one
 weaken : (l k : Field) (ps : List (List ℕ)) (gs : List Field) → field_number k ≤ field_number l → IsPlacedAfter l ps gs → IsPlacedAfter k ps gs
@@ -87,8 +138,13 @@ placed-prefix (suc n) l [] [] w = tt
 placed-prefix (suc n) l _ _ w = absurd w
 
 pub placement_prefix : (n : ℕ) (ps : List (List ℕ)) → HasPlacement ps → HasPlacement (take (suc n) ps)
-placement_prefix n (p ∷ ps) (f ∷ fs, w) = (f ∷ take n fs, (w.0, w.1, placed-prefix n f ps fs w.2))
-placement_prefix n _ (_, w) = absurd w
+placement_prefix n [] (fs, w) = absurd (no-placement fs w)
+placement_prefix n (p ∷ ps) ([], w) = absurd w.parsed
+placement_prefix n (p ∷ ps) (f ∷ fs, w) =
+    let v = placement-first p ps f fs w in
+    let takes : parses_as Architecture p ≡ true = subst (λ k. parses_as k p ≡ true) v.0 v.1 in
+    let from : IsPlacedAfter Architecture ps fs = subst (λ k. IsPlacedAfter k ps fs) v.0 v.2 in
+    (Architecture ∷ take n fs, placement-of p (take n ps) (take n fs) takes (placed-prefix n Architecture ps fs from))
 
 -- the fields after the architecture
 abbrev pub after_architecture : List Field
@@ -101,22 +157,24 @@ in_order = (refl, (refl, (refl, (refl, refl))))
 pub greedy-least : (p : List ℕ) (ps : List (List ℕ)) → parses_as Architecture p ≡ true → unread after_architecture ps ≡ []
     → IsLeastPlacement (p ∷ ps) (Architecture ∷ filled after_architecture ps)
 greedy-least p ps takes done = record {
-  placed = (refl, takes, filled-placed Architecture after_architecture ps in_order done);
+  placed = placement-of p ps _ takes (filled-placed Architecture after_architecture ps in_order done);
   least = least_of;
 }
   where
     least_of : (others : List Field) → IsPlacement (p ∷ ps) others → AreNotAfter (Architecture ∷ filled after_architecture ps) others
-    least_of [] w = absurd w
+    least_of [] w = absurd w.parsed
     least_of (g ∷ gs) w =
-        let from : IsPlacedAfter Architecture ps gs = subst (λ k. IsPlacedAfter k ps gs) w.0 w.2 in
+        let v = placement-first p ps g gs w in
+        let from : IsPlacedAfter Architecture ps gs = subst (λ k. IsPlacedAfter k ps gs) v.0 v.2 in
         (omega arith, (filled-least Architecture after_architecture ps gs in_order from).1)
 
 -- parts with a placement have the greedy one
 pub greedy-finds : (p : List ℕ) (ps : List (List ℕ)) → HasPlacement (p ∷ ps) → (parses_as Architecture p ≡ true) × (unread after_architecture ps ≡ [])
-greedy-finds p ps ([], w) = absurd w
+greedy-finds p ps ([], w) = absurd w.parsed
 greedy-finds p ps (g ∷ gs, w) =
-    let from : IsPlacedAfter Architecture ps gs = subst (λ k. IsPlacedAfter k ps gs) w.0 w.2 in
-    let takes : parses_as Architecture p ≡ true = subst (λ k. parses_as k p ≡ true) w.0 w.1 in
+    let v = placement-first p ps g gs w in
+    let from : IsPlacedAfter Architecture ps gs = subst (λ k. IsPlacedAfter k ps gs) v.0 v.2 in
+    let takes : parses_as Architecture p ≡ true = subst (λ k. parses_as k p ≡ true) v.0 v.1 in
     (takes, (filled-least Architecture after_architecture ps gs in_order from).0)
 
 pub least-unique : (ps : List (List ℕ)) (fs gs : List Field) → IsLeastPlacement ps fs → IsLeastPlacement ps gs → fs ≡ gs
@@ -124,7 +182,7 @@ least-unique ps fs gs a b = AreNotAfter-antisymmetric fs gs (a.least gs b.placed
 
 -- if there is a placement, there is a least one
 pub placement_least : (ps : List (List ℕ)) → HasPlacement ps → HasOneLeastPlacement ps
-placement_least [] (fs, w) = absurd w
+placement_least [] (fs, w) = absurd (no-placement fs w)
 placement_least (p ∷ ps) some =
     let found = greedy-finds p ps some in
     let least = greedy-least p ps found.0 found.1 in

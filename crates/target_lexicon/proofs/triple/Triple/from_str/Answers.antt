@@ -1,0 +1,15 @@
+use Rattle.std.proofs.Common.{◌≡◌, ℕ, List, Result, Ok, Err, inl}
+use Rattle.std.specs.Prelude.{IfErr}
+use Rattle.std.specs.Result.{IsErrAnd}
+use Rattle.target_lexicon.specs.{declared.parse_error.ParseError.ParseError, declared.triple.Triple.Triple, Reading.IsErrorOf, Reading.IsRefusedAs, Refusal.Refusal}
+use Rattle.target_lexicon.specs.declared.parse_error.ParseError.TheVariants.{OutOfMemory}
+use Rattle.target_lexicon.proofs.triple.Triple.from_str.Goals as goal
+
+-- parsing a refused text may run out of memory
+refused-error : (text : List ℕ) (x : Refusal) → IsRefusedAs text x → (found : Result Triple ParseError) → IsErrAnd found (λ error. error ≡ OutOfMemory)
+    → IfErr found (λ error. IsErrorOf text error)
+refused-error text x h (Err error) same = rw same (inl (x, h))
+refused-error text x h (Ok triple) same = absurd same
+
+pub returns-in_err-to_error-in-Err-clause-err : goal.returns-in_err-to_error-in-Err-clause-err
+returns-in_err-to_error-in-Err-clause-err c = refused-error c.args.text.now _ c.in-Err.ensures.err _ c.from_residual-in_err-to_error-in-Err.ensures.1
