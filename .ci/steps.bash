@@ -128,6 +128,7 @@ build_beside() {
     copy=$(git rev-parse --absolute-git-dir 2> /dev/null)/gate
     [ "$copy" != /gate ] && has cc && [ "$jobs" -lt "$processors" ] && [ "$memory" -ge $((5 * (jobs + 1))) ] || return 0
     mkdir -p "$copy/crates"
+    rm -rf "$copy/bindings"
     find "$copy/crates" -mindepth 2 -maxdepth 2 ! -name out -exec rm -rf {} +
     tar cf - --exclude=out --exclude=must-fail LICENSE HANDLES crates.txt crates bindings/c | tar xf - -C "$copy"
     start build "$copy" --jobs 1 > "$work/build" 2>&1
