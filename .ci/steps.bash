@@ -130,7 +130,7 @@ build_beside() {
     mkdir -p "$copy/crates"
     rm -rf "$copy/bindings"
     find "$copy/crates" -mindepth 2 -maxdepth 2 ! -name out -exec rm -rf {} +
-    tar cf - --exclude=out --exclude=must-fail LICENSE HANDLES crates.txt crates bindings/c | tar xf - -C "$copy"
+    tar cf - --exclude=out --exclude=target --exclude=must-fail LICENSE HANDLES crates.txt crates bindings | tar xf - -C "$copy"
     start build "$copy" --jobs 1 > "$work/build" 2>&1
     builder=$!
 }
