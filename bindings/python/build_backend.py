@@ -111,8 +111,8 @@ def native_files():
     """The files that cargo builds the library from, below `native`."""
     script = read(os.path.join(native(), "bindings", "cargo", "c", "build.rs")).decode()
     crates = re.findall(r'"(\w+)"', re.search(r"const CRATES: .*? = (\[.*?\]);", script, re.S)[1])
-    parts = ["bindings/cargo/c", "bindings/cargo/shim", "bindings/rust/build", *(f"crates/{it}/src" for it in crates)]
-    for part in parts:
+    yield "bindings/rust/src/base.rs"
+    for part in ["bindings/cargo/c", "bindings/cargo/shim", "bindings/rust/build", *(f"crates/{it}/src" for it in crates)]:
         for folder, folders, names in os.walk(os.path.join(native(), part)):
             folders[:] = sorted(it for it in folders if it != "target")
             below = os.path.relpath(folder, native()).replace(os.sep, "/")

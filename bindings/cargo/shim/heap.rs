@@ -2,7 +2,7 @@
 //! allocator by `try_reserve`, so that an allocation that fails is an error, as in the proved text. Only Rust's sets and maps,
 //! and the buffers of its streams, end the process instead.
 
-#[path = "base.rs"]
+#[path = "../../rust/src/base.rs"]
 mod base;
 #[path = "json.rs"]
 pub(crate) mod json;
@@ -29,9 +29,14 @@ macro_rules! format {
 pub(crate) use format;
 
 pub(crate) mod std {
-    pub use super::base::{error, fmt, marker, simd};
-    pub use core::{cmp, ops, hash, str};
+    pub use super::base::{fmt, marker, simd};
+    pub use core::{cmp, hash, ops, str};
     pub use rust_std::{io, process};
+
+    pub mod error {
+        /// An error, by its `Display`.
+        pub trait Error {}
+    }
 
     pub mod alloc {
         /// The allocator, which is Rust's own.

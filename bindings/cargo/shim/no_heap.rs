@@ -1,7 +1,7 @@
 //! The shim of a library that has no allocator: there is no value of `Global`, so nothing that allocates can be called, and
 //! no value that owns memory can be made.
 
-#[path = "base.rs"]
+#[path = "../../rust/src/base.rs"]
 mod base;
 
 /// The names that every erased file has.
@@ -17,8 +17,13 @@ pub(crate) mod prelude {
 pub(crate) use base::prove;
 
 pub(crate) mod std {
-    pub use super::base::{error, fmt, marker, simd};
-    pub use core::{cmp, ops, hash, str};
+    pub use super::base::{fmt, marker, simd};
+    pub use core::{cmp, hash, ops, str};
+
+    pub mod error {
+        /// An error, by its `Display`.
+        pub trait Error {}
+    }
 
     pub mod alloc {
         /// The allocator. There is none.

@@ -18,7 +18,7 @@ pub(crate) use base::prove;
 
 pub(crate) mod std {
     pub use super::base::{fmt, marker, simd};
-    pub use core::{cmp, ops, hash, str};
+    pub use core::{cmp, hash, ops, str};
 
     pub mod error {
         #[cfg(core_error)]
