@@ -56,24 +56,6 @@ pub mod marker {
 pub mod simd {
     use core::convert::TryInto;
 
-    /// N values side by side.
-    #[derive(Clone, Copy)]
-    pub struct Simd<T, const N: usize>([T; N]);
-
-    impl<T: Copy, const N: usize> Simd<T, N> {
-        /// The first N values of a slice.
-        #[inline(always)]
-        pub fn from_slice(values: &[T]) -> Self {
-            Simd(values[..N].try_into().ok().expect("N values"))
-        }
-
-        /// Writes the values over the first N of a slice.
-        #[inline(always)]
-        pub fn copy_to_slice(self, values: &mut [T]) {
-            values[..N].copy_from_slice(&self.0);
-        }
-    }
-
     pub mod prelude {
         use core::convert::TryInto;
 
