@@ -102,13 +102,13 @@ class Kit:
         return comment, text, f"{file.relative_to(self.folder)}, line {first + 1}"
 
     def field(self, name, types):
-        """A field that only contracts see of a type of the kit, of one of these names."""
+        """A field of a type of the kit, of one of these names."""
         for type_name in types:
             record = self.find(("Rattle", "std", "specs", type_name, type_name))
             if isinstance(record, Word) and name in record.members:
                 return record.members[name]
             found = self.rust_item("std", rf"pub struct {type_name}\b")
-            line = found and re.search(rf"^\s+pub ghost {re.escape(name)}:.*$", found[1], re.MULTILINE)
+            line = found and re.search(rf"^\s+pub (?:ghost )?{re.escape(name)}:.*$", found[1], re.MULTILINE)
             if line:
                 return self.new_word(name, "field", f"std.{type_name}", "", found[1].split("\n")[0] + "\n" + line.group(), found[2])
         return None
