@@ -1,12 +1,12 @@
 //! The line modes of the program `triples`, over this crate, or over upstream's with `--cfg upstream`.
 //!
-//! usage: lines MODE
+//! usage: lines MODE [own]
 //!
 //! The modes are `print`, `show`, `settle` and `matrix`, and `parse`, which writes only how many lines parse. Over upstream's
-//! crate an unknown environment and an unknown format are both shown if another format is implied, as this crate does. There
-//! are three more modes then: `own` is `print` by upstream's rules only; `fields` writes the first letters of the fields that
-//! can parse the line, or `-`; `names` reads a field and a text in each line, and writes the value that the text parses as, its
-//! name, and where its variants are declared, or `-`.
+//! crate an unknown environment and an unknown format are both shown if another format is implied, as this crate does, but
+//! not with `own`. There are two more modes then: `fields` writes the first letters of the fields that can parse the line, or
+//! `-`; `names` reads a field and a text in each line, and writes the value that the text parses as, its name, and where its
+//! variants are declared, or `-`.
 use std::collections::HashSet;
 use std::fmt::Write as _;
 use std::io::{self, Read, Write as _};
@@ -54,8 +54,8 @@ fn model_word(triple: &Triple) -> &'static str {
     }
 }
 
-fn show(output: &mut String, triple: &Triple) {
-    print(output, triple);
+fn show(output: &mut String, triple: &Triple, own: bool) {
+    print(output, triple, own);
     for word in [order_word(triple), width_word(triple), convention_word(triple), model_word(triple)] {
         output.push(' ');
         output.push_str(word);
@@ -66,15 +66,15 @@ fn show(output: &mut String, triple: &Triple) {
 mod crate_calls {
     use super::*;
 
-    pub fn print(output: &mut String, triple: &Triple) {
+    pub fn print(output: &mut String, triple: &Triple, _own: bool) {
         write!(output, "{triple}").expect("memory");
     }
 
-    pub fn canonical(triple: Triple) -> Option<Triple> {
+    pub fn canonical(triple: Triple, _own: bool) -> Option<Triple> {
         triple.settle().ok()
     }
 
-    pub fn other_answer(_mode: &str, _line: &str) -> Option<String> {
+    pub fn other_mode(_mode: &str) -> Option<fn(&str) -> String> {
         None
     }
 }
@@ -86,8 +86,16 @@ mod crate_calls {
     use std::hash::{Hash, Hasher};
     use target_lexicon::{Architecture, BinaryFormat, Environment, OperatingSystem, Vendor};
 
-    pub fn print(output: &mut String, triple: &Triple) {
+    #[inline(always)]
+    pub fn print(output: &mut String, triple: &Triple, own: bool) {
         write!(output, "{triple}").expect("memory");
+        if !own {
+            push_unknowns(output, triple);
+        }
+    }
+
+    #[inline(never)]
+    fn push_unknowns(output: &mut String, triple: &Triple) {
         let both_unknown = triple.environment == Environment::Unknown && triple.binary_format == BinaryFormat::Unknown;
         // A special text doesn't end with an unknown part.
         if both_unknown && triple.implied_format() != BinaryFormat::Unknown && output.ends_with("-unknown") {
@@ -98,10 +106,10 @@ mod crate_calls {
 
     /// Prints and parses the triple until that changes nothing. Returns none if a printed text is refused, or if ten round
     /// trips aren't enough.
-    pub fn canonical(mut triple: Triple) -> Option<Triple> {
+    pub fn canonical(mut triple: Triple, own: bool) -> Option<Triple> {
         for _ in 0..10 {
             let mut text = String::new();
-            print(&mut text, &triple);
+            print(&mut text, &triple, own);
             let next = text.parse().ok()?;
             if next == triple {
                 return Some(triple);
@@ -111,11 +119,10 @@ mod crate_calls {
         None
     }
 
-    pub fn other_answer(mode: &str, line: &str) -> Option<String> {
+    pub fn other_mode(mode: &str) -> Option<fn(&str) -> String> {
         match mode {
-            "own" => Some(line.parse::<Triple>().map_or_else(|error| format!("error: {error}"), |it| it.to_string())),
-            "fields" => Some(fields(line)),
-            "names" => Some(name(line)),
+            "fields" => Some(fields),
+            "names" => Some(name),
             _ => None,
         }
     }
@@ -165,7 +172,7 @@ mod crate_calls {
     }
 }
 
-use crate_calls::{other_answer, canonical, print};
+use crate_calls::{canonical, other_mode, print};
 
 fn parsed_count(lines: &[&str]) -> usize {
     lines.iter().filter(|line| Triple::from_str(line).is_ok()).count()
@@ -173,6 +180,7 @@ fn parsed_count(lines: &[&str]) -> usize {
 
 fn main() -> io::Result<()> {
     let mode = std::env::args().nth(1).unwrap_or("print".into());
+    let own = std::env::args().nth(2).is_some();
     let mut input = String::new();
     io::stdin().read_to_string(&mut input)?;
     let text = input.strip_suffix('\n').unwrap_or(&input);
@@ -181,28 +189,27 @@ fn main() -> io::Result<()> {
         println!("{}", parsed_count(&lines));
         return Ok(());
     }
+    if let Some(answer) = other_mode(&mode) {
+        let answers: String = lines.iter().map(|line| answer(line) + "\n").collect();
+        return io::stdout().write_all(answers.as_bytes());
+    }
     let mut output = String::with_capacity(input.len() + 16);
     let mut seen = HashSet::new();
     for line in lines {
-        if let Some(answer) = other_answer(&mode, line) {
-            output.push_str(&answer);
-            output.push('\n');
-            continue;
-        }
         match (mode.as_str(), Triple::from_str(line)) {
             (_, Err(error)) => write!(output, "error: {error}").expect("memory"),
-            ("print", Ok(triple)) => print(&mut output, &triple),
-            ("show", Ok(triple)) => show(&mut output, &triple),
-            ("settle", Ok(triple)) => match canonical(triple) {
-                Some(triple) => print(&mut output, &triple),
+            ("print", Ok(triple)) => print(&mut output, &triple, own),
+            ("show", Ok(triple)) => show(&mut output, &triple, own),
+            ("settle", Ok(triple)) => match canonical(triple, own) {
+                Some(triple) => print(&mut output, &triple, own),
                 None => output.push_str("does not settle"),
             },
             ("matrix", Ok(triple)) => {
-                let triple = canonical(triple).expect("it settles");
+                let triple = canonical(triple, own).expect("it settles");
                 if seen.contains(&triple) {
                     continue;
                 }
-                print(&mut output, &triple);
+                print(&mut output, &triple, own);
                 seen.insert(triple);
             }
             _ => panic!("no mode {mode}"),
