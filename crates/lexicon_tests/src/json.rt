@@ -121,17 +121,3 @@ fn errors_have_their_lines(rt: HostRuntime) {
     let memory = ListError::Element(190, JsonError::Parse(ParseError::OutOfMemory));
     check_line(&rt, memory, "Element 190: Out of memory");
 }
-
-fn differ<T: PartialEq + Drop>(first: T, second: T) -> bool {
-    first != second
-}
-
-#[test]
-fn errors_are_compared_by_their_parts(rt: HostRuntime) {
-    let memory = JsonError::Parse(ParseError::OutOfMemory);
-    let second = ListError::Element(1, JsonError::NotText);
-    assert!(rt; differ(ListError::Element(0, JsonError::NotText), second));
-    let second = ListError::Element(1, JsonError::NotText);
-    assert!(rt; differ(second, ListError::Element(1, memory)));
-    assert!(rt; differ(ListError::NotList, ListError::OutOfMemory));
-}
