@@ -2,9 +2,8 @@
 use Rattle.std.proofs.Common.{◌≡◌, ◌∙◌, ℕ, ◌+◌, ◌<◌, ◌≤◌, suc, true, List, [], ◌∷◌, ◌++◌, length, map, drop, get_or, Result, Ok, Err, OnOk, refl, sym, ap, append_assoc, add-one, drop-cons, length-drop, arith}
 use Rattle.std.proofs.{lemmas.List.append-nil, lemmas.List.nil_from_length, Math.Bool.or-false, Math.Bool.or_comm, lemmas.List.Folds.list_any-append}
 use Rattle.target_lexicon.specs.{Explanation.SourceValues, Values.Values}
-use Rattle.target_reports.specs.{declared.views.View.View, Reports.shown_text}
-use Rattle.lexicon.specs.{declared.command.Vendors.Vendors, Problem.ProblemValue, Problem.AddsRefusal}
-use Rattle.lexicon.specs.TargetAnswers.{Answer, Shown, Refused, IsReading, IsProblemOf, AreAnswers, AddsAnswer, AreTextsFor, Texts, joined_texts, texts_of_answers, shown_texts, refused_texts, is_refusal}
+use Rattle.lexicon.specs.{declared.command.Vendors.Vendors, declared.command.View.View, Problem.ProblemValue, Problem.AddsRefusal}
+use Rattle.lexicon.specs.TargetAnswers.{Answer, Shown, Refused, IsReading, IsProblemOf, AreAnswers, AddsAnswer, AreTextsFor, Texts, shown_text, joined_texts, texts_of_answers, shown_texts, refused_texts, is_refusal}
 
 -- what a target that reads adds, and what a refused one adds
 pub reading-adds : {T E : Type 0} (done : Result T E) (view : View) (vendors : Vendors) (text : List ℕ) (old : Texts) (shown : List ℕ) (t : Values) (s : SourceValues)

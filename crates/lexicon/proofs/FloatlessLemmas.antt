@@ -2,7 +2,7 @@
 use Rattle.std.proofs.Common.{◌≡◌, ℕ, false, List, [], ◌∷◌, map, refl}
 use Rattle.std.specs.List.{AllZip}
 use Rattle.serde_json.specs.{View.items_of, Written.has_float, Written.items_have_float}
-use Rattle.target_reports.specs.{declared.views.Report.Report, JsonReports.target_members}
+use Rattle.target_reports.specs.{declared.report.Report.Report, Json.target_members}
 use Rattle.target_reports.proofs.JsonLemmas.{neither, fields-floatless, optional-floatless, report-floatless, target-floatless}
 use Rattle.lexicon.specs.JsonAnswers.{JsonAnswer, Reported, Rejected, IsJsonAnswer, answer_data, problem_fields}
 

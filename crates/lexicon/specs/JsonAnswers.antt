@@ -1,9 +1,9 @@
 -- The answers to targets as JSON.
-use Rattle.std.specs.Prelude.{◌≡◌, ℕ, Bool, true, false, List, [], ◌∷◌, map, codes, Option}
+use Rattle.std.specs.Prelude.{◌≡◌, ℕ, Bool, true, false, List, [], ◌∷◌, ◌++◌, ◌||◌, map, codes, Option}
 use Rattle.std.specs.List.{AllZip, list_any}
 use Rattle.serde_json.specs.{Data.Data, Data.string, Data.number, Data.unsigned, Data.object, View.view}
 use Rattle.target_lexicon.specs.{Explanation.SourceValues, Values.Values}
-use Rattle.target_reports.specs.{declared.views.Report.Report, JsonReports.Field, JsonReports.fields_onto, JsonReports.optional_data, JsonReports.target_members, JsonReports.with_report}
+use Rattle.target_reports.specs.{declared.report.Report.Report, Json.Field, Json.fields_onto, Json.optional_data, Json.target_members, Json.with_report}
 use Rattle.lexicon.specs.{declared.json.TargetList.TargetList, Problem.ProblemValue, Problem.IsSuggested, TargetAnswers.IsReading, TargetAnswers.IsProblemOf}
 use Rattle.lexicon.specs.declared.command.Vendors.TheVariants as vendors
 
@@ -50,12 +50,15 @@ abbrev pub IsProblemObject : List ℕ → ProblemValue → Data → Type 0
 IsProblemObject text p value = (suggestion : Option (List ℕ)) × IsSuggested p.field p.part suggestion
     × (value ≡ object (fields_onto (target_members text) (problem_fields p suggestion)))
 
--- the object of an answer to a target, and whether that is an error
-pub record IsJsonObject (report : Report) (text : List ℕ) (value : Data) (rejected : Bool) : Type 0 where
+-- the values with one more
+abbrev pub with_object : JsonValues → JsonAnswer → JsonValues
+with_object values answer = record { values = values.values ++ answer_data answer ∷ []; has_rejected = values.has_rejected || is_rejected answer }
+
+-- the values grew by the object for a target
+pub record AddsObject (report : Report) (text : List ℕ) (old new : JsonValues) : Type 0 where
   pub answer : JsonAnswer
   pub is : IsJsonAnswer report text answer
-  pub value_is : value ≡ answer_data answer
-  pub rejected_is : rejected ≡ is_rejected answer
+  pub grown : new ≡ with_object old answer
 
 abbrev pub list_values : TargetList → JsonValues
 list_values list = record { values = map view list.values.items; has_rejected = list.has_rejected }

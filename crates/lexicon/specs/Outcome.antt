@@ -1,12 +1,15 @@
 -- What the program writes to both of its outputs, and its status.
-use Rattle.std.specs.Prelude.{◌≡◌, ◌==◌, ◌&&◌, ℕ, Bool, true, false, List, [], ◌∷◌, ◌++◌, length, codes, Option, Some, None, option_and_then, IfSome, MatchOption, MatchBool, Result, Ok, Err, if◌then◌else◌, string_bytes}
+use Rattle.std.specs.Prelude.{◌≡◌, ◌==◌, ◌&&◌, ◌<◌, ◌⊎◌, ⊤, ℕ, Bool, true, false, List, [], ◌∷◌, ◌++◌, length, codes, Option, Some, None, option_and_then, IfSome, MatchOption, MatchBool, Result, Ok, Err, if◌then◌else◌}
+use Rattle.std.specs.Cow.{cow_str_bytes}
+use Rattle.std.specs.Option.{option_map_or}
 use Rattle.std.specs.Str.{IsUtf8}
 use Rattle.lexicon_names.specs.{declared.field.Field.Field, KnownNames.known_names}
 use Rattle.lexicon_names.specs.declared.field.Field.TheVariants as field
 use Rattle.serde_json.specs.{Data.array, View.items_of, Written.compact_text}
-use Rattle.lexicon_programs.specs.{Lines.lines_of, Streams.AppendsBeginning}
+use Rattle.lexicon_programs.specs.{Lines.lines_of, Streams.ConsumesSome}
 use Rattle.lexicon.specs.{declared.command.Command.Command, declared.outcome.Outcome.Outcome, TargetAnswers.AreTextsFor, TargetAnswers.Texts, JsonAnswers.JsonValues, JsonAnswers.AreJsonValuesFor, Request.RequestValue, Request.argument_request}
 use Rattle.lexicon.specs.declared.command.Command.TheVariants as command
+use Rattle.lexicon.specs.declared.outcome.TheConstants.{USAGE, VERSION}
 use Rattle.lexicon.specs.declared.run_error.RunError.{RunError}
 use Rattle.lexicon.specs.declared.run_error.RunError.TheVariants as run_error
 use Rattle.lexicon_programs.specs.declared.stream_error.StreamError.{StreamError}
@@ -22,14 +25,7 @@ abbrev pub outcome : List ℕ → List ℕ → ℕ → OutcomeValue
 outcome output errors status = record { output = output; errors = errors; status = status }
 
 abbrev pub outcome_value : Outcome → OutcomeValue
-outcome_value o = outcome (string_bytes o.output) (string_bytes o.errors) o.status
-
--- what the arguments may be
-unfoldable pub usage_text : List ℕ
-usage_text = codes "usage: lexicon explain [--json] TARGET...   each field: its value, and how it came\n       lexicon facts [--json] TARGET...     the fields, and what follows from them\n       lexicon settle [--strict] TARGET...  the canonical text of each target\n       lexicon check [--strict] TARGET...   nothing but the errors and the status\n       lexicon names [FIELD]                the known names\n       lexicon --help | --version\nWithout a TARGET the lines of standard input are the targets. With --strict a custom vendor is an error.\nWith --json there is one array of objects, of the errors too.\nA TARGET that begins with a dash follows --.\n"
-
-unfoldable pub version_text : List ℕ
-version_text = codes "lexicon 0.2.0\n"
+outcome_value o = outcome (cow_str_bytes o.output) (cow_str_bytes o.errors) o.status
 
 -- names, each on a line after the same prefix
 abbrev pub names_after : List ℕ → List (List ℕ) → List ℕ
@@ -66,15 +62,15 @@ json_value_outcome values = outcome (compact_text (array (items_of values.values
 
 -- what a command writes for these targets
 abbrev pub IsOutcome : Command → List (List ℕ) → OutcomeValue → Type 0
-IsOutcome command.Help targets o = o ≡ outcome usage_text [] 0
-IsOutcome command.Version targets o = o ≡ outcome version_text [] 0
+IsOutcome command.Help targets o = o ≡ outcome USAGE.now [] 0
+IsOutcome command.Version targets o = o ≡ outcome VERSION.now [] 0
 IsOutcome (command.Names field) targets o = o ≡ outcome (names_text field) [] 0
 IsOutcome (command.Targets view vendors) targets o = (texts : Texts) × AreTextsFor view vendors targets texts × (o ≡ texts_outcome texts)
 IsOutcome (command.Json report) targets o = (values : JsonValues) × AreJsonValuesFor report targets values × (o ≡ json_value_outcome values)
 
 -- wrong arguments
 abbrev pub usage_outcome : OutcomeValue
-usage_outcome = outcome [] usage_text 2
+usage_outcome = outcome [] USAGE.now 2
 
 abbrev pub takes_targets : Command → Bool
 takes_targets (command.Targets view vendors) = true
@@ -98,19 +94,36 @@ IsRequestOutcome request input o = (targets : List (List ℕ)) × AreTargets req
 abbrev pub IsRunOutcome : Option (List (List ℕ)) → Option (List ℕ) → OutcomeValue → Type 0
 IsRunOutcome words input o = MatchOption (option_and_then argument_request words) (o ≡ usage_outcome) (λ request. IsRequestOutcome request input o)
 
--- the outputs grew, in the way that `GrewBy` says, by what the program writes for these arguments and this input, and
--- this is its status
-pub record WritesOutcome (GrewBy : Option (List ℕ) → Option (List ℕ) → List ℕ → Type 0) (words : Option (List (List ℕ))) (input : Option (List ℕ)) (old_output new_output old_errors new_errors : Option (List ℕ)) (status : ℕ) : Type 0 where
+-- `output` holds of what the program writes to its output for these arguments and this input, `errors` of what it
+-- writes to its error output, and this is its status
+pub record WritesOutcome (words : Option (List (List ℕ))) (input : Option (List ℕ)) (Output Errors : List ℕ → Type 0) (status : ℕ) : Type 0 where
   pub of : OutcomeValue
   pub is : IsRunOutcome words input of
-  pub output : GrewBy old_output new_output of.output
-  pub errors : GrewBy old_errors new_errors of.errors
+  pub output : Output of.output
+  pub errors : Errors of.errors
   pub status_is : status ≡ of.status
 
--- the outputs grew by beginnings of what the program writes for these arguments and this input
-abbrev pub BeginsOutcome : Option (List (List ℕ)) → Option (List ℕ) → Option (List ℕ) → Option (List ℕ) → Option (List ℕ) → Option (List ℕ) → Type 0
-BeginsOutcome words input old_output new_output old_errors new_errors =
-    (status : ℕ) × WritesOutcome AppendsBeginning words input old_output new_output old_errors new_errors status
+-- whether the targets of these arguments are the lines of the input
+abbrev pub wants_input : Option (List (List ℕ)) → Bool
+wants_input words = option_map_or reads_input (option_and_then argument_request words) false
+
+-- whether an allocation may fail while a command answers these targets
+abbrev pub CommandMayAllocate : Command → List (List ℕ) → Type 0
+CommandMayAllocate command.Help targets = ⊥
+CommandMayAllocate command.Version targets = ⊥
+CommandMayAllocate (command.Names field) targets = ⊤
+CommandMayAllocate (command.Targets view vendors) targets = 0 < length targets
+CommandMayAllocate (command.Json report) targets = ⊤
+
+-- whether an allocation may fail in a run of this request that left these bytes of the input: while the command answers
+-- targets, or after a byte was taken where the targets are the lines of the input
+abbrev pub RequestMayAllocate : RequestValue → Option (List ℕ) → Option (List ℕ) → Type 0
+RequestMayAllocate request old new =
+    MatchBool (reads_input request) (ConsumesSome old new ⊎ CommandMayAllocate request.command []) (CommandMayAllocate request.command request.targets)
+
+-- whether an allocation may fail in a run with these arguments: never for wrong ones
+abbrev pub MayAllocate : Option (List (List ℕ)) → Option (List ℕ) → Option (List ℕ) → Type 0
+MayAllocate words old new = MatchOption (option_and_then argument_request words) ⊥ (λ request. RequestMayAllocate request old new)
 
 -- why a run fails
 abbrev pub fault_text : RunError → List ℕ

@@ -4,14 +4,14 @@ use Rattle.std.specs.List.{list_any}
 use Rattle.std.specs.Str.{bytes_eq}
 use Rattle.lexicon_fields.specs.Names.{dash, value_named}
 use Rattle.lexicon_names.specs.declared.field.Field.{Field}
-use Rattle.target_reports.specs.declared.views.View.{View}
-use Rattle.lexicon.specs.{declared.command.Command.Command, declared.command.Verb.Verb, declared.request.Request.Request}
+use Rattle.target_reports.specs.declared.report.Report.{Report}
+use Rattle.lexicon.specs.{declared.command.Command.Command, declared.command.Verb.Verb, declared.command.View.View, declared.request.Request.Request}
 use Rattle.lexicon_names.specs.declared.field.Field.TheVariants as field
 use Rattle.lexicon.specs.declared.command.Command.TheVariants as command
 use Rattle.lexicon.specs.declared.command.Verb.TheVariants as verb
-use Rattle.target_reports.specs.declared.views.Report.TheVariants as report
+use Rattle.target_reports.specs.declared.report.Report.TheVariants as report
 use Rattle.lexicon.specs.declared.command.Vendors.TheVariants as vendors
-use Rattle.target_reports.specs.declared.views.View.TheVariants as view
+use Rattle.lexicon.specs.declared.command.View.TheVariants as view
 
 -- a command, and the targets that the arguments give, of which there may be none
 pub record RequestValue : Type 0 where
@@ -64,6 +64,10 @@ abbrev pub optional_request : List ℕ → Command → Command → List (List �
 optional_request option plain chosen [] = request_with plain []
 optional_request option plain chosen (word ∷ words) = if bytes_eq word option then request_with chosen words else request_with plain (word ∷ words)
 
+-- the request of a report, which may be JSON
+abbrev pub report_request : Report → List (List ℕ) → Option RequestValue
+report_request report words = optional_request (codes "--json") (command.Targets (view.Report report) vendors.Any) (command.Json report) words
+
 -- the request of a view, which may be strict
 abbrev pub strict_request : View → List (List ℕ) → Option RequestValue
 strict_request view words = optional_request (codes "--strict") (command.Targets view vendors.Any) (command.Targets view vendors.Known) words
@@ -75,8 +79,8 @@ names_request (word ∷ words) = option_and_then (λ field. request_without_word
 
 -- the request of the words after a verb
 abbrev pub verb_request : Verb → List (List ℕ) → Option RequestValue
-verb_request verb.Explain words = optional_request (codes "--json") (command.Targets view.Explain vendors.Any) (command.Json report.Explain) words
-verb_request verb.Facts words = optional_request (codes "--json") (command.Targets view.Facts vendors.Any) (command.Json report.Facts) words
+verb_request verb.Explain words = report_request report.Explain words
+verb_request verb.Facts words = report_request report.Facts words
 verb_request verb.Settle words = strict_request view.Settle words
 verb_request verb.Check words = strict_request view.Check words
 verb_request verb.Names words = names_request words

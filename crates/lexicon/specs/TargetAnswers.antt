@@ -1,9 +1,11 @@
 -- The answers to targets: what is shown of each, or why it is refused.
-use Rattle.std.specs.Prelude.{◌≡◌, ◌⊎◌, ◌||◌, ℕ, Bool, true, false, List, [], ◌∷◌, ◌++◌, Some, None, string_bytes}
+use Rattle.std.specs.Prelude.{◌≡◌, ◌⊎◌, ◌||◌, ℕ, Bool, true, false, List, [], ◌∷◌, ◌++◌, codes, Some, None, string_bytes}
 use Rattle.std.specs.List.{AllZip, list_any}
 use Rattle.target_lexicon.specs.{Explanation.SourceValues, Explanation.FromPart, Explanation.AreSourcesOf, Explanation.IsRefusedAfter, Reading.ReadsAs, Reading.IsRefusedAs, Refusal.Refusal, Values.Values}
-use Rattle.target_reports.specs.{declared.views.View.View, Reports.shown_text}
-use Rattle.lexicon.specs.{declared.answers.TargetTexts.TargetTexts, declared.command.Vendors.Vendors, Problem.ProblemValue, Problem.IsRefusalText, Problem.refusal_problem, Problem.vendor_problem}
+use Rattle.target_lexicon.specs.FixedPoints.{canonical_text}
+use Rattle.target_reports.specs.Lines.{report_text}
+use Rattle.lexicon.specs.{declared.answers.TargetTexts.TargetTexts, declared.command.Vendors.Vendors, declared.command.View.View, Problem.ProblemValue, Problem.IsRefusalText, Problem.refusal_problem, Problem.vendor_problem}
+use Rattle.lexicon.specs.declared.command.View.TheVariants as view
 
 -- the target reads as these values from these sources, and its vendor is one that is read
 pub record IsReading (vendors : Vendors) (text : List ℕ) (t : Values) (s : SourceValues) : Type 0 where
@@ -32,6 +34,12 @@ pub record IsProblemOfVendor (vendors : Vendors) (text : List ℕ) (p : ProblemV
 
 abbrev pub IsProblemOf : Vendors → List ℕ → ProblemValue → Type 0
 IsProblemOf vendors text p = IsProblemOfText text p ⊎ IsProblemOfVendor vendors text p
+
+-- what a view shows of a target with these values from these sources
+abbrev pub shown_text : View → List ℕ → Values → SourceValues → List ℕ
+shown_text (view.Report report) text t s = report_text report text t s
+shown_text view.Settle text t s = canonical_text t ++ codes "\n"
+shown_text view.Check text t s = []
 
 -- the answer to a target: what is shown of it, or the lines that say why it is refused
 pub data Answer : Type 0 where

@@ -1,5 +1,5 @@
 //! The answers to targets.
-ghost use Rattle.std.specs.Prelude.{◌≡◌, true, map, IfOk, IfErr, OnOk, string_bytes};
+ghost use Rattle.std.specs.Prelude.{◌≡◌, ◌<◌, true, length, map, IfOk, IfErr, OnOk, OnErr, string_bytes};
 ghost use Rattle.lexicon_fields.specs.Vendor.{is_plain};
 ghost use Rattle.lexicon_fields.specs.VendorRef.{ref_value};
 ghost use Rattle.target_lexicon.specs.Explanation.{sources_of};
@@ -7,12 +7,11 @@ ghost use Rattle.target_lexicon.specs.ValuesRef.{values_of_ref};
 ghost use Rattle.lexicon.specs.TargetAnswers.{AddsAnswer, AreTextsFor, IsProblemOf, IsReading, answer_texts};
 ghost use Rattle.lexicon.specs.Problem.{problem_value};
 
-use crate::command::Vendors;
+use crate::command::{Vendors, View};
 use crate::problem::{Problem, push_refusal, vendor_problem};
 use crate::shown::push_shown;
 use std::alloc::{AllocError, Global};
 use target_lexicon::{Explanation, TripleRef};
-use target_reports::View;
 
 /// What is shown of targets, why others are refused, and whether any is.
 #[derive(Drop)]
@@ -66,9 +65,10 @@ pub(crate) fn target_answers(
     vendors: Vendors,
     targets: &[String],
 ) -> Result<TargetTexts, AllocError>
-    ensures { IfOk result
+    ensures ok { IfOk result
         (λ answers.
         AreTextsFor view vendors (map string_bytes targets.now) (answer_texts answers)) }
+    ensures memory { OnErr result (0 < length targets.now) }
 {
     let mut answers = TargetTexts {
         shown: String::new(alloc),

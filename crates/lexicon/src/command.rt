@@ -3,7 +3,7 @@ ghost use Rattle.std.specs.Prelude.{◌≡◌};
 ghost use Rattle.lexicon.specs.Request.{verb_of, field_of};
 
 use lexicon_names::Field;
-use target_reports::{Report, View};
+use target_reports::Report;
 
 /// The vendors that are read.
 #[derive(Clone, Copy)]
@@ -12,6 +12,17 @@ pub enum Vendors {
     Any,
     /// Those that are known; a custom one is refused.
     Known,
+}
+
+/// What is shown of a target.
+#[derive(Clone, Copy)]
+pub enum View {
+    /// A report in lines.
+    Report(Report),
+    /// The canonical text.
+    Settle,
+    /// Nothing.
+    Check,
 }
 
 /// What the program does.

@@ -1,10 +1,10 @@
 //! The answers to targets as a JSON array.
-ghost use Rattle.std.specs.Prelude.{◌≡◌, ◌++◌, ◌||◌, false, codes, map, option_map, IfOk, OnOk, string_bytes};
+ghost use Rattle.std.specs.Prelude.{◌≡◌, ◌++◌, false, codes, map, option_map, IfOk, OnOk, string_bytes};
 ghost use Rattle.serde_json.specs.Data.{array};
 ghost use Rattle.serde_json.specs.View.{items_view, members_view, view};
 ghost use Rattle.serde_json.specs.Written.{compact_text, items_have_float};
-ghost use Rattle.target_reports.specs.JsonReports.{fields_onto};
-ghost use Rattle.lexicon.specs.JsonAnswers.{AreJsonValuesFor, IsJsonObject, IsProblemObject, list_values, problem_fields};
+ghost use Rattle.target_reports.specs.Json.{fields_onto};
+ghost use Rattle.lexicon.specs.JsonAnswers.{AddsObject, AreJsonValuesFor, IsProblemObject, list_values, problem_fields};
 ghost use Rattle.lexicon.specs.Problem.{problem_value};
 
 use crate::answers::reading;
@@ -13,13 +13,6 @@ use crate::problem::{Problem, suggestion};
 use serde_json::{Map, Value};
 use std::alloc::{AllocError, Global};
 use target_reports::{Members, Report, put_optional, put_text, put_value, report_object};
-
-/// The object for a target, and whether it is an error.
-#[derive(Drop)]
-struct TargetObject {
-    value: Value,
-    is_rejected: bool,
-}
 
 /// The objects for targets, and whether one is an error.
 #[derive(Drop)]
@@ -59,34 +52,28 @@ fn problem_object(alloc: Global, text: &str, problem: &Problem<'_>) -> Result<Va
     Ok(Value::Object(members))
 }
 
-/// The object for a target.
-fn target_object(alloc: Global, report: Report, text: &str) -> Result<TargetObject, AllocError>
-    ensures { IfOk result
-        (λ it. IsJsonObject report text.now (view it.value) it.is_rejected) }
+/// Adds the object for a target.
+fn push_object(
+    alloc: Global,
+    report: Report,
+    text: &str,
+    list: &mut TargetList,
+) -> Result<(), AllocError>
+    ensures { OnOk result (AddsObject report text.now (list_values list.old) (list_values list.new)) }
 {
     match reading(Vendors::Any, text) {
         Ok(it) => {
-            let value = report_object(alloc, report, text, &it)?;
-            Ok(TargetObject {
-                value,
-                is_rejected: false,
-            })
+            let object = report_object(alloc, report, text, &it)?;
+            list.values.push(object)?;
+            Ok(())
         }
         Err(problem) => {
-            let value = problem_object(alloc, text, &problem)?;
-            Ok(TargetObject {
-                value,
-                is_rejected: true,
-            })
+            let object = problem_object(alloc, text, &problem)?;
+            list.values.push(object)?;
+            list.has_rejected = true;
+            Ok(())
         }
     }
-}
-
-/// Whether one of two tests holds.
-fn is_either(first: bool, second: bool) -> bool
-    ensures { result ≡ (first || second) }
-{
-    first || second
 }
 
 /// The objects for targets, in order.
@@ -103,9 +90,7 @@ pub(crate) fn target_list(
         has_rejected: false,
     };
     for text in targets {
-        let object = target_object(alloc, report, text.as_str())?;
-        list.has_rejected = is_either(list.has_rejected, object.is_rejected);
-        list.values.push(object.value)?;
+        push_object(alloc, report, text.as_str(), &mut list)?;
     }
     Ok(list)
 }

@@ -11,6 +11,8 @@ mod request;
 mod run;
 mod run_error;
 mod shown;
+#[cfg(test)]
+mod tests;
 
 use conclude::conclude;
 use lexicon_programs::Counted;

@@ -1,36 +1,65 @@
 //! What a command writes.
-ghost use Rattle.std.specs.Prelude.{◌≡◌, ◌++◌, [], map, IfOk, OnOk, string_bytes};
-ghost use Rattle.lexicon.specs.Outcome.{IsOutcome, all_names_text, names_after, names_text, outcome, outcome_value, status_for, titled_names, usage_outcome, usage_text, version_text};
+ghost use Rattle.std.specs.Prelude.{◌≡◌, ◌++◌, map, IfOk, OnOk, OnErr, string_bytes};
+ghost use Rattle.lexicon.specs.Outcome.{CommandMayAllocate, IsOutcome, all_names_text, names_after, names_text, outcome_value, status_for, titled_names};
 
 use crate::answers::{TargetTexts, target_answers};
-use crate::command::{Command, Vendors};
+use crate::command::Command;
 use crate::json::{TargetList, array_line, target_list};
 use lexicon_names::{Field, names};
 use std::alloc::{AllocError, Global};
-use target_reports::{Report, View, push_three};
+use std::borrow::CowStr;
+use target_reports::push_three;
+
+/// What the arguments may be.
+const USAGE: &str = "\
+usage: lexicon explain [--json] TARGET...   each field: its value, and how it came
+       lexicon facts [--json] TARGET...     the fields, and what follows from them
+       lexicon settle [--strict] TARGET...  the canonical text of each target
+       lexicon check [--strict] TARGET...   nothing but the errors and the status
+       lexicon names [FIELD]                the known names
+       lexicon --help | --version
+Without a TARGET the lines of standard input are the targets. With --strict a custom vendor is an error.
+With --json there is one array of objects, of the errors too.
+A TARGET that begins with a dash follows --.
+";
+
+/// The version.
+const VERSION: &str = "lexicon 0.2.0\n";
 
 /// What is written to the output and to the error output, and the status.
 #[derive(Drop)]
 pub(crate) struct Outcome {
-    pub(crate) output: String,
-    pub(crate) errors: String,
+    pub(crate) output: CowStr<'static>,
+    pub(crate) errors: CowStr<'static>,
     pub(crate) status: u8,
 }
 
-/// What the arguments may be.
-#[tactic(auto, unfolding(crate::specs::Outcome::usage_text))]
-fn usage_text() -> &'static str
-    ensures { result.now ≡ usage_text }
-{
-    "usage: lexicon explain [--json] TARGET...   each field: its value, and how it came\n       lexicon facts [--json] TARGET...     the fields, and what follows from them\n       lexicon settle [--strict] TARGET...  the canonical text of each target\n       lexicon check [--strict] TARGET...   nothing but the errors and the status\n       lexicon names [FIELD]                the known names\n       lexicon --help | --version\nWithout a TARGET the lines of standard input are the targets. With --strict a custom vendor is an error.\nWith --json there is one array of objects, of the errors too.\nA TARGET that begins with a dash follows --.\n"
-}
+impl Outcome {
+    ghost use Rattle.std.specs.Prelude.{[]};
+    ghost use Rattle.std.specs.Cow.{cow_str_bytes};
+    ghost use Rattle.lexicon.specs.Outcome.{outcome, outcome_value, usage_outcome};
 
-/// The version.
-#[tactic(auto, unfolding(crate::specs::Outcome::version_text))]
-fn version_text() -> &'static str
-    ensures { result.now ≡ version_text }
-{
-    "lexicon 0.2.0\n"
+    /// The outcome of wrong arguments.
+    pub(crate) fn usage() -> Self
+        ensures { outcome_value result ≡ usage_outcome }
+    {
+        Outcome {
+            output: CowStr::Borrowed(""),
+            errors: CowStr::Borrowed(USAGE),
+            status: 2,
+        }
+    }
+
+    /// The outcome of a run that only writes this text.
+    fn text(output: CowStr<'static>) -> Self
+        ensures { outcome_value result ≡ outcome (cow_str_bytes output.entry) [] 0 }
+    {
+        Outcome {
+            output,
+            errors: CowStr::Borrowed(""),
+            status: 0,
+        }
+    }
 }
 
 /// Appends names, each on a line after the same prefix.
@@ -66,7 +95,7 @@ fn push_all_names(out: &mut String) -> Result<(), AllocError>
     push_titled_names(out, "binary_format\n", Field::BinaryFormat)
 }
 
-/// Appends the names of a field, or of each field.
+/// Appends the names of a field, or of each field below its title.
 fn push_names_text(out: &mut String, field: Option<Field>) -> Result<(), AllocError>
     ensures { OnOk result
         (string_bytes out.new ≡ string_bytes out.old ++ names_text field) }
@@ -77,39 +106,13 @@ fn push_names_text(out: &mut String, field: Option<Field>) -> Result<(), AllocEr
     }
 }
 
-/// The outcome of a run that only writes this text.
-fn text_outcome(alloc: Global, text: &str) -> Result<Outcome, AllocError>
-    ensures { IfOk result (λ o. outcome_value o ≡ outcome text.now [] 0) }
+/// The names of a field, or of each field below its title.
+fn names_text(alloc: Global, field: Option<Field>) -> Result<String, AllocError>
+    ensures { IfOk result (λ text. string_bytes text ≡ names_text field) }
 {
-    Ok(Outcome {
-        output: String::from_str(alloc, text)?,
-        errors: String::new(alloc),
-        status: 0,
-    })
-}
-
-/// The outcome of wrong arguments.
-pub(crate) fn usage_outcome(alloc: Global) -> Result<Outcome, AllocError>
-    ensures { IfOk result (λ o. outcome_value o ≡ usage_outcome) }
-{
-    Ok(Outcome {
-        output: String::new(alloc),
-        errors: String::from_str(alloc, usage_text())?,
-        status: 2,
-    })
-}
-
-/// The outcome for the names of a field, or of each field.
-fn names_outcome(alloc: Global, field: Option<Field>) -> Result<Outcome, AllocError>
-    ensures { IfOk result (λ o. outcome_value o ≡ outcome (names_text field) [] 0) }
-{
-    let mut output = String::new(alloc);
-    push_names_text(&mut output, field)?;
-    Ok(Outcome {
-        output,
-        errors: String::new(alloc),
-        status: 0,
-    })
+    let mut text = String::new(alloc);
+    push_names_text(&mut text, field)?;
+    Ok(text)
 }
 
 /// 1 if a target is refused, otherwise 0.
@@ -119,60 +122,42 @@ fn status_for(has_refusal: bool) -> u8
     if has_refusal { 1 } else { 0 }
 }
 
-/// What is shown of targets, and what is refused.
-fn targets_outcome(
-    alloc: Global,
-    view: View,
-    vendors: Vendors,
-    targets: &[String],
-) -> Result<Outcome, AllocError>
-    ensures { IfOk result
-        (λ o.
-        IsOutcome (Command.Targets view vendors) (map string_bytes targets.now)
-        (outcome_value o)) }
-{
-    let TargetTexts {
-        shown,
-        refused,
-        has_refusal,
-    } = target_answers(alloc, view, vendors, targets)?;
-    Ok(Outcome {
-        output: shown,
-        errors: refused,
-        status: status_for(has_refusal),
-    })
-}
-
-/// The objects for targets.
-fn json_outcome(alloc: Global, report: Report, targets: &[String]) -> Result<Outcome, AllocError>
-    ensures { IfOk result
-        (λ o. IsOutcome (Command.Json report) (map string_bytes targets.now) (outcome_value o)) }
-{
-    let TargetList {
-        values,
-        has_rejected,
-    } = target_list(alloc, report, targets)?;
-    Ok(Outcome {
-        output: array_line(alloc, values)?,
-        errors: String::new(alloc),
-        status: status_for(has_rejected),
-    })
-}
-
 /// What a command writes for these targets.
 pub(crate) fn command_outcome(
     alloc: Global,
     command: Command,
     targets: &[String],
 ) -> Result<Outcome, AllocError>
-    ensures { IfOk result
+    ensures ok { IfOk result
         (λ o. IsOutcome command (map string_bytes targets.now) (outcome_value o)) }
+    ensures memory { OnErr result (CommandMayAllocate command (map string_bytes targets.now)) }
 {
     match command {
-        Command::Help => text_outcome(alloc, usage_text()),
-        Command::Version => text_outcome(alloc, version_text()),
-        Command::Names(field) => names_outcome(alloc, field),
-        Command::Targets(view, vendors) => targets_outcome(alloc, view, vendors, targets),
-        Command::Json(report) => json_outcome(alloc, report, targets),
+        Command::Help => Ok(Outcome::text(CowStr::Borrowed(USAGE))),
+        Command::Version => Ok(Outcome::text(CowStr::Borrowed(VERSION))),
+        Command::Names(field) => Ok(Outcome::text(CowStr::Owned(names_text(alloc, field)?))),
+        Command::Targets(view, vendors) => {
+            let TargetTexts {
+                shown,
+                refused,
+                has_refusal,
+            } = target_answers(alloc, view, vendors, targets)?;
+            Ok(Outcome {
+                output: CowStr::Owned(shown),
+                errors: CowStr::Owned(refused),
+                status: status_for(has_refusal),
+            })
+        }
+        Command::Json(report) => {
+            let TargetList {
+                values,
+                has_rejected,
+            } = target_list(alloc, report, targets)?;
+            Ok(Outcome {
+                output: CowStr::Owned(array_line(alloc, values)?),
+                errors: CowStr::Borrowed(""),
+                status: status_for(has_rejected),
+            })
+        }
     }
 }

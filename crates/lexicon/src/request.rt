@@ -1,10 +1,10 @@
 //! What the arguments ask for.
 ghost use Rattle.std.specs.Prelude.{◌≡◌, map, option_map, string_bytes};
 ghost use Rattle.std.specs.List.{list_any};
-ghost use Rattle.lexicon.specs.Request.{argument_request, begins_with_dash, names_request, optional_request, request_value, request_with, request_without_words, strict_request, targets_of, verb_request};
+ghost use Rattle.lexicon.specs.Request.{argument_request, begins_with_dash, names_request, optional_request, report_request, request_value, request_with, request_without_words, strict_request, targets_of, verb_request};
 
-use crate::command::{Command, Vendors, Verb, field_of, verb_of};
-use target_reports::{Report, View};
+use crate::command::{Command, Vendors, Verb, View, field_of, verb_of};
+use target_reports::Report;
 
 /// A command, and the targets that the arguments give, of which there may be none.
 #[derive(Clone, Copy)]
@@ -93,6 +93,15 @@ fn optional_request<'a>(
     }
 }
 
+/// The request of a report, which may be JSON.
+fn report_request(report: Report, words: &[String]) -> Option<Request<'_>>
+    ensures { option_map request_value result
+        ≡ report_request report (map string_bytes words.entry.now) }
+{
+    let lines = Command::Targets(View::Report(report), Vendors::Any);
+    optional_request("--json", lines, Command::Json(report), words)
+}
+
 /// The request of a view, which may be strict.
 fn strict_request(view: View, words: &[String]) -> Option<Request<'_>>
     ensures { option_map request_value result
@@ -127,14 +136,8 @@ fn verb_request(verb: Verb, words: &[String]) -> Option<Request<'_>>
         ≡ verb_request verb (map string_bytes words.entry.now) }
 {
     match verb {
-        Verb::Explain => {
-            let text = Command::Targets(View::Explain, Vendors::Any);
-            optional_request("--json", text, Command::Json(Report::Explain), words)
-        }
-        Verb::Facts => {
-            let text = Command::Targets(View::Facts, Vendors::Any);
-            optional_request("--json", text, Command::Json(Report::Facts), words)
-        }
+        Verb::Explain => report_request(Report::Explain, words),
+        Verb::Facts => report_request(Report::Facts, words),
         Verb::Settle => strict_request(View::Settle, words),
         Verb::Check => strict_request(View::Check, words),
         Verb::Names => names_request(words),

@@ -1,13 +1,13 @@
 //! A run, from the arguments and the input to both outputs.
-ghost use Rattle.std.specs.Prelude.{◌≡◌, ◌≢◌, ◌<◌, ◌≤◌, ◌↔◌, ◌⊎◌, IsErrOf, OnOk, IfOk, IfErr, IfSome, map, option_map, string_bytes};
+ghost use Rattle.std.specs.Prelude.{◌≡◌, ◌≢◌, ◌<◌, ◌≤◌, ◌↔◌, ◌⊎◌, false, length, IsErrOf, OnErr, IfOk, IfErr, IfSome, map, option_and_then, option_map, string_bytes, vec_len};
 ghost use Rattle.std.specs.Str.{IsUtf8};
 ghost use Rattle.std.specs.Io.KnownBytes.{Appends, Keeps};
 ghost use Rattle.lexicon_programs.specs.Lines.{lines_of};
-ghost use Rattle.lexicon_programs.specs.Streams.{AppendsBeginning, failures, inner};
-ghost use Rattle.lexicon.specs.Outcome.{BeginsOutcome, IsRequestOutcome, IsRunOutcome, WritesOutcome, outcome_value, reads_input};
-ghost use Rattle.lexicon.specs.Request.{request_value};
+ghost use Rattle.lexicon_programs.specs.Streams.{AppendsUnlessFailed, ConsumesSome, failures, inner};
+ghost use Rattle.lexicon.specs.Outcome.{IsRunOutcome, MayAllocate, WritesOutcome, outcome_value, reads_input, wants_input};
+ghost use Rattle.lexicon.specs.Request.{argument_request, request_value};
 
-use crate::outcome::{Outcome, command_outcome, usage_outcome};
+use crate::outcome::{Outcome, command_outcome};
 use crate::request::{Request, argument_request};
 use crate::run_error::RunError;
 use lexicon_programs::{Counted, first_line, read_all, write_and_flush};
@@ -16,7 +16,8 @@ use std::io::{Read, Write};
 
 /// The lines of an input.
 fn lines(alloc: Global, input: &str) -> Result<Vec<String>, AllocError>
-    ensures { IfOk result (λ lines. map string_bytes lines.items ≡ lines_of input.now) }
+    ensures ok { IfOk result (λ lines. map string_bytes lines.items ≡ lines_of input.now) }
+    ensures memory { OnErr result (0 < length input.now) }
 {
     let mut lines = Vec::new(alloc);
     let mut rest = input;
@@ -28,16 +29,29 @@ fn lines(alloc: Global, input: &str) -> Result<Vec<String>, AllocError>
     Ok(lines)
 }
 
-/// Reads the input to its end, and gives its lines.
+/// Whether the targets are the lines of the input.
+fn reads_input(request: &Request<'_>) -> bool
+    ensures { result ≡ reads_input (request_value request.now) }
+{
+    request.command.takes_targets() && request.targets.is_empty()
+}
+
+/// The lines of the input, which is read to its end.
 fn input_lines<R: Read>(alloc: Global, r: &mut Counted<R>) -> Result<Vec<String>, RunError>
     ensures ok { IfOk result
         (λ lines.
         IfSome (R.remaining (inner r.old))
         (λ bytes. IsUtf8 bytes × (map string_bytes lines.items ≡ lines_of bytes))) }
+    ensures taken { IfOk result
+        (λ lines.
+        0 < vec_len lines →
+        ConsumesSome (R.remaining (inner r.old)) (R.remaining (inner r.new))) }
     ensures counted { failures r.old ≤ failures r.new }
     ensures read { IsErrOf result RunError.Read ↔ (failures r.old < failures r.new) }
     ensures utf8 { IsErrOf result RunError.NotUtf8 →
         IfSome (R.remaining (inner r.old)) (λ input. ¬ (IsUtf8 input)) }
+    ensures memory { IsErrOf result RunError.OutOfMemory →
+        ConsumesSome (R.remaining (inner r.old)) (R.remaining (inner r.new)) }
     ensures only { IfErr result (λ e. e ≢ RunError.Write) }
 {
     let bytes = read_all(alloc, r)?;
@@ -47,38 +61,17 @@ fn input_lines<R: Read>(alloc: Global, r: &mut Counted<R>) -> Result<Vec<String>
     Ok(lines(alloc, input)?)
 }
 
-/// Whether the targets are the lines of the input.
-fn reads_input(request: &Request<'_>) -> bool
-    ensures { result ≡ reads_input (request_value request.now) }
+/// What the arguments ask for; `None` for wrong arguments, and for those that aren't available.
+fn requested(words: Option<&[String]>) -> Option<Request<'_>>
+    ensures { option_map request_value result
+        ≡ option_and_then argument_request
+        (option_map (λ words. map string_bytes words.now) words.entry) }
 {
-    request.command.takes_targets() && request.targets.is_empty()
-}
-
-/// What a request writes.
-fn request_outcome<R: Read>(
-    alloc: Global,
-    request: &Request<'_>,
-    r: &mut Counted<R>,
-) -> Result<Outcome, RunError>
-    ensures ok { IfOk result
-        (λ o.
-        IsRequestOutcome (request_value request.now) (R.remaining (inner r.old))
-        (outcome_value o)) }
-    ensures counted { failures r.old ≤ failures r.new }
-    ensures read { IsErrOf result RunError.Read ↔ (failures r.old < failures r.new) }
-    ensures utf8 { IsErrOf result RunError.NotUtf8 →
-        IfSome (R.remaining (inner r.old)) (λ input. ¬ (IsUtf8 input)) }
-    ensures only { IfErr result (λ e. e ≢ RunError.Write) }
-{
-    if reads_input(request) {
-        let targets = input_lines(alloc, r)?;
-        return Ok(command_outcome(alloc, request.command, targets.as_slice())?);
-    }
-    Ok(command_outcome(alloc, request.command, request.targets)?)
+    argument_request(words?)
 }
 
 /// What the program writes for these arguments.
-fn run_outcome<R: Read>(
+fn outcome<R: Read>(
     alloc: Global,
     words: Option<&[String]>,
     r: &mut Counted<R>,
@@ -87,19 +80,26 @@ fn run_outcome<R: Read>(
         (λ o.
         IsRunOutcome (option_map (λ words. map string_bytes words.now) words.entry)
         (R.remaining (inner r.old)) (outcome_value o)) }
+    ensures unread { wants_input (option_map (λ words. map string_bytes words.now) words.entry)
+        ≡ false →
+        r.new ≡ r.old }
     ensures counted { failures r.old ≤ failures r.new }
     ensures read { IsErrOf result RunError.Read ↔ (failures r.old < failures r.new) }
     ensures utf8 { IsErrOf result RunError.NotUtf8 →
         IfSome (R.remaining (inner r.old)) (λ input. ¬ (IsUtf8 input)) }
+    ensures memory { IsErrOf result RunError.OutOfMemory →
+        MayAllocate (option_map (λ words. map string_bytes words.now) words.entry)
+        (R.remaining (inner r.old)) (R.remaining (inner r.new)) }
     ensures only { IfErr result (λ e. e ≢ RunError.Write) }
 {
-    let Some(words) = words else {
-        return Ok(usage_outcome(alloc)?);
+    let Some(request) = requested(words) else {
+        return Ok(Outcome::usage());
     };
-    match argument_request(words) {
-        Some(request) => request_outcome(alloc, &request, r),
-        None => Ok(usage_outcome(alloc)?),
+    if reads_input(&request) {
+        let targets = input_lines(alloc, r)?;
+        return Ok(command_outcome(alloc, request.command, &targets)?);
     }
+    Ok(command_outcome(alloc, request.command, request.targets)?)
 }
 
 /// Writes both outputs. If one fails, the other is still written.
@@ -108,24 +108,18 @@ fn write_both<W: Write, E: Write>(
     w: &mut Counted<W>,
     e: &mut Counted<E>,
 ) -> Result<(), RunError>
-    ensures output { OnOk result
-        (Appends (W.contents (inner w.old)) (W.contents (inner w.new))
-        (outcome_value outcome.now).output) }
-    ensures errors { OnOk result
-        (Appends (E.contents (inner e.old)) (E.contents (inner e.new))
-        (outcome_value outcome.now).errors) }
-    ensures output_begun { AppendsBeginning (W.contents (inner w.old)) (W.contents (inner w.new))
-        (outcome_value outcome.now).output }
-    ensures errors_begun { AppendsBeginning (E.contents (inner e.old)) (E.contents (inner e.new))
-        (outcome_value outcome.now).errors }
+    ensures output { AppendsUnlessFailed (failures w.old) (failures w.new)
+        (W.contents (inner w.old)) (W.contents (inner w.new)) (outcome_value outcome.now).output }
+    ensures errors { AppendsUnlessFailed (failures e.old) (failures e.new)
+        (E.contents (inner e.old)) (E.contents (inner e.new)) (outcome_value outcome.now).errors }
     ensures output_counted { failures w.old ≤ failures w.new }
     ensures errors_counted { failures e.old ≤ failures e.new }
     ensures write { IsErrOf result RunError.Write
         ↔ ((failures w.old < failures w.new) ⊎ (failures e.old < failures e.new)) }
     ensures only { IfErr result (λ e. e ≡ RunError.Write) }
 {
-    let written = write_and_flush(w, outcome.output.as_bytes());
-    let reported = write_and_flush(e, outcome.errors.as_bytes());
+    let written = write_and_flush(w, outcome.output.as_str().as_bytes());
+    let reported = write_and_flush(e, outcome.errors.as_str().as_bytes());
     match (written, reported) {
         (Ok(()), Ok(())) => Ok(()),
         _ => Err(RunError::Write),
@@ -141,9 +135,10 @@ fn write_both<W: Write, E: Write>(
 ///
 /// - [`RunError::Read`] exactly if a read failed.
 /// - [`RunError::NotUtf8`] if the whole input was read and is not UTF-8.
-/// - [`RunError::OutOfMemory`] if an allocation failed.
-/// - [`RunError::Write`] exactly if a write or a flush failed, or a write took no byte of a piece. Of each output a
-///   beginning was written.
+/// - [`RunError::OutOfMemory`] if an allocation failed. Wrong arguments, `--help` and `--version` allocate nothing; nor
+///   does an empty input, unless JSON is asked for.
+/// - [`RunError::Write`] exactly if a write or a flush failed, or a write took no byte of a piece. Of the output that
+///   failed a beginning was written, of the other the whole.
 pub fn run<R: Read, W: Write, E: Write>(
     alloc: Global,
     words: Option<&[String]>,
@@ -153,9 +148,15 @@ pub fn run<R: Read, W: Write, E: Write>(
 ) -> Result<u8, RunError>
     ensures ok { IfOk result
         (λ status.
-        WritesOutcome Appends (option_map (λ words. map string_bytes words.now) words.entry)
-        (R.remaining (inner r.old)) (W.contents (inner w.old)) (W.contents (inner w.new))
-        (E.contents (inner e.old)) (E.contents (inner e.new)) status) }
+        WritesOutcome (option_map (λ words. map string_bytes words.now) words.entry)
+        (R.remaining (inner r.old)) (Appends (W.contents (inner w.old)) (W.contents (inner w.new)))
+        (Appends (E.contents (inner e.old)) (E.contents (inner e.new))) status) }
+
+    // The input is left alone, unless its lines are the targets.
+    ensures unread { wants_input (option_map (λ words. map string_bytes words.now) words.entry)
+        ≡ false →
+        (R.remaining (inner r.new) ≡ R.remaining (inner r.old))
+        × (failures r.new ≡ failures r.old) }
 
     // An error of the reader or of a writer is returned exactly if there was one.
     ensures read { IsErrOf result RunError.Read ↔ (failures r.old < failures r.new) }
@@ -164,9 +165,13 @@ pub fn run<R: Read, W: Write, E: Write>(
 
     // What was written before an error.
     ensures begun { IsErrOf result RunError.Write →
-        BeginsOutcome (option_map (λ words. map string_bytes words.now) words.entry)
-        (R.remaining (inner r.old)) (W.contents (inner w.old)) (W.contents (inner w.new))
-        (E.contents (inner e.old)) (E.contents (inner e.new)) }
+        (status : _)
+        × WritesOutcome (option_map (λ words. map string_bytes words.now) words.entry)
+        (R.remaining (inner r.old))
+        (AppendsUnlessFailed (failures w.old) (failures w.new) (W.contents (inner w.old))
+        (W.contents (inner w.new)))
+        (AppendsUnlessFailed (failures e.old) (failures e.new) (E.contents (inner e.old))
+        (E.contents (inner e.new))) status }
     ensures nothing { IfErr result
         (λ error.
         error ≢ RunError.Write →
@@ -177,10 +182,15 @@ pub fn run<R: Read, W: Write, E: Write>(
     ensures reader { failures r.old ≤ failures r.new }
     ensures output { failures w.old ≤ failures w.new }
     ensures errors { failures e.old ≤ failures e.new }
+
+    // Errors of the input, and running out of memory.
     ensures utf8 { IsErrOf result RunError.NotUtf8 →
         IfSome (R.remaining (inner r.old)) (λ input. ¬ (IsUtf8 input)) }
+    ensures memory { IsErrOf result RunError.OutOfMemory →
+        MayAllocate (option_map (λ words. map string_bytes words.now) words.entry)
+        (R.remaining (inner r.old)) (R.remaining (inner r.new)) }
 {
-    let outcome = run_outcome(alloc, words, r)?;
+    let outcome = outcome(alloc, words, r)?;
     write_both(&outcome, w, e)?;
     Ok(outcome.status)
 }

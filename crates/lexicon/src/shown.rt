@@ -5,11 +5,12 @@ ghost use Rattle.lexicon_fields.specs.VendorRef.{ref_value};
 ghost use Rattle.target_lexicon.specs.Explanation.{sources_of};
 ghost use Rattle.target_lexicon.specs.FixedPoints.{canonical_text};
 ghost use Rattle.target_lexicon.specs.ValuesRef.{values_of_ref};
-ghost use Rattle.target_reports.specs.Reports.{shown_text};
+ghost use Rattle.lexicon.specs.TargetAnswers.{shown_text};
 
+use crate::command::View;
 use std::alloc::{AllocError, Global};
 use target_lexicon::{Explanation, TripleRef};
-use target_reports::{View, push_explanation, push_fact_sheet};
+use target_reports::push_report;
 
 /// Appends the canonical text, and a line feed.
 fn push_canonical(out: &mut String, triple: TripleRef<'_>) -> Result<(), AllocError>
@@ -37,8 +38,7 @@ pub(crate) fn push_shown(
         ++ shown_text view text.now (values_of_ref it.now.triple) (sources_of it.now.sources)) }
 {
     match view {
-        View::Explain => push_explanation(alloc, out, text, it),
-        View::Facts => push_fact_sheet(alloc, out, text, it),
+        View::Report(report) => push_report(alloc, out, report, text, it),
         View::Settle => push_canonical(out, it.triple),
         View::Check => Ok(()),
     }

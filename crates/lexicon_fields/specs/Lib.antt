@@ -1,6 +1,7 @@
 pub mod Architecture
 pub mod ArchitectureQueries
 pub mod BinaryFormat
+pub mod Endianness
 pub mod Environment
 pub mod FixedRow
 pub mod Laws

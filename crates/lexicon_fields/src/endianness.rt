@@ -1,4 +1,6 @@
 //! Byte orders.
+ghost use Rattle.std.specs.Prelude.{◌≡◌};
+ghost use Rattle.lexicon_fields.specs.Endianness.{endianness_name};
 
 /// The order of the bytes of a number in memory.
 #[derive(Clone, Copy, Debug, PartialEq, Eq, Hash)]
@@ -7,4 +9,16 @@ pub enum Endianness {
     Little,
     /// The most significant byte comes first.
     Big,
+}
+
+impl Endianness {
+    /// The name of the byte order.
+    pub fn name(self) -> &'static str
+        ensures { result.now ≡ endianness_name self }
+    {
+        match self {
+            Endianness::Little => "little",
+            Endianness::Big => "big",
+        }
+    }
 }

@@ -1,6 +1,6 @@
 //! Pointer widths.
 ghost use Rattle.std.specs.Prelude.{◌≡◌, ◌*◌};
-ghost use Rattle.lexicon_fields.specs.PointerWidth.{width_bits, width_bytes};
+ghost use Rattle.lexicon_fields.specs.PointerWidth.{width_bits, width_bytes, width_name};
 
 /// The width of a pointer in the default address space.
 #[derive(Clone, Copy, Debug, PartialEq, Eq, Hash)]
@@ -32,6 +32,17 @@ impl PointerWidth {
             PointerWidth::U16 => 2,
             PointerWidth::U32 => 4,
             PointerWidth::U64 => 8,
+        }
+    }
+
+    /// The number of bits in a pointer, in digits.
+    pub fn name(self) -> &'static str
+        ensures { result.now ≡ width_name self }
+    {
+        match self {
+            PointerWidth::U16 => "16",
+            PointerWidth::U32 => "32",
+            PointerWidth::U64 => "64",
         }
     }
 }

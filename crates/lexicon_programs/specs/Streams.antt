@@ -1,11 +1,16 @@
 -- What is read from a reader and written to a writer, and what counts as a failure of them.
-use Rattle.std.specs.Prelude.{if◌then◌else◌, ℕ, ◌<◌, List, length, take, Option, ◌==◌, ◌&&◌, not, Result, Ok, Err}
+use Rattle.std.specs.Prelude.{◌≡◌, if◌then◌else◌, ℕ, ◌<◌, List, length, take, Option, ◌==◌, ◌&&◌, not, Result, Ok, Err}
 use Rattle.lexicon_programs.specs.declared.counted.Counted.{Counted}
 use Rattle.std.specs.Io.KnownBytes.{Appends, Consumes}
 
 -- if the bytes are known, they grew by a beginning of this text
 abbrev pub AppendsBeginning : Option (List ℕ) → Option (List ℕ) → List ℕ → Type 0
 AppendsBeginning old new bytes = (n : ℕ) × Appends old new (take n bytes)
+
+-- if the bytes are known, they grew by this text, or by a beginning of it if a call failed
+pub record AppendsUnlessFailed (old_failures new_failures : ℕ) (old new : Option (List ℕ)) (bytes : List ℕ) : Type 0 where
+  pub whole : new_failures ≡ old_failures → Appends old new bytes
+  pub begun : AppendsBeginning old new bytes
 
 -- if the bytes are known, at least one was taken
 abbrev pub ConsumesSome : Option (List ℕ) → Option (List ℕ) → Type 0

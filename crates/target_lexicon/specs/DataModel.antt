@@ -1,5 +1,5 @@
 -- The sizes of C's types in each data model.
-use Rattle.std.specs.Prelude.{ℕ, ◌*◌}
+use Rattle.std.specs.Prelude.{ℕ, ◌*◌, List, codes}
 use Rattle.target_lexicon.specs.{declared.data_model.Size.Size, declared.data_model.Size.TheVariants.U16, declared.data_model.Size.TheVariants.U32, declared.data_model.Size.TheVariants.U64}
 use Rattle.target_lexicon.specs.declared.data_model.CDataModel.{CDataModel}
 use Rattle.target_lexicon.specs.declared.data_model.Size.TheVariants as size
@@ -15,6 +15,14 @@ size_bytes size.U64 = 8
 -- the number of bits of a size
 abbrev pub size_bits : Size → ℕ
 size_bits size = 8 * size_bytes size
+
+-- the name of a model
+abbrev pub model_name : CDataModel → List ℕ
+model_name model.LP32 = codes "LP32"
+model_name model.ILP32 = codes "ILP32"
+model_name model.LLP64 = codes "LLP64"
+model_name model.LP64 = codes "LP64"
+model_name model.ILP64 = codes "ILP64"
 
 -- a size for each of C's types
 pub record Sizes : Type 0 where

@@ -1,3 +1,4 @@
+pub mod CallingConvention
 pub mod DataModel
 pub mod Explanation
 pub mod Families

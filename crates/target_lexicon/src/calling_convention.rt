@@ -1,4 +1,6 @@
 //! Calling conventions.
+ghost use Rattle.std.specs.Prelude.{◌≡◌};
+ghost use Rattle.target_lexicon.specs.CallingConvention.{convention_name};
 
 /// A calling convention: which registers have the arguments of a call, which ones a call preserves, and so on.
 #[derive(Clone, Copy, Debug, PartialEq, Eq, Hash)]
@@ -15,4 +17,18 @@ pub enum CallingConvention {
     /// Apple's variant of the common convention of 64-bit Arm:
     /// <https://developer.apple.com/documentation/xcode/writing_arm64_code_for_apple_platforms>
     AppleAarch64,
+}
+
+impl CallingConvention {
+    /// The name of the convention.
+    pub fn name(self) -> &'static str
+        ensures { result.now ≡ convention_name self }
+    {
+        match self {
+            CallingConvention::SystemV => "SystemV",
+            CallingConvention::WasmBasicCAbi => "WasmBasicCAbi",
+            CallingConvention::WindowsFastcall => "WindowsFastcall",
+            CallingConvention::AppleAarch64 => "AppleAarch64",
+        }
+    }
 }

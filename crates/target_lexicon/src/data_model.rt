@@ -1,6 +1,6 @@
 //! The data models of C, and the sizes of its types.
 ghost use Rattle.std.specs.Prelude.{◌≡◌, ◌*◌};
-ghost use Rattle.target_lexicon.specs.DataModel.{size_bits, size_bytes, sizes_of};
+ghost use Rattle.target_lexicon.specs.DataModel.{model_name, size_bits, size_bytes, sizes_of};
 
 /// The size of a type.
 #[derive(Clone, Copy, Debug, PartialEq, Eq, Hash)]
@@ -55,6 +55,19 @@ pub enum CDataModel {
 }
 
 impl CDataModel {
+    /// The name of the model.
+    pub fn name(self) -> &'static str
+        ensures { result.now ≡ model_name self }
+    {
+        match self {
+            CDataModel::LP32 => "LP32",
+            CDataModel::ILP32 => "ILP32",
+            CDataModel::LLP64 => "LLP64",
+            CDataModel::LP64 => "LP64",
+            CDataModel::ILP64 => "ILP64",
+        }
+    }
+
     /// The size of a pointer in the default address space.
     pub fn pointer_width(self) -> Size
         ensures { result ≡ (sizes_of self).pointer }

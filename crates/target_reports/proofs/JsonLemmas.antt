@@ -1,13 +1,14 @@
 -- JSON objects made of fields, and that they have no floating-point number.
-use Rattle.std.proofs.Common.{◌≡◌, ℕ, Bool, true, false, ◌||◌, List, [], ◌∷◌, Option, Some, None, unwrap_or, if◌then◌else◌, refl}
-use Rattle.std.specs.{Ordering.nat_cmp, Ordering.match_ordering, Cmp.Lexicographic.slice_cmp, List.list_any, Str.bytes_eq}
+use Rattle.std.proofs.Common.{◌≡◌, ℕ, Bool, true, false, ◌||◌, List, [], ◌∷◌, map, Option, Some, None, refl}
+use Rattle.std.specs.{Ordering.nat_cmp, Ordering.match_ordering, Cmp.Lexicographic.slice_cmp, List.list_any}
 use Rattle.std.specs.declared.cmp.Ordering.TheVariants.{Less, Equal, Greater}
-use Rattle.lexicon_fields.specs.Names.{Pair, value_named}
 use Rattle.serde_json.specs.{Data.Data, Data.Members, Data.no_members, Data.member, Data.string, Data.put, Written.has_float, Written.members_have_float}
-use Rattle.target_lexicon.specs.{Explanation.SourceValue, Explanation.SourceValues, Values.Values}
-use Rattle.target_reports.specs.{declared.views.Report.Report}
-use Rattle.target_reports.specs.declared.views.Report.TheVariants as report
-use Rattle.target_reports.specs.JsonReports.{Field, with_field, fields_onto, word_values, word_data, optional_data, origin_fields, origin_data, source_part, explained_fields, value_fields, answer_fields, size_fields, text_fields, facts_onto, with_report, target_members}
+use Rattle.target_lexicon.specs.{Explanation.SourceValues, Values.Values}
+use Rattle.target_reports.specs.declared.report.Report.{Report}
+use Rattle.target_reports.specs.declared.report.Report.TheVariants as report
+use Rattle.target_reports.specs.Facts.{AnswerValue, NoAnswer, Number, Text, YesOrNo, FactValue, facts_of}
+use Rattle.target_reports.specs.Origins.{OriginValue, origins_of}
+use Rattle.target_reports.specs.Json.{Field, with_field, fields_onto, answer_data, fact_field, optional_data, origin_fields, origin_data, origin_field, source_part, report_fields, with_report, target_members}
 
 pub neither : (a b : Bool) → a ≡ false → b ≡ false → (a || b) ≡ false
 neither a b x y = rw x y
@@ -45,37 +46,31 @@ fields-floatless (field ∷ fields) ms x y =
     fields-floatless fields (with_field field.0 field.1 ms) (not-second (has_float field.1) (list_any (λ f. has_float f.1) fields) x)
     (with_field-floatless field.0 field.1 ms (not-first (has_float field.1) (list_any (λ f. has_float f.1) fields) x) y)
 
-named-floatless : (pairs : List (Pair Data)) (word : List ℕ) → list_any (λ p. has_float p.1) pairs ≡ false → has_float (unwrap_or (value_named pairs word) (string word)) ≡ false
-named-floatless [] word x = refl
-named-floatless (pair ∷ pairs) word x =
-    elim (bytes_eq word pair.0) as (λ b. has_float (unwrap_or (if b then Some pair.1 else value_named pairs word) (string word)) ≡ false) [
-      | true ↦ not-first (has_float pair.1) (list_any (λ p. has_float p.1) pairs) x
-      | false ↦ named-floatless pairs word (not-second (has_float pair.1) (list_any (λ p. has_float p.1) pairs) x)
-    ]
+answer-floatless : (a : AnswerValue) → has_float (answer_data a) ≡ false
+answer-floatless NoAnswer = refl
+answer-floatless (Number n) = refl
+answer-floatless (Text text) = refl
+answer-floatless (YesOrNo is_so) = refl
 
-word-floatless : (word : List ℕ) → has_float (word_data word) ≡ false
-unfolding word_data
-word-floatless word = named-floatless word_values word refl
+facts-floatless : (facts : List FactValue) → AreFloatless (map fact_field facts)
+facts-floatless [] = refl
+facts-floatless (f ∷ facts) = neither (has_float (answer_data f.answer)) (list_any (λ f. has_float f.1) (map fact_field facts)) (answer-floatless f.answer) (facts-floatless facts)
 
 pub optional-floatless : (text : Option (List ℕ)) → has_float (optional_data text) ≡ false
 optional-floatless None = refl
 optional-floatless (Some text) = refl
 
-origin-floatless : (name : List ℕ) (source : SourceValue) → has_float (origin_data name source) ≡ false
+origin-floatless : (o : OriginValue) → has_float (origin_data o) ≡ false
 unfolding origin_data
-origin-floatless name source = fields-floatless (origin_fields name source) no_members (rw (optional-floatless (source_part source)) refl) refl
+origin-floatless o = fields-floatless (origin_fields o) no_members (rw (optional-floatless (source_part o.source)) refl) refl
 
-facts-floatless : (t : Values) (ms : Members) → members_have_float ms ≡ false → members_have_float (facts_onto t ms) ≡ false
-unfolding facts_onto
-facts-floatless t ms x =
-    fields-floatless (text_fields t) _ refl
-    (fields-floatless (size_fields _) _ (simp word-floatless)
-    (fields-floatless (answer_fields t) _ (simp word-floatless)
-    (fields-floatless (value_fields t) ms (simp word-floatless) x)))
+origins-floatless : (origins : List OriginValue) → AreFloatless (map origin_field origins)
+origins-floatless [] = refl
+origins-floatless (o ∷ origins) = neither (has_float (origin_data o)) (list_any (λ f. has_float f.1) (map origin_field origins)) (origin-floatless o) (origins-floatless origins)
 
 pub report-floatless : (r : Report) (t : Values) (s : SourceValues) (ms : Members) → members_have_float ms ≡ false → members_have_float (with_report r t s ms) ≡ false
-report-floatless report.Explain t s ms x = fields-floatless (explained_fields t s) ms (simp origin-floatless) x
-report-floatless report.Facts t s ms x = facts-floatless t ms x
+report-floatless report.Explain t s ms x = fields-floatless (report_fields report.Explain t s) ms (origins-floatless (origins_of t s)) x
+report-floatless report.Facts t s ms x = fields-floatless (report_fields report.Facts t s) ms (facts-floatless (facts_of t)) x
 
 pub target-floatless : (text : List ℕ) → members_have_float (target_members text) ≡ false
 target-floatless text = with_field-floatless _ (string text) no_members refl refl

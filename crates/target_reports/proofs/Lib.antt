@@ -1,3 +1,2 @@
--- JsonLemmas: JSON objects. LayoutLemmas: lines below a text.
+-- JsonLemmas: JSON objects have no floating-point number.
 pub mod JsonLemmas
-pub mod LayoutLemmas

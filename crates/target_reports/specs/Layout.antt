@@ -31,11 +31,6 @@ abbrev pub laid_out : List Line → List ℕ
 laid_out [] = []
 laid_out (line ∷ lines) = line_text line ++ laid_out lines
 
--- a text that ends in these lines
-abbrev pub laid_below : List ℕ → List Line → List ℕ
-laid_below text [] = text
-laid_below text (line ∷ lines) = laid_below (text ++ line_text line) lines
-
 -- whether a byte is one of a character's later bytes
 abbrev pub first_later_byte : ℕ
 first_later_byte = 128

@@ -1,3 +1,5 @@
-pub mod JsonReports
+pub mod Facts
+pub mod Json
 pub mod Layout
-pub mod Reports
+pub mod Lines
+pub mod Origins

@@ -1,7 +1,7 @@
 //! Text in columns.
 ghost use Rattle.std.specs.Prelude.{◌≡◌, ◌++◌, OnOk, string_bytes};
 ghost use Rattle.std.specs.List.{repeat};
-ghost use Rattle.target_reports.specs.Layout.{columns, label_text, line_text, column_text};
+ghost use Rattle.target_reports.specs.Layout.{columns, label_text, column_text};
 
 use std::alloc::AllocError;
 
@@ -45,17 +45,6 @@ pub(crate) fn push_padded(out: &mut String, text: &str, width: usize) -> Result<
 {
     out.push_str(text)?;
     push_copies(out, " ", width.saturating_sub(text.len()))
-}
-
-/// Appends the line of a label and a value.
-#[tactic(auto, unfolding(crate::specs::Layout::line_text))]
-pub(crate) fn push_line(out: &mut String, label: &str, value: &str) -> Result<(), AllocError>
-    ensures { OnOk result
-        (string_bytes out.new ≡ string_bytes out.old ++ line_text (label.now, value.now)) }
-{
-    push_label(out, label)?;
-    out.push_str(value)?;
-    out.push_str("\n")
 }
 
 /// Appends two spaces, and a label in its column.

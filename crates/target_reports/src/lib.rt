@@ -1,13 +1,14 @@
 //! What is said of one target: a report in lines, the members of a JSON object.
 #![tactic(auto)]
 
-mod json_reports;
+mod facts;
+mod json;
 mod layout;
-mod reports;
-mod sizes;
-mod views;
+mod lines;
+mod origins;
+mod report;
 
-pub use json_reports::{Members, put_optional, put_text, put_value, report_object};
+pub use json::{Members, put_optional, put_text, put_value, report_object};
 pub use layout::{columns, push_copies, push_three};
-pub use reports::{push_explanation, push_fact_sheet};
-pub use views::{Report, View};
+pub use lines::push_report;
+pub use report::Report;

@@ -1,15 +1,15 @@
 -- What mode `show` writes of a triple: its text and four words.
-use Rattle.std.specs.Prelude.{ℕ, List, ◌++◌, codes}
-use Rattle.target_lexicon.specs.{Printing.text_of, Values.Values}
-use Rattle.lexicon_programs.specs.Words.{endianness_word, width_word, convention_word, model_word}
+use Rattle.std.specs.Prelude.{ℕ, List, ◌++◌, codes, Option, option_map, unwrap_or}
+use Rattle.lexicon_fields.specs.{Endianness.endianness_name, PointerWidth.width_name}
+use Rattle.target_lexicon.specs.{CallingConvention.convention_name, DataModel.model_name, Printing.text_of, Values.Values}
 use Rattle.target_lexicon.specs.Queries.{endianness, pointer_width, calling_convention, data_model}
 
--- a space and the word
-abbrev pub spaced_word : List ℕ → List ℕ
-spaced_word word = codes " " ++ word
+-- a space and the word, `-` for none
+abbrev pub spaced_word : Option (List ℕ) → List ℕ
+spaced_word word = codes " " ++ unwrap_or word (codes "-")
 
 -- the text of a triple, and the words for its byte order, pointer width, calling convention and data model
 abbrev pub text_with_facts : Values → List ℕ
 text_with_facts t =
-    text_of t ++ (spaced_word (endianness_word (endianness t)) ++ (spaced_word (width_word (pointer_width t))
-    ++ (spaced_word (convention_word (calling_convention t)) ++ spaced_word (model_word (data_model t)))))
+    text_of t ++ (spaced_word (option_map endianness_name (endianness t)) ++ (spaced_word (option_map width_name (pointer_width t))
+    ++ (spaced_word (option_map convention_name (calling_convention t)) ++ spaced_word (option_map model_name (data_model t)))))

@@ -1,11 +1,10 @@
 //! What mode `show` writes for a triple.
-ghost use Rattle.std.specs.Prelude.{◌≡◌, ◌++◌, string_bytes, OnOk};
+ghost use Rattle.std.specs.Prelude.{◌≡◌, ◌++◌, option_map, string_bytes, OnOk};
 ghost use Rattle.target_lexicon.specs.ValuesRef.{values_of_ref};
 ghost use Rattle.triples.specs.Facts.{spaced_word, text_with_facts};
 
-use lexicon_programs::{convention_word, endianness_word, model_word, width_word};
 use std::alloc::AllocError;
-use target_lexicon::TripleRef;
+use target_lexicon::{CDataModel, CallingConvention, Endianness, PointerWidth, TripleRef};
 
 /// Appends the printed text of a triple, and the words for its byte order, pointer width, calling convention and data
 /// model.
@@ -15,20 +14,19 @@ pub(crate) fn push_facts(output: &mut String, triple: &TripleRef<'_>) -> Result<
         ≡ string_bytes output.old ++ text_with_facts (values_of_ref triple.now)) }
 {
     output.write(triple)?;
-    push_word(output, endianness_word(triple.endianness().ok()))?;
-    push_word(output, width_word(triple.pointer_width().ok()))?;
-    push_word(
-        output,
-        convention_word(triple.default_calling_convention().ok()),
-    )?;
-    push_word(output, model_word(triple.data_model().ok()))
+    push_word(output, triple.endianness().ok().map(Endianness::name))?;
+    push_word(output, triple.pointer_width().ok().map(PointerWidth::name))?;
+    let convention = triple.default_calling_convention().ok();
+    push_word(output, convention.map(CallingConvention::name))?;
+    push_word(output, triple.data_model().ok().map(CDataModel::name))
 }
 
-/// Appends a space and a word.
-fn push_word(output: &mut String, word: &str) -> Result<(), AllocError>
+/// Appends a space and a word, `-` for none.
+fn push_word(output: &mut String, word: Option<&str>) -> Result<(), AllocError>
     ensures { OnOk result
-        (string_bytes output.new ≡ string_bytes output.old ++ spaced_word word.now) }
+        (string_bytes output.new
+        ≡ string_bytes output.old ++ spaced_word (option_map (λ word. word.now) word.entry)) }
 {
     output.push(' ')?;
-    output.push_str(word)
+    output.push_str(word.unwrap_or("-"))
 }

@@ -8,5 +8,5 @@ loop-text-preserved c =
     let cut = next-target string_bytes c.args.targets.now c.loop-text.text-index c.text-item.result c.as_str.result.now (omega arith) c.text-item.is c.as_str.ensures.value in
     so-far-more cut c.in_ok-push_answer.ensures c.loop-text.invariant
 
-pub returns : goal.returns
-returns c = so-far-whole (no-target string_bytes c.args.targets.now c.loop-text.text-index (omega arith)) c.loop-text.invariant
+pub returns-clause-ok : goal.returns-clause-ok
+returns-clause-ok c = so-far-whole (no-target string_bytes c.args.targets.now c.loop-text.text-index (omega arith)) c.loop-text.invariant

@@ -1,4 +1,4 @@
--- Of each output a beginning was written.
+-- Of each output the whole was written, or a beginning if it failed.
 use Rattle.std.proofs.Common.{refl}
 use Rattle.lexicon.specs.Outcome.{outcome_value}
 use Rattle.lexicon.proofs.run.run.Goals as goal
@@ -9,8 +9,8 @@ returns-in_err-write_both-clause-begun g c = λ _. (
   record {
     of = outcome_value c.in_ok-outcome.outcome;
     is = c.in_ok-outcome.ensures.ok;
-    output = c.write_both.ensures.output_begun;
-    errors = c.write_both.ensures.errors_begun;
+    output = c.write_both.ensures.output;
+    errors = c.write_both.ensures.errors;
     status_is = refl;
   },
 )

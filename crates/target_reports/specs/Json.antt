@@ -1,0 +1,71 @@
+-- Reports as JSON.
+use Rattle.std.specs.Prelude.{ℕ, List, [], ◌∷◌, map, codes, Option, Some, None, if◌then◌else◌}
+use Rattle.std.specs.Str.{bytes_eq}
+use Rattle.serde_json.specs.{Data.Data, Data.Members, Data.no_members, Data.null, Data.boolean, Data.string, Data.number, Data.unsigned, Data.object, Data.put}
+use Rattle.target_lexicon.specs.{Explanation.SourceValue, Explanation.SourceValues, Explanation.FromPart, Explanation.NotGiven, Explanation.Implied, Values.Values}
+use Rattle.target_reports.specs.{Facts.AnswerValue, Facts.NoAnswer, Facts.Number, Facts.Text, Facts.YesOrNo, Facts.FactValue, Facts.facts_of, Facts.is_custom, Origins.OriginValue, Origins.origins_of}
+use Rattle.target_reports.specs.declared.report.Report.{Report}
+use Rattle.target_reports.specs.declared.report.Report.TheVariants as report
+
+-- a key and its value
+abbrev pub Field : Type 0
+Field = List ℕ × Data
+
+-- the members with one more
+unfoldable pub with_field : List ℕ → Data → Members → Members
+with_field key value members = put key value members
+
+-- the members with these fields
+abbrev pub fields_onto : Members → List Field → Members
+fields_onto members [] = members
+fields_onto members (field ∷ fields) = fields_onto (with_field field.0 field.1 members) fields
+
+-- the value of an answer, null for none
+abbrev pub answer_data : AnswerValue → Data
+answer_data NoAnswer = null
+answer_data (Number n) = number (unsigned n)
+answer_data (Text text) = string text
+answer_data (YesOrNo is_so) = boolean is_so
+
+abbrev pub fact_field : FactValue → Field
+fact_field f = (f.key, answer_data f.answer)
+
+-- a text, or null
+abbrev pub optional_data : Option (List ℕ) → Data
+optional_data None = null
+optional_data (Some text) = string text
+
+-- how a value came that has this name
+abbrev pub origin_word : List ℕ → SourceValue → List ℕ
+origin_word name (FromPart start end part) = if bytes_eq part name then codes "given" else codes "alias"
+origin_word name NotGiven = codes "not given"
+origin_word name Implied = codes "implied"
+
+-- the part of a source, if it has one
+abbrev pub source_part : SourceValue → Option (List ℕ)
+source_part (FromPart start end part) = Some part
+source_part NotGiven = None
+source_part Implied = None
+
+-- a field's value, how it came, and from which part
+abbrev pub origin_fields : OriginValue → List Field
+origin_fields o =
+    (codes "value", string o.name) ∷ (codes "origin", string (origin_word o.name o.source)) ∷ (codes "part", optional_data (source_part o.source)) ∷ []
+
+unfoldable pub origin_data : OriginValue → Data
+origin_data o = object (fields_onto no_members (origin_fields o))
+
+abbrev pub origin_field : OriginValue → Field
+origin_field o = (o.key, origin_data o)
+
+abbrev pub report_fields : Report → Values → SourceValues → List Field
+report_fields report.Explain t s = (codes "has_custom_vendor", boolean (is_custom t.vendor)) ∷ map origin_field (origins_of t s)
+report_fields report.Facts t s = map fact_field (facts_of t)
+
+-- the members of every object
+abbrev pub target_members : List ℕ → Members
+target_members text = with_field (codes "target") (string text) no_members
+
+-- the members of a report
+abbrev pub with_report : Report → Values → SourceValues → Members → Members
+with_report report t s members = fields_onto members (report_fields report t s)

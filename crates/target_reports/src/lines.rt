@@ -1,0 +1,139 @@
+//! Reports in lines of a label and a value.
+ghost use Rattle.std.specs.Prelude.{◌≡◌, ◌++◌, codes, map, true, OnOk, string_bytes};
+ghost use Rattle.lexicon_fields.specs.Vendor.{is_plain};
+ghost use Rattle.lexicon_fields.specs.VendorRef.{ref_value};
+ghost use Rattle.target_lexicon.specs.Explanation.{source_value, sources_of};
+ghost use Rattle.target_lexicon.specs.ValuesRef.{values_of_ref};
+ghost use Rattle.target_reports.specs.Facts.{answer_value, fact_value, facts_of};
+ghost use Rattle.target_reports.specs.Layout.{laid_out, line_text};
+ghost use Rattle.target_reports.specs.Lines.{answer_text, fact_line, name_width, origin_line, report_text, source_words};
+ghost use Rattle.target_reports.specs.Origins.{origin_value, origins_of};
+
+use crate::facts::{Answer, Fact, facts};
+use crate::layout::{push_label, push_padded};
+use crate::origins::{Origin, origins};
+use crate::report::Report;
+use std::alloc::{AllocError, Global};
+use target_lexicon::{Explanation, Source};
+
+/// Appends the words of an answer.
+fn push_answer(out: &mut String, answer: &Answer<'_>) -> Result<(), AllocError>
+    ensures { OnOk result
+        (string_bytes out.new ≡ string_bytes out.old ++ answer_text (answer_value answer.now)) }
+{
+    match answer {
+        Answer::None => out.push_str("-"),
+        Answer::Number(number) => out.write(number),
+        Answer::Text(text) => out.push_str(text.as_str()),
+        Answer::YesOrNo(is_so) => out.push_str(if *is_so { "yes" } else { "no" }),
+    }
+}
+
+/// Appends the line of a fact.
+#[tactic(auto, unfolding(crate::specs::Layout::line_text))]
+fn push_fact(out: &mut String, fact: &Fact<'_>) -> Result<(), AllocError>
+    ensures { OnOk result
+        (string_bytes out.new
+        ≡ string_bytes out.old ++ line_text (fact_line (fact_value fact.now))) }
+{
+    push_label(out, fact.label)?;
+    push_answer(out, &fact.answer)?;
+    out.push_str("\n")
+}
+
+/// Appends the lines of facts.
+fn push_facts(out: &mut String, facts: &[Fact<'_>]) -> Result<(), AllocError>
+    ensures { OnOk result
+        (string_bytes out.new
+        ≡ string_bytes out.old ++ laid_out (map fact_line (map fact_value facts.now))) }
+{
+    for fact in facts {
+        push_fact(out, fact)?;
+    }
+    Ok(())
+}
+
+/// Appends how a value came that has this name.
+fn push_source(out: &mut String, name: &str, source: Source<'_>) -> Result<(), AllocError>
+    ensures { OnOk result
+        (string_bytes out.new
+        ≡ string_bytes out.old ++ source_words name.now (source_value source.entry)) }
+{
+    match source {
+        Source::Part(part) => {
+            out.push_str(if part.text == name {
+                "given as `"
+            } else {
+                "alias `"
+            })?;
+            out.push_str(part.text)?;
+            out.push_str("`")
+        }
+        Source::NotGiven => out.push_str("not given"),
+        Source::Implied => out.push_str("implied"),
+    }
+}
+
+/// Appends the line of a field: the name of its value in a column, and how the value came.
+#[tactic(auto, unfolding(crate::specs::Layout::line_text))]
+fn push_origin(out: &mut String, width: usize, origin: &Origin<'_>) -> Result<(), AllocError>
+    ensures { OnOk result
+        (string_bytes out.new
+        ≡ string_bytes out.old ++ line_text (origin_line width (origin_value origin.now))) }
+{
+    let name = origin.name.as_str();
+    push_label(out, origin.label)?;
+    push_padded(out, name, width)?;
+    out.push_str(if origin.is_custom { "  custom, " } else { "  " })?;
+    push_source(out, name, origin.source)?;
+    out.push_str("\n")
+}
+
+/// Appends the lines of fields.
+fn push_origins(out: &mut String, width: usize, origins: &[Origin<'_>]) -> Result<(), AllocError>
+    ensures { OnOk result
+        (string_bytes out.new
+        ≡ string_bytes out.old
+        ++ laid_out (map (origin_line width) (map origin_value origins.now))) }
+{
+    for origin in origins {
+        push_origin(out, width, origin)?;
+    }
+    Ok(())
+}
+
+/// The length of the longest name.
+fn name_width(origins: &[Origin<'_>]) -> usize
+    ensures { result ≡ name_width (map origin_value origins.now) }
+{
+    let mut width = 0;
+    for origin in origins {
+        width = width.max(origin.name.as_str().len());
+    }
+    width
+}
+
+/// Appends a line with the target, and the lines of a report below it.
+pub fn push_report(
+    alloc: Global,
+    out: &mut String,
+    report: Report,
+    text: &str,
+    it: &Explanation<'_>,
+) -> Result<(), AllocError>
+    requires { is_plain (ref_value it.now.triple.vendor) ≡ true }
+    ensures { OnOk result
+        (string_bytes out.new
+        ≡ string_bytes out.old
+        ++ report_text report text.now (values_of_ref it.now.triple) (sources_of it.now.sources)) }
+{
+    out.push_str(text)?;
+    out.push_str("\n")?;
+    match report {
+        Report::Explain => {
+            let origins = origins(alloc, it)?;
+            push_origins(out, name_width(&origins), &origins)
+        }
+        Report::Facts => push_facts(out, &facts(alloc, &it.triple)?),
+    }
+}
