@@ -33,8 +33,8 @@ trait Before1_81 {
 
 impl Before1_81 for Duration {}
 
-/// Whether this version of Rust has `core::error`. Then the call isn't that of the trait, which returns nothing. To ask the
-/// compiler for its version would take longer.
+/// Whether this version of Rust has `core::error`. Then the call isn't that of the trait, which returns nothing. To ask
+/// the compiler for its version would take longer.
 #[allow(unstable_name_collisions)]
 fn has_core_error() -> bool {
     mem::size_of_val(&Duration::ZERO.abs_diff(Duration::ZERO)) > 0

@@ -1,15 +1,16 @@
-//! Turns a Rattle text into a Rust text: what only proofs need goes, everything else stays where it is, on the same line.
+//! Turns a Rattle text into a Rust text: what only proofs need goes, everything else stays where it is, on the same
+//! line.
 //!
-//! `ghost`, `requires` and `ensures` are keywords of Rattle, so one pass over the tokens of a text finds every ghost part,
-//! wherever it is:
+//! `ghost`, `requires` and `ensures` are keywords of Rattle, so one pass over the tokens of a text finds every ghost
+//! part, wherever it is:
 //!
 //! - `ghost use ..;`, and `ghost name = ..;` or `ghost name: ..` up to `;`, `,` or the end of the block, with its `pub`
 //!   and its comment;
 //! - `requires {..}` and `ensures {..}`, with a name or a star;
 //! - the attributes for proofs and layout, and `Drop` in a derive.
 //!
-//! A path that begins with `crate` gets the name of the module that the crate becomes. What else changes is a [`Rule`]. A
-//! form that the eraser doesn't know ends the build.
+//! A path that begins with `crate` gets the name of the module that the crate becomes. What else changes is a [`Rule`].
+//! A form that the eraser doesn't know ends the build.
 
 /// What changes in a text besides its ghost parts. Not every package has each kind.
 #[allow(dead_code)]
@@ -19,10 +20,12 @@ pub enum Rule<'a> {
     Without(&'a str, &'a str),
     /// A public item gets an attribute: `"Triple"`, or `"Triple::unknown"`.
     With(&'a str, &'a str),
-    /// A function gets the suffix `_unchecked` in its definition and its calls, because the layer has one of the same name.
+    /// A function gets the suffix `_unchecked` in its definition and its calls, because the layer has one of the same
+    /// name.
     Unchecked(&'a str),
-    /// In the files whose names, below the folder of crates, begin so, one text becomes another, wherever a token begins with
-    /// it. If the other one is empty, the doc comment before it goes too. Where two rules fit, the first one counts.
+    /// In the files whose names, below the folder of crates, begin so, one text becomes another, wherever a token
+    /// begins with it. If the other one is empty, the doc comment before it goes too. Where two rules fit, the first
+    /// one counts.
     Replace(&'a str, &'a str, &'a str),
 }
 

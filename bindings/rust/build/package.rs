@@ -6,8 +6,8 @@ use eraser::{Rule, Rules, erase};
 use std::path::{Path, PathBuf};
 use std::{env, fs};
 
-/// Erases these crates of the folder `sources` into the folder `erased` of the build, whose file `root.rs` has a module for
-/// each of them. Returns that folder.
+/// Erases these crates of the folder `sources` into the folder `erased` of the build, whose file `root.rs` has a module
+/// for each of them. Returns that folder.
 ///
 /// The build fails if a rule names something that isn't there.
 pub fn erase_crates(sources: &Path, crates: &[&str], rules: &mut Rules) -> PathBuf {
@@ -18,7 +18,8 @@ pub fn erase_crates(sources: &Path, crates: &[&str], rules: &mut Rules) -> PathB
         println!("cargo:rerun-if-changed={}", source.display());
         erase_folder(&source, &erased.join(name), name, name, rules);
         let main = if source.join("main.rt").exists() { "main" } else { "lib" };
-        root += &format!("#[path = \"{name}/{main}.rs\"]\n#[allow(unused, irrefutable_let_patterns, clippy::all)]\nmod {name};\n");
+        root += &format!("#[path = \"{name}/{main}.rs\"]\n#[allow(unused, irrefutable_let_patterns, clippy::all)]\n");
+        root += &format!("mod {name};\n");
     }
     write(&erased.join("root.rs"), &root);
     for (number, used) in rules.used.iter().enumerate() {

@@ -1,5 +1,5 @@
-//! What the proved text takes from Rattle's `std` where Rust's has another form, and what needs no allocator: the part of a
-//! shim that all packages have. It uses only `core`.
+//! What the proved text takes from Rattle's `std` where Rust's has another form, and what needs no allocator: the part
+//! of a shim that all packages have. It uses only `core`.
 
 /// A fact that was proved, in the value of a constant.
 macro_rules! prove {
@@ -125,8 +125,9 @@ pub mod simd {
             !differs & HIGH
         }
 
-        /// A byte 0x80 for each byte of `x` that is greater than that of `y`, and a byte 0 for every other: where `y - x`
-        /// borrows. The difference of the low seven bits is taken with the high bit set, so that no byte borrows of the next.
+        /// A byte 0x80 for each byte of `x` that is greater than that of `y`, where `y - x` borrows, and a byte 0 for
+        /// every other. The difference of the low seven bits is taken with the high bit set, so that no byte borrows of
+        /// the next.
         #[inline(always)]
         fn greater_bytes(x: u64, y: u64) -> u64 {
             let low = (y | HIGH) - (x & !HIGH);
@@ -146,8 +147,8 @@ pub mod simd {
             }
         }
 
-        /// The highest bit of each byte, if all other bits are 0. The product has no carries, and bit 8 * i + 7 moves to
-        /// 56 + i.
+        /// The highest bit of each byte, if all other bits are 0. The product has no carries, and bit 8 * i + 7 moves
+        /// to 56 + i.
         #[inline(always)]
         fn gathered_bits(answers: u64) -> u64 {
             answers.wrapping_mul(0x0002_0408_1020_4081) >> 56

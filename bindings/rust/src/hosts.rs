@@ -1,5 +1,5 @@
-// The triple of each target of rustc, older ones too, that parses as one. The build script looks for the line of its target,
-// and a test compares each line with what its text parses as.
+// The triple of each target of rustc, older ones too, that parses as one. The build script looks for the line of its
+// target, and a test compares each line with what its text parses as.
 hosts! {
     "aarch64-apple-darwin" Aarch64(Aarch64) Apple Darwin(None) Unknown Macho;
     "aarch64-apple-ios" Aarch64(Aarch64) Apple IOS(None) Unknown Macho;

@@ -1,7 +1,7 @@
 //! LLVM target triples: the crate `target-lexicon` 0.13.5, compiled from the text of a verified port.
 //!
-//! The types and their methods are that text, with the parts that only proofs need erased. This file has what Rust needs
-//! in another form: calls that allocate and can't say that an allocation failed, the host, the macro and serde.
+//! The types and their methods are that text, with the parts that only proofs need erased. This file has what Rust
+//! needs in another form: calls that allocate and can't say that an allocation failed, the host, the macro and serde.
 //!
 //! ```
 //! use target_lexicon::{Architecture, Endianness, OperatingSystem, Triple};
@@ -18,9 +18,9 @@
 //!
 //! The crate needs Rust 1.65, is `no_std` with `alloc`, and has no dependency but `serde`, with the feature
 //! `serde_support`. The feature `upstream_printing` prints each triple as upstream does. Before Rust 1.81 the errors
-//! implement `Error` with the feature `std` only. `arch_zkasm` and `arch_z80` change nothing. [`TripleRef`] is a triple that
-//! borrows from the text, [`TripleRef::explain`] says where a text is refused, and [`Triple::settle`] gives a key. The page
-//! `bindings/rust/README.md` of the repository says what differs from upstream, and what is proved.
+//! implement `Error` with the feature `std` only. `arch_zkasm` and `arch_z80` change nothing. [`TripleRef`] is a triple
+//! that borrows from the text, [`TripleRef::explain`] says where a text is refused, and [`Triple::settle`] gives a key.
+//! The page `bindings/rust/README.md` of the repository says what differs from upstream, and what is proved.
 #![no_std]
 #![forbid(unsafe_code)]
 
@@ -178,9 +178,9 @@ impl Triple {
         if self.vendor.is_plain() { Ok(self.normal_unchecked()) } else { Err(NotPlain(self)) }
     }
 
-    /// The canonical form of the triple: the result of [`normal`](Triple::normal), which comes back. Two canonical triples
-    /// with the same text are the same, so the text serves as a key. A triple that [`comes_back`](Triple::comes_back) is
-    /// unchanged.
+    /// The canonical form of the triple: the result of [`normal`](Triple::normal), which comes back. Two canonical
+    /// triples with the same text are the same, so the text serves as a key. A triple that
+    /// [`comes_back`](Triple::comes_back) is unchanged.
     ///
     /// # Errors
     ///
