@@ -53,7 +53,7 @@ def read(path):
 
 
 def table():
-    """The lines of the table of names: a field, a variant, a name, a number and a family each. An alias is one of them."""
+    """The lines of the table of names, of which each has a field, a variant, a name, a number and a family."""
     values, wrong = table_of(read("tools/names/names.tsv"))
     assert not wrong, wrong
     return values

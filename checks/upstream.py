@@ -47,8 +47,11 @@ def stop(why):
 # ---- upstream's crate
 
 def copy_sources(crate, folder):
-    """Copies upstream's sources into a folder. They are those of the crate's folder as cargo fetches it, in src/*.rs, or
-    files such as src__lib.rs.txt, of which lib.rs may end with the attributes of its tests."""
+    """Copies upstream's sources into a folder.
+
+    They are those of the crate's folder as cargo fetches it, in src/*.rs, or files such as src__lib.rs.txt, of which
+    lib.rs may end with the attributes of its tests.
+    """
     found = {it: path for it in ("lib", "host", "data_model", "parse_error", "targets", "triple")
              for path in (f"{crate}/src__{it}.rs.txt", f"{crate}/src/{it}.rs") if os.path.exists(path)}
     if "lib" not in found:
@@ -183,7 +186,10 @@ class Tally:
         self.name, self.compared, self.parsed, self.differ, self.first = name, 0, 0, 0, []
 
     def add(self, compared, parsed, found):
-        """Counts what was compared and parsed, and the differences: a mode, a text, who answers, the answer and upstream's."""
+        """Counts what was compared and parsed, and the differences.
+
+        A difference is a mode, a text, who answers, the answer and upstream's.
+        """
         self.compared += compared
         self.parsed += parsed
         self.differ += len(found)
@@ -216,7 +222,10 @@ def answers(command, file, folder):
 
 
 def differences(mode, who, texts, ours, theirs):
-    """Each text that a program answers differently. A matrix has fewer answers than there are texts: of it the first one."""
+    """Each text that a program answers differently.
+
+    A matrix has fewer answers than there are texts: of it the first difference.
+    """
     texts, ours, theirs = (it.decode().split("\n")[:-1] for it in (texts, ours, theirs))
     if mode == "matrix":
         pairs = zip([*ours, "the end"], [*theirs, "the end"])
@@ -227,8 +236,10 @@ def differences(mode, who, texts, ours, theirs):
 
 
 def compare(upstream, compared, mode, file, folder):
-    """Compares the programs that have a mode with upstream on the texts of a file. Returns how many answers there are, how
-    many of these aren't a refusal, and the differences."""
+    """Compares the programs that have a mode with upstream on the texts of a file.
+
+    Returns how many answers there are, how many of these aren't a refusal, and the differences.
+    """
     theirs, found = answers([upstream, mode], file, folder), []
     for command, modes, who in compared:
         ours = answers([*command, mode], file, folder) if mode in modes else theirs
