@@ -10,7 +10,7 @@ pub(crate) mod json;
 /// The names that every erased file has.
 pub(crate) mod prelude {
     pub(crate) use super::{json as serde_json, prove, std, Alloc, Box, HostRuntime, String, ToStringAlloc as _, Vec};
-    pub(crate) use crate::shim::format;
+    pub(crate) use crate::shim::{format, vec};
     pub(crate) use crate::*;
     pub(crate) use core::{mem::size_of, str};
     // Links in comments, and older versions of Rust, need these.
@@ -27,6 +27,14 @@ macro_rules! format {
     };
 }
 pub(crate) use format;
+
+/// `vec![in alloc; ..]`: these values in memory of the allocator.
+macro_rules! vec {
+    (in $alloc:expr; $($value:expr),* $(,)?) => {
+        $crate::shim::Vec::from_array($alloc, [$($value),*])
+    };
+}
+pub(crate) use vec;
 
 pub(crate) mod std {
     pub use super::base::{fmt, marker, simd};
@@ -232,6 +240,13 @@ pub struct Vec<T>(alloc::vec::Vec<T>);
 impl<T> Vec<T> {
     pub fn new(_: Global) -> Self {
         Vec(alloc::vec::Vec::new())
+    }
+
+    pub fn from_array<const N: usize>(alloc: Global, values: [T; N]) -> Result<Self, AllocError> {
+        let mut all = Vec::new(alloc);
+        reserved(all.0.try_reserve_exact(N))?;
+        all.0.extend(values);
+        Ok(all)
     }
 
     pub fn push(&mut self, value: T) -> Result<(), AllocError> {

@@ -12,7 +12,7 @@
 #![deny(unsafe_op_in_unsafe_fn)]
 
 #[path = "../../shim/no_heap.rs"]
-#[allow(dead_code)]
+#[allow(unused)] // Each package uses its own part of it.
 mod shim;
 
 include!(concat!(env!("OUT_DIR"), "/erased/root.rs"));

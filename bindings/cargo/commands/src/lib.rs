@@ -6,7 +6,7 @@ extern crate alloc;
 extern crate std as rust_std;
 
 #[path = "../../shim/heap.rs"]
-#[allow(dead_code)]
+#[allow(unused)] // Each package uses its own part of it.
 mod shim;
 
 include!(concat!(env!("OUT_DIR"), "/erased/root.rs"));
