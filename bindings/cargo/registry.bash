@@ -1,3 +1,4 @@
+# shellcheck shell=bash
 # For scripts of tests, which source this: cargo takes crates from Debian's packages (librust-serde-json-dev) if these are
 # installed, and then needs no network. It wants a folder in `work`.
 if ls /usr/share/cargo/registry/serde_json-* > /dev/null 2>&1; then
