@@ -1,9 +1,9 @@
 """Builds the wheel and the sdist of the package `lexicon`: the backend, by PEP 517, that pyproject.toml names.
 
-The wheel has the shared library that the variable LEXICON_LIBRARY names. Without that variable cargo builds the library,
-from the sources in the repository or, in an sdist, below the folder `native`. The same files give the same wheel and sdist,
-to the byte: names are sorted, and times are that of SOURCE_DATE_EPOCH, or else the first of January 1980. The
-wheel isn't compressed, so that its bytes don't depend on the version of zlib.
+The wheel has the shared library that the variable LEXICON_LIBRARY names. Without that variable cargo builds the
+library, from the sources in the repository or, in an sdist, below the folder `native`. The same files give the same
+wheel and sdist, to the byte: names are sorted, and times are that of SOURCE_DATE_EPOCH, or else the first of January
+1980. The wheel isn't compressed, so that its bytes don't depend on the version of zlib.
 """
 import base64
 import gzip
@@ -25,7 +25,8 @@ FIRST_TIME = 315532800  # The first one that a zip file can have.
 LIBRARY = "lexicon/liblexicon.so.0"
 
 NEEDED = """the shared library of this package isn't built: {why}.
-Install Rust, which has cargo, or set the variable LEXICON_LIBRARY to PATH/liblexicon.so of a built library for C (liblexicon 0.2)."""
+Install Rust, which has cargo, or set the variable LEXICON_LIBRARY to PATH/liblexicon.so of a built library for C
+(liblexicon 0.2)."""
 
 METADATA = """\
 Metadata-Version: 2.1
@@ -129,7 +130,7 @@ def given_library():
 
 
 def built_library():
-    """The library that cargo builds, and the platform that it is for: this one, or that of the variable CARGO_BUILD_TARGET."""
+    """The library that cargo builds, and the platform that it is for: this one, or that of CARGO_BUILD_TARGET."""
     target = os.environ.get("CARGO_BUILD_TARGET", "")
     with tempfile.TemporaryDirectory() as work:
         words = [os.environ.get("CARGO", "cargo"), "build", "--quiet", "--release", "--locked", "--target-dir", work, "--manifest-path",
@@ -188,7 +189,7 @@ MANYLINUX_LIBRARIES = {"libc.so.6", "libgcc_s.so.1", "libm.so.6", "libpthread.so
 
 
 def linux_platform(content):
-    """The tag of the Linux platforms that a shared library is for, by what it needs of the C library; nothing for another.
+    """The tag of the Linux platforms that a shared library is for, by what it needs of the C library, or None.
 
     A library that needs other ones than the C library is for `linux_x86_64`, for which nothing is promised.
     """
