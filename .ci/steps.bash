@@ -143,7 +143,7 @@ programs() {
 
 # If several processors share the proof of a crate, each of them loads all that the proof needs. So each crate gets one
 # processor, if there are 5 GB of memory for each. A quarter of the processors stays idle: virtual ones share cores, and if
-# all are busy, each proof takes longer.
+# all are busy, each proof takes more time.
 processors=$(nproc)
 memory=$(awk '/MemAvailable/ { print int($2 / 1000000) }' /proc/meminfo)
 jobs=$(((processors * 3 + 3) / 4))
