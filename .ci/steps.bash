@@ -63,6 +63,7 @@ end() {
     local status=$? failed=0 it
     [ "$BASHPID" = $$ ] || exit "$status" # not in a command that was just started
     trap - EXIT
+    trap '' HUP INT TERM
     for it in "${running[@]}" $builder; do stop "$it"; done
     rm -rf "$work"
     echo "the steps of .ci/run, after $((SECONDS / 60)) min"
