@@ -76,6 +76,7 @@ impl fmt::Display for Piece<'_> {
 
     ghost styled_output = { λ it _. Some (piece_text it) };
 
+    #[inline(always)]
     fn fmt<W: fmt::Write>(&self, f: &mut fmt::Formatter<W>) -> fmt::Result {
         match *self {
             Piece::Hidden => Ok(()),
@@ -175,6 +176,7 @@ impl fmt::Display for Pieces<'_> {
 
     ghost styled_output = { λ it _. Some (pieces_text it) };
 
+    #[inline(always)]
     fn fmt<W: fmt::Write>(&self, f: &mut fmt::Formatter<W>) -> fmt::Result {
         f.write_str(self.first)?;
         self.vendor.fmt(f)?;
