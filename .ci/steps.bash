@@ -99,6 +99,8 @@ python3-jinja2 python3-jinja2
 python3-markdown python3-markdown
 python3-pygments python3-pygments
 dot graphviz
+cram3 python3-cram
+/usr/share/cargo/registry librust-serde-json-dev
 g++ g++
 cmake cmake
 pkg-config pkg-config

@@ -1,12 +1,20 @@
 """Finds the words of Rattle's own library in the kit's sources."""
 import json
 import re
+import subprocess
 from functools import lru_cache
+from pathlib import Path
 
 from read_antt import AnttFile, comment_text, margin
 from words import GLOSSARY_PAGE, PRIMITIVES, Module, Word, declare, find_in
 
 RUST_CRATES = ("core", "std_alloc", "std_io", "std_collections", "std_heap", "std", "os", "io")
+
+
+def kit_folder():
+    """The folder of the kit's sources, beside the page that `rt doc` names."""
+    page = subprocess.run(["rt", "doc"], capture_output=True, text=True, check=True).stdout.strip()
+    return Path(page).parent / "rattle"
 
 
 class Kit:

@@ -9,7 +9,7 @@ from urllib.parse import unquote
 from jinja2 import Environment, FileSystemLoader
 from markdown_html import Comments
 from markupsafe import Markup
-from project import all_items, definitions_page
+from project import definitions_page
 from promises_page import PromisesPage
 from pygments.formatters import HtmlFormatter
 from references import References, Trials

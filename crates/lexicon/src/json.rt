@@ -59,7 +59,8 @@ fn push_object(
     text: &str,
     list: &mut TargetList,
 ) -> Result<(), AllocError>
-    ensures { OnOk result (AddsObject report text.now (list_values list.old) (list_values list.new)) }
+    ensures { OnOk result
+        (AddsObject report text.now (list_values list.old) (list_values list.new)) }
 {
     match reading(Vendors::Any, text) {
         Ok(it) => {

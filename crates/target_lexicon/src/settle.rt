@@ -60,8 +60,9 @@ impl Triple {
     }
 
     /// The canonical form of the triple: the normal step, taken until the triple comes back. One step is enough (law
-    /// `second_step_changes_one`). The vendor must be plain, as for `normal`. A triple that comes back is unchanged. No other canonical triple has the same text (law
-    /// `settled_texts_are_keys`), so the text serves as a key. Nothing is allocated.
+    /// `second_step_changes_one`). The vendor must be plain, as for `normal`. A triple that comes back is unchanged.
+    /// No other canonical triple has the same text (law `settled_texts_are_keys`), so the text serves as a key. Nothing
+    /// is allocated.
     pub fn settle(self) -> Triple
         requires { is_plain (vendor_value self.vendor) ≡ true }
         ensures steps { values_of result ≡ settled_values (values_of self) }

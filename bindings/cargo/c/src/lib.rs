@@ -188,7 +188,8 @@ pub unsafe extern "C" fn lexicon_explain(
     sources: *mut LexiconSources,
     error: *mut LexiconError,
 ) -> u32 {
-    let (mut numbers, mut vendor, mut found, mut refusal) = (LexiconTriple::zeros(), NO_TEXT, LexiconSources::zeros(), LexiconError::zeros());
+    let (mut numbers, mut vendor) = (LexiconTriple::zeros(), NO_TEXT);
+    let (mut found, mut refusal) = (LexiconSources::zeros(), LexiconError::zeros());
     let text = unsafe { text_at(text, text_size) };
     let status = lexicon_c::lexicon_explain(text, &mut numbers, &mut vendor, &mut found, &mut refusal);
     unsafe { write_parsed(status, (numbers, vendor, refusal), triple, error) }
