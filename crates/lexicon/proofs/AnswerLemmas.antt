@@ -3,18 +3,18 @@ use Rattle.std.proofs.Common.{◌≡◌, ◌∙◌, ℕ, ◌+◌, ◌<◌, ◌�
 use Rattle.std.proofs.{lemmas.List.append-nil, lemmas.List.nil_from_length, Math.Bool.or-false, Math.Bool.or_comm, lemmas.List.Folds.list_any-append}
 use Rattle.target_lexicon.specs.{Explanation.SourceValues, Values.Values}
 use Rattle.lexicon.specs.{declared.command.Vendors.Vendors, declared.command.View.View, Problem.ProblemValue, Problem.AddsRefusal}
-use Rattle.lexicon.specs.TargetAnswers.{Answer, Shown, Refused, IsReading, IsProblemOf, AreAnswers, AddsAnswer, AreTextsFor, Texts, shown_text, joined_texts, texts_of_answers, shown_texts, refused_texts, is_refusal}
+use Rattle.lexicon.specs.TargetAnswers.{Answer, Shown, Refused, IsReading, IsProblemOf, AreAnswers, AddsAnswer, AreTextsFor, Texts, AddsShown, joined_texts, texts_of_answers, shown_texts, refused_texts, is_refusal}
 
 -- what a target that reads adds, and what a refused one adds
 pub reading-adds : {T E : Type 0} (done : Result T E) (view : View) (vendors : Vendors) (text : List ℕ) (old : Texts) (shown : List ℕ) (t : Values) (s : SourceValues)
-    → IsReading vendors text t s → OnOk done (shown ≡ old.shown ++ shown_text view text t s)
+    → IsReading vendors text t s → OnOk done (AddsShown view text t s old.shown shown)
     → OnOk done (AddsAnswer view vendors text old (record { shown = shown; refused = old.refused; has_refusal = old.has_refusal }))
-reading-adds (Ok _) view vendors text old shown t s reads grown = record {
-  answer = Shown (shown_text view text t s);
-  is = (t, (s, reads, refl));
-  grown = rw (append-nil (shown_text view text t s), append-nil old.refused, or-false old.has_refusal, grown) refl;
+reading-adds (Ok _) view vendors text old shown t s reads adds = record {
+  answer = Shown adds.shown;
+  is = (t, (s, reads, adds.is));
+  grown = rw (append-nil adds.shown, append-nil old.refused, or-false old.has_refusal, adds.grown) refl;
 }
-reading-adds (Err _) view vendors text old shown t s reads grown = tt
+reading-adds (Err _) view vendors text old shown t s reads adds = tt
 
 pub refusal-adds : {T E : Type 0} (done : Result T E) (view : View) (vendors : Vendors) (text : List ℕ) (old : Texts) (refused : List ℕ) (p : ProblemValue)
     → IsProblemOf vendors text p → OnOk done (AddsRefusal text p old.refused refused)

@@ -7,8 +7,9 @@ use Rattle.target_reports.proofs.JsonLemmas.{neither, fields-floatless, optional
 use Rattle.lexicon.specs.JsonAnswers.{JsonAnswer, Reported, Rejected, IsJsonAnswer, answer_data, problem_fields}
 
 answer-floatless : (r : Report) (text : List ℕ) (answer : JsonAnswer) → IsJsonAnswer r text answer → has_float (answer_data answer) ≡ false
-answer-floatless r text (Reported value) is = rw is.1.2 (report-floatless r is.0 is.1.0 (target_members text) (target-floatless text))
-answer-floatless r text (Rejected value) is = rw is.1.3 (fields-floatless (problem_fields is.0 is.1.0) (target_members text) (simp optional-floatless) (target-floatless text))
+answer-floatless r text (Reported value) is = report-floatless r text is.0 is.1.0 value is.1.2
+answer-floatless r text (Rejected value) is =
+    rw is.2.2 (fields-floatless (problem_fields is.0 is.2.0) (target_members text) (simp optional-floatless) (target-floatless text))
 
 pub answers-floatless : (r : Report) (targets : List (List ℕ)) (answers : List JsonAnswer) → AllZip (IsJsonAnswer r) targets answers → items_have_float (items_of (map answer_data answers)) ≡ false
 answers-floatless r [] [] are = refl

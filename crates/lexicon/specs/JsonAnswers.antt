@@ -3,7 +3,7 @@ use Rattle.std.specs.Prelude.{◌≡◌, ℕ, Bool, true, false, List, [], ◌�
 use Rattle.std.specs.List.{AllZip, list_any}
 use Rattle.serde_json.specs.{Data.Data, Data.string, Data.number, Data.unsigned, Data.object, View.view}
 use Rattle.target_lexicon.specs.{Explanation.SourceValues, Values.Values}
-use Rattle.target_reports.specs.{declared.report.Report.Report, Json.Field, Json.fields_onto, Json.optional_data, Json.target_members, Json.with_report}
+use Rattle.target_reports.specs.{declared.report.Report.Report, Json.Field, Json.fields_onto, Json.optional_data, Json.target_members, Json.IsReportObject}
 use Rattle.lexicon.specs.{declared.json.TargetList.TargetList, Problem.ProblemValue, Problem.IsSuggested, TargetAnswers.IsReading, TargetAnswers.IsProblemOf}
 use Rattle.lexicon.specs.declared.command.Vendors.TheVariants as vendors
 
@@ -18,12 +18,14 @@ pub data JsonAnswer : Type 0 where
   Reported : Data → JsonAnswer
   Rejected : Data → JsonAnswer
 
+-- an object of what is wrong with a target
+abbrev pub IsProblemObject : List ℕ → ProblemValue → Data → Type 0
+IsProblemObject text p value = (suggestion : Option (List ℕ)) × IsSuggested p.candidates p.part suggestion
+    × (value ≡ object (fields_onto (target_members text) (problem_fields p suggestion)))
+
 abbrev pub IsJsonAnswer : Report → List ℕ → JsonAnswer → Type 0
-IsJsonAnswer report text (Reported value) =
-    (t : Values) × ((s : SourceValues) × IsReading vendors.Any text t s × (value ≡ object (with_report report t s (target_members text))))
-IsJsonAnswer report text (Rejected value) =
-    (p : ProblemValue) × ((suggestion : Option (List ℕ)) × IsProblemOf vendors.Any text p × IsSuggested p.field p.part suggestion
-    × (value ≡ object (fields_onto (target_members text) (problem_fields p suggestion))))
+IsJsonAnswer report text (Reported value) = (t : Values) × ((s : SourceValues) × IsReading vendors.Any text t s × IsReportObject report text t s value)
+IsJsonAnswer report text (Rejected value) = (p : ProblemValue) × IsProblemOf vendors.Any text p × IsProblemObject text p value
 
 abbrev pub answer_data : JsonAnswer → Data
 answer_data (Reported value) = value
@@ -44,11 +46,6 @@ json_values answers = record { values = map answer_data answers; has_rejected = 
 -- the values are those of the answers to these targets
 abbrev pub AreJsonValuesFor : Report → List (List ℕ) → JsonValues → Type 0
 AreJsonValuesFor report targets values = (answers : List JsonAnswer) × AllZip (IsJsonAnswer report) targets answers × (values ≡ json_values answers)
-
--- an object of what is wrong with a target
-abbrev pub IsProblemObject : List ℕ → ProblemValue → Data → Type 0
-IsProblemObject text p value = (suggestion : Option (List ℕ)) × IsSuggested p.field p.part suggestion
-    × (value ≡ object (fields_onto (target_members text) (problem_fields p suggestion)))
 
 -- the values with one more
 abbrev pub with_object : JsonValues → JsonAnswer → JsonValues

@@ -3,7 +3,7 @@ use Rattle.std.specs.Prelude.{◌≡◌, ◌⊎◌, ◌||◌, ℕ, Bool, true, f
 use Rattle.std.specs.List.{AllZip, list_any}
 use Rattle.target_lexicon.specs.{Explanation.SourceValues, Explanation.FromPart, Explanation.AreSourcesOf, Explanation.IsRefusedAfter, Reading.ReadsAs, Reading.IsRefusedAs, Refusal.Refusal, Values.Values}
 use Rattle.target_lexicon.specs.FixedPoints.{canonical_text}
-use Rattle.target_reports.specs.Lines.{report_text}
+use Rattle.target_reports.specs.Lines.{IsReportText}
 use Rattle.lexicon.specs.{declared.answers.TargetTexts.TargetTexts, declared.command.Vendors.Vendors, declared.command.View.View, Problem.ProblemValue, Problem.IsRefusalText, Problem.refusal_problem, Problem.vendor_problem}
 use Rattle.lexicon.specs.declared.command.View.TheVariants as view
 
@@ -36,10 +36,16 @@ abbrev pub IsProblemOf : Vendors → List ℕ → ProblemValue → Type 0
 IsProblemOf vendors text p = IsProblemOfText text p ⊎ IsProblemOfVendor vendors text p
 
 -- what a view shows of a target with these values from these sources
-abbrev pub shown_text : View → List ℕ → Values → SourceValues → List ℕ
-shown_text (view.Report report) text t s = report_text report text t s
-shown_text view.Settle text t s = canonical_text t ++ codes "\n"
-shown_text view.Check text t s = []
+abbrev pub IsShown : View → List ℕ → Values → SourceValues → List ℕ → Type 0
+IsShown (view.Report report) text t s shown = IsReportText report text t s shown
+IsShown view.Settle text t s shown = shown ≡ canonical_text t ++ codes "\n"
+IsShown view.Check text t s shown = shown ≡ []
+
+-- a text grew by what a view shows
+pub record AddsShown (view : View) (text : List ℕ) (t : Values) (s : SourceValues) (old new : List ℕ) : Type 0 where
+  pub shown : List ℕ
+  pub is : IsShown view text t s shown
+  pub grown : new ≡ old ++ shown
 
 -- the answer to a target: what is shown of it, or the lines that say why it is refused
 pub data Answer : Type 0 where
@@ -47,7 +53,7 @@ pub data Answer : Type 0 where
   Refused : List ℕ → Answer
 
 abbrev pub IsAnswer : View → Vendors → List ℕ → Answer → Type 0
-IsAnswer view vendors text (Shown shown) = (t : Values) × ((s : SourceValues) × IsReading vendors text t s × (shown ≡ shown_text view text t s))
+IsAnswer view vendors text (Shown shown) = (t : Values) × ((s : SourceValues) × IsReading vendors text t s × IsShown view text t s shown)
 IsAnswer view vendors text (Refused message) = (p : ProblemValue) × IsProblemOf vendors text p × IsRefusalText text p message
 
 -- the answer to each target, in order

@@ -45,7 +45,7 @@ fn problem_object(alloc: Global, text: &str, problem: &Problem<'_>) -> Result<Va
     ensures { IfOk result
         (λ value. IsProblemObject text.now (problem_value problem.now) (view value)) }
 {
-    let suggestion = suggestion(problem.field, problem.part);
+    let suggestion = suggestion(problem.candidates, problem.part);
     let mut members = Map::new(alloc);
     put_text(alloc, &mut members, "target", text)?;
     put_problem(alloc, &mut members, problem, suggestion)?;

@@ -7,18 +7,29 @@ ghost use Rattle.target_reports.specs.Layout.{columns, spaces};
 ghost use Rattle.lexicon.specs.Problem.{AddsRefusal, IsSuggested, caret_line, problem_line, problem_value, refusal_problem, source_start, suggestion_words, target_line, vendor_problem};
 
 use crate::command::Vendors;
-use lexicon_names::{Field, nearest_name};
+use lexicon_names::{Field, nearest_name, nearest_of_all};
 use std::alloc::AllocError;
 use target_lexicon::{ExplainedError, Explanation, ParseErrorRef, Source, VendorRef};
 use target_reports::{columns, push_copies, push_three};
+
+/// The names that a suggestion is taken from.
+#[derive(Clone, Copy)]
+pub(crate) enum Candidates {
+    /// No names.
+    None,
+    /// The names of a field.
+    Of(Field),
+    /// The names of all fields.
+    All,
+}
 
 /// What is wrong with a part of a target.
 #[derive(Clone, Copy)]
 pub(crate) struct Problem<'a> {
     /// What is wrong.
     pub(crate) words: &'static str,
-    /// The field whose name was expected, if any.
-    pub(crate) field: Option<Field>,
+    /// The names that a suggestion is taken from.
+    pub(crate) candidates: Candidates,
     /// The part, and the index at which it begins.
     pub(crate) part: &'a str,
     pub(crate) start: usize,
@@ -33,28 +44,40 @@ impl<'a> Problem<'a> {
             ≡ refusal_problem (refusal_of_ref refused.entry.now.error)
             refused.entry.now.part.start }
     {
-        let (words, field) = match refused.error {
+        let (words, candidates) = match refused.error {
             ParseErrorRef::UnrecognizedArchitecture(_) => {
-                ("unrecognized architecture", Some(Field::Architecture))
+                (
+                    "unrecognized architecture",
+                    Candidates::Of(Field::Architecture),
+                )
             }
-            ParseErrorRef::UnrecognizedVendor(_) => ("unrecognized vendor", Some(Field::Vendor)),
+            ParseErrorRef::UnrecognizedVendor(_) => (
+                "unrecognized vendor",
+                Candidates::Of(Field::Vendor),
+            ),
             ParseErrorRef::UnrecognizedOperatingSystem(_) => {
                 (
                     "unrecognized operating system",
-                    Some(Field::OperatingSystem),
+                    Candidates::Of(Field::OperatingSystem),
                 )
             }
             ParseErrorRef::UnrecognizedEnvironment(_) => {
-                ("unrecognized environment", Some(Field::Environment))
+                (
+                    "unrecognized environment",
+                    Candidates::Of(Field::Environment),
+                )
             }
             ParseErrorRef::UnrecognizedBinaryFormat(_) => {
-                ("unrecognized binary format", Some(Field::BinaryFormat))
+                (
+                    "unrecognized binary format",
+                    Candidates::Of(Field::BinaryFormat),
+                )
             }
-            ParseErrorRef::UnrecognizedField(_) => ("unrecognized field", None),
+            ParseErrorRef::UnrecognizedField(_) => ("unrecognized field", Candidates::None),
         };
         Problem {
             words,
-            field,
+            candidates,
             part: refused.error.part(),
             start: refused.part.start,
         }
@@ -83,7 +106,7 @@ pub(crate) fn vendor_problem<'a>(
     match (vendors, explanation.triple.vendor) {
         (Vendors::Known, VendorRef::Custom(part)) => Some(Problem {
             words: "custom vendor",
-            field: Some(Field::Vendor),
+            candidates: Candidates::All,
             part,
             start: source_start(&explanation.sources.vendor),
         }),
@@ -91,13 +114,14 @@ pub(crate) fn vendor_problem<'a>(
     }
 }
 
-/// The nearest known name of the field, if one is near.
-pub(crate) fn suggestion(field: Option<Field>, part: &str) -> Option<&'static str>
-    ensures { IsSuggested field part.now (option_map (λ name. name.now) result) }
+/// The nearest of the names, if one is near.
+pub(crate) fn suggestion(candidates: Candidates, part: &str) -> Option<&'static str>
+    ensures { IsSuggested candidates part.now (option_map (λ name. name.now) result) }
 {
-    match field {
-        Some(field) => nearest_name(field, part),
-        None => None,
+    match candidates {
+        Candidates::None => None,
+        Candidates::Of(field) => nearest_name(field, part),
+        Candidates::All => nearest_of_all(part),
     }
 }
 
@@ -188,7 +212,7 @@ pub(crate) fn push_refusal(
         (AddsRefusal text.now (problem_value problem.now) (string_bytes out.old)
         (string_bytes out.new)) }
 {
-    let suggestion = suggestion(problem.field, problem.part);
+    let suggestion = suggestion(problem.candidates, problem.part);
     push_problem_line(out, problem)?;
     push_target_line(out, text)?;
     push_caret_line(out, text, problem, suggestion)

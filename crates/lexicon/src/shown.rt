@@ -5,7 +5,7 @@ ghost use Rattle.lexicon_fields.specs.VendorRef.{ref_value};
 ghost use Rattle.target_lexicon.specs.Explanation.{sources_of};
 ghost use Rattle.target_lexicon.specs.FixedPoints.{canonical_text};
 ghost use Rattle.target_lexicon.specs.ValuesRef.{values_of_ref};
-ghost use Rattle.lexicon.specs.TargetAnswers.{shown_text};
+ghost use Rattle.lexicon.specs.TargetAnswers.{AddsShown};
 
 use crate::command::View;
 use std::alloc::{AllocError, Global};
@@ -33,9 +33,8 @@ pub(crate) fn push_shown(
 ) -> Result<(), AllocError>
     requires { is_plain (ref_value it.now.triple.vendor) ≡ true }
     ensures { OnOk result
-        (string_bytes out.new
-        ≡ string_bytes out.old
-        ++ shown_text view text.now (values_of_ref it.now.triple) (sources_of it.now.sources)) }
+        (AddsShown view text.now (values_of_ref it.now.triple) (sources_of it.now.sources)
+        (string_bytes out.old) (string_bytes out.new)) }
 {
     match view {
         View::Report(report) => push_report(alloc, out, report, text, it),

@@ -51,7 +51,7 @@ fn both_outputs_are_flushed(rt: HostRuntime) -> Result<(), AllocError> {
     let mut errors = kept(alloc);
     let end = run(alloc, Some(&words), &mut reader, &mut output, &mut errors);
     assert!(rt; matches!(end, Ok(1)));
-    assert!(rt; output.into_inner().flushed.as_slice() == b"x86_64-unknown-linux\n");
+    assert!(rt; output.into_inner().flushed.as_slice() == b"x86_64-unknown-linux\n".as_slice());
     assert!(rt;
         errors
             .into_inner()

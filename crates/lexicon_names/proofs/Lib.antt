@@ -1,2 +1,3 @@
 mod DistanceLemmas
+mod NearerLemmas
 mod NearestLemmas

@@ -8,7 +8,7 @@ use Rattle.target_reports.specs.declared.report.Report.{Report}
 use Rattle.target_reports.specs.declared.report.Report.TheVariants as report
 use Rattle.target_reports.specs.Facts.{AnswerValue, NoAnswer, Number, Text, YesOrNo, FactValue, facts_of}
 use Rattle.target_reports.specs.Origins.{OriginValue, origins_of}
-use Rattle.target_reports.specs.Json.{Field, with_field, fields_onto, answer_data, fact_field, optional_data, origin_fields, origin_data, origin_field, source_part, report_fields, with_report, target_members}
+use Rattle.target_reports.specs.Json.{Field, with_field, fields_onto, answer_data, fact_field, optional_data, origin_fields, origin_data, origin_field, source_part, explained_fields, target_members, IsReportObject}
 
 pub neither : (a b : Bool) → a ≡ false → b ≡ false → (a || b) ≡ false
 neither a b x y = rw x y
@@ -68,9 +68,12 @@ origins-floatless : (origins : List OriginValue) → AreFloatless (map origin_fi
 origins-floatless [] = refl
 origins-floatless (o ∷ origins) = neither (has_float (origin_data o)) (list_any (λ f. has_float f.1) (map origin_field origins)) (origin-floatless o) (origins-floatless origins)
 
-pub report-floatless : (r : Report) (t : Values) (s : SourceValues) (ms : Members) → members_have_float ms ≡ false → members_have_float (with_report r t s ms) ≡ false
-report-floatless report.Explain t s ms x = fields-floatless (report_fields report.Explain t s) ms (origins-floatless (origins_of t s)) x
-report-floatless report.Facts t s ms x = fields-floatless (report_fields report.Facts t s) ms (facts-floatless (facts_of t)) x
-
 pub target-floatless : (text : List ℕ) → members_have_float (target_members text) ≡ false
 target-floatless text = with_field-floatless _ (string text) no_members refl refl
+
+explained-floatless : (t : Values) (s : SourceValues) (suggestion : Option (List ℕ)) → AreFloatless (explained_fields t s suggestion)
+explained-floatless t s suggestion = neither (has_float (optional_data suggestion)) (list_any (λ f. has_float f.1) (map origin_field (origins_of t s))) (optional-floatless suggestion) (origins-floatless (origins_of t s))
+
+pub report-floatless : (r : Report) (text : List ℕ) (t : Values) (s : SourceValues) (value : Data) → IsReportObject r text t s value → has_float value ≡ false
+report-floatless report.Explain text t s value is = rw is.2 (fields-floatless (explained_fields t s is.0) (target_members text) (explained-floatless t s is.0) (target-floatless text))
+report-floatless report.Facts text t s value is = rw is (fields-floatless (map fact_field (facts_of t)) (target_members text) (facts-floatless (facts_of t)) (target-floatless text))

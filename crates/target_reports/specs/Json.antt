@@ -1,9 +1,9 @@
 -- Reports as JSON.
-use Rattle.std.specs.Prelude.{ℕ, List, [], ◌∷◌, map, codes, Option, Some, None, if◌then◌else◌}
+use Rattle.std.specs.Prelude.{◌≡◌, ℕ, List, [], ◌∷◌, map, codes, Option, Some, None, if◌then◌else◌}
 use Rattle.std.specs.Str.{bytes_eq}
 use Rattle.serde_json.specs.{Data.Data, Data.Members, Data.no_members, Data.null, Data.boolean, Data.string, Data.number, Data.unsigned, Data.object, Data.put}
 use Rattle.target_lexicon.specs.{Explanation.SourceValue, Explanation.SourceValues, Explanation.FromPart, Explanation.NotGiven, Explanation.Implied, Values.Values}
-use Rattle.target_reports.specs.{Facts.AnswerValue, Facts.NoAnswer, Facts.Number, Facts.Text, Facts.YesOrNo, Facts.FactValue, Facts.facts_of, Facts.is_custom, Origins.OriginValue, Origins.origins_of}
+use Rattle.target_reports.specs.{Facts.AnswerValue, Facts.NoAnswer, Facts.Number, Facts.Text, Facts.YesOrNo, Facts.FactValue, Facts.facts_of, Facts.is_custom, Origins.OriginValue, Origins.origins_of, Suggestion.IsVendorSuggestion}
 use Rattle.target_reports.specs.declared.report.Report.{Report}
 use Rattle.target_reports.specs.declared.report.Report.TheVariants as report
 
@@ -58,14 +58,17 @@ origin_data o = object (fields_onto no_members (origin_fields o))
 abbrev pub origin_field : OriginValue → Field
 origin_field o = (o.key, origin_data o)
 
-abbrev pub report_fields : Report → Values → SourceValues → List Field
-report_fields report.Explain t s = (codes "has_custom_vendor", boolean (is_custom t.vendor)) ∷ map origin_field (origins_of t s)
-report_fields report.Facts t s = map fact_field (facts_of t)
+-- whether the vendor is a custom one, a suggestion for it, and how each field came
+abbrev pub explained_fields : Values → SourceValues → Option (List ℕ) → List Field
+explained_fields t s suggestion =
+    (codes "has_custom_vendor", boolean (is_custom t.vendor)) ∷ (codes "suggestion", optional_data suggestion) ∷ map origin_field (origins_of t s)
 
 -- the members of every object
 abbrev pub target_members : List ℕ → Members
 target_members text = with_field (codes "target") (string text) no_members
 
--- the members of a report
-abbrev pub with_report : Report → Values → SourceValues → Members → Members
-with_report report t s members = fields_onto members (report_fields report t s)
+-- the object of a report on a target with these values from these sources
+abbrev pub IsReportObject : Report → List ℕ → Values → SourceValues → Data → Type 0
+IsReportObject report.Explain text t s value =
+    (suggestion : Option (List ℕ)) × IsVendorSuggestion t.vendor suggestion × (value ≡ object (fields_onto (target_members text) (explained_fields t s suggestion)))
+IsReportObject report.Facts text t s value = value ≡ object (fields_onto (target_members text) (map fact_field (facts_of t)))

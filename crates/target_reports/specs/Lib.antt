@@ -3,3 +3,4 @@ pub mod Json
 pub mod Layout
 pub mod Lines
 pub mod Origins
+pub mod Suggestion

@@ -1,9 +1,10 @@
 -- Reports in lines of a label and a value.
-use Rattle.std.specs.Prelude.{ℕ, List, [], ◌∷◌, ◌++◌, length, map, max, codes, if◌then◌else◌}
+use Rattle.std.specs.Prelude.{◌≡◌, ℕ, List, [], ◌∷◌, ◌++◌, length, map, max, codes, Option, Some, None, if◌then◌else◌}
 use Rattle.std.specs.Fmt.{decimal}
 use Rattle.std.specs.Str.{bytes_eq}
 use Rattle.target_lexicon.specs.{Explanation.SourceValue, Explanation.SourceValues, Explanation.FromPart, Explanation.NotGiven, Explanation.Implied, Values.Values}
-use Rattle.target_reports.specs.{Facts.AnswerValue, Facts.NoAnswer, Facts.Number, Facts.Text, Facts.YesOrNo, Facts.FactValue, Facts.facts_of, Layout.Line, Layout.column_text, Layout.laid_out, Origins.OriginValue, Origins.origins_of}
+use Rattle.target_reports.specs.{Facts.AnswerValue, Facts.NoAnswer, Facts.Number, Facts.Text, Facts.YesOrNo, Facts.FactValue, Facts.facts_of, Layout.Line, Layout.column_text, Layout.laid_out, Layout.line_text, Origins.OriginValue, Origins.origins_of, Suggestion.IsVendorSuggestion}
+use Rattle.lexicon_fields.specs.Vendor.{vendor_name}
 use Rattle.target_reports.specs.declared.report.Report.{Report}
 use Rattle.target_reports.specs.declared.report.Report.TheVariants as report
 
@@ -33,10 +34,32 @@ abbrev pub name_width : List OriginValue → ℕ
 name_width [] = 0
 name_width (o ∷ origins) = max (length o.name) (name_width origins)
 
-abbrev pub report_lines : Report → Values → SourceValues → List Line
-report_lines report.Explain t s = let origins = origins_of t s in map (origin_line (name_width origins)) origins
-report_lines report.Facts t s = map fact_line (facts_of t)
+-- the line that suggests a name for a vendor
+abbrev pub note_line : List ℕ → List ℕ → Line
+note_line vendor name = (codes "note", codes "`" ++ (vendor ++ (codes "` is a custom vendor; did you mean `" ++ (name ++ codes "`?"))))
 
--- a line with the target, and the lines of a report below it
-abbrev pub report_text : Report → List ℕ → Values → SourceValues → List ℕ
-report_text report text t s = text ++ (codes "\n" ++ laid_out (report_lines report t s))
+-- this line, if there is a suggestion
+abbrev pub note_text : List ℕ → Option (List ℕ) → List ℕ
+note_text vendor None = []
+note_text vendor (Some name) = line_text (note_line vendor name)
+
+-- how each field came, and the note
+abbrev pub explained_text : Values → SourceValues → Option (List ℕ) → List ℕ
+explained_text t s suggestion =
+    let origins = origins_of t s in laid_out (map (origin_line (name_width origins)) origins) ++ note_text (vendor_name t.vendor) suggestion
+
+-- a line with the target, and a report below it
+abbrev pub below_target : List ℕ → List ℕ → List ℕ
+below_target text report = text ++ (codes "\n" ++ report)
+
+-- a report on a target with these values from these sources
+abbrev pub IsReportText : Report → List ℕ → Values → SourceValues → List ℕ → Type 0
+IsReportText report.Explain text t s shown =
+    (suggestion : Option (List ℕ)) × IsVendorSuggestion t.vendor suggestion × (shown ≡ below_target text (explained_text t s suggestion))
+IsReportText report.Facts text t s shown = shown ≡ below_target text (laid_out (map fact_line (facts_of t)))
+
+-- a text grew by a report
+pub record AddsReport (report : Report) (text : List ℕ) (t : Values) (s : SourceValues) (old new : List ℕ) : Type 0 where
+  pub shown : List ℕ
+  pub is : IsReportText report text t s shown
+  pub grown : new ≡ old ++ shown

@@ -7,12 +7,13 @@ ghost use Rattle.serde_json.specs.View.{members_view, view};
 ghost use Rattle.target_lexicon.specs.Explanation.{source_value, sources_of};
 ghost use Rattle.target_lexicon.specs.ValuesRef.{values_of_ref};
 ghost use Rattle.target_reports.specs.Facts.{answer_value, fact_value};
-ghost use Rattle.target_reports.specs.Json.{answer_data, fact_field, fields_onto, optional_data, origin_data, origin_field, origin_word, source_part, target_members, with_field, with_report};
+ghost use Rattle.target_reports.specs.Json.{IsReportObject, answer_data, explained_fields, fact_field, fields_onto, optional_data, origin_data, origin_field, origin_word, source_part, target_members, with_field};
 ghost use Rattle.target_reports.specs.Origins.{origin_value};
 
 use crate::facts::{Answer, Fact, facts, is_custom};
 use crate::origins::{Origin, origins};
 use crate::report::Report;
+use crate::suggestion::vendor_suggestion;
 use serde_json::{Map, Value, put};
 use std::alloc::{AllocError, Global};
 use target_lexicon::{Explanation, Source};
@@ -148,40 +149,33 @@ fn put_origins(
     Ok(())
 }
 
-/// Adds whether the vendor is a custom one, and how each field came.
+/// Adds whether the vendor is a custom one, a suggestion for it, and how each field came.
 fn put_explained(
     alloc: Global,
     members: &mut Members,
     it: &Explanation<'_>,
+    suggestion: Option<&str>,
 ) -> Result<(), AllocError>
     ensures { OnOk result
         (members_view members.new.entries
-        ≡ with_report Report.Explain (values_of_ref it.now.triple) (sources_of it.now.sources)
-        (members_view members.old.entries)) }
+        ≡ fields_onto (members_view members.old.entries)
+        (explained_fields (values_of_ref it.now.triple) (sources_of it.now.sources)
+        (option_map (λ name. name.now) suggestion.entry))) }
 {
     let origins = origins(alloc, it)?;
     let is_custom = Value::Bool(is_custom(it.triple.vendor));
     put_value(alloc, members, "has_custom_vendor", is_custom)?;
+    put_optional(alloc, members, "suggestion", suggestion)?;
     put_origins(alloc, members, &origins)
 }
 
-/// Adds a report.
-fn put_report(
-    alloc: Global,
-    members: &mut Members,
-    report: Report,
-    it: &Explanation<'_>,
-) -> Result<(), AllocError>
-    requires { is_plain (ref_value it.now.triple.vendor) ≡ true }
-    ensures { OnOk result
-        (members_view members.new.entries
-        ≡ with_report report (values_of_ref it.now.triple) (sources_of it.now.sources)
-        (members_view members.old.entries)) }
+/// The members of every object.
+fn target_members(alloc: Global, text: &str) -> Result<Members, AllocError>
+    ensures { IfOk result (λ members. members_view members.entries ≡ target_members text.now) }
 {
-    match report {
-        Report::Explain => put_explained(alloc, members, it),
-        Report::Facts => put_facts(alloc, members, &facts(alloc, &it.triple)?),
-    }
+    let mut members = Map::new(alloc);
+    put_text(alloc, &mut members, "target", text)?;
+    Ok(members)
 }
 
 /// The object of a report on the target that this text reads as.
@@ -194,12 +188,19 @@ pub fn report_object(
     requires { is_plain (ref_value it.now.triple.vendor) ≡ true }
     ensures { IfOk result
         (λ value.
-        view value
-        ≡ object (with_report report (values_of_ref it.now.triple) (sources_of it.now.sources)
-        (target_members text.now))) }
+        IsReportObject report text.now (values_of_ref it.now.triple) (sources_of it.now.sources)
+        (view value)) }
 {
-    let mut members = Map::new(alloc);
-    put_text(alloc, &mut members, "target", text)?;
-    put_report(alloc, &mut members, report, it)?;
-    Ok(Value::Object(members))
+    let mut members = target_members(alloc, text)?;
+    match report {
+        Report::Explain => {
+            let suggestion = vendor_suggestion(it.triple.vendor);
+            put_explained(alloc, &mut members, it, suggestion)?;
+            Ok(Value::Object(members))
+        }
+        Report::Facts => {
+            put_facts(alloc, &mut members, &facts(alloc, &it.triple)?)?;
+            Ok(Value::Object(members))
+        }
+    }
 }

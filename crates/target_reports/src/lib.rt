@@ -7,6 +7,7 @@ mod layout;
 mod lines;
 mod origins;
 mod report;
+mod suggestion;
 
 pub use json::{Members, put_optional, put_text, put_value, report_object};
 pub use layout::{columns, push_copies, push_three};

@@ -1,18 +1,19 @@
 //! Reports in lines of a label and a value.
-ghost use Rattle.std.specs.Prelude.{◌≡◌, ◌++◌, codes, map, true, OnOk, string_bytes};
+ghost use Rattle.std.specs.Prelude.{◌≡◌, ◌++◌, codes, map, option_map, true, OnOk, string_bytes};
 ghost use Rattle.lexicon_fields.specs.Vendor.{is_plain};
 ghost use Rattle.lexicon_fields.specs.VendorRef.{ref_value};
 ghost use Rattle.target_lexicon.specs.Explanation.{source_value, sources_of};
 ghost use Rattle.target_lexicon.specs.ValuesRef.{values_of_ref};
 ghost use Rattle.target_reports.specs.Facts.{answer_value, fact_value, facts_of};
 ghost use Rattle.target_reports.specs.Layout.{laid_out, line_text};
-ghost use Rattle.target_reports.specs.Lines.{answer_text, fact_line, name_width, origin_line, report_text, source_words};
+ghost use Rattle.target_reports.specs.Lines.{AddsReport, answer_text, explained_text, fact_line, name_width, note_line, note_text, origin_line, source_words};
 ghost use Rattle.target_reports.specs.Origins.{origin_value, origins_of};
 
 use crate::facts::{Answer, Fact, facts};
-use crate::layout::{push_label, push_padded};
+use crate::layout::{push_label, push_padded, push_three};
 use crate::origins::{Origin, origins};
 use crate::report::Report;
+use crate::suggestion::vendor_suggestion;
 use std::alloc::{AllocError, Global};
 use target_lexicon::{Explanation, Source};
 
@@ -113,6 +114,49 @@ fn name_width(origins: &[Origin<'_>]) -> usize
     width
 }
 
+/// Appends the line that suggests a name for a vendor.
+#[tactic(auto, unfolding(crate::specs::Layout::line_text))]
+fn push_note_line(out: &mut String, vendor: &str, name: &str) -> Result<(), AllocError>
+    ensures { OnOk result
+        (string_bytes out.new
+        ≡ string_bytes out.old ++ line_text (note_line vendor.now name.now)) }
+{
+    push_label(out, "note")?;
+    push_three(out, "`", vendor, "` is a custom vendor; did you mean `")?;
+    push_three(out, name, "`?", "\n")
+}
+
+/// Appends this line, if there is a suggestion.
+fn push_note(out: &mut String, vendor: &str, suggestion: Option<&str>) -> Result<(), AllocError>
+    ensures { OnOk result
+        (string_bytes out.new
+        ≡ string_bytes out.old
+        ++ note_text vendor.now (option_map (λ name. name.now) suggestion.entry)) }
+{
+    match suggestion {
+        Some(name) => push_note_line(out, vendor, name),
+        None => Ok(()),
+    }
+}
+
+/// Appends how each field came, and the note.
+fn push_explained(
+    alloc: Global,
+    out: &mut String,
+    it: &Explanation<'_>,
+    suggestion: Option<&str>,
+) -> Result<(), AllocError>
+    ensures { OnOk result
+        (string_bytes out.new
+        ≡ string_bytes out.old
+        ++ explained_text (values_of_ref it.now.triple) (sources_of it.now.sources)
+        (option_map (λ name. name.now) suggestion.entry)) }
+{
+    let origins = origins(alloc, it)?;
+    push_origins(out, name_width(&origins), &origins)?;
+    push_note(out, it.triple.vendor.as_str(), suggestion)
+}
+
 /// Appends a line with the target, and the lines of a report below it.
 pub fn push_report(
     alloc: Global,
@@ -123,17 +167,13 @@ pub fn push_report(
 ) -> Result<(), AllocError>
     requires { is_plain (ref_value it.now.triple.vendor) ≡ true }
     ensures { OnOk result
-        (string_bytes out.new
-        ≡ string_bytes out.old
-        ++ report_text report text.now (values_of_ref it.now.triple) (sources_of it.now.sources)) }
+        (AddsReport report text.now (values_of_ref it.now.triple) (sources_of it.now.sources)
+        (string_bytes out.old) (string_bytes out.new)) }
 {
     out.push_str(text)?;
     out.push_str("\n")?;
     match report {
-        Report::Explain => {
-            let origins = origins(alloc, it)?;
-            push_origins(out, name_width(&origins), &origins)
-        }
+        Report::Explain => { push_explained(alloc, out, it, vendor_suggestion(it.triple.vendor)) }
         Report::Facts => push_facts(out, &facts(alloc, &it.triple)?),
     }
 }

@@ -20,10 +20,9 @@ returns-in_ok-push-in-Ok c =
 pub returns-in_ok-push-in-Err : goal.returns-in_ok-push-in-Err
 returns-in_ok-push-in-Err c =
     let object = c.in_ok-object-in-Err.object in
-    let is = c.in_ok-object-in-Err.ensures in
     record {
       answer = Rejected (view object);
-      is = (problem_value c.in-Err.problem, (is.0, c.in-Err.ensures.err, is.1, is.2));
+      is = (problem_value c.in-Err.problem, c.in-Err.ensures.err, c.in_ok-object-in-Err.ensures);
       grown = same-values (ap (λ (vs : List Value). map view vs) c.in_ok-push-in-Err.ensures.items ∙ view-push c.args.list.now.values.items object)
           (sym (or_comm c.args.list.now.has_rejected true));
     }
