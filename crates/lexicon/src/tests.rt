@@ -26,7 +26,8 @@ impl Write for Kept {
     }
 }
 
-fn kept(alloc: Global) -> Counted<Kept> {
+/// A writer to which nothing was written.
+fn unwritten(alloc: Global) -> Counted<Kept> {
     Counted::new(Kept {
         waiting: Vec::new(alloc),
         flushed: Vec::new(alloc),
@@ -47,8 +48,8 @@ fn both_outputs_are_flushed(rt: HostRuntime) -> Result<(), AllocError> {
     let alloc = rt.alloc();
     let words = words(alloc)?;
     let mut reader = Counted::new(io::empty());
-    let mut output = kept(alloc);
-    let mut errors = kept(alloc);
+    let mut output = unwritten(alloc);
+    let mut errors = unwritten(alloc);
     let end = run(alloc, Some(&words), &mut reader, &mut output, &mut errors);
     assert!(rt; matches!(end, Ok(1)));
     assert!(rt; output.into_inner().flushed.as_slice() == b"x86_64-unknown-linux\n".as_slice());
