@@ -271,6 +271,7 @@ impl fmt::Display for OperatingSystem {
 
     ghost styled_output = { λ it _. Some (operating_system_name it) };
 
+    #[inline(always)] // part of what saves a tenth of a line of `print`, as `TripleRef::pieces` says
     fn fmt<W: fmt::Write>(&self, f: &mut fmt::Formatter<W>) -> fmt::Result {
         f.write_str(self.prefix())?;
         match self.version() {
