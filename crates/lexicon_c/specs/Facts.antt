@@ -9,7 +9,7 @@ use Rattle.target_lexicon.specs.Values.{Architecture, VendorValue, Known, Custom
 use Rattle.target_lexicon.specs.Values.architecture
 use Rattle.lexicon_fields.specs.{ArchitectureQueries.is_thumb, BinaryFormat.binary_format_values, PointerWidth.width_bits}
 use Rattle.lexicon_fields.specs.{declared.endianness.Endianness.Endianness, declared.endianness.Endianness.TheVariants.Little, declared.endianness.Endianness.TheVariants.Big}
-use Rattle.lexicon_numbers.specs.Numbers.{family_number}
+use Rattle.lexicon_names.specs.Numbers.{family_number}
 use Rattle.lexicon_c.specs.{declared.facts.LexiconFacts.LexiconFacts, declared.facts.LexiconTypeBits.LexiconTypeBits}
 use Rattle.lexicon_fields.specs.OperatingSystem as system
 use Rattle.target_lexicon.specs.Queries as query

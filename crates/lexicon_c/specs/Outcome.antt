@@ -1,8 +1,9 @@
 -- What becomes of a call, and the status that it returns.
-use Rattle.std.specs.Prelude.{◌≡◌, ℕ, suc, List, [], ◌∷◌, Option, slice_get, MatchOption}
+use Rattle.std.specs.Prelude.{◌≡◌, ℕ, suc, List, MatchOption}
+use Rattle.lexicon_names.specs.{Numbers.field_at, declared.field.Field.Field}
+use Rattle.lexicon_names.specs.declared.field.Field.TheVariants as field
 use Rattle.target_lexicon.specs.{Field.field_number, Refusal.Expected, Refusal.Expects, Refusal.ExpectsNone, Refusal.Refusal, Refusal.refusal_with}
-use Rattle.lexicon_c.specs.{declared.field.Field.Field, declared.status.Status.Status}
-use Rattle.lexicon_c.specs.declared.field.Field.TheVariants as field
+use Rattle.lexicon_c.specs.declared.status.Status.{Status}
 use Rattle.target_lexicon.specs.Field as expected
 use Rattle.lexicon_c.specs.declared.status.Status.TheVariants as status
 
@@ -30,10 +31,6 @@ status_of TooSmall = 8
 status_of NoSuchField = 9
 status_of NoSuchValue = 10
 status_of NoSuchVendor = 11
-
--- the field of a number, counted from 0 in their order
-abbrev pub field_at : ℕ → Option Field
-field_at number = slice_get (field.Architecture ∷ field.Vendor ∷ field.OperatingSystem ∷ field.Environment ∷ field.BinaryFormat ∷ []) number
 
 -- the field as it is expected
 abbrev pub field_of : Field → expected.Field

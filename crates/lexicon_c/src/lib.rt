@@ -2,7 +2,6 @@
 #![tactic(auto)]
 
 mod facts;
-mod field;
 mod numbers;
 mod output;
 mod sources;
@@ -23,7 +22,7 @@ ghost use Rattle.lexicon_c.specs.Triple.{AreNumbersOf, OnTriple, vendor_text};
 
 pub use facts::LexiconFacts;
 use facts::facts_of;
-use field::Field;
+use lexicon_names::Field;
 use numbers::{name_at, number_in};
 pub use output::LexiconText;
 use output::report_length;

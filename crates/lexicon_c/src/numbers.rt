@@ -4,11 +4,11 @@ ghost use Rattle.target_lexicon.specs.Field.{parses_as};
 ghost use Rattle.lexicon_c.specs.Numbers.{IsNumberIn, name_at};
 ghost use Rattle.lexicon_c.specs.Outcome.{field_of};
 
-use crate::field::Field;
 use crate::triple::vendor_number;
-use lexicon_numbers::{
-    architecture_at, architecture_number, binary_format_at, binary_format_number, environment_at,
-    environment_number, known_vendor_at, operating_system_at, operating_system_number,
+use lexicon_names::{
+    Field, architecture_at, architecture_number, binary_format_at, binary_format_number,
+    environment_at, environment_number, known_vendor_at, operating_system_at,
+    operating_system_number,
 };
 use target_lexicon::{Architecture, BinaryFormat, Environment, OperatingSystem, VendorRef};
 

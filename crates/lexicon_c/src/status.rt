@@ -3,7 +3,7 @@ ghost use Rattle.std.specs.Prelude.{◌≡◌, ◌≤◌, ℕ, List, []};
 ghost use Rattle.target_lexicon.specs.ValuesRef.{refusal_of_ref};
 ghost use Rattle.lexicon_c.specs.Outcome.{Refused, refusal_status, status_of, outcome_of};
 
-use crate::field::Field;
+use lexicon_names::Field;
 use target_lexicon::ParseErrorRef;
 
 /// What a call returns, as a number.

@@ -10,7 +10,7 @@ ghost use Rattle.lexicon_c.specs.Triple.{AreNumbersOf, no_version, triple_in, op
 use crate::output::LexiconText;
 use crate::status::Status;
 use crate::utf8::is_ascii;
-use lexicon_numbers::{
+use lexicon_names::{
     architecture_at, architecture_number, binary_format_at, binary_format_number, environment_at,
     environment_number, known_vendor_at, known_vendor_number, operating_system_at,
     operating_system_number,

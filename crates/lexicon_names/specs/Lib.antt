@@ -1,3 +1,4 @@
 pub mod Distance
 pub mod KnownNames
 pub mod Nearest
+pub mod Numbers

@@ -1,4 +1,6 @@
 //! The fields of a target triple.
+ghost use Rattle.std.specs.Prelude.{◌≡◌};
+ghost use Rattle.lexicon_names.specs.Numbers.{field_at};
 
 /// A field of a target triple.
 #[derive(Clone, Copy, Debug, PartialEq, Eq)]
@@ -8,4 +10,20 @@ pub enum Field {
     OperatingSystem,
     Environment,
     BinaryFormat,
+}
+
+impl Field {
+    /// The field of this number.
+    pub fn at(number: u32) -> Option<Field>
+        ensures { result ≡ field_at number }
+    {
+        match number {
+            0 => Some(Field::Architecture),
+            1 => Some(Field::Vendor),
+            2 => Some(Field::OperatingSystem),
+            3 => Some(Field::Environment),
+            4 => Some(Field::BinaryFormat),
+            _ => None,
+        }
+    }
 }

@@ -1,7 +1,7 @@
 //! The numbers of operating systems.
 ghost use Rattle.std.specs.Prelude.{◌≡◌, Some, slice_get};
 ghost use Rattle.lexicon_fields.specs.OperatingSystem.{system_version};
-ghost use Rattle.lexicon_numbers.specs.Numbers.{operating_system_at, operating_system_values, system_with};
+ghost use Rattle.lexicon_names.specs.Numbers.{operating_system_at, operating_system_values, system_with};
 
 use crate::value::value_at;
 use lexicon_fields::{DeploymentTarget, OperatingSystem};

@@ -3,8 +3,8 @@ use Rattle.std.proofs.Common.{◌≡◌, ℕ, List, Option, Some, None, refl, �
 use Rattle.std.specs.{Prelude.unwrap_or, Prelude.option_and_then, Prelude.slice_get, List.position_or_len, Str.bytes_eq}
 use Rattle.lexicon_fields.specs.{declared.deployment_target.DeploymentTarget.DeploymentTarget, declared.operating_system.OperatingSystem.OperatingSystem, OperatingSystem.operating_system_name, OperatingSystem.system_version}
 use Rattle.lexicon_fields.specs.declared.operating_system.OperatingSystem.TheVariants as operating_system
-use Rattle.lexicon_numbers.specs.Numbers.{operating_system_at, operating_system_values, system_with}
-use Rattle.lexicon_numbers.proofs.Indices.{index_by, at_its_index}
+use Rattle.lexicon_names.specs.Numbers.{operating_system_at, operating_system_values, system_with}
+use Rattle.lexicon_names.proofs.Indices.{index_by, at_its_index}
 
 abbrev without_version : OperatingSystem → OperatingSystem
 without_version s = unwrap_or (system_with None s) s

@@ -1,9 +1,15 @@
--- The numbers of values: indices in the lists of values.
+-- The numbers of fields, and of values: indices in the lists of values.
 use Rattle.std.specs.Prelude.{◌≡◌, ℕ, List, [], ◌∷◌, Option, Some, None, option_and_then, slice_get}
 use Rattle.lexicon_fields.specs.{declared.architecture.Architecture.Architecture, declared.deployment_target.DeploymentTarget.DeploymentTarget, declared.operating_system.OperatingSystem.OperatingSystem}
 use Rattle.lexicon_fields.specs.OperatingSystem.{system_version}
 use Rattle.lexicon_fields.specs.declared.architecture.Architecture.TheVariants as architecture
 use Rattle.lexicon_fields.specs.declared.operating_system.OperatingSystem.TheVariants as operating_system
+use Rattle.lexicon_names.specs.declared.field.Field.{Field}
+use Rattle.lexicon_names.specs.declared.field.Field.TheVariants as field
+
+-- the field of a number, counted from 0 in their order
+abbrev pub field_at : ℕ → Option Field
+field_at number = slice_get (field.Architecture ∷ field.Vendor ∷ field.OperatingSystem ∷ field.Environment ∷ field.BinaryFormat ∷ []) number
 
 -- all systems, without a version
 abbrev pub operating_system_values : List OperatingSystem

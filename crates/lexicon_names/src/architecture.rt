@@ -1,7 +1,7 @@
 //! The numbers of architectures, and of their families.
 ghost use Rattle.std.specs.Prelude.{◌≡◌, Some, slice_get};
 ghost use Rattle.lexicon_fields.specs.Architecture.{architecture_values};
-ghost use Rattle.lexicon_numbers.specs.Numbers.{family_number};
+ghost use Rattle.lexicon_names.specs.Numbers.{family_number};
 
 use crate::value::value_at;
 use lexicon_fields::{
