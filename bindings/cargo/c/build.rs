@@ -6,7 +6,7 @@ use package::eraser::{Rule, Rules};
 use std::env;
 use std::path::Path;
 
-const CRATES: [&str; 4] = ["lexicon_fields", "lexicon_names", "target_lexicon", "lexicon_c"];
+const CRATES: [&str; 5] = ["lexicon_fields", "lexicon_names", "target_lexicon", "explanations", "lexicon_c"];
 
 const RULES: [Rule; 3] = [
     // JSON needs an allocator.

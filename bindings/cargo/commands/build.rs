@@ -5,8 +5,16 @@ mod package;
 use package::eraser::{Rule, Rules};
 use std::path::Path;
 
-const CRATES: [&str; 7] =
-    ["lexicon_fields", "lexicon_names", "target_lexicon", "lexicon_programs", "target_reports", "triples", "lexicon"];
+const CRATES: [&str; 8] = [
+    "lexicon_fields",
+    "lexicon_names",
+    "target_lexicon",
+    "explanations",
+    "lexicon_programs",
+    "target_reports",
+    "triples",
+    "lexicon",
+];
 
 const RULES: [Rule; 3] = [
     Rule::Without("mod", "tests"),

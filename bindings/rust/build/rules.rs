@@ -2,7 +2,7 @@
 use crate::package::eraser::Rule::{self, Replace, Unchecked, With, Without};
 
 /// The crates that are proved, in the order in which each uses the others.
-pub const CRATES: &[&str] = &["lexicon_fields", "target_lexicon"];
+pub const CRATES: &[&str] = &["lexicon_fields", "target_lexicon", "explanations"];
 
 pub const RULES: &[Rule] = &[
     // JSON needs Rattle's `serde_json`; the macro has upstream's name and another meaning.
@@ -34,6 +34,8 @@ pub const RULES: &[Rule] = &[
     Replace("target_lexicon/parse_error", "OutOfMemory,", ""),
     Replace("target_lexicon/parse_error", "ParseError::OutOfMemory => None,", ""),
     Replace("target_lexicon/parse_error", "ParseError::OutOfMemory", "crate::shim::abort()"),
+    // The tests of examples know this crate by the name that the proved crate has.
+    Replace("explanations/", "use target_lexicon::", "use crate::target_lexicon::"),
     // With the feature, printing goes by upstream's rule.
     Replace(
         "target_lexicon/display.rt",

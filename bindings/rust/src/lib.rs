@@ -43,9 +43,10 @@ pub use crate::lexicon_fields::{
     Riscv32Architecture, Riscv64Architecture, Vendor, VendorRef, X86_32Architecture, Z80Architecture,
 };
 pub use crate::target_lexicon::{
-    CDataModel, CallingConvention, DefaultToHost, DefaultToUnknown, ExplainedError, Explanation, ParseError, ParseErrorRef, Size,
-    Source, Sources, TextPart, Triple, TripleRef, default_binary_format,
+    CDataModel, CallingConvention, DefaultToHost, DefaultToUnknown, ParseError, ParseErrorRef, Size, Triple, TripleRef,
+    default_binary_format,
 };
+pub use crate::explanations::{ExplainedError, Explanation, Source, Sources, TextPart};
 
 /// The examples of the page are tested.
 #[cfg(doctest)]
@@ -204,6 +205,45 @@ impl Triple {
 }
 
 impl<'a> TripleRef<'a> {
+    /// The triple that a text parses as; or why it is refused, and the refused part. Nothing is allocated.
+    /// [`explain`](TripleRef::explain) answers this too, and where each field comes from.
+    ///
+    /// # Examples
+    ///
+    /// ```
+    /// use target_lexicon::{ParseErrorRef, TextPart, TripleRef};
+    ///
+    /// let part = TextPart { text: "bar", start: 11, end: 14 };
+    /// let refusal = (ParseErrorRef::UnrecognizedOperatingSystem("bar"), part);
+    /// assert_eq!(TripleRef::parse_or_locate("x86_64-foo-bar"), Err(refusal));
+    /// ```
+    pub fn parse_or_locate(text: &'a str) -> Result<TripleRef<'a>, (ParseErrorRef<'a>, TextPart<'a>)> {
+        explanations::parse_or_locate(text)
+    }
+
+    /// The triple that a text parses as, and where in the text each of its fields comes from; or why the text is refused,
+    /// where, and which fields the parts before the refused one filled. Nothing is allocated.
+    ///
+    /// A part is of the first field that it parses as, of those after the field of the part before it. So `nuttx` in
+    /// `armv7a-nuttx-eabi` is the vendor, since it is the name of no field. The whole of a special text gives all five
+    /// fields; its parts have none of their own.
+    ///
+    /// # Examples
+    ///
+    /// ```
+    /// use target_lexicon::{Source, TextPart, TripleRef};
+    ///
+    /// let explanation = TripleRef::explain("armv7a-nuttx-eabi").unwrap();
+    /// let part = TextPart { text: "nuttx", start: 7, end: 12 };
+    /// assert_eq!(explanation.sources.vendor, Source::Part(part));
+    /// assert_eq!(explanation.sources.operating_system, Source::NotGiven);
+    /// let error = TripleRef::explain("x86_64-foo-bar").unwrap_err();
+    /// assert_eq!((error.part.start, error.part.end), (11, 14));
+    /// ```
+    pub fn explain(text: &'a str) -> Result<Explanation<'a>, ExplainedError<'a>> {
+        explanations::explain(text)
+    }
+
     /// The triple that this triple's printed text parses as; `None` if no text parses as the vendor (see
     /// [`VendorRef::is_plain`]). A triple that [`comes_back`](TripleRef::comes_back) is unchanged.
     ///

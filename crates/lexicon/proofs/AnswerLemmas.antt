@@ -1,7 +1,8 @@
 -- The answers to targets, one after another.
 use Rattle.std.proofs.Common.{◌≡◌, ◌∙◌, ℕ, ◌+◌, ◌<◌, ◌≤◌, suc, true, List, [], ◌∷◌, ◌++◌, length, map, drop, get_or, Result, Ok, Err, OnOk, refl, sym, ap, append_assoc, add-one, drop-cons, length-drop, arith}
 use Rattle.std.proofs.{lemmas.List.append-nil, lemmas.List.nil_from_length, Math.Bool.or-false, Math.Bool.or_comm, lemmas.List.Folds.list_any-append}
-use Rattle.target_lexicon.specs.{Explanation.SourceValues, Values.Values}
+use Rattle.target_lexicon.specs.Values.{Values}
+use Rattle.explanations.specs.Explanation.{SourceValues}
 use Rattle.lexicon.specs.{declared.command.Vendors.Vendors, declared.command.View.View, Problem.ProblemValue, Problem.AddsRefusal}
 use Rattle.lexicon.specs.TargetAnswers.{Answer, Shown, Refused, IsReading, IsProblemOf, AreAnswers, AddsAnswer, AreTextsFor, Texts, AddsShown, joined_texts, texts_of_answers, shown_texts, refused_texts, is_refusal}
 

@@ -2,7 +2,8 @@
 use Rattle.std.specs.Prelude.{◌≡◌, ℕ, Bool, true, false, List, [], ◌∷◌, ◌++◌, ◌||◌, map, codes, Option}
 use Rattle.std.specs.List.{AllZip, list_any}
 use Rattle.serde_json.specs.{Data.Data, Data.string, Data.number, Data.unsigned, Data.object, View.view}
-use Rattle.target_lexicon.specs.{Explanation.SourceValues, Values.Values}
+use Rattle.target_lexicon.specs.Values.{Values}
+use Rattle.explanations.specs.Explanation.{SourceValues}
 use Rattle.target_reports.specs.{declared.report.Report.Report, Json.Field, Json.fields_onto, Json.optional_data, Json.target_members, Json.IsReportObject}
 use Rattle.lexicon.specs.{declared.json.TargetList.TargetList, Problem.ProblemValue, Problem.IsSuggested, TargetAnswers.IsReading, TargetAnswers.IsProblemOf}
 use Rattle.lexicon.specs.declared.command.Vendors.TheVariants as vendors

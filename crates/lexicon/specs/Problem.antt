@@ -4,7 +4,8 @@ use Rattle.std.specs.List.{repeat}
 use Rattle.lexicon_fields.specs.Vendor.{VendorValue, Custom}
 use Rattle.lexicon_names.specs.{KnownNames.known_names, KnownNames.all_known_names, Nearest.IsNearestOf}
 use Rattle.lexicon_names.specs.declared.field.Field.TheVariants as name_field
-use Rattle.target_lexicon.specs.{Explanation.SourceValue, Explanation.FromPart, Explanation.NotGiven, Explanation.Implied, Refusal.Expected, Refusal.Expects, Refusal.ExpectsNone, Refusal.Refusal}
+use Rattle.target_lexicon.specs.{Refusal.Expected, Refusal.Expects, Refusal.ExpectsNone, Refusal.Refusal}
+use Rattle.explanations.specs.Explanation.{SourceValue, FromPart, NotGiven, Implied}
 use Rattle.target_lexicon.specs.Field as field
 use Rattle.target_reports.specs.Layout.{columns, spaces}
 use Rattle.lexicon.specs.{declared.command.Vendors.Vendors, declared.problem.Candidates.Candidates, declared.problem.Problem.Problem}

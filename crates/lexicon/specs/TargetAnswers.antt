@@ -1,8 +1,9 @@
 -- The answers to targets: what is shown of each, or why it is refused.
 use Rattle.std.specs.Prelude.{◌≡◌, ◌⊎◌, ◌||◌, ℕ, Bool, true, false, List, [], ◌∷◌, ◌++◌, codes, Some, None, string_bytes}
 use Rattle.std.specs.List.{AllZip, list_any}
-use Rattle.target_lexicon.specs.{Explanation.SourceValues, Explanation.FromPart, Explanation.AreSourcesOf, Explanation.IsRefusedAfter, Reading.ReadsAs, Reading.IsRefusedAs, Refusal.Refusal, Values.Values}
+use Rattle.target_lexicon.specs.{Reading.ReadsAs, Reading.IsRefusedAs, Refusal.Refusal, Values.Values}
 use Rattle.target_lexicon.specs.FixedPoints.{canonical_text}
+use Rattle.explanations.specs.Explanation.{SourceValues, FromPart, AreSourcesOf, IsRefusedAfter}
 use Rattle.target_reports.specs.Lines.{IsReportText}
 use Rattle.lexicon.specs.{declared.answers.TargetTexts.TargetTexts, declared.command.Vendors.Vendors, declared.command.View.View, Problem.ProblemValue, Problem.IsRefusalText, Problem.refusal_problem, Problem.vendor_problem}
 use Rattle.lexicon.specs.declared.command.View.TheVariants as view

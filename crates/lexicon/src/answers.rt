@@ -2,7 +2,7 @@
 ghost use Rattle.std.specs.Prelude.{◌≡◌, ◌<◌, true, length, map, IfOk, IfErr, OnOk, OnErr, string_bytes};
 ghost use Rattle.lexicon_fields.specs.Vendor.{is_plain};
 ghost use Rattle.lexicon_fields.specs.VendorRef.{ref_value};
-ghost use Rattle.target_lexicon.specs.Explanation.{sources_of};
+ghost use Rattle.explanations.specs.Explanation.{sources_of};
 ghost use Rattle.target_lexicon.specs.ValuesRef.{values_of_ref};
 ghost use Rattle.lexicon.specs.TargetAnswers.{AddsAnswer, AreTextsFor, IsProblemOf, IsReading, answer_texts};
 ghost use Rattle.lexicon.specs.Problem.{problem_value};
@@ -10,8 +10,9 @@ ghost use Rattle.lexicon.specs.Problem.{problem_value};
 use crate::command::{Vendors, View};
 use crate::problem::{Problem, push_refusal, vendor_problem};
 use crate::shown::push_shown;
+use explanations::{Explanation, explain};
 use std::alloc::{AllocError, Global};
-use target_lexicon::{Explanation, TripleRef};
+use target_lexicon::TripleRef;
 
 /// What is shown of targets, why others are refused, and whether any is.
 #[derive(Drop)]
@@ -29,7 +30,7 @@ pub(crate) fn reading<'a>(vendors: Vendors, text: &'a str) -> Result<Explanation
     ensures err { IfErr result (λ p. IsProblemOf vendors text.entry.now (problem_value p)) }
 {
     target_lexicon::laws::read_triples_are_plain();
-    match TripleRef::explain(text) {
+    match explain(text) {
         Ok(it) => match vendor_problem(vendors, &it) {
             Some(problem) => Err(problem),
             None => Ok(it),

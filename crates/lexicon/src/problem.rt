@@ -1,15 +1,16 @@
 //! What is wrong with a target, and the lines that say so.
 ghost use Rattle.std.specs.Prelude.{◌≡◌, ◌++◌, Some, take, option_map, OnOk, string_bytes};
 ghost use Rattle.lexicon_fields.specs.VendorRef.{ref_value};
-ghost use Rattle.target_lexicon.specs.Explanation.{source_value};
+ghost use Rattle.explanations.specs.Explanation.{source_value};
 ghost use Rattle.target_lexicon.specs.ValuesRef.{refusal_of_ref};
 ghost use Rattle.target_reports.specs.Layout.{columns, spaces};
 ghost use Rattle.lexicon.specs.Problem.{AddsRefusal, IsSuggested, caret_line, problem_line, problem_value, refusal_problem, source_start, suggestion_words, target_line, vendor_problem};
 
 use crate::command::Vendors;
+use explanations::{ExplainedError, Explanation, Source};
 use lexicon_names::{Field, nearest_name, nearest_of_all};
 use std::alloc::AllocError;
-use target_lexicon::{ExplainedError, Explanation, ParseErrorRef, Source, VendorRef};
+use target_lexicon::{ParseErrorRef, VendorRef};
 use target_reports::{columns, push_copies, push_three};
 
 /// The names that a suggestion is taken from.

@@ -2,14 +2,15 @@
 ghost use Rattle.std.specs.Prelude.{◌≡◌, ◌++◌, true, codes, OnOk, string_bytes};
 ghost use Rattle.lexicon_fields.specs.Vendor.{is_plain};
 ghost use Rattle.lexicon_fields.specs.VendorRef.{ref_value};
-ghost use Rattle.target_lexicon.specs.Explanation.{sources_of};
+ghost use Rattle.explanations.specs.Explanation.{sources_of};
 ghost use Rattle.target_lexicon.specs.FixedPoints.{canonical_text};
 ghost use Rattle.target_lexicon.specs.ValuesRef.{values_of_ref};
 ghost use Rattle.lexicon.specs.TargetAnswers.{AddsShown};
 
 use crate::command::View;
+use explanations::Explanation;
 use std::alloc::{AllocError, Global};
-use target_lexicon::{Explanation, TripleRef};
+use target_lexicon::TripleRef;
 use target_reports::push_report;
 
 /// Appends the canonical text, and a line feed.

@@ -1,7 +1,7 @@
 -- What is written of a text that is parsed: where its fields come from, and the refused part.
 use Rattle.std.specs.Prelude.{◌≡◌, ℕ, List, length}
 use Rattle.std.specs.Str.{IsUtf8}
-use Rattle.target_lexicon.specs.{Explanation.AreInText, Explanation.AreSourcesOf, Explanation.FromPart, Explanation.Implied, Explanation.IsInText, Explanation.IsRefusedAfter, Explanation.NotGiven, Explanation.SourceValue, Explanation.SourceValues}
+use Rattle.explanations.specs.Explanation.{AreInText, AreSourcesOf, FromPart, Implied, IsInText, IsRefusedAfter, NotGiven, SourceValue, SourceValues}
 use Rattle.target_lexicon.specs.{Reading.ReadsAs, Reading.IsRefusedAs, Refusal.Refusal, Values.Values}
 use Rattle.lexicon_c.specs.{Outcome.Outcome, Outcome.Done, Outcome.Refused, Outcome.NotUtf8, Outcome.refusal_status}
 use Rattle.lexicon_c.specs.{declared.sources.LexiconError.LexiconError, declared.sources.LexiconSource.LexiconSource, declared.sources.LexiconSources.LexiconSources}

@@ -20,6 +20,7 @@ ghost use Rattle.lexicon_c.specs.Output.{Writes, WritesLine};
 ghost use Rattle.lexicon_c.specs.Parsing.{ExplainsRefusal, ExplainsTriple, Parses, sources_numbers};
 ghost use Rattle.lexicon_c.specs.Triple.{AreNumbersOf, OnTriple, vendor_text};
 
+use explanations::{explain, parse_or_locate};
 pub use facts::LexiconFacts;
 use facts::facts_of;
 use lexicon_names::Field;
@@ -29,7 +30,6 @@ use output::report_length;
 pub use sources::{LexiconError, LexiconSources};
 use sources::{error_numbers, sources_numbers};
 use status::{Status, error_number, error_with};
-use target_lexicon::TripleRef;
 use target_lexicon::laws::read_vendors_are_plain;
 pub use triple::LexiconTriple;
 use triple::{are_equal, numbers_of, triple_in, vendor_text};
@@ -54,7 +54,7 @@ pub extern "C" fn lexicon_parse<'a>(
     let Ok(text) = from_utf8(text) else {
         return Status::NotUtf8.number();
     };
-    match TripleRef::parse_or_locate(text) {
+    match parse_or_locate(text) {
         Ok(parsed) => {
             *triple = numbers_of(&parsed);
             *vendor = vendor_text(parsed.vendor);
@@ -89,7 +89,7 @@ pub extern "C" fn lexicon_explain<'a>(
     let Ok(text) = from_utf8(text) else {
         return Status::NotUtf8.number();
     };
-    match TripleRef::explain(text) {
+    match explain(text) {
         Ok(explained) => {
             *triple = numbers_of(&explained.triple);
             *vendor = vendor_text(explained.triple.vendor);

@@ -1,11 +1,12 @@
 //! Where the fields of a triple come from in its text, and where a text is refused, as numbers.
 ghost use Rattle.std.specs.Prelude.{◌≡◌};
-ghost use Rattle.target_lexicon.specs.Explanation.{part_value, source_value, sources_of};
+ghost use Rattle.explanations.specs.Explanation.{part_value, source_value, sources_of};
 ghost use Rattle.target_lexicon.specs.ValuesRef.{refusal_of_ref};
 ghost use Rattle.lexicon_c.specs.Parsing.{IsErrorAt, source_numbers, sources_numbers};
 
 use crate::status::error_number;
-use target_lexicon::{ParseErrorRef, Source, Sources, TextPart};
+use explanations::{Source, Sources, TextPart};
+use target_lexicon::ParseErrorRef;
 
 /// Why a text is refused: the status, and the range of the refused part.
 #[repr(C)]

@@ -1,8 +1,8 @@
 //! Where the fields of a triple come from in its text.
 
+use explanations::{Source, Sources, explain, parse_or_locate};
 use std::alloc::Global;
 use std::process::Abort;
-use target_lexicon::{Source, Sources, TripleRef};
 use test_support::{Question, check_rows, prints, writes};
 use uses::{explanation, image_facts};
 
@@ -31,7 +31,7 @@ struct ComesFrom;
 
 impl Question for ComesFrom {
     fn holds(_alloc: Global, text: &str, expected: &str) -> bool {
-        match TripleRef::explain(text) {
+        match explain(text) {
             Ok(it) => are_sources(&it.sources, expected),
             Err(_) => false,
         }
@@ -64,7 +64,7 @@ impl Question for IsRefusedAt {
         let Some((part, sources)) = expected.split_once(' ') else {
             return false;
         };
-        match (TripleRef::explain(text), TripleRef::parse_or_locate(text)) {
+        match (explain(text), parse_or_locate(text)) {
             (Err(it), Err((error, located))) => {
                 is_source(&Source::Part(it.part), part)
                     && are_sources(&it.sources, sources)

@@ -3,6 +3,7 @@ ghost use Rattle.std.specs.Prelude.{◌≡◌, true};
 ghost use Rattle.lexicon_fields.specs.{Vendor.is_plain, VendorRef.ref_value};
 
 use crate::report::report;
+use explanations::{explain, parse_or_locate};
 use std::alloc::Global;
 use target_lexicon::{ParseErrorRef, Steps, Triple, TripleRef, Vendor, VendorRef, fixed_row};
 
@@ -55,8 +56,8 @@ pub(crate) fn report_parsed_vendor(rt: &impl Print, alloc: Global, text: &str) {
 
 /// Reports the calls that borrow the text, and those on the triple or the refusal that it gives.
 fn report_borrowed_triple(rt: &impl Print, alloc: Global, text: &str) {
-    report(rt, "TripleRef::explain", &text, &TripleRef::explain(text));
-    let located = TripleRef::parse_or_locate(text);
+    report(rt, "TripleRef::explain", &text, &explain(text));
+    let located = parse_or_locate(text);
     report(rt, "TripleRef::parse_or_locate", &text, &located);
     let read = TripleRef::from_str(text);
     report(rt, "TripleRef::from_str", &text, &read);

@@ -1,13 +1,14 @@
--- Parsing: Cuts, DashBits, LookedUp, Vendors (the parts of a text and their values); NamesAcross (the names of one
--- field, parsed as an earlier field); Greedy, Refused, Unique, Computed (from parsing as a function to the least
--- placement); ReadValues (facts about all parsed triples). Printing: Printed, Writes, Lengths (how much longer than
--- the text). Round trips: RoundTrips, TextRoundTrips (a printed text parsed again); StepCases, Fixed, Settled,
--- ModelsKnown, QueriesKept; Elements. SameValues: equality of triples. FeedsTogether: what fields feed a hasher.
+-- Parsing: PartLemmas, DashBits, RowLookUps, Vendors (the parts of a text and their values); NamesAcross (the names of
+-- one field, parsed as an earlier field); GreedyPlacement, RefusalLemmas, UniqueReading, ComputedReading (from parsing as a
+-- function to the least placement); FieldTextLemmas (the part of each field); ReadValues (facts about all parsed triples).
+-- Printing: PrintingLemmas, Upstream, Lengths (how much longer than the text). Round trips: RoundTrips, TextRoundTrips (a
+-- printed text parsed again); StepCases, FixedPointLemmas, SettleLemmas, ModelsKnown, QueriesKept; Elements. SameValues:
+-- equality of triples. HashInputPairs: what fields feed a hasher.
 pub mod ComputedReading
 pub mod PartLemmas
 pub mod DashBits
 pub mod Elements
-pub mod ExplanationLemmas
+pub mod FieldTextLemmas
 pub mod HashInputPairs
 pub mod FixedPointLemmas
 pub mod GreedyPlacement
@@ -24,7 +25,6 @@ pub mod RoundTrips
 pub mod SameValues
 pub mod SettleLemmas
 pub mod StepCases
-pub mod TextRanges
 pub mod TextRoundTrips
 pub mod UniqueReading
 pub mod Upstream

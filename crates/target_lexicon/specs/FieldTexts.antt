@@ -1,7 +1,8 @@
--- The parts of a text that fill fields: those that a placement assigns, and how they are found field by field.
-use Rattle.std.specs.Prelude.{ℕ, ◌+◌, List, [], ◌∷◌, Option, Some, None, is_some, length, if◌then◌else◌}
+-- The parts of a text that fill fields: those that the least placement assigns, and how they are found field by field.
+use Rattle.std.specs.Prelude.{◌≡◌, ◌⊎◌, ℕ, List, [], ◌∷◌, take, Option, Some, None, MatchOption, is_some, option_map, if◌then◌else◌}
+use Rattle.std.specs.Borrow.{Bor}
 use Rattle.lexicon_fields.specs.{Architecture.architecture_of, Vendor.vendor_of, OperatingSystem.operating_system_of, Environment.environment_of, BinaryFormat.binary_format_of}
-use Rattle.target_lexicon.specs.{Field.Field, Reading.part_at, Values.Architecture}
+use Rattle.target_lexicon.specs.{declared.field_parts.FieldParts.FieldParts, Field.Field, Placement.ArePartsOf, Placement.IsLeastPlacement, Placement.parts_of, Reading.part_at, Reading.IsRefusal, Refusal.Refusal, SpecialTexts.special_values, Values.Architecture}
 use Rattle.target_lexicon.specs.Field as field
 
 -- the part that fills each field, if there is one
@@ -25,6 +26,19 @@ texts_at parts fields =
     texts (part_at field.Architecture parts fields) (part_at field.Vendor parts fields) (part_at field.OperatingSystem parts fields)
     (part_at field.Environment parts fields) (part_at field.BinaryFormat parts fields)
 
+-- the parts that the least placement of these parts assigns; of no parts, none
+abbrev pub AreTextsOf : List (List ℕ) → FieldTexts → Type 0
+AreTextsOf [] t = t ≡ no_texts
+AreTextsOf (p ∷ ps) t = (fields : List Field) × IsLeastPlacement (p ∷ ps) fields × (t ≡ texts_at (p ∷ ps) fields)
+
+-- the parts of a text that fill fields, by the least placement: of all its parts, or of those before the part at which
+-- it is refused. The parts of a special text fill none
+abbrev pub AreFieldTextsOf : List ℕ → FieldTexts → Type 0
+AreFieldTextsOf text t = MatchOption (special_values text)
+    ((parts : List (List ℕ)) × ArePartsOf text parts
+    × (AreTextsOf parts t ⊎ ((refusal : Refusal) × ((is : IsRefusal parts refusal) × AreTextsOf (take is.count parts) t))))
+    (λ values. t ≡ no_texts)
+
 -- the part that a field takes: the first that is left, if it parses as a value of the field
 abbrev pub taken_part : {A : Type 0} → (List ℕ → Option A) → List (List ℕ) → Option (List ℕ)
 taken_part find [] = None
@@ -44,22 +58,20 @@ taken_after_architecture (Some a) p ps =
     (taken_part binary_format_of after_environment)
 taken_after_architecture None p ps = no_texts
 
--- the parts that all fields leave
-abbrev pub left_after_architecture : Option Architecture → List ℕ → List (List ℕ) → List (List ℕ)
-left_after_architecture (Some a) p ps =
-    parts_left binary_format_of (parts_left environment_of (parts_left operating_system_of (parts_left vendor_of ps)))
-left_after_architecture None p ps = p ∷ ps
-
-abbrev pub left_by_fields : List (List ℕ) → List (List ℕ)
-left_by_fields [] = []
-left_by_fields (p ∷ ps) = left_after_architecture (architecture_of p) p ps
-
--- how many bytes these parts have, each with a dash
-abbrev pub dashed_length : List (List ℕ) → ℕ
-dashed_length [] = 0
-dashed_length (p ∷ ps) = length p + 1 + dashed_length ps
-
 -- the parts that the fields take, one field after the other; none if the first part is no architecture
 abbrev pub taken_texts : List (List ℕ) → FieldTexts
 taken_texts [] = no_texts
 taken_texts (p ∷ ps) = taken_after_architecture (architecture_of p) p ps
+
+-- the parts of a text that fill fields, as fields take them
+abbrev pub AreTakenFrom : List ℕ → FieldTexts → Type 0
+AreTakenFrom text t = MatchOption (special_values text) (t ≡ taken_texts (parts_of text)) (λ values. t ≡ no_texts)
+
+-- the bytes of a part, if there is one
+abbrev pub part_bytes : Option (Bor (List ℕ)) → Option (List ℕ)
+part_bytes part = option_map (λ p. p.now) part
+
+-- the bytes of the parts that fill fields
+abbrev pub texts_of : FieldParts → FieldTexts
+texts_of p =
+    texts (part_bytes p.architecture) (part_bytes p.vendor) (part_bytes p.operating_system) (part_bytes p.environment) (part_bytes p.binary_format)

@@ -1,6 +1,5 @@
 pub mod CallingConvention
 pub mod DataModel
-pub mod Explanation
 pub mod Families
 pub mod Field
 pub mod FieldTexts

@@ -1,9 +1,8 @@
 -- What is left of a text while it is read, for the contracts of private functions, which no public contract cites.
-use Rattle.std.specs.Prelude.{ℕ, List, [], ◌∷◌, Option, Some, None, Result, Ok, Err, option_map}
-use Rattle.std.specs.Borrow.{Bor}
+use Rattle.std.specs.Prelude.{ℕ, List, [], ◌∷◌, Option, Some, None, Result, Ok, Err}
 use Rattle.target_lexicon.specs.{declared.part.Part.Part, declared.read.Field.Field as Taker, declared.read.PartCursor.PartCursor, Private.parts_after_dash, GreedyReading.FieldReading}
-use Rattle.target_lexicon.specs.{declared.field_parts.FieldParts.FieldParts, declared.parse_error_ref.ParseErrorRef.ParseErrorRef, declared.triple_ref.TripleRef.TripleRef}
-use Rattle.target_lexicon.specs.{FieldTexts.FieldTexts, FieldTexts.texts, Refusal.Refusal, Values.Values, ValuesRef.refusal_of_ref, ValuesRef.values_of_ref}
+use Rattle.target_lexicon.specs.{declared.parse_error_ref.ParseErrorRef.ParseErrorRef, declared.triple_ref.TripleRef.TripleRef}
+use Rattle.target_lexicon.specs.{Refusal.Refusal, Values.Values, ValuesRef.refusal_of_ref, ValuesRef.values_of_ref}
 use Rattle.target_lexicon.specs.Field.{Field, Architecture, Vendor, OperatingSystem, Environment, BinaryFormat}
 use Rattle.target_lexicon.specs.declared.read.Field.TheVariants as taker
 
@@ -23,15 +22,6 @@ field_of taker.BinaryFormat = BinaryFormat
 -- the value of a field, and what is left then
 abbrev pub field_reading_of : {A : Type 0} → A → PartCursor → FieldReading A
 field_reading_of value cursor = (value, field_of cursor.last, remaining_parts cursor.next_part)
-
--- the bytes of a part, if there is one
-abbrev pub part_bytes : Option (Bor (List ℕ)) → Option (List ℕ)
-part_bytes part = option_map (λ p. p.now) part
-
--- the bytes of the parts that fill fields
-abbrev pub texts_of : FieldParts → FieldTexts
-texts_of p =
-    texts (part_bytes p.architecture) (part_bytes p.vendor) (part_bytes p.operating_system) (part_bytes p.environment) (part_bytes p.binary_format)
 
 -- the values or the refusal of a result
 abbrev pub outcome_of : Result TripleRef ParseErrorRef → Result Values Refusal

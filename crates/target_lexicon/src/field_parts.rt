@@ -2,7 +2,7 @@
 
 /// The part of a text that each field takes, if it takes one.
 #[derive(Clone, Copy)]
-pub(crate) struct FieldParts<'a> {
+pub struct FieldParts<'a> {
     pub architecture: Option<&'a str>,
     pub vendor: Option<&'a str>,
     pub operating_system: Option<&'a str>,
@@ -12,8 +12,7 @@ pub(crate) struct FieldParts<'a> {
 
 impl<'a> FieldParts<'a> {
     ghost use Rattle.std.specs.Prelude.{◌≡◌};
-    ghost use Rattle.target_lexicon.specs.FieldTexts.{no_texts};
-    ghost use Rattle.target_lexicon.specs.RemainingParts.{texts_of};
+    ghost use Rattle.target_lexicon.specs.FieldTexts.{no_texts, texts_of};
 
     /// No field has a part.
     pub(crate) fn none() -> FieldParts<'a>

@@ -3,7 +3,6 @@ ghost use Rattle.std.specs.Prelude.{◌≡◌, ◌≢◌, ◌↔◌, ℕ, suc, t
 ghost use Rattle.target_lexicon.specs.GreedyReading.{ResultsAreComputed};
 ghost use Rattle.target_lexicon.specs.Laws.{ComesBack, HasOneLeastPlacement, EveryTextHasOneOutcome, ReadingIsComputed, ReadVendorsArePlain, EqualTextsEqualTriples};
 ghost use Rattle.lexicon_fields.specs.Laws.{HashInjectiveOn, HashInjective, ComparesByValue, CopiesEqualTheirSources, HasVersionInRange};
-ghost use Rattle.target_lexicon.specs.Explanation.{part_value, source_value, sources_of};
 ghost use Rattle.target_lexicon.specs.FixedPoints.{ReadTriplesArePlain, FixedExactlyOutsideFamilies, RoundIsNormalStep, OneStepSettles, SettledTextsAreKeys, RoundTripsAreKnown, PrintedTextsGrowAtMost, CanonicalTextsGrowAtMost, RefusedPartsDoNotGrow};
 ghost use Rattle.target_lexicon.specs.Json.{ListReadsAs, list_json_of, json_error_value, list_error_value};
 ghost use Rattle.target_lexicon.specs.Placement.{HasPlacement};
@@ -14,11 +13,6 @@ ghost use Rattle.target_lexicon.specs.Printing.{OnlyUnknownsDifferFromUpstream};
 ghost use Rattle.target_lexicon.specs.Values.{Values, values_of};
 ghost use Rattle.target_lexicon.specs.ValuesRef.{values_of_ref, refusal_of_ref};
 ghost use Rattle.target_lexicon.specs.declared.data_model.CDataModel.{CDataModel};
-ghost use Rattle.target_lexicon.specs.declared.explain.ExplainedError.{ExplainedError};
-ghost use Rattle.target_lexicon.specs.declared.explain.Explanation.{Explanation};
-ghost use Rattle.target_lexicon.specs.declared.explain.Source.{Source};
-ghost use Rattle.target_lexicon.specs.declared.explain.Sources.{Sources};
-ghost use Rattle.target_lexicon.specs.declared.explain.TextPart.{TextPart};
 ghost use Rattle.target_lexicon.specs.declared.json_error.JsonError.{JsonError};
 ghost use Rattle.target_lexicon.specs.declared.list_error.ListError.{ListError};
 ghost use Rattle.target_lexicon.specs.declared.parse_error.ParseError.{ParseError};
@@ -31,11 +25,12 @@ ghost use Rattle.target_lexicon.specs.declared.defaults.DefaultToUnknown.{Defaul
 use crate::calling_convention::CallingConvention;
 use crate::data_model::{CDataModel, Size};
 use crate::defaults::{DefaultToHost, DefaultToUnknown};
-use crate::explain::{ExplainedError, Explanation, Source, Sources, TextPart};
+use crate::field_parts::FieldParts;
 use crate::json_error::JsonError;
 use crate::list_error::ListError;
 use crate::parse_error::ParseError;
 use crate::parse_error_ref::ParseErrorRef;
+use crate::read::Reading;
 use crate::triple::Triple;
 use crate::triple_ref::TripleRef;
 use lexicon_fields::OperatingSystem;
@@ -137,30 +132,6 @@ pub fn error_refs_are_equal_by_value()
         IsTrue (⟦<ParseErrorRef<'static> as PartialEq>⟧.eq x y)
         ↔ (refusal_of_ref x ≡ refusal_of_ref y) }
 {}
-
-/// Two parts are equal exactly if their bytes and ranges are. Two sources are equal exactly if they are the same
-/// variant, with equal parts. Two explanations are equal exactly if their triples and sources are; two explained
-/// errors, exactly if their refusals, parts and sources are.
-pub fn explanations_are_equal_by_value()
-    ensures part { (x y : TextPart) →
-        IsTrue (⟦<TextPart<'static> as PartialEq>⟧.eq x y) ↔ (part_value x ≡ part_value y) }
-    ensures source { (x y : Source) →
-        IsTrue (⟦<Source<'static> as PartialEq>⟧.eq x y) ↔ (source_value x ≡ source_value y) }
-    ensures sources { (x y : Sources) →
-        IsTrue (⟦<Sources<'static> as PartialEq>⟧.eq x y) ↔ (sources_of x ≡ sources_of y) }
-    ensures explanation { (x y : Explanation) →
-        IsTrue (⟦<Explanation<'static> as PartialEq>⟧.eq x y)
-        ↔ ((values_of_ref x.triple ≡ values_of_ref y.triple)
-        × (sources_of x.sources ≡ sources_of y.sources)) }
-    ensures error { (x y : ExplainedError) →
-        IsTrue (⟦<ExplainedError<'static> as PartialEq>⟧.eq x y)
-        ↔ ((refusal_of_ref x.error ≡ refusal_of_ref y.error)
-        × (part_value x.part ≡ part_value y.part)
-        × (sources_of x.sources ≡ sources_of y.sources)) }
-{
-    triple_refs_are_equal_by_value();
-    error_refs_are_equal_by_value();
-}
 
 /// If a triple has a data model, the pointers of the model have as many bits as those of the triple.
 #[tactic(auto, using(crate::proofs::ModelsKnown::model_pointers))]
@@ -295,16 +266,10 @@ pub fn copies_equal_their_sources()
         ⟦<TripleRef<'static> as Clone>⟧.is_infallible }
     ensures error_ref { CopiesEqualTheirSources ⟦<ParseErrorRef<'static> as Clone>⟧.is_clone
         ⟦<ParseErrorRef<'static> as Clone>⟧.is_infallible }
-    ensures part { CopiesEqualTheirSources ⟦<TextPart<'static> as Clone>⟧.is_clone
-        ⟦<TextPart<'static> as Clone>⟧.is_infallible }
-    ensures source { CopiesEqualTheirSources ⟦<Source<'static> as Clone>⟧.is_clone
-        ⟦<Source<'static> as Clone>⟧.is_infallible }
-    ensures sources { CopiesEqualTheirSources ⟦<Sources<'static> as Clone>⟧.is_clone
-        ⟦<Sources<'static> as Clone>⟧.is_infallible }
-    ensures explanation { CopiesEqualTheirSources ⟦<Explanation<'static> as Clone>⟧.is_clone
-        ⟦<Explanation<'static> as Clone>⟧.is_infallible }
-    ensures explained_error { CopiesEqualTheirSources ⟦<ExplainedError<'static> as Clone>⟧.is_clone
-        ⟦<ExplainedError<'static> as Clone>⟧.is_infallible }
+    ensures field_parts { CopiesEqualTheirSources ⟦<FieldParts<'static> as Clone>⟧.is_clone
+        ⟦<FieldParts<'static> as Clone>⟧.is_infallible }
+    ensures reading { CopiesEqualTheirSources ⟦<Reading<'static> as Clone>⟧.is_clone
+        ⟦<Reading<'static> as Clone>⟧.is_infallible }
 {}
 
 /// Sizes, data models and calling conventions feed a hasher the same exactly if their variants are the same.

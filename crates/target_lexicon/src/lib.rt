@@ -13,7 +13,6 @@ mod data_model;
 mod default_format;
 mod defaults;
 mod display;
-mod explain;
 mod field_parts;
 mod host;
 mod json;
@@ -38,7 +37,7 @@ pub use calling_convention::CallingConvention;
 pub use data_model::{CDataModel, Size};
 pub use default_format::default_binary_format;
 pub use defaults::{DefaultToHost, DefaultToUnknown};
-pub use explain::{ExplainedError, Explanation, Source, Sources, TextPart};
+pub use field_parts::FieldParts;
 pub use json::{list_from_json, list_to_json};
 pub use json_error::JsonError;
 pub use lexicon_fields::{
@@ -51,5 +50,6 @@ pub use lexicon_fields::{
 pub use list_error::ListError;
 pub use parse_error::ParseError;
 pub use parse_error_ref::ParseErrorRef;
+pub use read::Reading;
 pub use triple::Triple;
 pub use triple_ref::TripleRef;

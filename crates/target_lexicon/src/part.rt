@@ -1,9 +1,8 @@
 //! The parts of a text, each looked up once in the table of names.
-ghost use Rattle.std.specs.Prelude.{◌≡◌, ◌≤◌, ◌+◌, ◌^◌, ◌∷◌, Some, length};
+ghost use Rattle.std.specs.Prelude.{◌≡◌, ◌≤◌, ◌∷◌, length};
 ghost use Rattle.std.specs.Option.{ForSome};
 ghost use Rattle.lexicon_fields.specs.OperatingSystem.{operating_system_of};
 ghost use Rattle.target_lexicon.specs.Placement.{parts_of};
-ghost use Rattle.target_lexicon.specs.FieldTexts.{dashed_length};
 ghost use Rattle.target_lexicon.specs.Private.{IsLookedUp, AreDashBits, parts_after_dash};
 
 use crate::dashes::{dash_bits, dash_bits_of_rest, dash_in_long};
@@ -77,18 +76,6 @@ fn split_long_at_dash(text: &str) -> (&str, Option<&str>, u64)
     }
 }
 
-/// How many bytes follow a part: a dash and what is after it, if there is one.
-#[tactic(auto, using(crate::proofs::TextRanges::dashed_length_of))]
-fn length_after_part(after_dash: Option<&str>) -> usize
-    ensures value { result ≡ dashed_length (parts_after_dash after_dash.entry) }
-    ensures bound { result ≤ 2 ^ 63 }
-{
-    match after_dash {
-        Some(rest) => rest.len() + 1,
-        None => 0,
-    }
-}
-
 impl<'a> Part<'a> {
     ghost use Rattle.std.specs.Prelude.{option_map};
     ghost use Rattle.lexicon_fields.specs.Architecture.{architecture_of};
@@ -115,13 +102,6 @@ impl<'a> Part<'a> {
             Some(text) => Some(Part::first_of(text, self.dash_bits)),
             None => None,
         }
-    }
-
-    /// How many bytes the text has from this part on.
-    pub(crate) fn length_to_end(&self) -> usize
-        ensures { dashed_length (remaining_parts (Some self.now)) ≡ result + 1 }
-    {
-        self.text.len() + length_after_part(self.after_dash)
     }
 
     /// The first part of a text, given the bits of its dashes.

@@ -1,16 +1,16 @@
 //! Reading a triple.
-ghost use Rattle.std.specs.Prelude.{◌≡◌, ◌+◌, Some, true, IfOk, IfErr, unwrap_or};
+ghost use Rattle.std.specs.Prelude.{◌≡◌, Some, true, IfOk, IfErr, unwrap_or};
 ghost use Rattle.lexicon_fields.specs.declared.known_vendor.KnownVendor.TheVariants.{Unknown};
 ghost use Rattle.lexicon_fields.specs.BinaryFormat.{binary_format_of};
 ghost use Rattle.lexicon_fields.specs.Environment.{environment_of};
 ghost use Rattle.lexicon_fields.specs.OperatingSystem.{operating_system_of};
 ghost use Rattle.lexicon_fields.specs.Vendor.{Known, OwnsCustomText, vendor_of, vendor_value, is_plain};
 ghost use Rattle.lexicon_fields.specs.VendorRef.{ref_value};
-ghost use Rattle.target_lexicon.specs.FieldTexts.{dashed_length, left_by_fields, parts_left, taken_part, taken_texts};
+ghost use Rattle.target_lexicon.specs.FieldTexts.{AreFieldTextsOf, AreTakenFrom, part_bytes, parts_left, taken_part, taken_texts, texts_of};
 ghost use Rattle.target_lexicon.specs.GreedyReading.{field_reading, reading_of_parts};
 ghost use Rattle.target_lexicon.specs.Field as field;
 ghost use Rattle.target_lexicon.specs.ImpliedFormat.{implied_format};
-ghost use Rattle.target_lexicon.specs.RemainingParts.{field_of, field_reading_of, outcome_of, part_bytes, remaining_parts, texts_of};
+ghost use Rattle.target_lexicon.specs.RemainingParts.{field_of, field_reading_of, outcome_of, remaining_parts};
 ghost use Rattle.target_lexicon.specs.Reading.{ReadsAs, IsErrorOf, IsRefusedAs, expected_after};
 ghost use Rattle.target_lexicon.specs.Refusal.{refusal_with};
 ghost use Rattle.target_lexicon.specs.Values.operating_system;
@@ -47,12 +47,13 @@ struct PartCursor<'a> {
     next_part: Option<Part<'a>>,
 }
 
-/// What reading a text gives, the part that each field took, and how many bytes the text has from a refused part on.
+/// What a text parses as, and the part that each field took.
 #[derive(Clone, Copy)]
-pub(crate) struct Reading<'a> {
+pub struct Reading<'a> {
+    /// The triple, or why the text is refused.
     pub result: Result<TripleRef<'a>, ParseErrorRef<'a>>,
+    /// The parts. If the text is refused, those before the refused one; of a special text, none.
     pub parts: FieldParts<'a>,
-    pub refused_length: usize,
 }
 
 impl<'a> PartCursor<'a> {
@@ -174,22 +175,37 @@ fn given_or_implied(
 }
 
 impl<'a> Reading<'a> {
+    /// What a text parses as, as [`Triple::from_str`] says, and the part that each field took. Nothing is allocated.
+    #[inline(always)]
+    pub fn from_text(text: &'a str) -> Reading<'a>
+        ensures ok { IfOk result.result
+            (λ triple. ReadsAs text.entry.now (values_of_ref triple)) }
+        ensures err { IfErr result.result
+            (λ error. IsRefusedAs text.entry.now (refusal_of_ref error)) }
+        ensures parts { AreFieldTextsOf text.entry.now (texts_of result.parts) }
+        ensures taken { AreTakenFrom text.entry.now (texts_of result.parts) }
+    {
+        if let Some(triple) = TripleRef::from_special_text(text) {
+            return Reading {
+                result: Ok(triple),
+                parts: FieldParts::none(),
+            };
+        }
+        Reading::from_parts(Part::first(text))
+    }
+
     /// What the parts give of which this is the first.
     #[inline(always)]
-    pub(crate) fn from_parts(first: Part<'a>) -> Reading<'a>
+    fn from_parts(first: Part<'a>) -> Reading<'a>
         ensures result { outcome_of result.result
             ≡ reading_of_parts (remaining_parts (Some first.entry)) }
         ensures parts { texts_of result.parts
             ≡ taken_texts (remaining_parts (Some first.entry)) }
-        ensures left { IfErr result.result
-            (λ _. dashed_length (left_by_fields (remaining_parts (Some first.entry)))
-            ≡ result.refused_length + 1) }
     {
         let Some(architecture) = first.architecture() else {
             return Reading {
                 result: Err(ParseErrorRef::UnrecognizedArchitecture(first.text)),
                 parts: FieldParts::none(),
-                refused_length: first.length_to_end(),
             };
         };
         let mut cursor = PartCursor {
@@ -211,7 +227,6 @@ impl<'a> Reading<'a> {
             return Reading {
                 result: Err(refusal(left.text, cursor.last)),
                 parts,
-                refused_length: left.length_to_end(),
             };
         }
         let result = Ok(TripleRef {
@@ -226,11 +241,7 @@ impl<'a> Reading<'a> {
                 environment,
             ),
         });
-        Reading {
-            result,
-            parts,
-            refused_length: 0,
-        }
+        Reading { result, parts }
     }
 }
 
@@ -242,10 +253,7 @@ impl<'a> TripleRef<'a> {
         ensures plain { IfOk result (λ triple. is_plain (ref_value triple.vendor) ≡ true) }
         ensures err { IfErr result (λ error. IsRefusedAs text.entry.now (refusal_of_ref error)) }
     {
-        if let Some(triple) = TripleRef::from_special_text(text) {
-            return Ok(triple);
-        }
-        Reading::from_parts(Part::first(text)).result
+        Reading::from_text(text).result
     }
 }
 

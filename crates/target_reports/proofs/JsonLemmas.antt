@@ -3,7 +3,8 @@ use Rattle.std.proofs.Common.{◌≡◌, ℕ, Bool, true, false, ◌||◌, List,
 use Rattle.std.specs.{Ordering.nat_cmp, Ordering.match_ordering, Cmp.Lexicographic.slice_cmp, List.list_any}
 use Rattle.std.specs.declared.cmp.Ordering.TheVariants.{Less, Equal, Greater}
 use Rattle.serde_json.specs.{Data.Data, Data.Members, Data.no_members, Data.member, Data.string, Data.put, Written.has_float, Written.members_have_float}
-use Rattle.target_lexicon.specs.{Explanation.SourceValues, Values.Values}
+use Rattle.target_lexicon.specs.Values.{Values}
+use Rattle.explanations.specs.Explanation.{SourceValues}
 use Rattle.target_reports.specs.declared.report.Report.{Report}
 use Rattle.target_reports.specs.declared.report.Report.TheVariants as report
 use Rattle.target_reports.specs.Facts.{AnswerValue, NoAnswer, Number, Text, YesOrNo, FactValue, facts_of}

@@ -2,7 +2,8 @@
 use Rattle.std.specs.Prelude.{◌≡◌, ℕ, List, [], ◌∷◌, ◌++◌, length, map, max, codes, Option, Some, None, if◌then◌else◌}
 use Rattle.std.specs.Fmt.{decimal}
 use Rattle.std.specs.Str.{bytes_eq}
-use Rattle.target_lexicon.specs.{Explanation.SourceValue, Explanation.SourceValues, Explanation.FromPart, Explanation.NotGiven, Explanation.Implied, Values.Values}
+use Rattle.target_lexicon.specs.Values.{Values}
+use Rattle.explanations.specs.Explanation.{SourceValue, SourceValues, FromPart, NotGiven, Implied}
 use Rattle.target_reports.specs.{Facts.AnswerValue, Facts.NoAnswer, Facts.Number, Facts.Text, Facts.YesOrNo, Facts.FactValue, Facts.facts_of, Layout.Line, Layout.column_text, Layout.laid_out, Layout.line_text, Origins.OriginValue, Origins.origins_of, Suggestion.IsVendorSuggestion}
 use Rattle.lexicon_fields.specs.Vendor.{vendor_name}
 use Rattle.target_reports.specs.declared.report.Report.{Report}

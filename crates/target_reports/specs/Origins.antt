@@ -2,7 +2,8 @@
 use Rattle.std.specs.Prelude.{ℕ, Bool, false, List, [], ◌∷◌, codes}
 use Rattle.std.specs.Cow.{cow_str_bytes}
 use Rattle.lexicon_fields.specs.{Architecture.architecture_name, Vendor.vendor_name, OperatingSystem.operating_system_name, Environment.environment_name, BinaryFormat.binary_format_name}
-use Rattle.target_lexicon.specs.{Explanation.SourceValue, Explanation.SourceValues, Explanation.source_value, Values.Values}
+use Rattle.target_lexicon.specs.Values.{Values}
+use Rattle.explanations.specs.Explanation.{SourceValue, SourceValues, source_value}
 use Rattle.target_reports.specs.{declared.origins.Origin.Origin, Facts.is_custom}
 
 -- how the value of a field came: the label of the field in lines, its key in JSON, the name of the value, whether that

@@ -4,7 +4,7 @@ ghost use Rattle.lexicon_fields.specs.Vendor.{is_plain};
 ghost use Rattle.lexicon_fields.specs.VendorRef.{ref_value};
 ghost use Rattle.serde_json.specs.Data.{object, string};
 ghost use Rattle.serde_json.specs.View.{members_view, view};
-ghost use Rattle.target_lexicon.specs.Explanation.{source_value, sources_of};
+ghost use Rattle.explanations.specs.Explanation.{source_value, sources_of};
 ghost use Rattle.target_lexicon.specs.ValuesRef.{values_of_ref};
 ghost use Rattle.target_reports.specs.Facts.{answer_value, fact_value};
 ghost use Rattle.target_reports.specs.Json.{IsReportObject, answer_data, explained_fields, fact_field, fields_onto, optional_data, origin_data, origin_field, origin_word, source_part, target_members, with_field};
@@ -14,9 +14,9 @@ use crate::facts::{Answer, Fact, facts, is_custom};
 use crate::origins::{Origin, origins};
 use crate::report::Report;
 use crate::suggestion::vendor_suggestion;
+use explanations::{Explanation, Source};
 use serde_json::{Map, Value, put};
 use std::alloc::{AllocError, Global};
-use target_lexicon::{Explanation, Source};
 
 /// The members of a JSON object.
 pub type Members = Map<String, Value>;

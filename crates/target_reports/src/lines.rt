@@ -2,7 +2,7 @@
 ghost use Rattle.std.specs.Prelude.{◌≡◌, ◌++◌, codes, map, option_map, true, OnOk, string_bytes};
 ghost use Rattle.lexicon_fields.specs.Vendor.{is_plain};
 ghost use Rattle.lexicon_fields.specs.VendorRef.{ref_value};
-ghost use Rattle.target_lexicon.specs.Explanation.{source_value, sources_of};
+ghost use Rattle.explanations.specs.Explanation.{source_value, sources_of};
 ghost use Rattle.target_lexicon.specs.ValuesRef.{values_of_ref};
 ghost use Rattle.target_reports.specs.Facts.{answer_value, fact_value, facts_of};
 ghost use Rattle.target_reports.specs.Layout.{laid_out, line_text};
@@ -14,8 +14,8 @@ use crate::layout::{push_label, push_padded, push_three};
 use crate::origins::{Origin, origins};
 use crate::report::Report;
 use crate::suggestion::vendor_suggestion;
+use explanations::{Explanation, Source};
 use std::alloc::{AllocError, Global};
-use target_lexicon::{Explanation, Source};
 
 /// Appends the words of an answer.
 fn push_answer(out: &mut String, answer: &Answer<'_>) -> Result<(), AllocError>

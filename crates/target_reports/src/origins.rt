@@ -1,13 +1,13 @@
 //! How the value of each field came.
 ghost use Rattle.std.specs.Prelude.{◌≡◌, map, IfOk};
-ghost use Rattle.target_lexicon.specs.Explanation.{sources_of};
+ghost use Rattle.explanations.specs.Explanation.{sources_of};
 ghost use Rattle.target_lexicon.specs.ValuesRef.{values_of_ref};
 ghost use Rattle.target_reports.specs.Origins.{origin_value, origins_of};
 
 use crate::facts::is_custom;
+use explanations::{Explanation, Source};
 use std::alloc::{AllocError, Global};
 use std::borrow::CowStr;
-use target_lexicon::{Explanation, Source};
 
 /// How the value of a field came: the label of the field in lines, its key in JSON, the name of the value, whether that
 /// is a custom vendor, and the source.

@@ -1,7 +1,7 @@
 -- An explanation for people.
 use Rattle.std.specs.Prelude.{◌≡◌, ◌⊎◌, ℕ, List, [], ◌∷◌, ◌++◌, codes}
 use Rattle.std.specs.Fmt.{decimal}
-use Rattle.target_lexicon.specs.Explanation.{SourceValue, SourceValues, FromPart, NotGiven, Implied, AreSourcesOf, IsRefusedAfter}
+use Rattle.explanations.specs.Explanation.{SourceValue, SourceValues, FromPart, NotGiven, Implied, AreSourcesOf, IsRefusedAfter}
 use Rattle.target_lexicon.specs.{Refusal.Refusal, Refusal.refusal_line}
 
 abbrev pub line_feed : ℕ

@@ -1,18 +1,18 @@
 //! An explanation for people: which part of a text each field of its target comes from.
 ghost use Rattle.std.specs.Prelude.{◌≡◌, ◌++◌, IfOk, OnOk, string_bytes};
-ghost use Rattle.target_lexicon.specs.Explanation.{source_value, sources_of};
+ghost use Rattle.explanations.specs.Explanation.{source_value, sources_of};
 ghost use Rattle.target_lexicon.specs.ValuesRef.{refusal_of_ref};
 ghost use Rattle.uses.specs.Words.{IsExplanationOf, range_words, refusal_words, source_line, sources_words};
 
+use explanations::{ExplainedError, Source, Sources, TextPart, explain};
 use std::alloc::{AllocError, Global};
-use target_lexicon::{ExplainedError, Source, Sources, TextPart, TripleRef};
 
 /// A line for each field: its part of the text with the range, `not given`, or `implied by the other fields`. For a
 /// text that is refused, the fields that the parts before the refused one fill, and a line that names the refused part.
 pub fn explanation(alloc: Global, text: &str) -> Result<String, AllocError>
     ensures { IfOk result (λ words. IsExplanationOf text.now (string_bytes words)) }
 {
-    match TripleRef::explain(text) {
+    match explain(text) {
         Ok(explanation) => sources_text(alloc, &explanation.sources),
         Err(refused) => refusal_text(alloc, &refused),
     }

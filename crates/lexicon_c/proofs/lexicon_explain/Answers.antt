@@ -1,5 +1,6 @@
 use Rattle.std.proofs.Common.{refl}
-use Rattle.target_lexicon.specs.{Explanation.sources_of, ValuesRef.values_of_ref}
+use Rattle.target_lexicon.specs.ValuesRef.{values_of_ref}
+use Rattle.explanations.specs.Explanation.{sources_of}
 use Rattle.lexicon_c.specs.Outcome.{Done}
 use Rattle.lexicon_c.proofs.lexicon_explain.Goals as goal
 

@@ -1,5 +1,6 @@
 use Rattle.std.proofs.Common.{refl}
-use Rattle.target_lexicon.specs.{Explanation.part_value, ValuesRef.refusal_of_ref}
+use Rattle.target_lexicon.specs.ValuesRef.{refusal_of_ref}
+use Rattle.explanations.specs.Explanation.{part_value}
 use Rattle.lexicon_c.specs.Outcome.{Refused}
 use Rattle.lexicon_c.proofs.lexicon_parse.Goals as goal
 

@@ -1,6 +1,7 @@
 -- The answer to a target is what is shown of it, or what is wrong with it.
 use Rattle.std.proofs.Common.{string_bytes}
-use Rattle.target_lexicon.specs.{Explanation.sources_of, ValuesRef.values_of_ref}
+use Rattle.target_lexicon.specs.ValuesRef.{values_of_ref}
+use Rattle.explanations.specs.Explanation.{sources_of}
 use Rattle.lexicon.specs.{TargetAnswers.answer_texts, Problem.problem_value}
 use Rattle.lexicon.proofs.AnswerLemmas.{reading-adds, refusal-adds}
 use Rattle.lexicon.proofs.answers.push_answer.Goals as goal

@@ -2,7 +2,8 @@
 use Rattle.std.proofs.Common.{◌∙◌, List, ap, map, sym, true}
 use Rattle.std.proofs.Math.Bool.{or-false, or_comm}
 use Rattle.serde_json.specs.{View.view, declared.value.Value.Value}
-use Rattle.target_lexicon.specs.{Explanation.sources_of, ValuesRef.values_of_ref}
+use Rattle.target_lexicon.specs.ValuesRef.{values_of_ref}
+use Rattle.explanations.specs.Explanation.{sources_of}
 use Rattle.lexicon.specs.{JsonAnswers.Reported, JsonAnswers.Rejected, Problem.problem_value}
 use Rattle.lexicon.proofs.JsonAnswerLemmas.{same-values, view-push}
 use Rattle.lexicon.proofs.json.push_object.Goals as goal

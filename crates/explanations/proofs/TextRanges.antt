@@ -1,14 +1,13 @@
 -- Where the parts that fields take are in the text.
-use Rattle.std.proofs.Common.{◌≡◌, ℕ, ◌+◌, ◌-◌, List, [], ◌∷◌, ◌++◌, take, drop, length, Option, Some, None, refl, sym, ◌∙◌, ap, append_assoc, arith, inl, inr}
+use Rattle.std.proofs.Common.{◌≡◌, ℕ, ◌+◌, ◌-◌, ◌≤◌, List, [], ◌∷◌, ◌++◌, take, drop, length, Option, Some, None, refl, sym, ◌∙◌, ap, append_assoc, arith, inl, inr}
 use Rattle.std.specs.Prelude.{is_some}
 use Rattle.std.specs.List.{join_with_byte}
 use Rattle.std.proofs.{Math.Seq.take-append_seam, Math.Seq.drop-append_seam, lemmas.Bool.cases_Bool, lemmas.List.append-nil, lemmas.List.length-append}
 use Rattle.lexicon_fields.specs.Names.{dash}
 use Rattle.lexicon_fields.specs.{declared.architecture.Architecture.Architecture as AnyArchitecture, Architecture.architecture_of, Vendor.vendor_of, OperatingSystem.operating_system_of, Environment.environment_of, BinaryFormat.binary_format_of}
-use Rattle.target_lexicon.specs.FieldTexts.{taken_part, parts_left, taken_after_architecture, taken_texts, left_after_architecture, left_by_fields, dashed_length}
-use Rattle.target_lexicon.specs.Placement.{ArePartsOf, parts_of}
-use Rattle.target_lexicon.proofs.PartLemmas.{parts_of-are}
-use Rattle.target_lexicon.specs.Explanation.{SourceValue, FromPart, NotGiven, source_at, start_after, sources_at, next_start, IsInText, AreInText}
+use Rattle.target_lexicon.specs.FieldTexts.{taken_part, parts_left, taken_after_architecture, taken_texts}
+use Rattle.target_lexicon.proofs.FieldTextLemmas.{left_after_architecture, left_by_fields}
+use Rattle.explanations.specs.Explanation.{SourceValue, FromPart, NotGiven, source_at, start_after, sources_at, next_start, IsInText, AreInText}
 
 -- the parts, joined by dashes, are the end of the text from `start` on; there may be none
 abbrev pub AreAt : List ℕ → ℕ → List (List ℕ) → Type 0
@@ -67,19 +66,17 @@ all-in text unfilled p ps none at = by_architecture (architecture_of p)
 
 -- the parts that are left begin where the parts of the fields end
 
-pub dashed_length-joined : (p : List ℕ) (ps : List (List ℕ)) → dashed_length (p ∷ ps) ≡ length (join_with_byte dash (p ∷ ps)) + 1
+-- how many bytes these parts have, each with a dash
+abbrev dashed_length : List (List ℕ) → ℕ
+dashed_length [] = 0
+dashed_length (p ∷ ps) = length p + 1 + dashed_length ps
+
+dashed_length-joined : (p : List ℕ) (ps : List (List ℕ)) → dashed_length (p ∷ ps) ≡ length (join_with_byte dash (p ∷ ps)) + 1
 dashed_length-joined p [] = omega arith
 dashed_length-joined p (q ∷ ps) =
     let rest = dashed_length-joined q ps in
     let whole = length-append p (dash ∷ join_with_byte dash (q ∷ ps)) in
     omega (arith, rest, whole)
-
-pub dashed_length_of : (text : List ℕ) → dashed_length (parts_of text) ≡ length text + 1
-dashed_length_of text = by_parts (parts_of text) (parts_of-are text)
-  where
-    by_parts : (parts : List (List ℕ)) → ArePartsOf text parts → dashed_length parts ≡ length text + 1
-    by_parts [] are = absurd (are.some refl)
-    by_parts (p ∷ ps) are = dashed_length-joined p ps ∙ ap (λ bytes. length bytes + 1) are.joined
 
 taken-length : {A : Type 0} (find : List ℕ → Option A) (start : ℕ) (ps : List (List ℕ)) → start_after start (taken_part find ps) + dashed_length (parts_left find ps) ≡ start + dashed_length ps
 taken-length find start [] = refl
@@ -89,7 +86,7 @@ taken-length find start (p ∷ ps) =
       | inr skips ↦ rw skips refl
     ]
 
-pub left-length : (p : List ℕ) (ps : List (List ℕ)) → next_start (taken_texts (p ∷ ps)) + dashed_length (left_by_fields (p ∷ ps)) ≡ length (join_with_byte dash (p ∷ ps)) + 1
+left-length : (p : List ℕ) (ps : List (List ℕ)) → next_start (taken_texts (p ∷ ps)) + dashed_length (left_by_fields (p ∷ ps)) ≡ length (join_with_byte dash (p ∷ ps)) + 1
 left-length p ps = by_architecture (architecture_of p)
   where
     by_architecture : (a : Option AnyArchitecture)
@@ -111,3 +108,7 @@ left-length p ps = by_architecture (architecture_of p)
           taken-length environment_of n₃ ps₂,
           taken-length binary_format_of n₄ ps₃,
         )
+
+-- so they begin at the end of the text, or before it
+pub next_start-within : (p : List ℕ) (ps : List (List ℕ)) → next_start (taken_texts (p ∷ ps)) ≤ length (join_with_byte dash (p ∷ ps)) + 1
+next_start-within p ps = omega (arith, left-length p ps)

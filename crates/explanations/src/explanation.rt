@@ -1,15 +1,11 @@
 //! Where the fields of a triple come from in its text.
 ghost use Rattle.std.specs.Prelude.{◌≡◌, ◌+◌, ◌<◌, ◌^◌, IfOk, IfErr, length};
-ghost use Rattle.target_lexicon.specs.Explanation.{AreInText, AreSourcesOf, IsInText, IsRefusedAfter, IsRefusedAt, NotGiven, next_start, part_value, source_at, source_value, sources_at, sources_of, start_after, whole_text_sources};
+ghost use Rattle.target_lexicon.specs.FieldTexts.{part_bytes, texts_of};
 ghost use Rattle.target_lexicon.specs.Reading.{ReadsAs, IsRefusedAs};
-ghost use Rattle.target_lexicon.specs.RemainingParts.{part_bytes, texts_of};
 ghost use Rattle.target_lexicon.specs.ValuesRef.{refusal_of_ref, values_of_ref};
+ghost use Rattle.explanations.specs.Explanation.{AreInText, AreSourcesOf, IsInText, IsRefusedAfter, IsRefusedAt, NotGiven, next_start, part_value, source_at, source_value, sources_at, sources_of, start_after, whole_text_sources};
 
-use crate::field_parts::FieldParts;
-use crate::parse_error_ref::ParseErrorRef;
-use crate::part::Part;
-use crate::read::Reading;
-use crate::triple_ref::TripleRef;
+use target_lexicon::{FieldParts, ParseErrorRef, Reading, TripleRef};
 
 /// A part of a text, and its range in bytes.
 #[derive(Clone, Copy, Debug, PartialEq, Eq)]
@@ -70,7 +66,7 @@ pub struct ExplainedError<'a> {
 
 impl<'a> TextPart<'a> {
     ghost use Rattle.std.specs.Prelude.{Some};
-    ghost use Rattle.target_lexicon.specs.Explanation.{NotGiven, part_value, source_at};
+    ghost use Rattle.explanations.specs.Explanation.{NotGiven, part_value, source_at};
 
     /// The part that begins at this index.
     fn starting_at(text: &'a str, start: usize) -> TextPart<'a>
@@ -109,11 +105,12 @@ fn next_source<'a>(part: Option<&'a str>, start: usize, unfilled: Source<'a>) ->
 }
 
 impl<'a> Sources<'a> {
-    /// The sources of fields that these parts of one text fill.
-    fn of_parts(parts: FieldParts<'a>, unfilled_format: Source<'a>) -> Sources<'a>
+    /// The sources of fields that these parts of one text fill, and where the next part begins.
+    fn of_parts(parts: FieldParts<'a>, unfilled_format: Source<'a>) -> (Sources<'a>, usize)
         requires { next_start (texts_of parts) < 2 ^ 64 }
-        ensures { sources_of result
+        ensures sources { sources_of result.0
             ≡ sources_at (source_value unfilled_format.entry) (texts_of parts.entry) }
+        ensures start { result.1 ≡ next_start (texts_of parts.entry) }
     {
         let (architecture, start) = next_source(parts.architecture, 0, Source::NotGiven);
         let (vendor, start) = next_source(parts.vendor, start, Source::NotGiven);
@@ -123,14 +120,15 @@ impl<'a> Sources<'a> {
             Source::NotGiven,
         );
         let (environment, start) = next_source(parts.environment, start, Source::NotGiven);
-        let (binary_format, _) = next_source(parts.binary_format, start, unfilled_format);
-        Sources {
+        let (binary_format, start) = next_source(parts.binary_format, start, unfilled_format);
+        let sources = Sources {
             architecture,
             vendor,
             operating_system,
             environment,
             binary_format,
-        }
+        };
+        (sources, start)
     }
 
     /// The sources of the fields of a special text.
@@ -148,73 +146,65 @@ impl<'a> Sources<'a> {
     }
 }
 
-impl<'a> TripleRef<'a> {
-    /// The triple that a text parses as; or why it is refused, and the refused part. Nothing is allocated. `explain`
-    /// answers this too, and where each field comes from.
-    pub fn parse_or_locate(
-        text: &'a str,
-    ) -> Result<TripleRef<'a>, (ParseErrorRef<'a>, TextPart<'a>)>
-        ensures triple { IfOk result (λ triple. ReadsAs text.entry.now (values_of_ref triple)) }
-        ensures error { IfErr result
-            (λ it. IsRefusedAs text.entry.now (refusal_of_ref it.0)) }
-        ensures refused { IfErr result
-            (λ it. IsRefusedAt text.entry.now (refusal_of_ref it.0) (part_value it.1)) }
-        ensures range { IfErr result (λ it. IsInText text.entry.now (part_value it.1)) }
-    {
-        if let Some(triple) = TripleRef::from_special_text(text) {
-            return Ok(triple);
-        }
-        length_fits(text);
-        let reading = Reading::from_parts(Part::first(text));
-        match reading.result {
-            Ok(triple) => Ok(triple),
-            Err(error) => {
-                let start = text.len() - reading.refused_length;
-                Err((error, TextPart::starting_at(error.part(), start)))
-            }
+/// The triple that a text parses as; or why it is refused, and the refused part. Nothing is allocated. [`explain`]
+/// answers this too, and where each field comes from.
+pub fn parse_or_locate(text: &str) -> Result<TripleRef<'_>, (ParseErrorRef<'_>, TextPart<'_>)>
+    ensures triple { IfOk result (λ triple. ReadsAs text.entry.now (values_of_ref triple)) }
+    ensures error { IfErr result
+        (λ it. IsRefusedAs text.entry.now (refusal_of_ref it.0)) }
+    ensures refused { IfErr result
+        (λ it. IsRefusedAt text.entry.now (refusal_of_ref it.0) (part_value it.1)) }
+    ensures range { IfErr result (λ it. IsInText text.entry.now (part_value it.1)) }
+{
+    length_fits(text);
+    let reading = Reading::from_text(text);
+    match reading.result {
+        Ok(triple) => Ok(triple),
+        Err(error) => {
+            let (_, start) = Sources::of_parts(reading.parts, Source::NotGiven);
+            Err((error, TextPart::starting_at(error.part(), start)))
         }
     }
+}
 
-    /// The triple that a text parses as, and where in the text each of its fields comes from; or why the text is
-    /// refused, where, and which fields the parts before the refused one filled. Nothing is allocated.
-    ///
-    /// A part is of the first field that it parses as, of those after the field of the part before it. So `nuttx` in
-    /// `armv7a-nuttx-eabi` is the vendor, since it is the name of no field. The whole of a special text gives all five
-    /// fields; its parts have none of their own.
-    pub fn explain(text: &'a str) -> Result<Explanation<'a>, ExplainedError<'a>>
-        ensures triple { IfOk result (λ it. ReadsAs text.entry.now (values_of_ref it.triple)) }
-        ensures sources { IfOk result (λ it. AreSourcesOf text.entry.now (sources_of it.sources)) }
-        ensures ranges { IfOk result (λ it. AreInText text.entry.now (sources_of it.sources)) }
-        ensures error { IfErr result
-            (λ it. IsRefusedAs text.entry.now (refusal_of_ref it.error)) }
-        ensures refused { IfErr result
-            (λ it. IsRefusedAfter text.entry.now (refusal_of_ref it.error)
-            (sources_of it.sources) (part_value it.part)) }
-        ensures refused_ranges { IfErr result
-            (λ it. AreInText text.entry.now (sources_of it.sources)
-            × IsInText text.entry.now (part_value it.part)) }
-    {
-        if let Some(triple) = TripleRef::from_special_text(text) {
-            let sources = Sources::of_special_text(text);
-            return Ok(Explanation { triple, sources });
+/// The triple that a text parses as, and where in the text each of its fields comes from; or why the text is
+/// refused, where, and which fields the parts before the refused one filled. Nothing is allocated.
+///
+/// A part is of the first field that it parses as, of those after the field of the part before it. So `nuttx` in
+/// `armv7a-nuttx-eabi` is the vendor, since it is the name of no field. The whole of a special text gives all five
+/// fields; its parts have none of their own.
+pub fn explain(text: &str) -> Result<Explanation<'_>, ExplainedError<'_>>
+    ensures triple { IfOk result (λ it. ReadsAs text.entry.now (values_of_ref it.triple)) }
+    ensures sources { IfOk result (λ it. AreSourcesOf text.entry.now (sources_of it.sources)) }
+    ensures ranges { IfOk result (λ it. AreInText text.entry.now (sources_of it.sources)) }
+    ensures error { IfErr result
+        (λ it. IsRefusedAs text.entry.now (refusal_of_ref it.error)) }
+    ensures refused { IfErr result
+        (λ it. IsRefusedAfter text.entry.now (refusal_of_ref it.error)
+        (sources_of it.sources) (part_value it.part)) }
+    ensures refused_ranges { IfErr result
+        (λ it. AreInText text.entry.now (sources_of it.sources)
+        × IsInText text.entry.now (part_value it.part)) }
+{
+    length_fits(text);
+    let reading = Reading::from_text(text);
+    match reading.result {
+        Ok(triple) => {
+            // Only a special text has no architecture of its own.
+            let sources = match reading.parts.architecture {
+                None => Sources::of_special_text(text),
+                Some(_) => Sources::of_parts(reading.parts, Source::Implied).0,
+            };
+            Ok(Explanation { triple, sources })
         }
-        length_fits(text);
-        let reading = Reading::from_parts(Part::first(text));
-        match reading.result {
-            Ok(triple) => {
-                let sources = Sources::of_parts(reading.parts, Source::Implied);
-                Ok(Explanation { triple, sources })
-            }
-            Err(error) => {
-                let start = text.len() - reading.refused_length;
-                let part = TextPart::starting_at(error.part(), start);
-                let sources = Sources::of_parts(reading.parts, Source::NotGiven);
-                Err(ExplainedError {
-                    error,
-                    part,
-                    sources,
-                })
-            }
+        Err(error) => {
+            let (sources, start) = Sources::of_parts(reading.parts, Source::NotGiven);
+            let part = TextPart::starting_at(error.part(), start);
+            Err(ExplainedError {
+                error,
+                part,
+                sources,
+            })
         }
     }
 }

@@ -1,19 +1,15 @@
--- The parts that fields take one after the other are those of the least placement, and where they are in the text.
-use Rattle.std.proofs.Common.{◌≡◌, ℕ, ◌+◌, ◌-◌, ◌<◌, ◌≤◌, List, [], ◌∷◌, ◌++◌, take, length, true, false, nat_eq, Option, Some, None, Result, Err, IfErr, refl, sym, ◌∙◌, ap, subst, arith, inl, inr}
+-- The parts that fields take one after the other are those that the least placement assigns.
+use Rattle.std.proofs.Common.{◌≡◌, ℕ, ◌<◌, ◌≤◌, List, [], ◌∷◌, ◌++◌, take, length, true, false, nat_eq, Option, Some, None, Result, Ok, Err, refl, sym, ◌∙◌, ap, subst, arith, inl, inr}
 use Rattle.std.specs.Prelude.{is_some}
-use Rattle.std.specs.List.{join_with_byte}
 use Rattle.std.proofs.{Math.Seq.take-append_seam, lemmas.Bool.cases_Bool}
-use Rattle.lexicon_fields.specs.Names.{dash}
 use Rattle.lexicon_fields.specs.{declared.architecture.Architecture.Architecture as AnyArchitecture, Architecture.architecture_of, Vendor.vendor_of, OperatingSystem.operating_system_of, Environment.environment_of, BinaryFormat.binary_format_of}
 use Rattle.target_lexicon.specs.Field.{Field, Architecture, Vendor, OperatingSystem, Environment, BinaryFormat, field_number, parses_as}
-use Rattle.target_lexicon.specs.FieldTexts.{texts, texts_at, no_texts, taken_part, parts_left, taken_after_architecture, taken_texts, left_after_architecture, left_by_fields, dashed_length}
+use Rattle.target_lexicon.specs.FieldTexts.{FieldTexts, texts, texts_at, no_texts, taken_part, parts_left, taken_after_architecture, taken_texts, AreTextsOf, AreFieldTextsOf, AreTakenFrom}
 use Rattle.target_lexicon.specs.{Placement.ArePartsOf, Placement.IsLeastPlacement, Placement.HasPlacement, Placement.parts_of, SpecialTexts.special_values, Values.Values}
 use Rattle.target_lexicon.specs.Reading.{part_at, IsRefusal, IsRefusedAs, PartsReadAs, ReadsAs, expected_after, last_field}
 use Rattle.target_lexicon.specs.Refusal.{Expects, Refusal, refusal_with}
-use Rattle.target_lexicon.specs.Explanation.{SourceValue, NotGiven, Implied, source_at, sources_at, next_start, AreSourcesOf, AreTextsOf, IsRefusalAfter, IsRefusedAfter, IsInText, AreInText}
 use Rattle.target_lexicon.proofs.GreedyPlacement.{IsPlacedAfter, Follows, filled, unread, after_architecture, filled-placed, greedy-finds, greedy-least, placement_prefix}
-use Rattle.target_lexicon.proofs.{PartLemmas.parts_of-are, PartLemmas.parts-only, RefusalLemmas.stop, RefusalLemmas.refused_first, RefusalLemmas.refused-at, UniqueReading.refusal_at, UniqueReading.refusal_unique}
-use Rattle.target_lexicon.proofs.TextRanges.{AreAt, first-in, all-in, left-length}
+use Rattle.target_lexicon.proofs.{ComputedReading.Holds, PartLemmas.parts_of-are, PartLemmas.parts-only, RefusalLemmas.stop, RefusalLemmas.refused_first, RefusalLemmas.refused-at, UniqueReading.refusal_at, UniqueReading.refusal_unique}
 
 -- a field has no part in a greedy placement of later fields
 absent : (f l : Field) (fs : List Field) (ps : List (List ℕ)) → field_number f ≤ field_number l → Follows l fs → part_at f ps (filled fs ps) ≡ None
@@ -105,9 +101,16 @@ texts-append p ps more gs w =
 in_order : Follows Architecture after_architecture
 in_order = (refl, (refl, (refl, (refl, refl))))
 
--- where the parts of the text begin
-starts-at : (text p : List ℕ) (ps : List (List ℕ)) → parts_of text ≡ p ∷ ps → AreAt text 0 (p ∷ ps)
-starts-at text p ps are = ([], refl, sym (parts_of-are text).joined ∙ ap (join_with_byte dash) are)
+-- the parts that all fields leave
+
+abbrev pub left_after_architecture : Option AnyArchitecture → List ℕ → List (List ℕ) → List (List ℕ)
+left_after_architecture (Some a) p ps =
+    parts_left binary_format_of (parts_left environment_of (parts_left operating_system_of (parts_left vendor_of ps)))
+left_after_architecture None p ps = p ∷ ps
+
+abbrev pub left_by_fields : List (List ℕ) → List (List ℕ)
+left_by_fields [] = []
+left_by_fields (p ∷ ps) = left_after_architecture (architecture_of p) p ps
 
 -- the parts that a greedy placement leaves are those that the fields leave
 unread-step : {A : Type 0} (f : Field) (find : List ℕ → Option A) (is_read : (p : List ℕ) → parses_as f p ≡ is_some (find p)) (fs : List Field) (ps : List (List ℕ))
@@ -129,101 +132,88 @@ unread-left a p ps =
     unread-step Vendor vendor_of (λ p. refl) _ ps ∙ unread-step OperatingSystem operating_system_of (λ p. refl) _ _
     ∙ unread-step Environment environment_of (λ p. refl) _ _ ∙ unread-step BinaryFormat binary_format_of (λ p. refl) _ _ ∙ unread-none _
 
+-- the parts before the refused one are those that fields take, and the refused one is the first that they leave
+pub record IsStuckAt (parts : List (List ℕ)) (refusal : Refusal) : Type 0 where
+  pub holds : IsRefusal parts refusal
+  pub earlier : AreTextsOf (take holds.count parts) (taken_texts parts)
+  pub rest : List (List ℕ)
+  pub left : left_by_fields parts ≡ refusal.part ∷ rest
+
+-- the first part is no architecture
+stuck-first : (p : List ℕ) (ps : List (List ℕ)) → parses_as Architecture p ≡ false → IsStuckAt (p ∷ ps) (refusal_with (Expects Architecture) p)
+unfolding parses_as
+stuck-first p ps skips =
+    record { holds = refused_first p ps skips; earlier = taken-none p ps skips; rest = ps; left = by_architecture (architecture_of p) skips }
+  where
+    by_architecture : (a : Option AnyArchitecture) → is_some a ≡ false → left_after_architecture a p ps ≡ p ∷ ps
+    by_architecture None h = refl
+    by_architecture (Some a) h = absurd cc
+
+-- a later part is left
+stuck-later : (p : List ℕ) (ps : List (List ℕ)) (q : List ℕ) (rest : List (List ℕ)) → parses_as Architecture p ≡ true → unread after_architecture ps ≡ q ∷ rest
+    → IsStuckAt (p ∷ ps) (refusal_with (expected_after (last_field Architecture (filled after_architecture ps))) q)
+unfolding parses_as
+stuck-later p ps q rest takes unplaced =
+    let s = stop after_architecture ps q rest unplaced in
+    let placed = filled-placed Architecture after_architecture s.prefix in_order s.taken in
+    let least = greedy-least p s.prefix takes s.taken in
+    let texts_are : taken_texts (p ∷ ps) ≡ texts_at (p ∷ s.prefix) (Architecture ∷ filled after_architecture s.prefix) =
+    taken-placed p ps takes
+    ∙ ap (λ gs. texts_at (p ∷ ps) (Architecture ∷ gs)) (sym s.same)
+    ∙ ap (λ qs. texts_at (p ∷ qs) (Architecture ∷ filled after_architecture s.prefix)) s.split
+    ∙ texts-append p s.prefix (q ∷ rest) _ placed in
+    let earlier : AreTextsOf (p ∷ take (length s.prefix) (s.prefix ++ (q ∷ rest))) (taken_texts (p ∷ ps)) =
+    subst (λ qs. AreTextsOf (p ∷ qs) (taken_texts (p ∷ ps))) (sym (take-append_seam s.prefix (q ∷ rest))) (Architecture ∷ filled after_architecture s.prefix, least, texts_are) in
+    let left : left_by_fields (p ∷ ps) ≡ q ∷ rest = by_architecture (architecture_of p) takes in
+    let here : IsStuckAt (p ∷ (s.prefix ++ (q ∷ rest))) (refusal_with (expected_after (last_field Architecture (filled after_architecture s.prefix))) q) =
+    record {
+      holds = refused-at p s.prefix q rest takes s.taken s.stuck;
+      earlier = subst (λ qs. AreTextsOf (p ∷ take (length s.prefix) (s.prefix ++ (q ∷ rest))) (taken_texts (p ∷ qs))) s.split earlier;
+      rest = rest;
+      left = subst (λ qs. left_by_fields (p ∷ qs) ≡ q ∷ rest) s.split left;
+    } in
+    subst (λ gs. IsStuckAt (p ∷ ps) (refusal_with (expected_after (last_field Architecture gs)) q)) s.same
+    (subst (λ qs. IsStuckAt (p ∷ qs) (refusal_with (expected_after (last_field Architecture (filled after_architecture s.prefix))) q)) (sym s.split) here)
+  where
+    by_architecture : (a : Option AnyArchitecture) → is_some a ≡ true → left_after_architecture a p ps ≡ q ∷ rest
+    by_architecture None h = absurd cc
+    by_architecture (Some a) h = sym (unread-left a p ps) ∙ unplaced
+
 module _ (text p : List ℕ) (ps : List (List ℕ)) (ordinary : special_values text ≡ None) (are : parts_of text ≡ p ∷ ps) where
-  -- the parts that are left begin where the parts of the fields end
-  pub next_start-left : next_start (taken_texts (p ∷ ps)) + dashed_length (left_by_fields (p ∷ ps)) ≡ length text + 1
-  next_start-left =
-      let joined : join_with_byte dash (p ∷ ps) ≡ text = ap (join_with_byte dash) (sym are) ∙ (parts_of-are text).joined in
-      left-length p ps ∙ ap (λ bytes. length bytes + 1) joined
-
-  pub refused-start : {A E : Type 0} (r : Result A E) (e : E) (n : ℕ) → r ≡ Err e → IfErr r (λ _. dashed_length (left_by_fields (p ∷ ps)) ≡ n + 1)
-      → (n ≤ length text) × (length text - n ≡ next_start (taken_texts (p ∷ ps)))
-  refused-start r e n is if_refused =
-      let left = subst (λ r. IfErr r (λ _. dashed_length (left_by_fields (p ∷ ps)) ≡ n + 1)) is if_refused in
-      (omega (arith, next_start-left, left), omega (arith, next_start-left, left))
-
-  -- a text that reads: the parts are those of the least placement
-  pub read-sources : (t : Values) → ReadsAs text t → AreSourcesOf text (sources_at Implied (taken_texts (p ∷ ps)))
-  read-sources t reads = rw ordinary (by_parts (rw ordinary at reads))
+  -- the parts of a text that reads
+  pub read-taken : (t : Values) → ReadsAs text t
+      → (fields : List Field) × IsLeastPlacement (p ∷ ps) fields × (taken_texts (p ∷ ps) ≡ texts_at (p ∷ ps) fields)
+  read-taken t reads = by_parts (rw ordinary at reads)
     where
       by_parts : ((parts : List (List ℕ)) × ArePartsOf text parts × PartsReadAs parts t)
-          → (parts : List (List ℕ)) × ArePartsOf text parts × ((fields : List Field) × IsLeastPlacement parts fields × (sources_at Implied (taken_texts (p ∷ ps)) ≡ sources_at Implied (texts_at parts fields)))
+          → (fields : List Field) × IsLeastPlacement (p ∷ ps) fields × (taken_texts (p ∷ ps) ≡ texts_at (p ∷ ps) fields)
       by_parts (parts, of_text, (fields, least, holds)) =
           let same : parts ≡ p ∷ ps = parts-only text parts of_text ∙ are in
           let found = greedy-finds p ps (subst HasPlacement same (fields, least.placed)) in
-          (p ∷ ps, subst (ArePartsOf text) same of_text, (Architecture ∷ filled after_architecture ps, greedy-least p ps found.0 found.1, ap (sources_at Implied) (taken-placed p ps found.0)))
+          (Architecture ∷ filled after_architecture ps, greedy-least p ps found.0 found.1, taken-placed p ps found.0)
 
-  pub read-ranges : (unfilled : SourceValue) → IsInText text unfilled → AreInText text (sources_at unfilled (taken_texts (p ∷ ps)))
-  read-ranges unfilled none = (all-in text unfilled p ps none (starts-at text p ps are)).0
+  -- the refusal of the text is the one at which the fields are stuck
+  as_refused : (x y : Refusal) → IsRefusedAs text x → IsStuckAt (p ∷ ps) y → IsStuckAt (p ∷ ps) x
+  as_refused x y refused stuck = subst (IsStuckAt (p ∷ ps)) (refusal_unique text y x (ordinary, (p ∷ ps, subst (ArePartsOf text) are (parts_of-are text), stuck.holds)) refused) stuck
 
-  abbrev refused_part : List ℕ → SourceValue
-  refused_part q = source_at NotGiven (next_start (taken_texts (p ∷ ps))) (Some q)
-
-  -- what a refusal is explained by
-  abbrev pub IsExplained : Refusal → Type 0
-  IsExplained x = IsRefusalAfter (p ∷ ps) x (sources_at NotGiven (taken_texts (p ∷ ps))) (refused_part x.part) × IsInText text (refused_part x.part)
-
-  refused_part-in : (q : List ℕ) (rest : List (List ℕ)) → left_by_fields (p ∷ ps) ≡ q ∷ rest → IsInText text (refused_part q)
-  refused_part-in q rest left =
-      let at = (all-in text NotGiven p ps tt (starts-at text p ps are)).1 in
-      (first-in text _ q rest (subst (AreAt text (next_start (taken_texts (p ∷ ps)))) left at)).0
-
-  -- the first part is no architecture
-  explained-first : parses_as Architecture p ≡ false → IsExplained (refusal_with (Expects Architecture) p)
-  unfolding parses_as
-  explained-first skips =
-      let none = taken-none p ps skips in (
-        record { refusal_holds = refused_first p ps skips; filled = taken_texts (p ∷ ps); earlier = none; sources = refl; refused = refl },
-        refused_part-in p ps (by_architecture (architecture_of p) skips),
-      )
-    where
-      by_architecture : (a : Option AnyArchitecture) → is_some a ≡ false → left_after_architecture a p ps ≡ p ∷ ps
-      by_architecture None h = refl
-      by_architecture (Some a) h = absurd cc
-
-  -- a later part is left
-  explained-left : (q : List ℕ) (rest : List (List ℕ)) → parses_as Architecture p ≡ true → unread after_architecture ps ≡ q ∷ rest
-      → IsExplained (refusal_with (expected_after (last_field Architecture (filled after_architecture ps))) q)
-  unfolding parses_as
-  explained-left q rest takes left =
-      let s = stop after_architecture ps q rest left in
-      let placed = filled-placed Architecture after_architecture s.prefix in_order s.taken in
-      let least = greedy-least p s.prefix takes s.taken in
-      let texts_are : taken_texts (p ∷ ps) ≡ texts_at (p ∷ s.prefix) (Architecture ∷ filled after_architecture s.prefix) =
-      taken-placed p ps takes
-      ∙ ap (λ gs. texts_at (p ∷ ps) (Architecture ∷ gs)) (sym s.same)
-      ∙ ap (λ qs. texts_at (p ∷ qs) (Architecture ∷ filled after_architecture s.prefix)) s.split
-      ∙ texts-append p s.prefix (q ∷ rest) _ placed in
-      let earlier : AreTextsOf (p ∷ take (length s.prefix) (s.prefix ++ (q ∷ rest))) (taken_texts (p ∷ ps)) =
-      subst (λ qs. AreTextsOf (p ∷ qs) (taken_texts (p ∷ ps))) (sym (take-append_seam s.prefix (q ∷ rest))) (Architecture ∷ filled after_architecture s.prefix, least, texts_are) in
-      let here : IsRefusalAfter (p ∷ (s.prefix ++ (q ∷ rest))) (refusal_with (expected_after (last_field Architecture (filled after_architecture s.prefix))) q) (sources_at NotGiven (taken_texts (p ∷ ps))) (refused_part q) =
-      record { refusal_holds = refused-at p s.prefix q rest takes s.taken s.stuck; filled = taken_texts (p ∷ ps); earlier = earlier; sources = refl; refused = refl } in (
-        subst (λ gs. IsRefusalAfter (p ∷ ps) (refusal_with (expected_after (last_field Architecture gs)) q) (sources_at NotGiven (taken_texts (p ∷ ps))) (refused_part q)) s.same
-            (subst (λ qs. IsRefusalAfter (p ∷ qs) (refusal_with (expected_after (last_field Architecture (filled after_architecture s.prefix))) q) (sources_at NotGiven (taken_texts (p ∷ ps))) (refused_part q)) (sym s.split) here),
-        refused_part-in q rest (by_architecture (architecture_of p) takes),
-      )
-    where
-      by_architecture : (a : Option AnyArchitecture) → is_some a ≡ true → left_after_architecture a p ps ≡ q ∷ rest
-      by_architecture None h = absurd cc
-      by_architecture (Some a) h = sym (unread-left a p ps) ∙ left
-
-  -- the refusal of the text is the one that is explained
-  as_refused : (x y : Refusal) → IsRefusedAs text x → IsExplained y → IsExplained x
-  as_refused x y refused explained = subst IsExplained (refusal_unique text y x (ordinary, (p ∷ ps, subst (ArePartsOf text) are (parts_of-are text), explained.0.refusal_holds)) refused) explained
-
-  pub refused-explained : (x : Refusal) → IsRefusedAs text x → IsExplained x
-  refused-explained x refused =
+  pub refused-stuck : (x : Refusal) → IsRefusedAs text x → IsStuckAt (p ∷ ps) x
+  refused-stuck x refused =
       elim (cases_Bool (parses_as Architecture p)) [
-        | inr skips ↦ as_refused x _ refused (explained-first skips)
+        | inr skips ↦ as_refused x _ refused (stuck-first p ps skips)
         | inl takes ↦ by_left (unread after_architecture ps) refl takes
       ]
     where
-      by_left : (left : List (List ℕ)) → unread after_architecture ps ≡ left → parses_as Architecture p ≡ true → IsExplained x
+      by_left : (left : List (List ℕ)) → unread after_architecture ps ≡ left → parses_as Architecture p ≡ true → IsStuckAt (p ∷ ps) x
       by_left [] done takes =
           let at = subst (λ parts. IsRefusal parts x) are (refusal_at text x refused) in
           absurd (at.unplaced (placement_prefix at.count (p ∷ ps) (Architecture ∷ filled after_architecture ps, (greedy-least p ps takes done).placed)))
-      by_left (q ∷ rest) left takes = as_refused x _ refused (explained-left q rest takes left)
+      by_left (q ∷ rest) left takes = as_refused x _ refused (stuck-later p ps q rest takes left)
 
-  -- so the text is refused after the earlier parts
-  pub refused-after : (x : Refusal) → IsRefusedAs text x → IsRefusedAfter text x (sources_at NotGiven (taken_texts (p ∷ ps))) (refused_part x.part) × IsInText text (refused_part x.part)
-  refused-after x refused = let explained = refused-explained x refused in ((p ∷ ps, subst (ArePartsOf text) are (parts_of-are text), explained.0), explained.1)
+  -- the parts that fields take are those that the least placement assigns
+  pub taken-assigned : (result : Result Values Refusal) → Holds text result → AreFieldTextsOf text (taken_texts (p ∷ ps))
+  taken-assigned (Ok t) reads = rw ordinary (p ∷ ps, subst (ArePartsOf text) are (parts_of-are text), inl (read-taken t reads))
+  taken-assigned (Err x) refused =
+      let stuck = refused-stuck x refused in rw ordinary (p ∷ ps, subst (ArePartsOf text) are (parts_of-are text), inr (x, (stuck.holds, stuck.earlier)))
+
+  pub taken-from : AreTakenFrom text (taken_texts (p ∷ ps))
+  taken-from = rw (ordinary, are) refl

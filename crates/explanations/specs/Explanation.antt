@@ -1,9 +1,10 @@
 -- Where the value of each field comes from: a part of the text, and its range there.
-use Rattle.std.specs.Prelude.{◌≡◌, ℕ, ◌+◌, ◌≤◌, List, [], ◌∷◌, length, take, Option, Some, None, MatchOption}
+use Rattle.std.specs.Prelude.{◌≡◌, ℕ, ◌+◌, ◌≤◌, List, length, take, Option, Some, None, MatchOption}
 use Rattle.std.specs.List.{slice_range}
-use Rattle.target_lexicon.specs.{declared.explain.Source.Source, declared.explain.Sources.Sources, declared.explain.TextPart.TextPart, Field.Field, FieldTexts.FieldTexts, FieldTexts.no_texts, FieldTexts.texts_at}
+use Rattle.explanations.specs.declared.explanation.{Source.Source, Sources.Sources, TextPart.TextPart}
+use Rattle.target_lexicon.specs.{Field.Field, FieldTexts.AreTextsOf, FieldTexts.FieldTexts, FieldTexts.texts_at}
 use Rattle.target_lexicon.specs.{Placement.ArePartsOf, Placement.IsLeastPlacement, Reading.IsRefusal, Refusal.Refusal, SpecialTexts.special_values}
-use Rattle.target_lexicon.specs.declared.explain.Source.TheVariants as source
+use Rattle.explanations.specs.declared.explanation.Source.TheVariants as source
 
 -- where a value comes from: these bytes, from one index of the text up to another; no part of the text; or the other
 -- fields
@@ -80,11 +81,6 @@ abbrev pub AreSourcesOf : List ℕ → SourceValues → Type 0
 AreSourcesOf text s = MatchOption (special_values text)
     ((parts : List (List ℕ)) × ArePartsOf text parts × ((fields : List Field) × IsLeastPlacement parts fields × (s ≡ sources_at Implied (texts_at parts fields))))
     (λ values. s ≡ whole_text_sources text)
-
--- what the least placement of these parts, of which there may be none, assigns
-abbrev pub AreTextsOf : List (List ℕ) → FieldTexts → Type 0
-AreTextsOf [] t = t ≡ no_texts
-AreTextsOf (p ∷ ps) t = (fields : List Field) × IsLeastPlacement (p ∷ ps) fields × (t ≡ texts_at (p ∷ ps) fields)
 
 -- the refusal of parts; the earlier ones fill fields from these sources, and this is the refused one
 pub record IsRefusalAfter (parts : List (List ℕ)) (refusal : Refusal) (s : SourceValues) (part : SourceValue) : Type 0 where

@@ -1,7 +1,7 @@
 use Rattle.std.proofs.Common.{rules, ◌≡◌, ap}
 use Rattle.std.proofs.lemmas.Bool.Decides.{Decides-like, Decides-and}
-use Rattle.target_lexicon.specs.Explanation.{SourceValues, source_values, sources_of}
-use Rattle.target_lexicon.proofs.laws.explanations_are_equal_by_value.Goals as goal
+use Rattle.explanations.specs.Explanation.{SourceValues, source_values, sources_of}
+use Rattle.explanations.proofs.laws.explanations_are_equal_by_value.Goals as goal
 
 same_sources : (s t : SourceValues) → s.architecture ≡ t.architecture → s.vendor ≡ t.vendor → s.operating_system ≡ t.operating_system
     → s.environment ≡ t.environment → s.binary_format ≡ t.binary_format → s ≡ t
