@@ -99,7 +99,7 @@ impl<'a> TripleRef<'a> {
     }
 
     /// The pieces of the printed text.
-    #[inline(always)] // with `pieces_with` and a system's `fmt`: saves a tenth of a line of `print` (103 of 1,056)
+    #[inline(always)] // these hints and that of a system's `fmt` save 126 of the 1,056 instructions of `print`
     #[tactic(auto, unfolding(crate::specs::Printing::text_of))]
     fn pieces(&self) -> Pieces<'a>
         ensures { pieces_text result ≡ text_of (values_of_ref self.now) }
@@ -138,6 +138,7 @@ impl<'a> TripleRef<'a> {
     }
 
     /// Whether the vendor is shown.
+    #[inline(always)]
     #[tactic(auto, unfolding(crate::specs::Printing::shows_vendor))]
     fn shows_vendor(&self) -> bool
         ensures { result ≡ spec.shows_vendor (values_of_ref self.now) }
@@ -215,6 +216,7 @@ impl<'a> TripleRef<'a> {
     }
 
     /// Whether the binary format is shown: if it isn't the implied one, or `shows_implied_format` holds.
+    #[inline(always)]
     #[tactic(auto, unfolding(crate::specs::Printing::shows_binary_format))]
     fn shows_binary_format(&self) -> bool
         ensures { result ≡ spec.shows_binary_format (values_of_ref self.now) }
