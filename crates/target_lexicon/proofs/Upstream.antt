@@ -31,10 +31,10 @@ growth_tail true false system same = let rest = append_cancel_left (dash ∷ sys
 growth_tail false true system same = absurd (omega (arith, ap length same, length-append system (dashed (unknown ∷ unknown ∷ []))))
 growth_tail false false system same = cc
 
-longer_text : (a : Architecture) (v : VendorValue) (s : OperatingSystem) → let t = values a v s environment.Unknown binary_format.Unknown in
+other_names : (a : Architecture) (v : VendorValue) (s : OperatingSystem) → let t = values a v s environment.Unknown binary_format.Unknown in
     join_with_byte dash (shown_names true t) ≢ join_with_byte dash (shown_names false t)
 unfolding shown_names shows_environment
-longer_text a v s same =
+other_names a v s same =
     let t = values a v s environment.Unknown binary_format.Unknown in
     growth_tail (shows_operating_system t) (shows_binary_format t) (operating_system_name s)
     (same_parts (shows_vendor t) (vendor_name v) _ _ (same_first (architecture_name a) _ _ same))
@@ -46,7 +46,7 @@ unknowns_shown _ other = refl
 other_text : (t : Values) → ShowsUnknowns t → text_of t ≢ upstream_text_of t
 unfolding text_of upstream_text_of
 other_text t is same =
-    longer_text t.architecture t.vendor t.operating_system (rw (is.special, is.environment, is.binary_format, unknowns_shown _ (rw (is.environment) at is.implied)) at same)
+    other_names t.architecture t.vendor t.operating_system (rw (is.special, is.environment, is.binary_format, unknowns_shown _ (rw (is.environment) at is.implied)) at same)
 
 -- the triples for which this is so
 shows_unknowns_by : (t : Values) (special : Option (List ℕ)) (b : Bool) → special_text t ≡ special → shows_unknowns t ≡ b → text_of t ≢ upstream_text_of t → ShowsUnknowns t
