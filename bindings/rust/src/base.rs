@@ -54,8 +54,6 @@ pub mod marker {
 }
 
 pub mod simd {
-    use core::convert::TryInto;
-
     pub mod prelude {
         use core::convert::TryInto;
 
