@@ -28,6 +28,14 @@ The targets are the arguments, or the lines of the input. No target has no answe
     operating system    unknown  not given
     environment         eabi     given as `eabi`
     binary format       elf      implied
+  $ lexicon explain x86_64-linx < /dev/null
+  x86_64-linx
+    architecture        x86_64   given as `x86_64`
+    vendor              linx     custom, given as `linx`
+    operating system    unknown  not given
+    environment         unknown  not given
+    binary format       elf      implied
+    note                `linx` is a custom vendor; did you mean `linux`?
   $ lexicon facts x86_64-apple-darwin23.6 avr-none armv7a-nuttx-eabi < /dev/null
   x86_64-apple-darwin23.6
     architecture        x86_64
@@ -122,6 +130,11 @@ The targets are the arguments, or the lines of the input. No target has no answe
   !   x86_64-aple-darwin
   !          ^^^^ did you mean `apple`?
   [1]
+  $ lexicon check --strict x86_64-linx < /dev/null
+  ! error: custom vendor `linx`
+  !   x86_64-linx
+  !          ^^^^ did you mean `linux`?
+  [1]
   $ lexicon check x86_64 x86_64-pc-linux-gnu < /dev/null
   $ lexicon settle -- x86_64 < /dev/null
   x86_64-unknown-unknown-elf
@@ -195,14 +208,20 @@ It is one line without spaces, with the keys in order. `json` breaks it at comma
   [{"architecture":{"origin":"alias","part":"arm64","value":"aarch64"},"binary_format":{"origin":"implied",
   "part":null,"value":"macho"},"environment":{"origin":"not given","part":null,"value":"unknown"},
   "has_custom_vendor":false,"operating_system":{"origin":"alias","part":"ios17","value":"ios17.0.0"},
-  "target":"arm64-apple-ios17","vendor":{"origin":"given","part":"apple",
+  "suggestion":null,"target":"arm64-apple-ios17","vendor":{"origin":"given","part":"apple",
   "value":"apple"}}]
   $ json explain --json armv7a-nuttx-eabi
   [{"architecture":{"origin":"given","part":"armv7a","value":"armv7a"},"binary_format":{"origin":"implied",
   "part":null,"value":"elf"},"environment":{"origin":"given","part":"eabi","value":"eabi"},
   "has_custom_vendor":true,"operating_system":{"origin":"not given","part":null,"value":"unknown"},
-  "target":"armv7a-nuttx-eabi","vendor":{"origin":"given","part":"nuttx",
+  "suggestion":null,"target":"armv7a-nuttx-eabi","vendor":{"origin":"given","part":"nuttx",
   "value":"nuttx"}}]
+  $ json explain --json x86_64-linx
+  [{"architecture":{"origin":"given","part":"x86_64","value":"x86_64"},"binary_format":{"origin":"implied",
+  "part":null,"value":"elf"},"environment":{"origin":"not given","part":null,"value":"unknown"},
+  "has_custom_vendor":true,"operating_system":{"origin":"not given","part":null,"value":"unknown"},
+  "suggestion":"linux","target":"x86_64-linx","vendor":{"origin":"given","part":"linx",
+  "value":"linx"}}]
   $ json facts --json x86_64-pc-linx avr-none 'x86_64-é"-linux'
   [{"error":"unrecognized operating system","part":"linx","start":10,"suggestion":"linux",
   "target":"x86_64-pc-linx"},{"architecture":"avr","binary_format":"unknown",
@@ -227,7 +246,7 @@ It is one line without spaces, with the keys in order. `json` breaks it at comma
   "pointer_size":8,"pointer_width":64,"printed":"x86_64-acme-linux","short_size":2,
   "target":"x86_64-acme-linux","vendor":"acme","version":null}]
   $ wc -l < all
-  5
+  6
 
 ## Arguments
 
