@@ -126,15 +126,12 @@ build() {
 }
 
 # `rt ci` proves by itself, and lets no other command into the crates' folders. So the programs are proved at the same time,
-# in a copy, if a processor is idle; otherwise after it. The copy stays in git's folder, for the next run.
+# in a copy, if a processor is idle; otherwise after it.
 build_beside() {
-    copy=$(git rev-parse --absolute-git-dir 2> /dev/null)/gate
-    [ "$copy" != /gate ] && has cc && [ "$jobs" -lt "$processors" ] && [ "$memory" -ge $((5 * (jobs + 1))) ] || return 0
-    mkdir -p "$copy/crates"
-    rm -rf "$copy/bindings"
-    find "$copy/crates" -mindepth 2 -maxdepth 2 ! -name out -exec rm -rf {} +
-    tar cf - --exclude=out --exclude=target --exclude=must-fail LICENSE HANDLES crates.txt crates bindings | tar xf - -C "$copy"
-    start build "$copy" --jobs 1 > "$work/build" 2>&1
+    has cc && [ "$jobs" -lt "$processors" ] && [ "$memory" -ge $((5 * (jobs + 1))) ] || return 0
+    mkdir "$work/copy"
+    tar cf - --exclude=out --exclude=target --exclude=must-fail LICENSE HANDLES crates.txt crates bindings | tar xf - -C "$work/copy"
+    start build "$work/copy" --jobs 1 > "$work/build" 2>&1
     builder=$!
 }
 
