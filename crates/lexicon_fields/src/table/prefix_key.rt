@@ -13,28 +13,20 @@ pub(crate) fn order(own_key: u64, own: &str, key: u64, text: &str) -> Ordering
     requires text { key ≡ prefix_key_of 8 text.now }
     ensures { result ≡ slice_cmp nat_cmp own.now text.now }
 {
-    match order_of_numbers(own_key, key) {
-        Ordering::Equal => {}
-        unequal => return unequal,
+    // branches, since a line takes a tenth more instructions if this is `own_key.cmp(&key)`
+    if own_key < key {
+        return Ordering::Less;
+    }
+    if key < own_key {
+        return Ordering::Greater;
     }
     if own.len() <= 8 || text.len() <= 8 {
-        return order_of_numbers(own.len() as u64, text.len() as u64);
+        if own.len() == text.len() {
+            return Ordering::Equal;
+        }
+        return own.len().cmp(&text.len());
     }
     own.as_bytes()[8..].iter().cmp(text.as_bytes()[8..].iter())
-}
-
-/// The order of two numbers. Made by branches it saves a tenth of the instructions of a line, compared with `cmp`.
-#[inline(always)]
-fn order_of_numbers(a: u64, b: u64) -> Ordering
-    ensures { result ≡ nat_cmp a b }
-{
-    if a < b {
-        Ordering::Less
-    } else if b < a {
-        Ordering::Greater
-    } else {
-        Ordering::Equal
-    }
 }
 
 /// The first eight bytes as a big-endian number; a missing byte is zero.
