@@ -33,7 +33,7 @@
 
 /* The version of these calls; the name of the shared library has its first number. */
 #define LEXICON_VERSION_MAJOR 0
-#define LEXICON_VERSION_MINOR 2
+#define LEXICON_VERSION_MINOR 3
 #define LEXICON_VERSION_PATCH 0
 #define LEXICON_TEXT_OF(number) #number
 #define LEXICON_DOTTED(major, minor, patch) LEXICON_TEXT_OF(major) "." LEXICON_TEXT_OF(minor) "." LEXICON_TEXT_OF(patch)

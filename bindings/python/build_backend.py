@@ -26,7 +26,7 @@ LIBRARY = "lexicon/liblexicon.so.0"
 
 NEEDED = """the shared library of this package isn't built: {why}.
 Install Rust, which has cargo, or set the variable LEXICON_LIBRARY to PATH/liblexicon.so of a built library for C
-(liblexicon 0.2)."""
+(liblexicon 0.3)."""
 
 METADATA = """\
 Metadata-Version: 2.1

@@ -7,7 +7,7 @@ Its output is shown first, then its error output after `! `:
   >   sed 's/^/! /' errors; return $status
   > }
   $ lexicon --version < /dev/null
-  lexicon 0.2.0
+  lexicon 0.3.0
 
 ## What it says of targets
 

@@ -24,7 +24,7 @@ A TARGET that begins with a dash follows --.
 ";
 
 /// The version.
-const VERSION: &str = "lexicon 0.2.0\n";
+const VERSION: &str = "lexicon 0.3.0\n";
 
 /// What is written to the output and to the error output, and the status.
 #[derive(Drop)]

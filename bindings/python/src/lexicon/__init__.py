@@ -15,7 +15,7 @@ from ._library import LIBRARY_PATH, LibraryError
 from ._triple import Triple
 from ._values import Architecture, BinaryFormat, Environment, Family, OperatingSystem, Vendor
 
-__version__ = "0.2.0"
+__version__ = "0.3.0"
 
 __all__ = [
     "LIBRARY_PATH",

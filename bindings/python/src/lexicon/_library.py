@@ -13,7 +13,7 @@ from struct import Struct
 from typing import Callable, Iterator, List, Optional, Sequence, Tuple
 
 #: The first two numbers of the version of the calls, and the name of the shared library that has them.
-CALLS_VERSION = "0.2"
+CALLS_VERSION = "0.3"
 LOADER_NAME = "liblexicon.so.0"
 PACKAGE_FILE = os.path.join(os.path.dirname(os.path.abspath(__file__)), LOADER_NAME)
 
