@@ -48,9 +48,11 @@ with() {
     if [ -z "$missing" ]; then step "${@:2}"; else left_out+=("${*:2} (missing:$missing)"); fi
 }
 
-# has TOOL: a command, a file, a module of `python3`, or one of Debian's packages of modules, which are for Debian's Python.
+# has TOOL: a command, a file, a module of `python3`, one of Debian's packages of modules, which are for Debian's Python, or
+# rustc's `std` for wasm32.
 has() {
     case $1 in
+        wasm32) ls "$(PATH=$work/rust/bin:$PATH rustc --print target-libdir --target wasm32-unknown-unknown)"/libstd-*.rlib ;;
         pip | venv | ensurepip) python3 -c "import $1" ;;
         python3-*) /usr/bin/python3 -c "import ${1#python3-}" ;;
         */*) test -e "$1" ;;
@@ -84,12 +86,14 @@ trap 'exit 143' TERM
 by_itself() {
     case $1 in
         programs) echo "bindings/c/install FOLDER; and rt run in crates/oom_probe" ;;
+        web) echo "bindings/web/build; and bindings/web/check" ;;
         rt | checks/scripts) echo "$current" ;;
         *) echo "$1" ;;
     esac
 }
 
-# packages: as root, installs Debian's packages of the tools that are missing.
+# packages: as root, installs Debian's packages of the tools that are missing. Debian's rustc, for wasm32, is only unpacked: it is
+# too old for the other steps, which must not find it where there is no cargo.
 packages() {
     local tool package missing=()
     while read -r tool package; do has "$tool" || missing+=("$package"); done << 'END'
@@ -107,6 +111,9 @@ pkg-config pkg-config
 dpkg-deb dpkg
 pip python3-pip
 ensurepip python3-venv
+chromium chromium
+chromedriver chromium-driver
+python3-selenium python3-selenium
 END
     if [ "${#missing[@]}" = 0 ]; then
         echo "nothing is missing"
@@ -116,6 +123,10 @@ END
         echo "installing ${missing[*]}"
         { apt-get update && DEBIAN_FRONTEND=noninteractive apt-get install -y --no-install-recommends "${missing[@]}"; } \
             > "$work/apt" 2>&1 || { tail -n 5 "$work/apt"; echo "not installed: ${missing[*]}"; }
+    fi
+    if ! has wasm32 && has apt-get; then
+        echo "unpacking Debian's rustc for wasm32"
+        bindings/web/debian_rust "$work/rust" > "$work/apt" 2>&1 || { tail -n 5 "$work/apt"; echo "not unpacked"; }
     fi
 }
 
@@ -139,6 +150,12 @@ build_beside() {
 programs() {
     if [ -n "$builder" ]; then tail --pid="$builder" -n +1 -f "$work/build"; else build .; fi
     [ -e "$work/is_built" ]
+}
+
+# web: builds the module for JavaScript, the package and the page, and tests them.
+web() {
+    PATH=$work/rust/bin:$PATH bindings/web/build --out "$work/web" &&
+        bindings/web/check "$work/web" ${BUILT:+--program "$BUILT/bin/triples"}
 }
 
 # If several processors share the proof of a crate, each of them loads all that the proof needs. So each crate gets one

@@ -115,7 +115,7 @@ def refuses_and_suggests(page):
 
 def is_a_card(page):
     typed(page, "x86_64-unknown-linux-gnu\nx86_64-" + "z" * 300 + "-linux\nx86_64-pc-windws-msvc\n" + "y" * 300)
-    for width in 320, 400, 800, 1280, 1600:
+    for width in 320, 400, 800, 1100, 1168, 1169, 1280, 1600:
         page.size(width, 900)
         holds(page.run("document.documentElement.scrollWidth") <= width, f"at {width} pixels the page scrolls sideways")
         wide = page.run("[...document.querySelectorAll('main *')].filter((it) => it.getBoundingClientRect().right > innerWidth + 1"
@@ -124,6 +124,19 @@ def is_a_card(page):
     page.size(400, 900)
     same(page.run("getComputedStyle(document.querySelector('tbody tr')).display"), "block")
     same(page.run("getComputedStyle(document.querySelectorAll('tbody td')[0], '::before').content"), '"Architecture" / ""')
+
+
+def breaks_no_convention(page):
+    """Where the table has its least width, the longest names of conventions are on one line."""
+    typed(page, "x86_64-pc-windows-msvc\nwasm32-wasi\narm64-apple-ios")
+    page.size(1169, 900)
+    same(page.run("getComputedStyle(document.querySelector('tbody tr')).display"), "grid")
+    lines = page.run(ROWS + """.map((row) => {
+      const range = document.createRange();
+      range.selectNodeContents(document.createTreeWalker(row.cells[9], NodeFilter.SHOW_TEXT).nextNode());
+      return [row.cells[9].textContent, range.getClientRects().length];
+    })""")
+    same(lines, [["WindowsFastcall", 1], ["WasmBasicCAbi", 1], ["AppleAarch64", 1]])
 
 
 def complete_roles(page):
@@ -212,8 +225,8 @@ def stays_responsive(page):
 
 def page_tests(url):
     """The name of each test of the page at a URL, and the test."""
-    tests = [asks_for_two_files, shows_fields, shows_special_text, refuses_and_suggests, is_a_card, is_accessible, has_a_link,
-             copies_the_matrix, stays_responsive]
+    tests = [asks_for_two_files, shows_fields, shows_special_text, refuses_and_suggests, is_a_card, breaks_no_convention, is_accessible,
+             has_a_link, copies_the_matrix, stays_responsive]
     for test in tests:
         yield test.__name__.replace("_", " "), functools.partial(opened, f"{url}/", "", test)
     yield "opens a link", functools.partial(opens_a_link, url)
