@@ -8,6 +8,8 @@ from pygments.token import String
 from resolve import Contract, Resolver, Scope
 from words import GLOSSARY_PAGE
 
+# The lines of a declaration that `tools/names/write` writes from the table of names.
+LISTED = re.compile(r"^ *(?://|--) written by tools/names/write: .*\n(?:.*\n)*?(?: *(?://|--) end of what is written$|.*\Z)", re.M)
 SHOWN_KINDS = ("fn", "struct", "enum", "const", "static", "type", "ghost", "trait")
 
 
@@ -84,11 +86,22 @@ class References:
         return [it for it in order if it not in words]
 
     def lines(self, word):
-        """How many lines declare a word, without comments and empty lines."""
+        """How many lines declare a word, without comments, empty lines and those of `listed_lines`."""
+        comment, text = self.declaration(word)
+        return lines_of_code(LISTED.sub("", text), comment)
+
+    def listed_lines(self, word):
+        """How many of the lines that declare a word are written from the table of names."""
+        comment, text = self.declaration(word)
+        return lines_of_code(text, comment) - self.lines(word)
+
+    def declaration(self, word):
+        """The sign of a comment, and the text that declares a word; no text for one of Rattle's own."""
         if word.page == GLOSSARY_PAGE:
-            return 0
-        text = word.text if word.is_definition else word.file.file.text[word.origin.start : word.origin.end]
-        return lines_of_code(text, "--" if word.is_definition else "//")
+            return "//", ""
+        if word.is_definition:
+            return "--", word.text
+        return "//", word.file.file.text[word.origin.start : word.origin.end]
 
 
 @dataclass

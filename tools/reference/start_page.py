@@ -12,7 +12,7 @@ NOT_READ = ("impl", "law", "function", "ghost member")
 @dataclass
 class Part:
     """A part of the page, and how much a reader has to read for it: its contracts and the lines of their clauses, and
-    the definitions that no part above leads to, with their lines."""
+    the definitions that no part above leads to, with their lines, and apart those that are lists of names."""
 
     anchor: str
     heading: str
@@ -30,6 +30,10 @@ class Part:
         return sum(row.lines for row in self.rows)
 
     @property
+    def listed_lines(self):
+        return sum(row.listed_lines for row in self.rows)
+
+    @property
     def modules(self):
         """The contracts by module."""
         found = {}
@@ -43,6 +47,7 @@ class Row:
     number: int
     word: object
     lines: int
+    listed_lines: int
     total: int
 
 
@@ -77,7 +82,7 @@ class StartPage:
             if word.page != GLOSSARY_PAGE and word.origin is not None and word.kind not in NOT_READ:
                 own = self.references.lines(word)
                 total += own
-                part.rows.append(Row(len(part.rows) + 1, word, own, total))
+                part.rows.append(Row(len(part.rows) + 1, word, own, self.references.listed_lines(word), total))
         self.parts.append(part)
         return part
 
