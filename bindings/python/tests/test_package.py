@@ -23,6 +23,8 @@ import lists
 
 SOURCE = os.path.join(lists.ROOT, "bindings", "python")
 PRINTS = "from lexicon import Triple; print(Triple('arm64-linux'))"
+# The version of the library's calls: the first two numbers.
+CALLS = re.escape(lexicon.__version__.rpartition(".")[0])
 PIP = [sys.executable, "-m", "pip", "--disable-pip-version-check"]
 # Where Rust's programs have what they need.
 HOMES = {name: value for name, value in os.environ.items() if name in ("HOME", "RUSTUP_HOME", "RUSTUP_TOOLCHAIN", "CARGO_HOME")}
@@ -140,11 +142,11 @@ class FindsTheLibrary(Folder):
 
     def test_nowhere(self):
         for variables in {}, {"LEXICON_LIBRARY": "/nowhere/liblexicon.so"}:
-            expected = r"ImportError: lexicon needs the shared library liblexicon 0\.2: .*LEXICON_LIBRARY"
+            expected = rf"ImportError: lexicon needs the shared library liblexicon {CALLS}: .*LEXICON_LIBRARY"
             self.assertRegex(self.prints(**variables).stderr, expected)
 
     def test_another_library(self):
-        expected = r"ImportError: libc.so.6 isn't liblexicon 0\.2: it hasn't lexicon_parse"
+        expected = rf"ImportError: libc.so.6 isn't liblexicon {CALLS}: it hasn't lexicon_parse"
         self.assertRegex(self.prints(LEXICON_LIBRARY="libc.so.6").stderr, expected)
 
     def test_other_names(self):
