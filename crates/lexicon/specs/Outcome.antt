@@ -3,8 +3,9 @@ use Rattle.std.specs.Prelude.{◌≡◌, ◌==◌, ◌&&◌, ◌<◌, ◌⊎◌,
 use Rattle.std.specs.Cow.{cow_str_bytes}
 use Rattle.std.specs.Option.{option_map_or}
 use Rattle.std.specs.Str.{IsUtf8}
-use Rattle.lexicon_names.specs.{declared.field.Field.Field, KnownNames.known_names}
-use Rattle.lexicon_names.specs.declared.field.Field.TheVariants as field
+use Rattle.target_lexicon.specs.Field.{Field}
+use Rattle.target_lexicon.specs.Field as field
+use Rattle.lexicon_names.specs.KnownNames.{known_names}
 use Rattle.serde_json.specs.{Data.array, View.items_of, Written.compact_text}
 use Rattle.lexicon_programs.specs.{Lines.lines_of, Streams.ConsumesSome}
 use Rattle.lexicon.specs.{declared.command.Command.Command, declared.outcome.Outcome.Outcome, TargetAnswers.AreTextsFor, TargetAnswers.Texts, JsonAnswers.JsonValues, JsonAnswers.AreJsonValuesFor, Request.RequestValue, Request.argument_request}

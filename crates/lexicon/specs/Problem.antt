@@ -3,7 +3,6 @@ use Rattle.std.specs.Prelude.{◌≡◌, ℕ, List, [], ◌++◌, take, codes, O
 use Rattle.std.specs.List.{repeat}
 use Rattle.lexicon_fields.specs.Vendor.{VendorValue, Custom}
 use Rattle.lexicon_names.specs.{KnownNames.known_names, KnownNames.all_known_names, Nearest.IsNearestOf}
-use Rattle.lexicon_names.specs.declared.field.Field.TheVariants as name_field
 use Rattle.target_lexicon.specs.{Refusal.Expected, Refusal.Expects, Refusal.ExpectsNone, Refusal.Refusal}
 use Rattle.explanations.specs.Explanation.{SourceValue, FromPart, NotGiven, Implied}
 use Rattle.target_lexicon.specs.Field as field
@@ -38,11 +37,11 @@ source_start Implied = 0
 
 -- the problem of a refused part, by what was expected there
 abbrev pub expected_problem : Expected → List ℕ → ℕ → ProblemValue
-expected_problem (Expects field.Architecture) part start = problem (codes "unrecognized architecture") (candidates.Of name_field.Architecture) part start
-expected_problem (Expects field.Vendor) part start = problem (codes "unrecognized vendor") (candidates.Of name_field.Vendor) part start
-expected_problem (Expects field.OperatingSystem) part start = problem (codes "unrecognized operating system") (candidates.Of name_field.OperatingSystem) part start
-expected_problem (Expects field.Environment) part start = problem (codes "unrecognized environment") (candidates.Of name_field.Environment) part start
-expected_problem (Expects field.BinaryFormat) part start = problem (codes "unrecognized binary format") (candidates.Of name_field.BinaryFormat) part start
+expected_problem (Expects field.Architecture) part start = problem (codes "unrecognized architecture") (candidates.Of field.Architecture) part start
+expected_problem (Expects field.Vendor) part start = problem (codes "unrecognized vendor") (candidates.Of field.Vendor) part start
+expected_problem (Expects field.OperatingSystem) part start = problem (codes "unrecognized operating system") (candidates.Of field.OperatingSystem) part start
+expected_problem (Expects field.Environment) part start = problem (codes "unrecognized environment") (candidates.Of field.Environment) part start
+expected_problem (Expects field.BinaryFormat) part start = problem (codes "unrecognized binary format") (candidates.Of field.BinaryFormat) part start
 expected_problem ExpectsNone part start = problem (codes "unrecognized field") candidates.None part start
 
 abbrev pub refusal_problem : Refusal → ℕ → ProblemValue

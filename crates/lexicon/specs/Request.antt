@@ -3,10 +3,10 @@ use Rattle.std.specs.Prelude.{ℕ, ◌==◌, Bool, false, List, [], ◌∷◌, m
 use Rattle.std.specs.List.{list_any}
 use Rattle.std.specs.Str.{bytes_eq}
 use Rattle.lexicon_fields.specs.Names.{dash, value_named}
-use Rattle.lexicon_names.specs.declared.field.Field.{Field}
+use Rattle.target_lexicon.specs.Field.{Field}
 use Rattle.target_reports.specs.declared.report.Report.{Report}
 use Rattle.lexicon.specs.{declared.command.Command.Command, declared.command.Verb.Verb, declared.command.View.View, declared.request.Request.Request}
-use Rattle.lexicon_names.specs.declared.field.Field.TheVariants as field
+use Rattle.target_lexicon.specs.Field as field
 use Rattle.lexicon.specs.declared.command.Command.TheVariants as command
 use Rattle.lexicon.specs.declared.command.Verb.TheVariants as verb
 use Rattle.target_reports.specs.declared.report.Report.TheVariants as report

@@ -2,7 +2,7 @@
 ghost use Rattle.std.specs.Prelude.{◌≡◌};
 ghost use Rattle.lexicon.specs.Request.{verb_of, field_of};
 
-use lexicon_names::Field;
+use target_lexicon::Field;
 use target_reports::Report;
 
 /// The vendors that are read.

@@ -5,9 +5,10 @@ ghost use Rattle.lexicon.specs.Outcome.{CommandMayAllocate, IsOutcome, all_names
 use crate::answers::{TargetTexts, target_answers};
 use crate::command::Command;
 use crate::json::{TargetList, array_line, target_list};
-use lexicon_names::{Field, names};
+use lexicon_names::names;
 use std::alloc::{AllocError, Global};
 use std::borrow::CowStr;
+use target_lexicon::Field;
 use target_reports::push_three;
 
 /// What the arguments may be.

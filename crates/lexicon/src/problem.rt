@@ -8,9 +8,9 @@ ghost use Rattle.lexicon.specs.Problem.{AddsRefusal, IsSuggested, caret_line, pr
 
 use crate::command::Vendors;
 use explanations::{ExplainedError, Explanation, Source};
-use lexicon_names::{Field, nearest_name, nearest_of_all};
+use lexicon_names::{nearest_name, nearest_of_all};
 use std::alloc::AllocError;
-use target_lexicon::{ParseErrorRef, VendorRef};
+use target_lexicon::{Field, ParseErrorRef, VendorRef};
 use target_reports::{columns, push_copies, push_three};
 
 /// The names that a suggestion is taken from.

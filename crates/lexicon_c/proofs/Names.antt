@@ -4,12 +4,12 @@ use Rattle.std.specs.Prelude.{option_and_then}
 use Rattle.std.proofs.lemmas.Option.{slice_get_past}
 use Rattle.lexicon_fields.specs.{Architecture.architecture_name, Architecture.architecture_values, BinaryFormat.binary_format_name, BinaryFormat.binary_format_values}
 use Rattle.lexicon_fields.specs.{Environment.environment_name, Environment.environment_values, OperatingSystem.operating_system_name, Vendor.known_vendor_name, Vendor.known_vendors}
-use Rattle.lexicon_names.specs.{Numbers.operating_system_values, Numbers.system_with, declared.field.Field.Field}
-use Rattle.lexicon_names.specs.declared.field.Field.TheVariants as field
+use Rattle.lexicon_names.specs.Numbers.{operating_system_values, system_with}
+use Rattle.target_lexicon.specs.Field as field
 use Rattle.lexicon_c.specs.Numbers.{name_at}
 
 -- no field has so many values
-pub no_name : (f : Field) (n : ℕ) → 256 ≤ n → name_at f n ≡ None
+pub no_name : (f : field.Field) (n : ℕ) → 256 ≤ n → name_at f n ≡ None
 no_name field.Architecture n past = ap (option_map architecture_name) (slice_get_past architecture_values n (omega (arith, past)))
 no_name field.Vendor n past = ap (option_map known_vendor_name) (slice_get_past known_vendors n (omega (arith, past)))
 no_name field.OperatingSystem n past =

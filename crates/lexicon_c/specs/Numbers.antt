@@ -4,10 +4,10 @@ use Rattle.std.specs.Str.{IsUtf8}
 use Rattle.lexicon_fields.specs.{Architecture.architecture_name, Architecture.architecture_of, Architecture.architecture_values, BinaryFormat.binary_format_name, BinaryFormat.binary_format_of, BinaryFormat.binary_format_values}
 use Rattle.lexicon_fields.specs.{Environment.environment_name, Environment.environment_of, Environment.environment_values, OperatingSystem.operating_system_name, OperatingSystem.operating_system_of, OperatingSystem.system_version}
 use Rattle.lexicon_fields.specs.{Vendor.known_vendor_name, Vendor.known_vendors, Vendor.vendor_of}
-use Rattle.lexicon_names.specs.{Numbers.operating_system_at, declared.field.Field.Field}
-use Rattle.lexicon_names.specs.declared.field.Field.TheVariants as field
-use Rattle.target_lexicon.specs.{Field.parses_as, Refusal.Expects, Refusal.refusal_with}
-use Rattle.lexicon_c.specs.{Outcome.Outcome, Outcome.Done, Outcome.Refused, Outcome.NotUtf8, Outcome.field_of, Triple.vendor_text, Triple.vendor_with}
+use Rattle.lexicon_names.specs.Numbers.{operating_system_at}
+use Rattle.target_lexicon.specs.{Field.Field, Field.parses_as, Refusal.Expects, Refusal.refusal_with}
+use Rattle.lexicon_c.specs.{Outcome.Outcome, Outcome.Done, Outcome.Refused, Outcome.NotUtf8, Triple.vendor_text, Triple.vendor_with}
+use Rattle.target_lexicon.specs.Field as field
 
 -- the number is that of the value which the text parses as
 abbrev pub IsNumberBy : {V : Type 0} → (List ℕ → Option V) → (ℕ → V → Type 0) → List ℕ → ℕ → Type 0
@@ -26,7 +26,7 @@ IsNumberIn field.BinaryFormat text number = IsNumberBy binary_format_of (λ n f.
 abbrev pub WritesNumber : Field → List ℕ → ℕ → ℕ → Outcome → Type 0
 WritesNumber f text old new Done = IsUtf8 text × IsNumberIn f text new
 WritesNumber f text old new (Refused refusal) =
-    IsUtf8 text × (refusal ≡ refusal_with (Expects (field_of f)) text) × (parses_as (field_of f) text ≡ false) × (new ≡ old)
+    IsUtf8 text × (refusal ≡ refusal_with (Expects f) text) × (parses_as f text ≡ false) × (new ≡ old)
 WritesNumber f text old new NotUtf8 = ¬ (IsUtf8 text) × (new ≡ old)
 WritesNumber f text old new _ = ⊥
 

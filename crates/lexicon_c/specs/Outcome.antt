@@ -1,10 +1,8 @@
 -- What becomes of a call, and the status that it returns.
 use Rattle.std.specs.Prelude.{◌≡◌, ℕ, suc, List, MatchOption}
-use Rattle.lexicon_names.specs.{Numbers.field_at, declared.field.Field.Field}
-use Rattle.lexicon_names.specs.declared.field.Field.TheVariants as field
-use Rattle.target_lexicon.specs.{Field.field_number, Refusal.Expected, Refusal.Expects, Refusal.ExpectsNone, Refusal.Refusal, Refusal.refusal_with}
+use Rattle.lexicon_names.specs.Numbers.{field_at}
+use Rattle.target_lexicon.specs.{Field.Field, Field.field_number, Refusal.Expected, Refusal.Expects, Refusal.ExpectsNone, Refusal.Refusal, Refusal.refusal_with}
 use Rattle.lexicon_c.specs.declared.status.Status.{Status}
-use Rattle.target_lexicon.specs.Field as expected
 use Rattle.lexicon_c.specs.declared.status.Status.TheVariants as status
 
 -- what becomes of a call: it is done, a text is refused, or an argument is wrong
@@ -32,18 +30,10 @@ status_of NoSuchField = 9
 status_of NoSuchValue = 10
 status_of NoSuchVendor = 11
 
--- the field as it is expected
-abbrev pub field_of : Field → expected.Field
-field_of field.Architecture = expected.Architecture
-field_of field.Vendor = expected.Vendor
-field_of field.OperatingSystem = expected.OperatingSystem
-field_of field.Environment = expected.Environment
-field_of field.BinaryFormat = expected.BinaryFormat
-
 -- the outcome of a status, where the refused part is this one
 abbrev pub outcome_of : Status → List ℕ → Outcome
 outcome_of status.Done part = Done
-outcome_of (status.Refused f) part = Refused (refusal_with (Expects (field_of f)) part)
+outcome_of (status.Refused f) part = Refused (refusal_with (Expects f) part)
 outcome_of status.NotUtf8 part = NotUtf8
 outcome_of status.TooSmall part = TooSmall
 outcome_of status.NoSuchField part = NoSuchField

@@ -23,7 +23,7 @@ ghost use Rattle.lexicon_c.specs.Triple.{AreNumbersOf, OnTriple, vendor_text};
 use explanations::{explain, parse_or_locate};
 pub use facts::LexiconFacts;
 use facts::facts_of;
-use lexicon_names::Field;
+use lexicon_names::field_at;
 use numbers::{name_at, number_in};
 pub use output::LexiconText;
 use output::report_length;
@@ -259,7 +259,7 @@ pub extern "C" fn lexicon_number(field: u32, text: &[u8], number: &mut u32) -> u
     ensures { HasOutcome result (InField field (number.new ≡ number.old)
         (λ f. WritesNumber f text.now number.old number.new)) }
 {
-    let Some(field) = Field::at(field) else {
+    let Some(field) = field_at(field) else {
         return Status::NoSuchField.number();
     };
     let Ok(text) = from_utf8(text) else {
@@ -281,7 +281,7 @@ pub extern "C" fn lexicon_name(field: u32, number: u32, name: &mut LexiconText<'
         MatchOption (name_at f number) ((outcome ≡ NoSuchValue) × (name.new ≡ name.old))
         (λ bytes. IsDone (name.new.text.now ≡ bytes) outcome))) }
 {
-    let Some(field) = Field::at(field) else {
+    let Some(field) = field_at(field) else {
         return Status::NoSuchField.number();
     };
     match name_at(field, number) {

@@ -2,20 +2,18 @@
 ghost use Rattle.std.specs.Prelude.{◌≡◌, false, MatchOption, option_map};
 ghost use Rattle.target_lexicon.specs.Field.{parses_as};
 ghost use Rattle.lexicon_c.specs.Numbers.{IsNumberIn, name_at};
-ghost use Rattle.lexicon_c.specs.Outcome.{field_of};
 
 use crate::triple::vendor_number;
 use lexicon_names::{
-    Field, architecture_at, architecture_number, binary_format_at, binary_format_number,
-    environment_at, environment_number, known_vendor_at, operating_system_at,
-    operating_system_number,
+    architecture_at, architecture_number, binary_format_at, binary_format_number, environment_at,
+    environment_number, known_vendor_at, operating_system_at, operating_system_number,
 };
-use target_lexicon::{Architecture, BinaryFormat, Environment, OperatingSystem, VendorRef};
+use target_lexicon::{Architecture, BinaryFormat, Environment, Field, OperatingSystem, VendorRef};
 
 /// The number of the value that the text is in the field.
 #[tactic(auto, unfolding(target_lexicon::specs::Field::parses_as))]
 pub(crate) fn number_in(field: Field, text: &str) -> Option<u32>
-    ensures { MatchOption result (parses_as (field_of field) text.now ≡ false)
+    ensures { MatchOption result (parses_as field text.now ≡ false)
         (IsNumberIn field text.now) }
 {
     match field {

@@ -3,8 +3,7 @@ ghost use Rattle.std.specs.Prelude.{◌≡◌, ◌≤◌, ℕ, List, []};
 ghost use Rattle.target_lexicon.specs.ValuesRef.{refusal_of_ref};
 ghost use Rattle.lexicon_c.specs.Outcome.{Refused, refusal_status, status_of, outcome_of};
 
-use lexicon_names::Field;
-use target_lexicon::ParseErrorRef;
+use target_lexicon::{Field, ParseErrorRef};
 
 /// What a call returns, as a number.
 #[derive(Clone, Copy)]

@@ -25,6 +25,7 @@ use crate::binary_format::BinaryFormat;
 use crate::deployment_target::DeploymentTarget;
 use crate::endianness::Endianness;
 use crate::environment::Environment;
+use crate::field::Field;
 use crate::known_vendor::KnownVendor;
 use crate::operating_system::OperatingSystem;
 use crate::pointer_width::PointerWidth;
@@ -139,6 +140,7 @@ pub fn values_are_equal_by_variant_and_fields()
     ensures pointer_width { ComparesByValue ⟦<PointerWidth as PartialEq>⟧.eq }
     ensures vendor_error { ComparesByValue ⟦<VendorError as PartialEq>⟧.eq }
     ensures known_vendor { ComparesByValue ⟦<KnownVendor as PartialEq>⟧.eq }
+    ensures field { ComparesByValue ⟦<Field as PartialEq>⟧.eq }
     ensures fixed_row { (x y : FixedRow) →
         IsTrue (⟦<FixedRow as PartialEq>⟧.eq x y) ↔ HaveSameValues x y }
 {}
@@ -214,6 +216,8 @@ pub fn copies_of_fields_equal_their_sources()
         ⟦<VendorError as Clone>⟧.is_infallible }
     ensures known_vendor { CopiesEqualTheirSources ⟦<KnownVendor as Clone>⟧.is_clone
         ⟦<KnownVendor as Clone>⟧.is_infallible }
+    ensures field { CopiesEqualTheirSources ⟦<Field as Clone>⟧.is_clone
+        ⟦<Field as Clone>⟧.is_infallible }
     ensures vendor_ref { CopiesEqualTheirSources ⟦<VendorRef<'static> as Clone>⟧.is_clone
         ⟦<VendorRef<'static> as Clone>⟧.is_infallible }
     ensures fixed_row { CopiesEqualTheirSources ⟦<FixedRow as Clone>⟧.is_clone

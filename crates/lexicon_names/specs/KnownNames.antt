@@ -2,8 +2,8 @@
 use Rattle.std.specs.Prelude.{ℕ, List, ◌++◌, map}
 use Rattle.lexicon_fields.specs.{Architecture.architecture_name, Architecture.architecture_values, Vendor.known_vendor_name, Vendor.known_vendors, Environment.environment_name, Environment.environment_values}
 use Rattle.lexicon_fields.specs.{OperatingSystem.operating_system_name, OperatingSystem.fixed_operating_systems, OperatingSystem.darwin_prefixes, BinaryFormat.binary_format_name, BinaryFormat.binary_format_values}
-use Rattle.lexicon_names.specs.declared.field.Field.{Field}
-use Rattle.lexicon_names.specs.declared.field.Field.TheVariants as field
+use Rattle.lexicon_fields.specs.declared.field.Field.{Field}
+use Rattle.lexicon_fields.specs.declared.field.Field.TheVariants as field
 
 -- the names of the values of a field: of its vendors those that are known, and of the systems like Darwin those
 -- without a version

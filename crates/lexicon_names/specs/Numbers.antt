@@ -4,8 +4,8 @@ use Rattle.lexicon_fields.specs.{declared.architecture.Architecture.Architecture
 use Rattle.lexicon_fields.specs.OperatingSystem.{system_version}
 use Rattle.lexicon_fields.specs.declared.architecture.Architecture.TheVariants as architecture
 use Rattle.lexicon_fields.specs.declared.operating_system.OperatingSystem.TheVariants as operating_system
-use Rattle.lexicon_names.specs.declared.field.Field.{Field}
-use Rattle.lexicon_names.specs.declared.field.Field.TheVariants as field
+use Rattle.lexicon_fields.specs.declared.field.Field.{Field}
+use Rattle.lexicon_fields.specs.declared.field.Field.TheVariants as field
 
 -- the field of a number, counted from 0 in their order
 abbrev pub field_at : ℕ → Option Field

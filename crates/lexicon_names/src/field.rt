@@ -1,29 +1,19 @@
-//! The fields of a target triple.
+//! The numbers of the fields.
 ghost use Rattle.std.specs.Prelude.{◌≡◌};
 ghost use Rattle.lexicon_names.specs.Numbers.{field_at};
 
-/// A field of a target triple.
-#[derive(Clone, Copy, Debug, PartialEq, Eq)]
-pub enum Field {
-    Architecture,
-    Vendor,
-    OperatingSystem,
-    Environment,
-    BinaryFormat,
-}
+use lexicon_fields::Field;
 
-impl Field {
-    /// The field of this number.
-    pub fn at(number: u32) -> Option<Field>
-        ensures { result ≡ field_at number }
-    {
-        match number {
-            0 => Some(Field::Architecture),
-            1 => Some(Field::Vendor),
-            2 => Some(Field::OperatingSystem),
-            3 => Some(Field::Environment),
-            4 => Some(Field::BinaryFormat),
-            _ => None,
-        }
+/// The field of this number.
+pub fn field_at(number: u32) -> Option<Field>
+    ensures { result ≡ field_at number }
+{
+    match number {
+        0 => Some(Field::Architecture),
+        1 => Some(Field::Vendor),
+        2 => Some(Field::OperatingSystem),
+        3 => Some(Field::Environment),
+        4 => Some(Field::BinaryFormat),
+        _ => None,
     }
 }

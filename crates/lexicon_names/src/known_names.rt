@@ -2,7 +2,7 @@
 ghost use Rattle.std.specs.Prelude.{◌≡◌, map};
 ghost use Rattle.lexicon_names.specs.KnownNames.{known_names};
 
-use crate::field::Field;
+use lexicon_fields::Field;
 
 /// The known names of a field, in the order of the values: of the vendors those that are known, and last of the
 /// operating systems those like Darwin, without a version.

@@ -20,7 +20,7 @@ pub use architecture::{architecture_at, architecture_number, family_number};
 pub use binary_format::{binary_format_at, binary_format_number};
 pub use distance::distance_up_to;
 pub use environment::{environment_at, environment_number};
-pub use field::Field;
+pub use field::field_at;
 pub use known_names::names;
 pub use known_vendor::{known_vendor_at, known_vendor_number};
 pub use nearest::nearest_name;

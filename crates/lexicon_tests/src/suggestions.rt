@@ -1,7 +1,8 @@
 //! Suggestions, and texts that have none.
 
-use lexicon_names::{Field, distance_up_to, names, nearest_name};
+use lexicon_names::{distance_up_to, names, nearest_name};
 use std::process::Abort;
+use target_lexicon::Field;
 
 /// Fields, texts, and the names that should be suggested for them.
 const ROWS: [(Field, &str, Option<&str>); 12] = [

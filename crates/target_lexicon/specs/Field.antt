@@ -1,14 +1,8 @@
 -- The five fields of a triple.
 use Rattle.std.specs.Prelude.{ℕ, List, Bool, is_some}
 use Rattle.lexicon_fields.specs.{Architecture.architecture_of, Vendor.vendor_of, OperatingSystem.operating_system_of, Environment.environment_of, BinaryFormat.binary_format_of}
-
--- the fields, in their order
-pub data Field : Type 0 where
-  Architecture : Field
-  Vendor : Field
-  OperatingSystem : Field
-  Environment : Field
-  BinaryFormat : Field
+pub use Rattle.lexicon_fields.specs.declared.field.Field.{Field}
+pub use Rattle.lexicon_fields.specs.declared.field.Field.TheVariants.{Architecture, Vendor, OperatingSystem, Environment, BinaryFormat}
 
 -- the index of a field in the order
 abbrev pub field_number : Field → ℕ

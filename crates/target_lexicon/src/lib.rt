@@ -42,7 +42,7 @@ pub use json::{list_from_json, list_to_json};
 pub use json_error::JsonError;
 pub use lexicon_fields::{
     Aarch64Architecture, Architecture, ArmArchitecture, BinaryFormat, CleverArchitecture,
-    CustomVendor, DeploymentTarget, Endianness, Environment, FixedRow, KnownVendor,
+    CustomVendor, DeploymentTarget, Endianness, Environment, Field, FixedRow, KnownVendor,
     Mips32Architecture, Mips64Architecture, OperatingSystem, PointerWidth, ROW_COUNT,
     Riscv32Architecture, Riscv64Architecture, Steps, Vendor, VendorError, VendorRef,
     X86_32Architecture, Z80Architecture, fixed_row, row_order, write_decimal,

@@ -10,7 +10,7 @@ ghost use Rattle.target_lexicon.specs.FieldTexts.{AreFieldTextsOf, AreTakenFrom,
 ghost use Rattle.target_lexicon.specs.GreedyReading.{field_reading, reading_of_parts};
 ghost use Rattle.target_lexicon.specs.Field as field;
 ghost use Rattle.target_lexicon.specs.ImpliedFormat.{implied_format};
-ghost use Rattle.target_lexicon.specs.RemainingParts.{field_of, field_reading_of, outcome_of, remaining_parts};
+ghost use Rattle.target_lexicon.specs.RemainingParts.{field_reading_of, outcome_of, remaining_parts};
 ghost use Rattle.target_lexicon.specs.Reading.{ReadsAs, IsErrorOf, IsRefusedAs, expected_after};
 ghost use Rattle.target_lexicon.specs.Refusal.{refusal_with};
 ghost use Rattle.target_lexicon.specs.Values.operating_system;
@@ -26,19 +26,9 @@ use crate::part::Part;
 use crate::triple::Triple;
 use crate::triple_ref::TripleRef;
 use lexicon_fields::{
-    Architecture, BinaryFormat, Environment, KnownVendor, OperatingSystem, VendorRef,
+    Architecture, BinaryFormat, Environment, Field, KnownVendor, OperatingSystem, VendorRef,
 };
 use std::alloc::Global;
-
-/// A field that may take a part.
-#[derive(Clone, Copy)]
-enum Field {
-    Architecture,
-    Vendor,
-    OperatingSystem,
-    Environment,
-    BinaryFormat,
-}
 
 /// The parts that are left, and the last field that took one.
 #[derive(Drop)]
@@ -62,7 +52,7 @@ impl<'a> PartCursor<'a> {
     #[inline(always)]
     fn take_vendor(&mut self) -> (VendorRef<'a>, Option<&'a str>)
         ensures value { field_reading_of (ref_value result.0) self.new
-            ≡ field_reading field.Vendor vendor_of (Known Unknown) (field_of self.old.last)
+            ≡ field_reading field.Vendor vendor_of (Known Unknown) self.old.last
             (remaining_parts self.old.next_part) }
         ensures part { part_bytes result.1
             ≡ taken_part vendor_of (remaining_parts self.old.next_part) }
@@ -84,7 +74,7 @@ impl<'a> PartCursor<'a> {
     fn take_operating_system(&mut self) -> (OperatingSystem, Option<&'a str>)
         ensures value { field_reading_of result.0 self.new
             ≡ field_reading field.OperatingSystem operating_system_of operating_system.Unknown
-            (field_of self.old.last) (remaining_parts self.old.next_part) }
+            self.old.last (remaining_parts self.old.next_part) }
         ensures part { part_bytes result.1
             ≡ taken_part operating_system_of (remaining_parts self.old.next_part) }
         ensures left { remaining_parts self.new.next_part
@@ -105,7 +95,7 @@ impl<'a> PartCursor<'a> {
     fn take_environment(&mut self) -> (Environment, Option<&'a str>)
         ensures value { field_reading_of result.0 self.new
             ≡ field_reading field.Environment environment_of environment.Unknown
-            (field_of self.old.last) (remaining_parts self.old.next_part) }
+            self.old.last (remaining_parts self.old.next_part) }
         ensures part { part_bytes result.1
             ≡ taken_part environment_of (remaining_parts self.old.next_part) }
         ensures left { remaining_parts self.new.next_part
@@ -127,7 +117,7 @@ impl<'a> PartCursor<'a> {
         ensures value { (unfilled : BinaryFormat) →
             field_reading_of (unwrap_or result.0 unfilled) self.new
             ≡ field_reading field.BinaryFormat binary_format_of unfilled
-            (field_of self.old.last) (remaining_parts self.old.next_part) }
+            self.old.last (remaining_parts self.old.next_part) }
         ensures part { part_bytes result.1
             ≡ taken_part binary_format_of (remaining_parts self.old.next_part) }
         ensures left { remaining_parts self.new.next_part
@@ -146,7 +136,7 @@ impl<'a> PartCursor<'a> {
 
 /// The refusal of the part that is left after this field.
 fn refusal(part: &str, last: Field) -> ParseErrorRef<'_>
-    ensures { refusal_of_ref result ≡ refusal_with (expected_after (field_of last)) part.entry.now }
+    ensures { refusal_of_ref result ≡ refusal_with (expected_after last) part.entry.now }
 {
     match last {
         Field::Architecture => ParseErrorRef::UnrecognizedVendor(part),
