@@ -1,13 +1,13 @@
 -- What C asks of a triple, as numbers.
-use Rattle.std.specs.Prelude.{◌≡◌, ℕ, Bool, true, false, Option, Some, None, List, [], ◌∷◌, if◌then◌else◌, slice_get}
+use Rattle.std.specs.Prelude.{◌≡◌, ℕ, Bool, false, Option, Some, None, List, [], ◌∷◌, if◌then◌else◌, slice_get}
 use Rattle.std.specs.Option.{option_map_or}
 use Rattle.target_lexicon.specs.{DataModel.size_bits, DataModel.sizes_of, ImpliedFormat.default_binary_format, Values.Values}
 use Rattle.target_lexicon.specs.{declared.calling_convention.CallingConvention.CallingConvention, declared.data_model.CDataModel.CDataModel}
 use Rattle.target_lexicon.specs.declared.calling_convention.CallingConvention.TheVariants.{SystemV, WasmBasicCAbi, WindowsFastcall, AppleAarch64}
 use Rattle.target_lexicon.specs.declared.data_model.CDataModel.TheVariants.{LP32, ILP32, LLP64, LP64, ILP64}
-use Rattle.target_lexicon.specs.Values.{Architecture, VendorValue, Known, Custom}
+use Rattle.target_lexicon.specs.Values.{Architecture}
 use Rattle.target_lexicon.specs.Values.architecture
-use Rattle.lexicon_fields.specs.{ArchitectureQueries.is_thumb, BinaryFormat.binary_format_values, PointerWidth.width_bits}
+use Rattle.lexicon_fields.specs.{ArchitectureQueries.is_thumb, BinaryFormat.binary_format_values, PointerWidth.width_bits, Vendor.is_custom}
 use Rattle.lexicon_fields.specs.{declared.endianness.Endianness.Endianness, declared.endianness.Endianness.TheVariants.Little, declared.endianness.Endianness.TheVariants.Big}
 use Rattle.lexicon_names.specs.Numbers.{family_number}
 use Rattle.lexicon_c.specs.{declared.facts.LexiconFacts.LexiconFacts, declared.facts.LexiconTypeBits.LexiconTypeBits}
@@ -59,11 +59,6 @@ type_bits (Some model) =
 abbrev pub is_thumb_architecture : Architecture → Bool
 is_thumb_architecture (architecture.Arm sub) = is_thumb sub
 is_thumb_architecture _ = false
-
--- whether a vendor is a custom one
-abbrev pub is_custom : VendorValue → Bool
-is_custom (Known known) = false
-is_custom (Custom text) = true
 
 abbrev pub bit : Bool → ℕ
 bit b = if b then 1 else 0

@@ -2,15 +2,12 @@
 ghost use Rattle.std.specs.Prelude.{◌≡◌, Option, map};
 ghost use Rattle.std.specs.Option.{option_map_or};
 ghost use Rattle.lexicon_fields.specs.PointerWidth.{width_bits};
-ghost use Rattle.lexicon_fields.specs.VendorRef.{ref_value};
 ghost use Rattle.target_lexicon.specs.Queries.{endianness, pointer_width, calling_convention, data_model};
 ghost use Rattle.target_lexicon.specs.ValuesRef.{values_of_ref};
-ghost use Rattle.lexicon_c.specs.Facts.{AreFactsOf, convention_number, endianness_number, is_custom, is_thumb_architecture, model_number, models_by_number, type_bits};
+ghost use Rattle.lexicon_c.specs.Facts.{AreFactsOf, convention_number, endianness_number, is_thumb_architecture, model_number, models_by_number, type_bits};
 
 use lexicon_names::{binary_format_number, family_number};
-use target_lexicon::{
-    Architecture, CDataModel, CallingConvention, Endianness, TripleRef, VendorRef,
-};
+use target_lexicon::{Architecture, CDataModel, CallingConvention, Endianness, TripleRef};
 
 /// The bits of C's types by the data model; all 0 if there is none.
 #[repr(C)]
@@ -67,7 +64,7 @@ pub(crate) fn facts_of(triple: &TripleRef<'_>) -> LexiconFacts
         family: family_number(triple.architecture),
         is_thumb: u8::from(is_thumb(triple.architecture)),
         is_like_darwin: u8::from(triple.operating_system.is_like_darwin()),
-        has_custom_vendor: u8::from(is_custom(triple.vendor)),
+        has_custom_vendor: u8::from(triple.vendor.is_custom()),
         types,
     }
 }
@@ -172,12 +169,4 @@ fn is_thumb(architecture: Architecture) -> bool
         Architecture::Arm(sub) => sub.is_thumb(),
         _ => false,
     }
-}
-
-/// Whether a vendor is a custom one.
-#[inline(always)]
-fn is_custom(vendor: VendorRef<'_>) -> bool
-    ensures { result ≡ is_custom (ref_value vendor.entry) }
-{
-    matches!(vendor, VendorRef::Custom(_))
 }

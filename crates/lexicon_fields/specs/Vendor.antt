@@ -1,5 +1,5 @@
 -- Vendors: the known ones, and custom ones, which are any other text of a certain form.
-use Rattle.std.specs.Prelude.{◌≡◌, ℕ, ◌==◌, Bool, true, false, ◌&&◌, ◌||◌, List, [], ◌∷◌, codes, Option, Some, None, is_none, option_map, if◌then◌else◌, string_bytes}
+use Rattle.std.specs.Prelude.{◌≡◌, ℕ, ◌==◌, Bool, true, false, ◌&&◌, ◌||◌, List, [], ◌∷◌, codes, Option, Some, None, is_none, option_map, if◌then◌else◌, string_bytes, IsTrue}
 use Rattle.std.specs.Char.{is_ascii_digit, is_ascii_lowercase}
 use Rattle.std.specs.List.{list_all}
 use Rattle.std.specs.Option.{option_or}
@@ -126,10 +126,13 @@ abbrev pub is_plain : VendorValue → Bool
 is_plain (Known known) = true
 is_plain (Custom text) = is_admitted text
 
--- the vendor is a custom one
+-- whether a vendor is a custom one
+abbrev pub is_custom : VendorValue → Bool
+is_custom (Known known) = false
+is_custom (Custom text) = true
+
 abbrev pub IsCustom : VendorValue → Type 0
-IsCustom (Known known) = ⊥
-IsCustom (Custom text) = Unit {0}
+IsCustom v = IsTrue (is_custom v)
 
 -- if the vendor is custom, it owns its text
 abbrev pub OwnsCustomText : Vendor → Type 0

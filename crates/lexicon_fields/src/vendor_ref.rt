@@ -2,7 +2,7 @@
 ghost use Rattle.std.specs.Prelude.{◌≡◌, false, None, Some, IfOk, OnErr, option_map};
 ghost use Rattle.lexicon_fields.specs.FixedRow.{has_row};
 ghost use Rattle.lexicon_fields.specs.OperatingSystem.{operating_system_of};
-ghost use Rattle.lexicon_fields.specs.Vendor.{IsCustom, OwnsCustomText, is_plain, vendor_name, vendor_of, vendor_value};
+ghost use Rattle.lexicon_fields.specs.Vendor.{IsCustom, OwnsCustomText, is_custom, is_plain, vendor_name, vendor_of, vendor_value};
 ghost use Rattle.lexicon_fields.specs.VendorRef.{ref_value};
 
 use crate::known_vendor::KnownVendor;
@@ -73,6 +73,13 @@ impl<'a> VendorRef<'a> {
             VendorRef::Known(_) => true,
             VendorRef::Custom(text) => is_admitted(text),
         }
+    }
+
+    /// Whether the vendor is a custom one.
+    pub fn is_custom(&self) -> bool
+        ensures { result ≡ is_custom (ref_value self.now) }
+    {
+        matches!(self, VendorRef::Custom(_))
     }
 
     /// The same vendor, of which a custom one owns a copy of its text. `Err` if the allocation for that text fails.

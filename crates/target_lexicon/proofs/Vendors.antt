@@ -22,7 +22,7 @@ vendor-plain text v h = elim (vendor-read text v h) [ inl is ↦ rw is.1 refl | 
 
 -- a text that parses as a custom vendor is admitted
 custom-admitted : (text : List ℕ) (v : VendorValue) → vendor_of text ≡ Some v → IsCustom v → is_admitted text ≡ true
-custom-admitted text v h custom = elim (vendor-read text v h) [ inl is ↦ absurd (rw is.1 at custom) | inr is ↦ is.0 ]
+custom-admitted text v h custom = elim (vendor-read text v h) [ inl is ↦ absurd cc | inr is ↦ is.0 ]
 
 -- a vendor that owns its text exactly if that is admitted owns the text of a custom vendor
 pub owns_custom_text : (text : List ℕ) (v : Vendor) → vendor_of text ≡ Some (vendor_value v) → owns_text v ≡ is_admitted text → OwnsCustomText v

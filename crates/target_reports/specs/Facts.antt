@@ -1,7 +1,7 @@
 -- The facts of a target: what `facts` says of it, in lines and as JSON.
-use Rattle.std.specs.Prelude.{ℕ, Bool, true, false, List, [], ◌∷◌, codes, Option, Some, None, option_map}
+use Rattle.std.specs.Prelude.{ℕ, Bool, List, [], ◌∷◌, codes, Option, Some, None, option_map}
 use Rattle.std.specs.Cow.{cow_str_bytes}
-use Rattle.lexicon_fields.specs.{Architecture.architecture_name, Vendor.vendor_name, Vendor.VendorValue, Vendor.Known, Vendor.Custom, OperatingSystem.operating_system_name, OperatingSystem.system_version, Environment.environment_name, BinaryFormat.binary_format_name}
+use Rattle.lexicon_fields.specs.{Architecture.architecture_name, Vendor.vendor_name, Vendor.is_custom, OperatingSystem.operating_system_name, OperatingSystem.system_version, Environment.environment_name, BinaryFormat.binary_format_name}
 use Rattle.lexicon_fields.specs.{Endianness.endianness_name, PointerWidth.width_bits, Version.version_name}
 use Rattle.target_lexicon.specs.{CallingConvention.convention_name, DataModel.Sizes, DataModel.sizes_of, DataModel.model_name, DataModel.size_bytes, declared.data_model.CDataModel.CDataModel, declared.data_model.Size.Size, FixedPoints.canonical_text, Printing.text_of, Values.Values}
 use Rattle.target_lexicon.specs.Queries.{endianness, pointer_width, calling_convention, data_model}
@@ -40,11 +40,6 @@ fact label key answer = record { label = label; key = key; answer = answer }
 
 abbrev pub fact_value : Fact → FactValue
 fact_value f = fact f.label.now f.key.now (answer_value f.answer)
-
--- whether a vendor is a custom one
-abbrev pub is_custom : VendorValue → Bool
-is_custom (Known known) = false
-is_custom (Custom text) = true
 
 -- the bytes of one of C's types in a data model
 abbrev pub type_bytes : (Sizes → Size) → Option CDataModel → AnswerValue

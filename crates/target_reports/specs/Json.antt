@@ -2,9 +2,10 @@
 use Rattle.std.specs.Prelude.{◌≡◌, ℕ, List, [], ◌∷◌, map, codes, Option, Some, None, if◌then◌else◌}
 use Rattle.std.specs.Str.{bytes_eq}
 use Rattle.serde_json.specs.{Data.Data, Data.Members, Data.no_members, Data.null, Data.boolean, Data.string, Data.number, Data.unsigned, Data.object, Data.put}
+use Rattle.lexicon_fields.specs.Vendor.{is_custom}
 use Rattle.target_lexicon.specs.Values.{Values}
 use Rattle.explanations.specs.Explanation.{SourceValue, SourceValues, FromPart, NotGiven, Implied}
-use Rattle.target_reports.specs.{Facts.AnswerValue, Facts.NoAnswer, Facts.Number, Facts.Text, Facts.YesOrNo, Facts.FactValue, Facts.facts_of, Facts.is_custom, Origins.OriginValue, Origins.origins_of, Suggestion.IsVendorSuggestion}
+use Rattle.target_reports.specs.{Facts.AnswerValue, Facts.NoAnswer, Facts.Number, Facts.Text, Facts.YesOrNo, Facts.FactValue, Facts.facts_of, Origins.OriginValue, Origins.origins_of, Suggestion.IsVendorSuggestion}
 use Rattle.target_reports.specs.declared.report.Report.{Report}
 use Rattle.target_reports.specs.declared.report.Report.TheVariants as report
 

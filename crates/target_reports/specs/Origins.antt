@@ -1,10 +1,10 @@
 -- How the value of each field came: what `explain` says of a target, in lines and as JSON.
 use Rattle.std.specs.Prelude.{ℕ, Bool, false, List, [], ◌∷◌, codes}
 use Rattle.std.specs.Cow.{cow_str_bytes}
-use Rattle.lexicon_fields.specs.{Architecture.architecture_name, Vendor.vendor_name, OperatingSystem.operating_system_name, Environment.environment_name, BinaryFormat.binary_format_name}
+use Rattle.lexicon_fields.specs.{Architecture.architecture_name, Vendor.is_custom, Vendor.vendor_name, OperatingSystem.operating_system_name, Environment.environment_name, BinaryFormat.binary_format_name}
 use Rattle.target_lexicon.specs.Values.{Values}
 use Rattle.explanations.specs.Explanation.{SourceValue, SourceValues, source_value}
-use Rattle.target_reports.specs.{declared.origins.Origin.Origin, Facts.is_custom}
+use Rattle.target_reports.specs.declared.origins.Origin.{Origin}
 
 -- how the value of a field came: the label of the field in lines, its key in JSON, the name of the value, whether that
 -- is a custom vendor, and the source

@@ -4,13 +4,12 @@ ghost use Rattle.lexicon_fields.specs.Version.{version_name};
 ghost use Rattle.lexicon_fields.specs.Vendor.{is_plain};
 ghost use Rattle.lexicon_fields.specs.VendorRef.{ref_value};
 ghost use Rattle.target_lexicon.specs.ValuesRef.{values_of_ref};
-ghost use Rattle.target_reports.specs.Facts.{answer_value, fact_value, facts_of, is_custom, text_answer};
+ghost use Rattle.target_reports.specs.Facts.{answer_value, fact_value, facts_of, text_answer};
 
 use std::alloc::{AllocError, Global};
 use std::borrow::CowStr;
 use target_lexicon::{
     CDataModel, CallingConvention, DeploymentTarget, Endianness, PointerWidth, Size, TripleRef,
-    VendorRef,
 };
 
 /// The answer to a question about a target.
@@ -85,13 +84,6 @@ impl<'a> Answer<'a> {
     }
 }
 
-/// Whether a vendor is a custom one.
-pub(crate) fn is_custom(vendor: VendorRef<'_>) -> bool
-    ensures { result ≡ is_custom (ref_value vendor.entry) }
-{
-    matches!(vendor, VendorRef::Custom(_))
-}
-
 /// The numbers of a version.
 fn version_text(alloc: Global, version: DeploymentTarget) -> Result<String, AllocError>
     ensures { IfOk result (λ text. string_bytes text ≡ version_name version) }
@@ -142,7 +134,7 @@ pub(crate) fn facts<'a>(alloc: Global, triple: &TripleRef<'a>) -> Result<Vec<Fac
         Fact::new(
             "custom vendor",
             "has_custom_vendor",
-            Answer::YesOrNo(is_custom(triple.vendor))
+            Answer::YesOrNo(triple.vendor.is_custom())
         ),
         Fact::new(
             "operating system",

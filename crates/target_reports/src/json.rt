@@ -10,7 +10,7 @@ ghost use Rattle.target_reports.specs.Facts.{answer_value, fact_value};
 ghost use Rattle.target_reports.specs.Json.{IsReportObject, answer_data, explained_fields, fact_field, fields_onto, optional_data, origin_data, origin_field, origin_word, source_part, target_members, with_field};
 ghost use Rattle.target_reports.specs.Origins.{origin_value};
 
-use crate::facts::{Answer, Fact, facts, is_custom};
+use crate::facts::{Answer, Fact, facts};
 use crate::origins::{Origin, origins};
 use crate::report::Report;
 use crate::suggestion::vendor_suggestion;
@@ -163,7 +163,7 @@ fn put_explained(
         (option_map (λ name. name.now) suggestion.entry))) }
 {
     let origins = origins(alloc, it)?;
-    let is_custom = Value::Bool(is_custom(it.triple.vendor));
+    let is_custom = Value::Bool(it.triple.vendor.is_custom());
     put_value(alloc, members, "has_custom_vendor", is_custom)?;
     put_optional(alloc, members, "suggestion", suggestion)?;
     put_origins(alloc, members, &origins)

@@ -4,7 +4,6 @@ ghost use Rattle.explanations.specs.Explanation.{sources_of};
 ghost use Rattle.target_lexicon.specs.ValuesRef.{values_of_ref};
 ghost use Rattle.target_reports.specs.Origins.{origin_value, origins_of};
 
-use crate::facts::is_custom;
 use explanations::{Explanation, Source};
 use std::alloc::{AllocError, Global};
 use std::borrow::CowStr;
@@ -44,7 +43,7 @@ pub(crate) fn origins<'a>(
             label: "vendor",
             key: "vendor",
             name: CowStr::Borrowed(triple.vendor.as_str()),
-            is_custom: is_custom(triple.vendor),
+            is_custom: triple.vendor.is_custom(),
             source: sources.vendor,
         },
         Origin {
