@@ -23,12 +23,12 @@ pub record IsFixedExactlyOutside (t : Values) : Type 0 where
   pub exactly : ComesBack t ↔ ¬ IsInSomeFamily t
   pub either : ComesBack t ⊎ IsInSomeFamily t
 
--- this holds for every triple, also if its vendor is not plain
+-- this holds for every triple whose version is in range, also if its vendor is not plain
 abbrev pub FixedExactlyOutsideFamilies : Type 0
 FixedExactlyOutsideFamilies = (t : Values) → HasVersionInRange t.operating_system → IsFixedExactlyOutside t
 
--- the canonical form: the normal step, taken until the triple comes back. Two steps are enough for every triple, and
--- by the law `OneStepSettles` one is
+-- the canonical form: the triple after two normal steps. The second changes nothing, by `OneStepSettles`, so a plain
+-- triple comes back after it. One whose vendor isn't plain never comes back
 abbrev pub settled_values : Values → Values
 settled_values t = normal_step (normal_step t)
 
@@ -36,7 +36,7 @@ settled_values t = normal_step (normal_step t)
 abbrev pub canonical_text : Values → List ℕ
 canonical_text t = text_of (settled_values t)
 
--- one normal step already gives the canonical form of each triple
+-- one normal step already gives the canonical form of each triple, also if its vendor is not plain
 abbrev pub OneStepSettles : Type 0
 OneStepSettles = (t : Values) → settled_values t ≡ normal_step t
 
