@@ -45,11 +45,14 @@ pub record SettledTextsAreKeys : Type 0 where
   pub comes_back : (t : Values) → IsPlainTriple t → ComesBack (settled_values t)
   pub own : (t u : Values) → IsPlainTriple t → IsPlainTriple u → canonical_text t ≡ canonical_text u → settled_values t ≡ settled_values u
 
--- the laws of round trips as one: every text reads or is refused in exactly one way, a triple comes back exactly
--- outside the families, the round trip of a plain triple succeeds and is the normal step, which keeps the four
--- queries, a second step changes nothing, and canonical texts are keys
+-- the laws of round trips as one: every text reads or is refused in exactly one way, the triple that a text reads as
+-- is plain, a triple comes back exactly outside the families, the round trip of a plain triple succeeds and is the
+-- normal step, which keeps the four queries, a second step changes nothing, and canonical texts are keys. What a reader
+-- must judge are `texts`, `plain`, `round`, `queries`, `steps`, and the families that `fixed` names. That `fixed` and
+-- `keys` hold follows from these, by which a plain triple comes back exactly if the normal step leaves it as it is
 pub record RoundTripsAreKnown : Type 0 where
   pub texts : EveryTextHasOneOutcome
+  pub plain : ReadTriplesArePlain
   pub fixed : FixedExactlyOutsideFamilies
   pub round : RoundIsNormalStep
   pub queries : QueriesKept

@@ -206,14 +206,15 @@ pub fn settled_texts_are_keys()
     round_is_normal_step();
 }
 
-/// The headline, all of these laws in one: every text parses or is refused, in exactly one way. A triple comes back
-/// exactly if it is in none of five families. The round trip of each triple with a plain vendor succeeds, is the
-/// normal step, keeps the answers of the four queries, and gives the canonical form; and each canonical triple has a
-/// text of its own.
+/// The headline, all of these laws in one: every text parses or is refused, in exactly one way. Each parsed triple has
+/// a plain vendor. A triple comes back exactly if it is in none of five families. The round trip of each triple with a
+/// plain vendor succeeds, is the normal step, keeps the answers of the four queries, and gives the canonical form; and
+/// each canonical triple has a text of its own.
 pub fn round_trips_are_known()
     ensures { RoundTripsAreKnown }
 {
     every_text_has_one_outcome();
+    read_triples_are_plain();
     fixed_exactly_outside_families();
     round_is_normal_step();
     queries_kept();
