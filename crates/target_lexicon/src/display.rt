@@ -8,7 +8,7 @@ ghost use Rattle.target_lexicon.specs.Values.{values_of, implies_newlib};
 ghost use Rattle.target_lexicon.specs.ValuesRef.{values_of_ref};
 ghost use Rattle.target_lexicon.specs.Written.{IsWritten};
 
-use crate::laws::version_fits;
+use crate::laws::versions_are_in_range;
 use crate::pieces::{Piece, Pieces};
 use crate::triple::Triple;
 use crate::triple_ref::TripleRef;
@@ -121,7 +121,7 @@ impl<'a> TripleRef<'a> {
         ensures { pieces_text result ≡ spec.text_with unknowns (values_of_ref self.now) }
     {
         names_are_short();
-        version_fits(self.operating_system);
+        versions_are_in_range(self.operating_system);
         if let Some(text) = self.special_text() {
             return Pieces::of_special_text(text);
         }

@@ -85,6 +85,11 @@ pub fn read_triples_are_plain()
     read_versions_are_in_range();
 }
 
+/// The version of a system, if it has one, is in range by its types. So a triple in code with a plain vendor is plain.
+pub fn versions_are_in_range(operating_system: OperatingSystem)
+    ensures { HasVersionInRange operating_system }
+{}
+
 /// The printed text of a triple is at most 22 bytes longer than each text that parses as it, and so is the text of the
 /// canonical triple. A refused part is not longer than the text.
 #[tactic(auto, using(crate::proofs::Lengths::printed_max_growth, crate::proofs::Lengths::canonical_max_growth, crate::proofs::Lengths::refused_does_not_grow))]
@@ -227,11 +232,6 @@ pub fn round_trips_are_known()
 #[tactic(auto, using(crate::proofs::Upstream::only_unknowns_differ))]
 pub fn only_unknowns_differ_from_upstream()
     ensures { OnlyUnknownsDifferFromUpstream }
-{}
-
-/// The version of a system is in range, by its types.
-pub(crate) fn version_fits(operating_system: OperatingSystem)
-    ensures { HasVersionInRange operating_system }
 {}
 
 /// A list of triples that come back, written as JSON, parses as itself and as no other list.

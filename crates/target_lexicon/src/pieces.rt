@@ -7,7 +7,7 @@ ghost use Rattle.target_lexicon.specs.Private.{part_text};
 ghost use Rattle.lexicon_fields.specs.Put.{IsPut, Puts};
 ghost use Rattle.target_lexicon.specs.Written.{IsWritten};
 
-use crate::laws::version_fits;
+use crate::laws::versions_are_in_range;
 use crate::put::{put, put_dashed, put_dashed_system};
 use lexicon_fields::laws::names_are_short;
 use lexicon_fields::{MAX_VERSION_LENGTH, OperatingSystem, version_text};
@@ -192,7 +192,7 @@ fn name_length(system: OperatingSystem) -> usize
     ensures bound { result ≤ max_name_length }
 {
     names_are_short();
-    version_fits(system);
+    versions_are_in_range(system);
     match system.version() {
         Some(version) => {
             let mut digits = [0; MAX_VERSION_LENGTH];

@@ -13,7 +13,7 @@ ghost use Rattle.target_lexicon.specs.Reading.{ReadsAs};
 ghost use Rattle.target_lexicon.specs.Values.{values_of};
 ghost use Rattle.target_lexicon.specs.ValuesRef.{values_of_ref};
 
-use crate::laws::{round_is_normal_step, settled_texts_are_keys, version_fits};
+use crate::laws::{round_is_normal_step, settled_texts_are_keys, versions_are_in_range};
 use crate::triple::Triple;
 use crate::triple_ref::TripleRef;
 use lexicon_fields::{
@@ -55,7 +55,7 @@ impl Triple {
         ensures vendor { (result.vendor ≡ self.vendor) ⊎ (result.vendor ≡ Espressif) }
     {
         round_is_normal_step();
-        version_fits(self.operating_system);
+        versions_are_in_range(self.operating_system);
         self.step()
     }
 
@@ -71,7 +71,7 @@ impl Triple {
         ensures vendor { (result.vendor ≡ self.vendor) ⊎ (result.vendor ≡ Espressif) }
     {
         settled_texts_are_keys();
-        version_fits(self.operating_system);
+        versions_are_in_range(self.operating_system);
         Triple::normal(self)
     }
 
@@ -100,7 +100,7 @@ impl<'a> TripleRef<'a> {
         ensures { IsTrue result ↔ ComesBack (values_of_ref self.now) }
     {
         round_is_normal_step();
-        version_fits(self.operating_system);
+        versions_are_in_range(self.operating_system);
         self.is_in_no_family()
     }
 
@@ -114,7 +114,7 @@ impl<'a> TripleRef<'a> {
             ⊎ (result.vendor ≡ Known known_vendor.Espressif) }
     {
         round_is_normal_step();
-        version_fits(self.operating_system);
+        versions_are_in_range(self.operating_system);
         self.step()
     }
 
@@ -129,7 +129,7 @@ impl<'a> TripleRef<'a> {
             ⊎ (result.vendor ≡ Known known_vendor.Espressif) }
     {
         settled_texts_are_keys();
-        version_fits(self.operating_system);
+        versions_are_in_range(self.operating_system);
         self.normal()
     }
 

@@ -14,7 +14,7 @@ invariant_of-result c =
         ap length c.name-2.ensures,
         ap length c.name-3.ensures,
         short.architecture triple.architecture,
-        short.operating_system triple.operating_system c.version_fits.ensures,
+        short.operating_system triple.operating_system c.versions_are_in_range.ensures,
         short.environment triple.environment,
         short.binary_format triple.binary_format,
       );
