@@ -3,7 +3,7 @@ use Rattle.std.proofs.Common.{◌≡◌, ◌⊎◌, inl, inr, ◌∙◌, Bool, t
 use Rattle.std.specs.Bool.{Decides}
 use Rattle.std.proofs.lemmas.Bool.Decides.{Decides-not, Decides-and, Decides-like}
 use Rattle.lexicon_fields.specs.{Vendor.is_plain, Laws.HasVersionInRange}
-use Rattle.target_lexicon.specs.{Families.IsInSomeFamily, FixedPoints.FixedExactlyOutsideFamilies, FixedPoints.RoundIsNormalStep, Laws.ComesBack, NormalStep.normal_step, NormalStep.is_in_no_family, Printing.text_of, Reading.ReadsAs, Values.Values}
+use Rattle.target_lexicon.specs.{Families.IsInSomeFamily, FixedPoints.FixedExactlyOutsideFamilies, FixedPoints.RoundIsNormalStep, Laws.ComesBack, NormalStep.normal_step, Private.is_in_no_family, Printing.text_of, Reading.ReadsAs, Values.Values}
 use Rattle.target_lexicon.proofs.StepCases.{IsOutside, step_cases, prints_as_special-decides, hides_newlib-decides, prints_the_esp_idf_text-decides, shows_only_none-decides}
 use Rattle.target_lexicon.proofs.{ReadValues.read_plain, UniqueReading.values_unique}
 

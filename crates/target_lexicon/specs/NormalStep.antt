@@ -3,7 +3,7 @@ use Rattle.std.specs.Prelude.{Bool, false, not, ◌&&◌, is_some, is_none, code
 use Rattle.std.specs.Str.{bytes_eq}
 use Rattle.target_lexicon.specs.Values.{Architecture, OperatingSystem, Environment, BinaryFormat, VendorValue, Known, Custom, Values}
 use Rattle.target_lexicon.specs.{Values.is_newlib, Values.is_environment_none, Values.is_clever_without_system, Values.implies_newlib, Values.is_same_format, SpecialTexts.special_text}
-use Rattle.lexicon_fields.specs.{declared.known_vendor.KnownVendor.TheVariants.Espressif, Vendor.is_plain}
+use Rattle.lexicon_fields.specs.declared.known_vendor.KnownVendor.TheVariants.{Espressif}
 use Rattle.target_lexicon.specs.Values.architecture
 use Rattle.target_lexicon.specs.Values.riscv32
 use Rattle.target_lexicon.specs.Values.operating_system
@@ -30,11 +30,6 @@ shows_only_none t = is_clever_without_system t.architecture t.operating_system &
 abbrev pub elf_if_unknown : BinaryFormat → BinaryFormat
 elf_if_unknown binary_format.Unknown = binary_format.Elf
 elf_if_unknown f = f
-
--- whether none of these holds and the vendor is plain
-unfoldable pub is_in_no_family : Values → Bool
-is_in_no_family t =
-    not (prints_as_special t) && not (hides_newlib t) && not (prints_the_esp_idf_text t) && not (shows_only_none t) && is_plain t.vendor
 
 -- the first family that the triple is in decides the change; a triple in none is unchanged
 unfoldable pub normal_step : Values → Values

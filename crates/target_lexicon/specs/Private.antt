@@ -1,11 +1,12 @@
 -- Definitions for the contracts of private functions; no public contract cites them.
-use Rattle.std.specs.Prelude.{◌≡◌, ◌≤◌, ◌==◌, ◌+◌, ◌-◌, ◌/◌, ◌^◌, ℕ, ◌∷◌, List, [], length, drop, map, Bool, Option, Some, None, is_some, option_and_then, option_map, if◌then◌else◌}
+use Rattle.std.specs.Prelude.{◌≡◌, ◌≤◌, ◌==◌, ◌+◌, ◌-◌, ◌/◌, ◌^◌, ℕ, ◌∷◌, List, [], length, drop, map, Bool, not, ◌&&◌, Option, Some, None, is_some, option_and_then, option_map, if◌then◌else◌}
 use Rattle.std.specs.Borrow.{Bor}
 use Rattle.std.specs.Simd.Lanes.{mask_l}
 use Rattle.lexicon_fields.specs.Names.{dash}
-use Rattle.lexicon_fields.specs.{declared.table.FixedRow.FixedRow, FixedRow.has_row, Architecture.architecture_of, Vendor.vendor_of, OperatingSystem.operating_system_of, Environment.environment_of}
+use Rattle.lexicon_fields.specs.{declared.table.FixedRow.FixedRow, FixedRow.has_row, Architecture.architecture_of, Vendor.vendor_of, Vendor.is_plain, OperatingSystem.operating_system_of, Environment.environment_of}
 use Rattle.lexicon_fields.specs.BinaryFormat.{binary_format_of}
-use Rattle.target_lexicon.specs.{Values.Known, Placement.parts_of}
+use Rattle.target_lexicon.specs.{Values.Known, Values.Values, Placement.parts_of}
+use Rattle.target_lexicon.specs.NormalStep.{prints_as_special, hides_newlib, prints_the_esp_idf_text, shows_only_none}
 
 -- the parts after a dash, if there is one
 abbrev pub parts_after_dash : Option (Bor (List ℕ)) → List (List ℕ)
@@ -35,3 +36,8 @@ pub record IsLookedUp (text : List ℕ) (row : Option FixedRow) : Type 0 where
 -- a dash and the part, if it is shown
 abbrev pub part_text : Bool → List ℕ → List ℕ
 part_text is_shown part = if is_shown then dash ∷ part else []
+
+-- whether none of the tests for families holds and the vendor is plain
+unfoldable pub is_in_no_family : Values → Bool
+is_in_no_family t =
+    not (prints_as_special t) && not (hides_newlib t) && not (prints_the_esp_idf_text t) && not (shows_only_none t) && is_plain t.vendor

@@ -7,7 +7,8 @@ ghost use Rattle.lexicon_fields.specs.declared.vendor.Vendor.TheVariants.{Espres
 ghost use Rattle.lexicon_fields.specs.declared.vendor_ref.VendorRef.TheVariants.{Known};
 ghost use Rattle.target_lexicon.specs.FixedPoints.{settled_values};
 ghost use Rattle.target_lexicon.specs.Laws.{ComesBack};
-ghost use Rattle.target_lexicon.specs.NormalStep.{normal_step, prints_as_special, hides_newlib, prints_the_esp_idf_text, shows_only_none, elf_if_unknown, is_in_no_family};
+ghost use Rattle.target_lexicon.specs.NormalStep.{normal_step, prints_as_special, hides_newlib, prints_the_esp_idf_text, shows_only_none, elf_if_unknown};
+ghost use Rattle.target_lexicon.specs.Private.{is_in_no_family};
 ghost use Rattle.target_lexicon.specs.Printing.{text_of};
 ghost use Rattle.target_lexicon.specs.Reading.{ReadsAs};
 ghost use Rattle.target_lexicon.specs.Values.{values_of};
@@ -158,7 +159,7 @@ impl<'a> TripleRef<'a> {
     }
 
     /// Whether the triple is in none of the five families.
-    #[tactic(auto, unfolding(crate::specs::NormalStep::is_in_no_family))]
+    #[tactic(auto, unfolding(crate::specs::Private::is_in_no_family))]
     fn is_in_no_family(&self) -> bool
         ensures { result ≡ is_in_no_family (values_of_ref self.now) }
     {
