@@ -7,14 +7,10 @@ use Rattle.target_lexicon.specs.Field.{Field}
 use Rattle.target_lexicon.specs.Field as field
 use Rattle.lexicon_names.specs.KnownNames.{known_names}
 use Rattle.serde_json.specs.{Data.array, View.items_of, Written.compact_text}
-use Rattle.lexicon_programs.specs.{Lines.lines_of, Streams.ConsumesSome}
+use Rattle.lexicon_programs.specs.{declared.run_error.RunError.RunError, Faults.fault_line, Lines.lines_of, Streams.ConsumesSome}
 use Rattle.lexicon.specs.{declared.command.Command.Command, declared.outcome.Outcome.Outcome, TargetAnswers.AreTextsFor, TargetAnswers.Texts, JsonAnswers.JsonValues, JsonAnswers.AreJsonValuesFor, Request.RequestValue, Request.argument_request}
 use Rattle.lexicon.specs.declared.command.Command.TheVariants as command
 use Rattle.lexicon.specs.declared.outcome.TheConstants.{USAGE, VERSION}
-use Rattle.lexicon.specs.declared.run_error.RunError.{RunError}
-use Rattle.lexicon.specs.declared.run_error.RunError.TheVariants as run_error
-use Rattle.lexicon_programs.specs.declared.stream_error.StreamError.{StreamError}
-use Rattle.lexicon_programs.specs.declared.stream_error.StreamError.TheVariants as stream_error
 
 -- what is written to the output and to the error output, and the status
 pub record OutcomeValue : Type 0 where
@@ -126,19 +122,6 @@ RequestMayAllocate request old new =
 abbrev pub MayAllocate : Option (List (List ℕ)) → Option (List ℕ) → Option (List ℕ) → Type 0
 MayAllocate words old new = MatchOption (option_and_then argument_request words) ⊥ (λ request. RequestMayAllocate request old new)
 
--- why a run fails
-abbrev pub fault_text : RunError → List ℕ
-fault_text run_error.Read = codes "fault: Read failed\n"
-fault_text run_error.Write = codes "fault: Write failed\n"
-fault_text run_error.NotUtf8 = codes "fault: Input is not UTF-8\n"
-fault_text run_error.OutOfMemory = codes "fault: Out of memory\n"
-
--- the error of a run for an error of a stream
-abbrev pub stream_run_error : StreamError → RunError
-stream_run_error stream_error.Read = run_error.Read
-stream_run_error stream_error.Write = run_error.Write
-stream_run_error stream_error.OutOfMemory = run_error.OutOfMemory
-
 -- the status of the program: that of its run, or 3
 abbrev pub status_of : Result ℕ RunError → ℕ
 status_of (Ok status) = status
@@ -147,4 +130,4 @@ status_of (Err _) = 3
 -- what the program says at its end
 abbrev pub closing_text : Result ℕ RunError → List ℕ
 closing_text (Ok status) = []
-closing_text (Err error) = fault_text error
+closing_text (Err error) = fault_line error

@@ -3,7 +3,7 @@ use Rattle.std.specs.Prelude.{◌≡◌, ◌⊎◌, ◌||◌, ℕ, Bool, true, f
 use Rattle.std.specs.List.{AllZip, list_any}
 use Rattle.target_lexicon.specs.{Reading.ReadsAs, Reading.IsRefusedAs, Refusal.Refusal, Values.Values}
 use Rattle.target_lexicon.specs.FixedPoints.{canonical_text}
-use Rattle.explanations.specs.Explanation.{SourceValues, FromPart, AreSourcesOf, IsRefusedAfter}
+use Rattle.explanations.specs.Explanation.{SourceValues, FromPart, AreSourcesOf, IsRefusedAt}
 use Rattle.target_reports.specs.Lines.{IsReportText}
 use Rattle.lexicon.specs.{declared.answers.TargetTexts.TargetTexts, declared.command.Vendors.Vendors, declared.command.View.View, Problem.ProblemValue, Problem.IsRefusalText, Problem.refusal_problem, Problem.vendor_problem}
 use Rattle.lexicon.specs.declared.command.View.TheVariants as view
@@ -17,12 +17,11 @@ pub record IsReading (vendors : Vendors) (text : List ℕ) (t : Values) (s : Sou
 -- the target reads as no triple: this is wrong with the part that is refused
 pub record IsProblemOfText (text : List ℕ) (p : ProblemValue) : Type 0 where
   pub refusal : Refusal
-  pub sources : SourceValues
   pub start : ℕ
   pub end : ℕ
   pub bytes : List ℕ
   pub refused : IsRefusedAs text refusal
-  pub part : IsRefusedAfter text refusal sources (FromPart start end bytes)
+  pub part : IsRefusedAt text refusal (FromPart start end bytes)
   pub problem : p ≡ refusal_problem refusal start
 
 -- the target reads, but its vendor is custom and only known ones are read

@@ -1,18 +1,19 @@
 //! The answers to targets.
-ghost use Rattle.std.specs.Prelude.{◌≡◌, ◌<◌, true, length, map, IfOk, IfErr, OnOk, OnErr, string_bytes};
+ghost use Rattle.std.specs.Prelude.{◌≡◌, ◌<◌, ◌++◌, true, codes, length, map, IfOk, IfErr, OnOk, OnErr, string_bytes};
 ghost use Rattle.lexicon_fields.specs.Vendor.{is_plain};
 ghost use Rattle.lexicon_fields.specs.VendorRef.{ref_value};
 ghost use Rattle.explanations.specs.Explanation.{sources_of};
+ghost use Rattle.target_lexicon.specs.FixedPoints.{canonical_text};
 ghost use Rattle.target_lexicon.specs.ValuesRef.{values_of_ref};
-ghost use Rattle.lexicon.specs.TargetAnswers.{AddsAnswer, AreTextsFor, IsProblemOf, IsReading, answer_texts};
+ghost use Rattle.lexicon.specs.TargetAnswers.{AddsAnswer, AddsShown, AreTextsFor, IsProblemOf, IsReading, answer_texts};
 ghost use Rattle.lexicon.specs.Problem.{problem_value};
 
 use crate::command::{Vendors, View};
 use crate::problem::{Problem, push_refusal, vendor_problem};
-use crate::shown::push_shown;
 use explanations::{Explanation, explain};
 use std::alloc::{AllocError, Global};
 use target_lexicon::TripleRef;
+use target_reports::push_report;
 
 /// What is shown of targets, why others are refused, and whether any is.
 #[derive(Drop)]
@@ -36,6 +37,37 @@ pub(crate) fn reading<'a>(vendors: Vendors, text: &'a str) -> Result<Explanation
             None => Ok(it),
         },
         Err(refused) => Err(Problem::of_refusal(&refused)),
+    }
+}
+
+/// Appends the canonical text, and a line feed.
+fn push_canonical(out: &mut String, triple: TripleRef<'_>) -> Result<(), AllocError>
+    requires { is_plain (ref_value triple.vendor) ≡ true }
+    ensures { OnOk result
+        (string_bytes out.new
+        ≡ string_bytes out.old ++ (canonical_text (values_of_ref triple.entry) ++ codes "\n")) }
+{
+    out.write(&triple.settle())?;
+    out.push_str("\n")
+}
+
+/// Appends what a view shows of a target.
+fn push_shown(
+    alloc: Global,
+    out: &mut String,
+    view: View,
+    text: &str,
+    it: &Explanation<'_>,
+) -> Result<(), AllocError>
+    requires { is_plain (ref_value it.now.triple.vendor) ≡ true }
+    ensures { OnOk result
+        (AddsShown view text.now (values_of_ref it.now.triple) (sources_of it.now.sources)
+        (string_bytes out.old) (string_bytes out.new)) }
+{
+    match view {
+        View::Report(report) => push_report(alloc, out, report, text, it),
+        View::Settle => push_canonical(out, it.triple),
+        View::Check => Ok(()),
     }
 }
 

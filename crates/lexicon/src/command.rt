@@ -47,10 +47,7 @@ impl Command {
     pub(crate) fn takes_targets(self) -> bool
         ensures { result ≡ takes_targets self }
     {
-        match self {
-            Command::Targets(_, _) | Command::Json(_) => true,
-            Command::Help | Command::Version | Command::Names(_) => false,
-        }
+        matches!(self, Command::Targets(_, _) | Command::Json(_))
     }
 }
 

@@ -4,8 +4,7 @@ ghost use Rattle.std.specs.Io.KnownBytes.{Appends};
 ghost use Rattle.lexicon.specs.Outcome.{closing_text, status_of};
 ghost use Rattle.lexicon_programs.specs.Streams.{AppendsBeginning, failures, inner};
 
-use crate::run_error::RunError;
-use lexicon_programs::{Counted, write_and_flush};
+use lexicon_programs::{Counted, RunError, write_fault};
 use std::io::Write;
 
 /// Writes the closing line of the program to the error output, and returns the status: after a run that ended no line,
@@ -22,7 +21,7 @@ pub fn conclude<E: Write>(end: Result<u8, RunError>, e: &mut Counted<E>) -> u8
     match end {
         Ok(status) => status,
         Err(error) => {
-            let _ = write_and_flush(e, error.fault_text().as_bytes());
+            let _ = write_fault(e, error);
             3
         }
     }

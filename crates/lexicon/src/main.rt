@@ -9,15 +9,12 @@ mod outcome;
 mod problem;
 mod request;
 mod run;
-mod run_error;
-mod shown;
 #[cfg(test)]
 mod tests;
 
 use conclude::conclude;
-use lexicon_programs::Counted;
+use lexicon_programs::{Counted, RunError};
 use run::run;
-use run_error::RunError;
 use std::alloc::{AllocError, Global};
 use std::env;
 use std::io::ErrorKind;
@@ -43,11 +40,10 @@ fn main(rt: HostRuntime) -> ExitCode {
     let mut writer = Counted::new(rt.stdout());
     let mut errors = Counted::new(rt.stderr());
     let end = match arguments(&rt) {
-        Ok(Some(words)) => {
-            let words = Some(words.as_slice());
+        Ok(words) => {
+            let words = words.as_deref();
             run(rt.alloc(), words, &mut reader, &mut writer, &mut errors)
         }
-        Ok(None) => run(rt.alloc(), None, &mut reader, &mut writer, &mut errors),
         Err(_) => Err(RunError::OutOfMemory),
     };
     ExitCode::from(conclude(end, &mut errors))

@@ -96,23 +96,15 @@ fn push_all_names(out: &mut String) -> Result<(), AllocError>
     push_titled_names(out, "binary_format\n", Field::BinaryFormat)
 }
 
-/// Appends the names of a field, or of each field below its title.
-fn push_names_text(out: &mut String, field: Option<Field>) -> Result<(), AllocError>
-    ensures { OnOk result
-        (string_bytes out.new ≡ string_bytes out.old ++ names_text field) }
-{
-    match field {
-        Some(field) => push_names(out, "", names(field)),
-        None => push_all_names(out),
-    }
-}
-
 /// The names of a field, or of each field below its title.
 fn names_text(alloc: Global, field: Option<Field>) -> Result<String, AllocError>
     ensures { IfOk result (λ text. string_bytes text ≡ names_text field) }
 {
     let mut text = String::new(alloc);
-    push_names_text(&mut text, field)?;
+    match field {
+        Some(field) => push_names(&mut text, "", names(field))?,
+        None => push_all_names(&mut text)?,
+    }
     Ok(text)
 }
 

@@ -1,10 +1,10 @@
 //! What is wrong with a target, and the lines that say so.
-ghost use Rattle.std.specs.Prelude.{◌≡◌, ◌++◌, Some, take, option_map, OnOk, string_bytes};
+ghost use Rattle.std.specs.Prelude.{◌≡◌, ◌++◌, take, option_map, OnOk, string_bytes};
 ghost use Rattle.lexicon_fields.specs.VendorRef.{ref_value};
 ghost use Rattle.explanations.specs.Explanation.{source_value};
 ghost use Rattle.target_lexicon.specs.ValuesRef.{refusal_of_ref};
 ghost use Rattle.target_reports.specs.Layout.{columns, spaces};
-ghost use Rattle.lexicon.specs.Problem.{AddsRefusal, IsSuggested, caret_line, problem_line, problem_value, refusal_problem, source_start, suggestion_words, target_line, vendor_problem};
+ghost use Rattle.lexicon.specs.Problem.{AddsRefusal, IsSuggested, caret_line, problem_line, problem_value, refusal_problem, source_start, suggestion_words, vendor_problem};
 
 use crate::command::Vendors;
 use explanations::{ExplainedError, Explanation, Source};
@@ -126,14 +126,6 @@ pub(crate) fn suggestion(candidates: Candidates, part: &str) -> Option<&'static 
     }
 }
 
-/// Appends the words of a suggestion.
-fn push_name(out: &mut String, name: &str) -> Result<(), AllocError>
-    ensures { OnOk result
-        (string_bytes out.new ≡ string_bytes out.old ++ suggestion_words (Some name.now)) }
-{
-    push_three(out, " did you mean `", name, "`?")
-}
-
 /// Appends the words of a suggestion, if there is one.
 fn push_suggestion(out: &mut String, suggestion: Option<&str>) -> Result<(), AllocError>
     ensures { OnOk result
@@ -142,7 +134,7 @@ fn push_suggestion(out: &mut String, suggestion: Option<&str>) -> Result<(), All
         ++ suggestion_words (option_map (λ name. name.now) suggestion.entry)) }
 {
     match suggestion {
-        Some(name) => push_name(out, name),
+        Some(name) => push_three(out, " did you mean `", name, "`?"),
         None => Ok(()),
     }
 }
@@ -155,19 +147,7 @@ fn push_problem_line(out: &mut String, problem: &Problem<'_>) -> Result<(), Allo
 {
     out.push_str("error: ")?;
     out.push_str(problem.words)?;
-    out.push_str(" `")?;
-    out.push_str(problem.part)?;
-    out.push_str("`\n")
-}
-
-/// Appends a line with the target.
-fn push_target_line(out: &mut String, text: &str) -> Result<(), AllocError>
-    ensures { OnOk result
-        (string_bytes out.new ≡ string_bytes out.old ++ target_line text.now) }
-{
-    out.push_str("  ")?;
-    out.push_str(text)?;
-    out.push_str("\n")
+    push_three(out, " `", problem.part, "`\n")
 }
 
 /// The number of characters before an index of a text.
@@ -215,6 +195,6 @@ pub(crate) fn push_refusal(
 {
     let suggestion = suggestion(problem.candidates, problem.part);
     push_problem_line(out, problem)?;
-    push_target_line(out, text)?;
+    push_three(out, "  ", text, "\n")?;
     push_caret_line(out, text, problem, suggestion)
 }

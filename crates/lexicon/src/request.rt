@@ -50,10 +50,8 @@ fn request_with(command: Command, words: &[String]) -> Option<Request<'_>>
     ensures { option_map request_value result
         ≡ request_with command (map string_bytes words.entry.now) }
 {
-    match targets_of(words) {
-        Some(targets) => Some(Request { command, targets }),
-        None => None,
-    }
+    let targets = targets_of(words)?;
+    Some(Request { command, targets })
 }
 
 /// The request of a command that takes no words.
@@ -124,10 +122,8 @@ fn names_request(words: &[String]) -> Option<Request<'_>>
     let Some((first, others)) = words.split_first() else {
         return request_without_words(Command::Names(None), words);
     };
-    match field_of(first.as_str()) {
-        Some(field) => request_without_words(Command::Names(Some(field)), others),
-        None => None,
-    }
+    let field = field_of(first.as_str())?;
+    request_without_words(Command::Names(Some(field)), others)
 }
 
 /// The request of the words after a verb.
@@ -151,11 +147,6 @@ pub fn argument_request(words: &[String]) -> Option<Request<'_>>
     ensures { option_map request_value result
         ≡ argument_request (map string_bytes words.entry.now) }
 {
-    let Some((first, others)) = words.split_first() else {
-        return None;
-    };
-    match verb_of(first.as_str()) {
-        Some(verb) => verb_request(verb, others),
-        None => None,
-    }
+    let (first, others) = words.split_first()?;
+    verb_request(verb_of(first.as_str())?, others)
 }

@@ -2,6 +2,7 @@
 ghost use Rattle.std.specs.Prelude.{◌≡◌, ◌≢◌, ◌<◌, ◌≤◌, ◌↔◌, ◌⊎◌, false, length, IsErrOf, OnErr, IfOk, IfErr, IfSome, map, option_and_then, option_map, string_bytes, vec_len};
 ghost use Rattle.std.specs.Str.{IsUtf8};
 ghost use Rattle.std.specs.Io.KnownBytes.{Appends, Keeps};
+ghost use Rattle.lexicon_programs.specs.Faults.{IsOfJson};
 ghost use Rattle.lexicon_programs.specs.Lines.{lines_of};
 ghost use Rattle.lexicon_programs.specs.Streams.{AppendsUnlessFailed, ConsumesSome, failures, inner};
 ghost use Rattle.lexicon.specs.Outcome.{IsRunOutcome, MayAllocate, WritesOutcome, outcome_value, reads_input, wants_input};
@@ -9,8 +10,7 @@ ghost use Rattle.lexicon.specs.Request.{argument_request, request_value};
 
 use crate::outcome::{Outcome, command_outcome};
 use crate::request::{Request, argument_request};
-use crate::run_error::RunError;
-use lexicon_programs::{Counted, first_line, read_all, write_and_flush};
+use lexicon_programs::{Counted, RunError, first_line, read_all, write_and_flush};
 use std::alloc::{AllocError, Global};
 use std::io::{Read, Write};
 
@@ -29,13 +29,6 @@ fn lines(alloc: Global, input: &str) -> Result<Vec<String>, AllocError>
     Ok(lines)
 }
 
-/// Whether the targets are the lines of the input.
-fn reads_input(request: &Request<'_>) -> bool
-    ensures { result ≡ reads_input (request_value request.now) }
-{
-    request.command.takes_targets() && request.targets.is_empty()
-}
-
 /// The lines of the input, which is read to its end.
 fn input_lines<R: Read>(alloc: Global, r: &mut Counted<R>) -> Result<Vec<String>, RunError>
     ensures ok { IfOk result
@@ -52,22 +45,13 @@ fn input_lines<R: Read>(alloc: Global, r: &mut Counted<R>) -> Result<Vec<String>
         IfSome (R.remaining (inner r.old)) (λ input. ¬ (IsUtf8 input)) }
     ensures memory { IsErrOf result RunError.OutOfMemory →
         ConsumesSome (R.remaining (inner r.old)) (R.remaining (inner r.new)) }
-    ensures only { IfErr result (λ e. e ≢ RunError.Write) }
+    ensures only { IfErr result (λ e. (e ≢ RunError.Write) × ¬ (IsOfJson e)) }
 {
     let bytes = read_all(alloc, r)?;
     let Ok(input) = str::from_utf8(&bytes) else {
         return Err(RunError::NotUtf8);
     };
     Ok(lines(alloc, input)?)
-}
-
-/// What the arguments ask for; `None` for wrong arguments, and for those that aren't available.
-fn requested(words: Option<&[String]>) -> Option<Request<'_>>
-    ensures { option_map request_value result
-        ≡ option_and_then argument_request
-        (option_map (λ words. map string_bytes words.now) words.entry) }
-{
-    argument_request(words?)
 }
 
 /// What the program writes for these arguments.
@@ -90,12 +74,12 @@ fn outcome<R: Read>(
     ensures memory { IsErrOf result RunError.OutOfMemory →
         MayAllocate (option_map (λ words. map string_bytes words.now) words.entry)
         (R.remaining (inner r.old)) (R.remaining (inner r.new)) }
-    ensures only { IfErr result (λ e. e ≢ RunError.Write) }
+    ensures only { IfErr result (λ e. (e ≢ RunError.Write) × ¬ (IsOfJson e)) }
 {
-    let Some(request) = requested(words) else {
+    let Some(request) = words.and_then(argument_request) else {
         return Ok(Outcome::usage());
     };
-    if reads_input(&request) {
+    if request.command.takes_targets() && request.targets.is_empty() {
         let targets = input_lines(alloc, r)?;
         return Ok(command_outcome(alloc, request.command, &targets)?);
     }
@@ -131,7 +115,7 @@ fn write_both<W: Write, E: Write>(
 ///
 /// # Errors
 ///
-/// After each error but `Write` nothing was written.
+/// After each error but `Write` nothing was written. There are no errors of JSON.
 ///
 /// - [`RunError::Read`] exactly if a read failed.
 /// - [`RunError::NotUtf8`] if the whole input was read and is not UTF-8.
@@ -177,6 +161,9 @@ pub fn run<R: Read, W: Write, E: Write>(
         error ≢ RunError.Write →
         Keeps (W.contents (inner w.old)) (W.contents (inner w.new))
         × Keeps (E.contents (inner e.old)) (E.contents (inner e.new))) }
+
+    // There is no other error.
+    ensures only { IfErr result (λ e. ¬ (IsOfJson e)) }
 
     // No failure is forgotten.
     ensures reader { failures r.old ≤ failures r.new }

@@ -6,9 +6,9 @@ mod counted;
 mod input;
 pub mod laws;
 mod lines;
-mod stream_error;
+mod run_error;
 
 pub use counted::Counted;
-pub use input::{read_all, write_all, write_and_flush};
+pub use input::{read_all, write_and_flush, write_fault};
 pub use lines::first_line;
-pub use stream_error::StreamError;
+pub use run_error::RunError;

@@ -7,8 +7,8 @@ use Rattle.serde_json.specs.Written.{compact_text}
 use Rattle.target_lexicon.specs.Json.{JsonErrorValue, Parse, Element, ListReadsAs, IsListErrorOf, list_json_of, list_error_line}
 use Rattle.target_lexicon.specs.Values.{Values}
 use Rattle.triples.specs.Words.{line_feed}
-use Rattle.triples.specs.declared.run_error.RunError.{RunError}
-use Rattle.triples.specs.declared.run_error.RunError.TheVariants as run_error
+use Rattle.lexicon_programs.specs.declared.run_error.RunError.{RunError}
+use Rattle.lexicon_programs.specs.declared.run_error.RunError.TheVariants as run_error
 
 -- the compact text of the list that the value parses as
 abbrev pub IsListWritten : Data → List ℕ → Type 0
@@ -40,9 +40,3 @@ IsJsonInputErrorOf input run_error.NotJson = read input ≡ None
 IsJsonInputErrorOf input run_error.NotList = MatchOption (read input) ⊥ (λ value. as_array value ≡ None)
 IsJsonInputErrorOf input run_error.OutOfMemory = 0 < length input
 IsJsonInputErrorOf input _ = ⊥
-
--- the errors that only mode `json` has
-abbrev pub IsOfJson : RunError → Type 0
-IsOfJson run_error.NotJson = Unit {0}
-IsOfJson run_error.NotList = Unit {0}
-IsOfJson _ = ⊥

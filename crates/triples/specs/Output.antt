@@ -3,9 +3,10 @@ use Rattle.std.specs.Prelude.{ℕ, ◌≡◌, ◌<◌, Bool, true, false, not, i
 use Rattle.std.specs.List.{AllZip, list_any}
 use Rattle.std.specs.Str.{bytes_eq}
 use Rattle.target_lexicon.specs.{FixedPoints.canonical_text, Printing.text_of, Reading.ReadsAs, Reading.IsRefusedAs, Refusal.Refusal, Refusal.refusal_line, Values.Values}
-use Rattle.triples.specs.{declared.mode.Mode.Mode, declared.run_error.RunError.RunError, declared.run_error.RunError.TheVariants.OutOfMemory, Facts.text_with_facts}
+use Rattle.triples.specs.{declared.mode.Mode.Mode, Facts.text_with_facts}
 use Rattle.triples.specs.declared.mode.Mode.TheVariants.{Print, Show, Settle, Json, Matrix}
 use Rattle.triples.specs.{declared.output.View.View, declared.output.View.TheVariants.Printed, declared.output.View.TheVariants.WithFacts, declared.output.View.TheVariants.Canonical}
+use Rattle.lexicon_programs.specs.{declared.run_error.RunError.RunError, declared.run_error.RunError.TheVariants.OutOfMemory}
 pub use Rattle.lexicon_programs.specs.Lines.{lines_of}
 use Rattle.triples.specs.Words.{line_feed}
 use Rattle.triples.specs.JsonOutput.{IsJsonOutput, IsJsonInputErrorOf}

@@ -1,11 +1,10 @@
 //! The end of the program: its exit status, and what it prints.
-ghost use Rattle.std.specs.Prelude.{◌≡◌, ◌++◌, codes, OnOk, IfErr};
+ghost use Rattle.std.specs.Prelude.{◌≡◌};
 ghost use Rattle.std.specs.Io.KnownBytes.{Appends};
 ghost use Rattle.triples.specs.Run.{inner, failures, AppendsBeginning};
 ghost use Rattle.triples.specs.Words.{status_of, closing_words};
 
-use crate::run_error::RunError;
-use lexicon_programs::{Counted, write_all, write_and_flush};
+use lexicon_programs::{Counted, RunError, write_and_flush, write_fault};
 use std::io::Write;
 
 /// Writes the closing line of the program, and returns the exit status:
@@ -24,27 +23,12 @@ pub fn conclude<W: Write>(end: Option<Result<(), RunError>>, w: &mut Counted<W>)
     match end {
         Some(Ok(())) => 0,
         Some(Err(error)) => {
-            let _ = say(w, "fault: ", error.line());
+            let _ = write_fault(w, error);
             1
         }
         None => {
-            let _ = say(w, "usage: ", "triples [MODE]");
+            let _ = write_and_flush(w, b"usage: triples [MODE]\n");
             2
         }
     }
-}
-
-/// Writes a line of two pieces and flushes.
-fn say<W: Write>(w: &mut Counted<W>, head: &str, tail: &str) -> Result<(), RunError>
-    ensures said { failures w.new ≡ failures w.old →
-        Appends (W.contents (inner w.old)) (W.contents (inner w.new))
-        (head.now ++ (tail.now ++ codes "\n")) }
-    ensures begun { AppendsBeginning (W.contents (inner w.old)) (W.contents (inner w.new))
-        (head.now ++ (tail.now ++ codes "\n")) }
-    ensures unfailed { OnOk result (failures w.new ≡ failures w.old) }
-    ensures only { IfErr result (λ e. e ≡ RunError.Write) }
-{
-    write_all(w, head.as_bytes())?;
-    write_all(w, tail.as_bytes())?;
-    Ok(write_and_flush(w, b"\n")?)
 }

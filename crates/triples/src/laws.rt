@@ -4,23 +4,18 @@ ghost use Rattle.lexicon_fields.specs.Laws.{ComparesByValue, CopiesEqualTheirSou
 ghost use Rattle.triples.specs.MatrixLaws.{EntriesAreSettledTriples, KeepsEntriesOnce, FirstEntriesStayInOrder, EachSettledTripleHasAnEntry, MatricesAreTheirOwn};
 ghost use Rattle.triples.specs.Output.{Answer};
 ghost use Rattle.triples.specs.declared.mode.Mode.{Mode};
-ghost use Rattle.triples.specs.declared.run_error.RunError.{RunError};
 
 use crate::mode::Mode;
-use crate::run_error::RunError;
 
-/// Modes and errors of a run are equal exactly if their variants are.
-pub fn words_are_equal_by_variant()
-    ensures mode { ComparesByValue ⟦<Mode as PartialEq>⟧.eq }
-    ensures error { ComparesByValue ⟦<RunError as PartialEq>⟧.eq }
+/// Modes are equal exactly if their variants are.
+pub fn modes_are_equal_by_variant()
+    ensures { ComparesByValue ⟦<Mode as PartialEq>⟧.eq }
 {}
 
-/// A copy of a mode or an error is that value, and copying allocates nothing.
+/// A copy of a mode is that value, and copying allocates nothing.
 pub fn copies_equal_their_sources()
-    ensures mode { CopiesEqualTheirSources ⟦<Mode as Clone>⟧.is_clone
+    ensures { CopiesEqualTheirSources ⟦<Mode as Clone>⟧.is_clone
         ⟦<Mode as Clone>⟧.is_infallible }
-    ensures error { CopiesEqualTheirSources ⟦<RunError as Clone>⟧.is_clone
-        ⟦<RunError as Clone>⟧.is_infallible }
 {}
 
 /// Mode `settle` writes the same text for two lines that parse exactly if their canonical triples are equal.

@@ -9,7 +9,6 @@ mod matrix;
 mod mode;
 mod output;
 mod run;
-mod run_error;
 #[cfg(test)]
 mod tests;
 

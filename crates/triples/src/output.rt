@@ -12,8 +12,7 @@ use crate::facts::push_facts;
 use crate::json::json_output;
 use crate::matrix::Seen;
 use crate::mode::Mode;
-use crate::run_error::RunError;
-use lexicon_programs::first_line;
+use lexicon_programs::{RunError, first_line};
 use std::alloc::{AllocError, Global};
 use target_lexicon::{ParseErrorRef, TripleRef};
 

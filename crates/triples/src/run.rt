@@ -3,12 +3,12 @@ ghost use Rattle.std.specs.Prelude.{◌≡◌, ◌≢◌, ◌<◌, ◌≤◌, �
 ghost use Rattle.std.specs.Str.{IsUtf8};
 ghost use Rattle.std.specs.Io.KnownBytes.{Appends, Keeps, IsAtEnd};
 ghost use Rattle.triples.specs.Run.{inner, failures, AppendsBeginning, ConsumesSome, WritesOutput};
-ghost use Rattle.triples.specs.JsonOutput.{IsOfJson, IsJsonInputErrorOf};
+ghost use Rattle.lexicon_programs.specs.Faults.{IsOfJson};
+ghost use Rattle.triples.specs.JsonOutput.{IsJsonInputErrorOf};
 
 use crate::mode::Mode;
 use crate::output::output;
-use crate::run_error::RunError;
-use lexicon_programs::{Counted, read_all, write_and_flush};
+use lexicon_programs::{Counted, RunError, read_all, write_and_flush};
 use std::alloc::Global;
 use std::io::{Read, Write};
 
@@ -74,5 +74,5 @@ pub fn run<R: Read, W: Write>(
         return Err(RunError::NotUtf8);
     };
     let output = output(alloc, mode, input)?;
-    Ok(write_and_flush(w, output.as_bytes())?)
+    write_and_flush(w, output.as_bytes())
 }

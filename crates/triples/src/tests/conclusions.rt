@@ -3,8 +3,7 @@
 
 use super::faulty::{Fault, FaultyTarget, FaultyWriter, WriterCalls};
 use crate::conclude::conclude;
-use crate::run_error::RunError;
-use lexicon_programs::Counted;
+use lexicon_programs::{Counted, RunError};
 use std::alloc::Global;
 use std::fmt::Write as _;
 use std::io::ErrorKind;

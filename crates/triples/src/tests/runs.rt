@@ -5,8 +5,7 @@ use super::faulty::{Fault, FaultyReader, FaultyWriter, WriterCalls};
 use super::rows::{REFUSED_ROWS, ROWS, Row};
 use crate::mode::Mode;
 use crate::run::run;
-use crate::run_error::RunError;
-use lexicon_programs::Counted;
+use lexicon_programs::{Counted, RunError};
 use std::alloc::Global;
 use std::io::ErrorKind;
 

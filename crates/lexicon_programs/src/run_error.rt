@@ -1,7 +1,6 @@
 //! Why a run fails.
 ghost use Rattle.std.specs.Prelude.{◌≡◌, Some};
 
-use lexicon_programs::StreamError;
 use std::alloc::AllocError;
 use std::fmt;
 
@@ -23,9 +22,9 @@ pub enum RunError {
 }
 
 impl RunError {
-    ghost use Rattle.triples.specs.Words.{line_of};
+    ghost use Rattle.lexicon_programs.specs.Faults.{line_of};
 
-    /// The line that the program prints for the error.
+    /// The line that a program prints for the error.
     pub(crate) fn line(self) -> &'static str
         ensures { result.now ≡ line_of self }
     {
@@ -41,7 +40,7 @@ impl RunError {
 }
 
 impl From<AllocError> for RunError {
-    ghost use Rattle.triples.specs.declared.run_error.RunError.TheVariants.{OutOfMemory};
+    ghost use Rattle.lexicon_programs.specs.declared.run_error.RunError.TheVariants.{OutOfMemory};
 
     ghost from_gives = { λ _ error. error ≡ OutOfMemory };
 
@@ -50,22 +49,8 @@ impl From<AllocError> for RunError {
     }
 }
 
-impl From<StreamError> for RunError {
-    ghost use Rattle.triples.specs.Words.{stream_run_error};
-
-    ghost from_gives = { λ error result. result ≡ stream_run_error error };
-
-    fn from(error: StreamError) -> RunError {
-        match error {
-            StreamError::Read => RunError::Read,
-            StreamError::Write => RunError::Write,
-            StreamError::OutOfMemory => RunError::OutOfMemory,
-        }
-    }
-}
-
 impl fmt::Display for RunError {
-    ghost use Rattle.triples.specs.Words.{line_of};
+    ghost use Rattle.lexicon_programs.specs.Faults.{line_of};
 
     ghost output = { λ error. Some (line_of error) };
 
