@@ -1,6 +1,6 @@
 //! Where the fields of a triple come from in its text.
 ghost use Rattle.std.specs.Prelude.{◌≡◌, ◌+◌, ◌<◌, ◌^◌, IfOk, IfErr, length};
-ghost use Rattle.target_lexicon.specs.FieldTexts.{part_bytes, texts_of};
+ghost use Rattle.target_lexicon.specs.FieldTexts.{AreTakenFrom, part_bytes, texts_of};
 ghost use Rattle.target_lexicon.specs.Reading.{ReadsAs, IsRefusedAs};
 ghost use Rattle.target_lexicon.specs.ValuesRef.{refusal_of_ref, values_of_ref};
 ghost use Rattle.explanations.specs.Explanation.{AreInText, AreSourcesOf, IsInText, IsRefusedAfter, IsRefusedAt, NotGiven, next_start, part_value, source_at, source_value, sources_at, sources_of, start_after, whole_text_sources};
@@ -146,6 +146,28 @@ impl<'a> Sources<'a> {
     }
 }
 
+impl<'a> ExplainedError<'a> {
+    /// The refusal of a text whose earlier parts fill these fields.
+    fn of(text: &str, parts: FieldParts<'a>, error: ParseErrorRef<'a>) -> ExplainedError<'a>
+        requires taken { AreTakenFrom text.now (texts_of parts) }
+        requires refused { IsRefusedAs text.now (refusal_of_ref error) }
+        ensures error { IsRefusedAs text.now (refusal_of_ref result.error) }
+        ensures refused { IsRefusedAfter text.now (refusal_of_ref result.error)
+            (sources_of result.sources) (part_value result.part) }
+        ensures ranges { AreInText text.now (sources_of result.sources)
+            × IsInText text.now (part_value result.part) }
+    {
+        length_fits(text);
+        let (sources, start) = Sources::of_parts(parts, Source::NotGiven);
+        let part = TextPart::starting_at(error.part(), start);
+        ExplainedError {
+            error,
+            part,
+            sources,
+        }
+    }
+}
+
 /// The triple that a text parses as; or why it is refused, and the refused part. Nothing is allocated. [`explain`]
 /// answers this too, and where each field comes from.
 pub fn parse_or_locate(text: &str) -> Result<TripleRef<'_>, (ParseErrorRef<'_>, TextPart<'_>)>
@@ -156,13 +178,12 @@ pub fn parse_or_locate(text: &str) -> Result<TripleRef<'_>, (ParseErrorRef<'_>, 
         (λ it. IsRefusedAt text.entry.now (refusal_of_ref it.0) (part_value it.1)) }
     ensures range { IfErr result (λ it. IsInText text.entry.now (part_value it.1)) }
 {
-    length_fits(text);
     let reading = Reading::from_text(text);
     match reading.result {
         Ok(triple) => Ok(triple),
         Err(error) => {
-            let (_, start) = Sources::of_parts(reading.parts, Source::NotGiven);
-            Err((error, TextPart::starting_at(error.part(), start)))
+            let refused = ExplainedError::of(text, reading.parts, error);
+            Err((refused.error, refused.part))
         }
     }
 }
@@ -197,14 +218,6 @@ pub fn explain(text: &str) -> Result<Explanation<'_>, ExplainedError<'_>>
             };
             Ok(Explanation { triple, sources })
         }
-        Err(error) => {
-            let (sources, start) = Sources::of_parts(reading.parts, Source::NotGiven);
-            let part = TextPart::starting_at(error.part(), start);
-            Err(ExplainedError {
-                error,
-                part,
-                sources,
-            })
-        }
+        Err(error) => Err(ExplainedError::of(text, reading.parts, error)),
     }
 }
