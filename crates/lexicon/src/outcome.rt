@@ -1,6 +1,6 @@
 //! What a command writes.
 ghost use Rattle.std.specs.Prelude.{◌≡◌, ◌++◌, map, IfOk, OnOk, OnErr, string_bytes};
-ghost use Rattle.lexicon.specs.Outcome.{CommandMayAllocate, IsOutcome, all_names_text, names_after, names_text, outcome_value, status_for, titled_names};
+ghost use Rattle.lexicon.specs.Outcome as spec;
 
 use crate::answers::{TargetTexts, target_answers};
 use crate::command::Command;
@@ -38,11 +38,10 @@ pub(crate) struct Outcome {
 impl Outcome {
     ghost use Rattle.std.specs.Prelude.{[]};
     ghost use Rattle.std.specs.Cow.{cow_str_bytes};
-    ghost use Rattle.lexicon.specs.Outcome.{outcome, outcome_value, usage_outcome};
 
     /// The outcome of wrong arguments.
     pub(crate) fn usage() -> Self
-        ensures { outcome_value result ≡ usage_outcome }
+        ensures { spec.outcome_value result ≡ spec.usage_outcome }
     {
         Outcome {
             output: CowStr::Borrowed(""),
@@ -53,7 +52,7 @@ impl Outcome {
 
     /// The outcome of a run that only writes this text.
     fn text(output: CowStr<'static>) -> Self
-        ensures { outcome_value result ≡ outcome (cow_str_bytes output.entry) [] 0 }
+        ensures { spec.outcome_value result ≡ spec.outcome (cow_str_bytes output.entry) [] 0 }
     {
         Outcome {
             output,
@@ -67,7 +66,7 @@ impl Outcome {
 fn push_names(out: &mut String, prefix: &str, names: &[&str]) -> Result<(), AllocError>
     ensures { OnOk result
         (string_bytes out.new
-        ≡ string_bytes out.old ++ names_after prefix.now (map (λ name. name.now) names.now)) }
+        ≡ string_bytes out.old ++ spec.names_after prefix.now (map (λ name. name.now) names.now)) }
 {
     for name in names {
         push_three(out, prefix, name, "\n")?;
@@ -79,7 +78,7 @@ fn push_names(out: &mut String, prefix: &str, names: &[&str]) -> Result<(), Allo
 #[tactic(auto, unfolding(crate::specs::Outcome::titled_names))]
 fn push_titled_names(out: &mut String, title: &str, field: Field) -> Result<(), AllocError>
     ensures { OnOk result
-        (string_bytes out.new ≡ string_bytes out.old ++ titled_names title.now field) }
+        (string_bytes out.new ≡ string_bytes out.old ++ spec.titled_names title.now field) }
 {
     out.push_str(title)?;
     push_names(out, "  ", names(field))
@@ -87,7 +86,7 @@ fn push_titled_names(out: &mut String, title: &str, field: Field) -> Result<(), 
 
 /// Appends the names of each field below its title.
 fn push_all_names(out: &mut String) -> Result<(), AllocError>
-    ensures { OnOk result (string_bytes out.new ≡ string_bytes out.old ++ all_names_text) }
+    ensures { OnOk result (string_bytes out.new ≡ string_bytes out.old ++ spec.all_names_text) }
 {
     push_titled_names(out, "architecture\n", Field::Architecture)?;
     push_titled_names(out, "vendor\n", Field::Vendor)?;
@@ -98,7 +97,7 @@ fn push_all_names(out: &mut String) -> Result<(), AllocError>
 
 /// The names of a field, or of each field below its title.
 fn names_text(alloc: Global, field: Option<Field>) -> Result<String, AllocError>
-    ensures { IfOk result (λ text. string_bytes text ≡ names_text field) }
+    ensures { IfOk result (λ text. string_bytes text ≡ spec.names_text field) }
 {
     let mut text = String::new(alloc);
     match field {
@@ -110,7 +109,7 @@ fn names_text(alloc: Global, field: Option<Field>) -> Result<String, AllocError>
 
 /// 1 if a target is refused, otherwise 0.
 fn status_for(has_refusal: bool) -> u8
-    ensures { result ≡ status_for has_refusal }
+    ensures { result ≡ spec.status_for has_refusal }
 {
     if has_refusal { 1 } else { 0 }
 }
@@ -122,8 +121,8 @@ pub(crate) fn command_outcome(
     targets: &[String],
 ) -> Result<Outcome, AllocError>
     ensures ok { IfOk result
-        (λ o. IsOutcome command (map string_bytes targets.now) (outcome_value o)) }
-    ensures memory { OnErr result (CommandMayAllocate command (map string_bytes targets.now)) }
+        (λ o. spec.IsOutcome command (map string_bytes targets.now) (spec.outcome_value o)) }
+    ensures memory { OnErr result (spec.CommandMayAllocate command (map string_bytes targets.now)) }
 {
     match command {
         Command::Help => Ok(Outcome::text(CowStr::Borrowed(USAGE))),

@@ -4,7 +4,7 @@ ghost use Rattle.lexicon_fields.specs.VendorRef.{ref_value};
 ghost use Rattle.explanations.specs.Explanation.{source_value};
 ghost use Rattle.target_lexicon.specs.ValuesRef.{refusal_of_ref};
 ghost use Rattle.target_reports.specs.Layout.{columns, spaces};
-ghost use Rattle.lexicon.specs.Problem.{AddsRefusal, IsSuggested, caret_line, problem_line, problem_value, refusal_problem, source_start, suggestion_words, vendor_problem};
+ghost use Rattle.lexicon.specs.Problem as spec;
 
 use crate::command::Vendors;
 use explanations::{ExplainedError, Explanation, Source};
@@ -37,12 +37,10 @@ pub(crate) struct Problem<'a> {
 }
 
 impl<'a> Problem<'a> {
-    ghost use Rattle.lexicon.specs.Problem.{problem_value, refusal_problem};
-
     /// The problem of a refused target.
     pub(crate) fn of_refusal(refused: &ExplainedError<'a>) -> Self
-        ensures { problem_value result
-            ≡ refusal_problem (refusal_of_ref refused.entry.now.error)
+        ensures { spec.problem_value result
+            ≡ spec.refusal_problem (refusal_of_ref refused.entry.now.error)
             refused.entry.now.part.start }
     {
         let (words, candidates) = match refused.error {
@@ -87,7 +85,7 @@ impl<'a> Problem<'a> {
 
 /// The index at which the part of a source begins; 0 without a part.
 fn source_start(source: &Source<'_>) -> usize
-    ensures { result ≡ source_start (source_value source.now) }
+    ensures { result ≡ spec.source_start (source_value source.now) }
 {
     match source {
         Source::Part(part) => part.start,
@@ -100,8 +98,8 @@ pub(crate) fn vendor_problem<'a>(
     vendors: Vendors,
     explanation: &Explanation<'a>,
 ) -> Option<Problem<'a>>
-    ensures { option_map problem_value result
-        ≡ vendor_problem vendors (ref_value explanation.entry.now.triple.vendor)
+    ensures { option_map spec.problem_value result
+        ≡ spec.vendor_problem vendors (ref_value explanation.entry.now.triple.vendor)
         (source_value explanation.entry.now.sources.vendor) }
 {
     match (vendors, explanation.triple.vendor) {
@@ -117,7 +115,7 @@ pub(crate) fn vendor_problem<'a>(
 
 /// The nearest of the names, if one is near.
 pub(crate) fn suggestion(candidates: Candidates, part: &str) -> Option<&'static str>
-    ensures { IsSuggested candidates part.now (option_map (λ name. name.now) result) }
+    ensures { spec.IsSuggested candidates part.now (option_map (λ name. name.now) result) }
 {
     match candidates {
         Candidates::None => None,
@@ -131,7 +129,7 @@ fn push_suggestion(out: &mut String, suggestion: Option<&str>) -> Result<(), All
     ensures { OnOk result
         (string_bytes out.new
         ≡ string_bytes out.old
-        ++ suggestion_words (option_map (λ name. name.now) suggestion.entry)) }
+        ++ spec.suggestion_words (option_map (λ name. name.now) suggestion.entry)) }
 {
     match suggestion {
         Some(name) => push_three(out, " did you mean `", name, "`?"),
@@ -143,7 +141,7 @@ fn push_suggestion(out: &mut String, suggestion: Option<&str>) -> Result<(), All
 fn push_problem_line(out: &mut String, problem: &Problem<'_>) -> Result<(), AllocError>
     ensures { OnOk result
         (string_bytes out.new
-        ≡ string_bytes out.old ++ problem_line (problem_value problem.now)) }
+        ≡ string_bytes out.old ++ spec.problem_line (spec.problem_value problem.now)) }
 {
     out.push_str("error: ")?;
     out.push_str(problem.words)?;
@@ -173,7 +171,7 @@ fn push_caret_line(
     ensures { OnOk result
         (string_bytes out.new
         ≡ string_bytes out.old
-        ++ caret_line text.now (problem_value problem.now)
+        ++ spec.caret_line text.now (spec.problem_value problem.now)
         (option_map (λ name. name.now) suggestion.entry)) }
 {
     out.push_str("  ")?;
@@ -190,7 +188,7 @@ pub(crate) fn push_refusal(
     problem: &Problem<'_>,
 ) -> Result<(), AllocError>
     ensures { OnOk result
-        (AddsRefusal text.now (problem_value problem.now) (string_bytes out.old)
+        (spec.AddsRefusal text.now (spec.problem_value problem.now) (string_bytes out.old)
         (string_bytes out.new)) }
 {
     let suggestion = suggestion(problem.candidates, problem.part);

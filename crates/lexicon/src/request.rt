@@ -1,7 +1,7 @@
 //! What the arguments ask for.
 ghost use Rattle.std.specs.Prelude.{◌≡◌, map, option_map, string_bytes};
 ghost use Rattle.std.specs.List.{list_any};
-ghost use Rattle.lexicon.specs.Request.{argument_request, begins_with_dash, names_request, optional_request, report_request, request_value, request_with, request_without_words, strict_request, targets_of, verb_request};
+ghost use Rattle.lexicon.specs.Request as spec;
 
 use crate::command::{Command, Vendors, Verb, View, field_of, verb_of};
 use target_reports::Report;
@@ -15,7 +15,7 @@ pub struct Request<'a> {
 
 /// Whether a word begins with a dash.
 fn has_dash_word(words: &[String]) -> bool
-    ensures { result ≡ list_any begins_with_dash (map string_bytes words.now) }
+    ensures { result ≡ list_any spec.begins_with_dash (map string_bytes words.now) }
 {
     let mut rest = words;
     while let Some((word, others)) = rest.split_first() {
@@ -30,7 +30,7 @@ fn has_dash_word(words: &[String]) -> bool
 /// The targets that these words give: those after `--`, or all words if none begins with a dash.
 fn targets_of(words: &[String]) -> Option<&[String]>
     ensures { option_map (λ targets. map string_bytes targets.now) result
-        ≡ targets_of (map string_bytes words.entry.now) }
+        ≡ spec.targets_of (map string_bytes words.entry.now) }
 {
     let Some((first, others)) = words.split_first() else {
         return Some(words);
@@ -47,8 +47,8 @@ fn targets_of(words: &[String]) -> Option<&[String]>
 
 /// The request of a command whose targets these words give.
 fn request_with(command: Command, words: &[String]) -> Option<Request<'_>>
-    ensures { option_map request_value result
-        ≡ request_with command (map string_bytes words.entry.now) }
+    ensures { option_map spec.request_value result
+        ≡ spec.request_with command (map string_bytes words.entry.now) }
 {
     let targets = targets_of(words)?;
     Some(Request { command, targets })
@@ -56,8 +56,8 @@ fn request_with(command: Command, words: &[String]) -> Option<Request<'_>>
 
 /// The request of a command that takes no words.
 fn request_without_words(command: Command, words: &[String]) -> Option<Request<'_>>
-    ensures { option_map request_value result
-        ≡ request_without_words command (map string_bytes words.entry.now) }
+    ensures { option_map spec.request_value result
+        ≡ spec.request_without_words command (map string_bytes words.entry.now) }
 {
     if words.is_empty() {
         Some(Request {
@@ -76,8 +76,8 @@ fn optional_request<'a>(
     chosen: Command,
     words: &'a [String],
 ) -> Option<Request<'a>>
-    ensures { option_map request_value result
-        ≡ optional_request option.now plain chosen (map string_bytes words.entry.now) }
+    ensures { option_map spec.request_value result
+        ≡ spec.optional_request option.now plain chosen (map string_bytes words.entry.now) }
 {
     match words.split_first() {
         Some((first, others)) => {
@@ -93,8 +93,8 @@ fn optional_request<'a>(
 
 /// The request of a report, which may be JSON.
 fn report_request(report: Report, words: &[String]) -> Option<Request<'_>>
-    ensures { option_map request_value result
-        ≡ report_request report (map string_bytes words.entry.now) }
+    ensures { option_map spec.request_value result
+        ≡ spec.report_request report (map string_bytes words.entry.now) }
 {
     let lines = Command::Targets(View::Report(report), Vendors::Any);
     optional_request("--json", lines, Command::Json(report), words)
@@ -102,8 +102,8 @@ fn report_request(report: Report, words: &[String]) -> Option<Request<'_>>
 
 /// The request of a view, which may be strict.
 fn strict_request(view: View, words: &[String]) -> Option<Request<'_>>
-    ensures { option_map request_value result
-        ≡ strict_request view (map string_bytes words.entry.now) }
+    ensures { option_map spec.request_value result
+        ≡ spec.strict_request view (map string_bytes words.entry.now) }
 {
     let any = Command::Targets(view, Vendors::Any);
     optional_request(
@@ -116,8 +116,8 @@ fn strict_request(view: View, words: &[String]) -> Option<Request<'_>>
 
 /// The request for the names of a field, or of each field.
 fn names_request(words: &[String]) -> Option<Request<'_>>
-    ensures { option_map request_value result
-        ≡ names_request (map string_bytes words.entry.now) }
+    ensures { option_map spec.request_value result
+        ≡ spec.names_request (map string_bytes words.entry.now) }
 {
     let Some((first, others)) = words.split_first() else {
         return request_without_words(Command::Names(None), words);
@@ -128,8 +128,8 @@ fn names_request(words: &[String]) -> Option<Request<'_>>
 
 /// The request of the words after a verb.
 fn verb_request(verb: Verb, words: &[String]) -> Option<Request<'_>>
-    ensures { option_map request_value result
-        ≡ verb_request verb (map string_bytes words.entry.now) }
+    ensures { option_map spec.request_value result
+        ≡ spec.verb_request verb (map string_bytes words.entry.now) }
 {
     match verb {
         Verb::Explain => report_request(Report::Explain, words),
@@ -144,8 +144,8 @@ fn verb_request(verb: Verb, words: &[String]) -> Option<Request<'_>>
 
 /// What the arguments ask for, without the name of the program; `None` for wrong arguments.
 pub fn argument_request(words: &[String]) -> Option<Request<'_>>
-    ensures { option_map request_value result
-        ≡ argument_request (map string_bytes words.entry.now) }
+    ensures { option_map spec.request_value result
+        ≡ spec.argument_request (map string_bytes words.entry.now) }
 {
     let (first, others) = words.split_first()?;
     verb_request(verb_of(first.as_str())?, others)
