@@ -7,7 +7,7 @@ ghost use Rattle.serde_json.specs.View.{members_view, view};
 ghost use Rattle.explanations.specs.Explanation.{source_value, sources_of};
 ghost use Rattle.target_lexicon.specs.ValuesRef.{values_of_ref};
 ghost use Rattle.target_reports.specs.Facts.{answer_value, fact_value};
-ghost use Rattle.target_reports.specs.Json.{IsReportObject, answer_data, explained_fields, fact_field, fields_onto, optional_data, origin_data, origin_field, origin_word, source_part, target_members, with_field};
+ghost use Rattle.target_reports.specs.Json as spec;
 ghost use Rattle.target_reports.specs.Origins.{origin_value};
 
 use crate::facts::{Answer, Fact, facts};
@@ -31,7 +31,7 @@ pub fn put_value(
 ) -> Result<(), AllocError>
     ensures { OnOk result
         (members_view members.new.entries
-        ≡ with_field key.now (view value) (members_view members.old.entries)) }
+        ≡ spec.with_field key.now (view value) (members_view members.old.entries)) }
 {
     put(members, alloc, key, value)
 }
@@ -45,7 +45,7 @@ pub fn put_text(
 ) -> Result<(), AllocError>
     ensures { OnOk result
         (members_view members.new.entries
-        ≡ with_field key.now (string text.now) (members_view members.old.entries)) }
+        ≡ spec.with_field key.now (string text.now) (members_view members.old.entries)) }
 {
     put_value(alloc, members, key, Value::try_from_str(alloc, text)?)
 }
@@ -59,7 +59,7 @@ pub fn put_optional(
 ) -> Result<(), AllocError>
     ensures { OnOk result
         (members_view members.new.entries
-        ≡ with_field key.now (optional_data (option_map (λ text. text.now) text.entry))
+        ≡ spec.with_field key.now (spec.optional_data (option_map (λ text. text.now) text.entry))
         (members_view members.old.entries)) }
 {
     match text {
@@ -70,7 +70,7 @@ pub fn put_optional(
 
 /// The value of an answer.
 fn answer_json(alloc: Global, answer: &Answer<'_>) -> Result<Value, AllocError>
-    ensures { IfOk result (λ value. view value ≡ answer_data (answer_value answer.now)) }
+    ensures { IfOk result (λ value. view value ≡ spec.answer_data (answer_value answer.now)) }
 {
     match answer {
         Answer::None => Ok(Value::Null),
@@ -84,8 +84,8 @@ fn answer_json(alloc: Global, answer: &Answer<'_>) -> Result<Value, AllocError>
 fn put_facts(alloc: Global, members: &mut Members, facts: &[Fact<'_>]) -> Result<(), AllocError>
     ensures { OnOk result
         (members_view members.new.entries
-        ≡ fields_onto (members_view members.old.entries)
-        (map fact_field (map fact_value facts.now))) }
+        ≡ spec.fields_onto (members_view members.old.entries)
+        (map spec.fact_field (map fact_value facts.now))) }
 {
     for fact in facts {
         put_value(alloc, members, fact.key, answer_json(alloc, &fact.answer)?)?;
@@ -95,7 +95,7 @@ fn put_facts(alloc: Global, members: &mut Members, facts: &[Fact<'_>]) -> Result
 
 /// How a value came that has this name.
 fn origin_word(name: &str, source: Source<'_>) -> &'static str
-    ensures { result.now ≡ origin_word name.now (source_value source.entry) }
+    ensures { result.now ≡ spec.origin_word name.now (source_value source.entry) }
 {
     match source {
         Source::Part(part) => { if part.text == name { "given" } else { "alias" } }
@@ -106,7 +106,7 @@ fn origin_word(name: &str, source: Source<'_>) -> &'static str
 
 /// The part of a source, if it has one.
 fn source_part(source: Source<'_>) -> Option<&str>
-    ensures { option_map (λ part. part.now) result ≡ source_part (source_value source.entry) }
+    ensures { option_map (λ part. part.now) result ≡ spec.source_part (source_value source.entry) }
 {
     match source {
         Source::Part(part) => Some(part.text),
@@ -117,7 +117,7 @@ fn source_part(source: Source<'_>) -> Option<&str>
 /// The object of a field's value, how it came, and from which part.
 #[tactic(auto, unfolding(crate::specs::Json::origin_data))]
 fn origin_json(alloc: Global, origin: &Origin<'_>) -> Result<Value, AllocError>
-    ensures { IfOk result (λ value. view value ≡ origin_data (origin_value origin.now)) }
+    ensures { IfOk result (λ value. view value ≡ spec.origin_data (origin_value origin.now)) }
 {
     let name = origin.name.as_str();
     let mut members = Map::new(alloc);
@@ -140,8 +140,8 @@ fn put_origins(
 ) -> Result<(), AllocError>
     ensures { OnOk result
         (members_view members.new.entries
-        ≡ fields_onto (members_view members.old.entries)
-        (map origin_field (map origin_value origins.now))) }
+        ≡ spec.fields_onto (members_view members.old.entries)
+        (map spec.origin_field (map origin_value origins.now))) }
 {
     for origin in origins {
         put_value(alloc, members, origin.key, origin_json(alloc, origin)?)?;
@@ -158,8 +158,8 @@ fn put_explained(
 ) -> Result<(), AllocError>
     ensures { OnOk result
         (members_view members.new.entries
-        ≡ fields_onto (members_view members.old.entries)
-        (explained_fields (values_of_ref it.now.triple) (sources_of it.now.sources)
+        ≡ spec.fields_onto (members_view members.old.entries)
+        (spec.explained_fields (values_of_ref it.now.triple) (sources_of it.now.sources)
         (option_map (λ name. name.now) suggestion.entry))) }
 {
     let origins = origins(alloc, it)?;
@@ -171,7 +171,7 @@ fn put_explained(
 
 /// The members of every object.
 fn target_members(alloc: Global, text: &str) -> Result<Members, AllocError>
-    ensures { IfOk result (λ members. members_view members.entries ≡ target_members text.now) }
+    ensures { IfOk result (λ members. members_view members.entries ≡ spec.target_members text.now) }
 {
     let mut members = Map::new(alloc);
     put_text(alloc, &mut members, "target", text)?;
@@ -188,7 +188,7 @@ pub fn report_object(
     requires { is_plain (ref_value it.now.triple.vendor) ≡ true }
     ensures { IfOk result
         (λ value.
-        IsReportObject report text.now (values_of_ref it.now.triple) (sources_of it.now.sources)
+        spec.IsReportObject report text.now (values_of_ref it.now.triple) (sources_of it.now.sources)
         (view value)) }
 {
     let mut members = target_members(alloc, text)?;

@@ -6,7 +6,7 @@ ghost use Rattle.explanations.specs.Explanation.{source_value, sources_of};
 ghost use Rattle.target_lexicon.specs.ValuesRef.{values_of_ref};
 ghost use Rattle.target_reports.specs.Facts.{answer_value, fact_value, facts_of};
 ghost use Rattle.target_reports.specs.Layout.{laid_out, line_text};
-ghost use Rattle.target_reports.specs.Lines.{AddsReport, answer_text, explained_text, fact_line, name_width, note_line, note_text, origin_line, source_words};
+ghost use Rattle.target_reports.specs.Lines as spec;
 ghost use Rattle.target_reports.specs.Origins.{origin_value, origins_of};
 
 use crate::facts::{Answer, Fact, facts};
@@ -20,7 +20,7 @@ use std::alloc::{AllocError, Global};
 /// Appends the words of an answer.
 fn push_answer(out: &mut String, answer: &Answer<'_>) -> Result<(), AllocError>
     ensures { OnOk result
-        (string_bytes out.new ≡ string_bytes out.old ++ answer_text (answer_value answer.now)) }
+        (string_bytes out.new ≡ string_bytes out.old ++ spec.answer_text (answer_value answer.now)) }
 {
     match answer {
         Answer::None => out.push_str("-"),
@@ -35,7 +35,7 @@ fn push_answer(out: &mut String, answer: &Answer<'_>) -> Result<(), AllocError>
 fn push_fact(out: &mut String, fact: &Fact<'_>) -> Result<(), AllocError>
     ensures { OnOk result
         (string_bytes out.new
-        ≡ string_bytes out.old ++ line_text (fact_line (fact_value fact.now))) }
+        ≡ string_bytes out.old ++ line_text (spec.fact_line (fact_value fact.now))) }
 {
     push_label(out, fact.label)?;
     push_answer(out, &fact.answer)?;
@@ -46,7 +46,7 @@ fn push_fact(out: &mut String, fact: &Fact<'_>) -> Result<(), AllocError>
 fn push_facts(out: &mut String, facts: &[Fact<'_>]) -> Result<(), AllocError>
     ensures { OnOk result
         (string_bytes out.new
-        ≡ string_bytes out.old ++ laid_out (map fact_line (map fact_value facts.now))) }
+        ≡ string_bytes out.old ++ laid_out (map spec.fact_line (map fact_value facts.now))) }
 {
     for fact in facts {
         push_fact(out, fact)?;
@@ -58,7 +58,7 @@ fn push_facts(out: &mut String, facts: &[Fact<'_>]) -> Result<(), AllocError>
 fn push_source(out: &mut String, name: &str, source: Source<'_>) -> Result<(), AllocError>
     ensures { OnOk result
         (string_bytes out.new
-        ≡ string_bytes out.old ++ source_words name.now (source_value source.entry)) }
+        ≡ string_bytes out.old ++ spec.source_words name.now (source_value source.entry)) }
 {
     match source {
         Source::Part(part) => {
@@ -80,7 +80,7 @@ fn push_source(out: &mut String, name: &str, source: Source<'_>) -> Result<(), A
 fn push_origin(out: &mut String, width: usize, origin: &Origin<'_>) -> Result<(), AllocError>
     ensures { OnOk result
         (string_bytes out.new
-        ≡ string_bytes out.old ++ line_text (origin_line width (origin_value origin.now))) }
+        ≡ string_bytes out.old ++ line_text (spec.origin_line width (origin_value origin.now))) }
 {
     let name = origin.name.as_str();
     push_label(out, origin.label)?;
@@ -95,7 +95,7 @@ fn push_origins(out: &mut String, width: usize, origins: &[Origin<'_>]) -> Resul
     ensures { OnOk result
         (string_bytes out.new
         ≡ string_bytes out.old
-        ++ laid_out (map (origin_line width) (map origin_value origins.now))) }
+        ++ laid_out (map (spec.origin_line width) (map origin_value origins.now))) }
 {
     for origin in origins {
         push_origin(out, width, origin)?;
@@ -105,7 +105,7 @@ fn push_origins(out: &mut String, width: usize, origins: &[Origin<'_>]) -> Resul
 
 /// The length of the longest name.
 fn name_width(origins: &[Origin<'_>]) -> usize
-    ensures { result ≡ name_width (map origin_value origins.now) }
+    ensures { result ≡ spec.name_width (map origin_value origins.now) }
 {
     let mut width = 0;
     for origin in origins {
@@ -119,7 +119,7 @@ fn name_width(origins: &[Origin<'_>]) -> usize
 fn push_note_line(out: &mut String, vendor: &str, name: &str) -> Result<(), AllocError>
     ensures { OnOk result
         (string_bytes out.new
-        ≡ string_bytes out.old ++ line_text (note_line vendor.now name.now)) }
+        ≡ string_bytes out.old ++ line_text (spec.note_line vendor.now name.now)) }
 {
     push_label(out, "note")?;
     push_three(out, "`", vendor, "` is a custom vendor; did you mean `")?;
@@ -131,7 +131,7 @@ fn push_note(out: &mut String, vendor: &str, suggestion: Option<&str>) -> Result
     ensures { OnOk result
         (string_bytes out.new
         ≡ string_bytes out.old
-        ++ note_text vendor.now (option_map (λ name. name.now) suggestion.entry)) }
+        ++ spec.note_text vendor.now (option_map (λ name. name.now) suggestion.entry)) }
 {
     match suggestion {
         Some(name) => push_note_line(out, vendor, name),
@@ -149,7 +149,7 @@ fn push_explained(
     ensures { OnOk result
         (string_bytes out.new
         ≡ string_bytes out.old
-        ++ explained_text (values_of_ref it.now.triple) (sources_of it.now.sources)
+        ++ spec.explained_text (values_of_ref it.now.triple) (sources_of it.now.sources)
         (option_map (λ name. name.now) suggestion.entry)) }
 {
     let origins = origins(alloc, it)?;
@@ -167,7 +167,7 @@ pub fn push_report(
 ) -> Result<(), AllocError>
     requires { is_plain (ref_value it.now.triple.vendor) ≡ true }
     ensures { OnOk result
-        (AddsReport report text.now (values_of_ref it.now.triple) (sources_of it.now.sources)
+        (spec.AddsReport report text.now (values_of_ref it.now.triple) (sources_of it.now.sources)
         (string_bytes out.old) (string_bytes out.new)) }
 {
     out.push_str(text)?;
