@@ -221,11 +221,7 @@ impl<'a> TripleRef<'a> {
     fn shows_binary_format(&self) -> bool
         ensures { result ≡ spec.shows_binary_format (values_of_ref self.now) }
     {
-        if names_no_system(self.operating_system) {
-            self.binary_format != self.default_binary_format() || self.shows_implied_format()
-        } else {
-            self.binary_format != self.default_binary_format()
-        }
+        self.shows_implied_format() || self.binary_format != self.default_binary_format()
     }
 
     /// Whether the binary format is shown even if it is the implied one.
