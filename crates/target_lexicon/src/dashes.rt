@@ -7,6 +7,9 @@ ghost use Rattle.target_lexicon.specs.Private.{AreDashBits, AreLastDashBits};
 
 use std::simd::prelude::*;
 
+/// The most bytes of a text whose dashes are bits: two groups of sixteen.
+pub(crate) const MAX_LENGTH_WITH_BITS: usize = 32;
+
 /// A mask of the dashes in the sixteen bytes from `at`: bit i is set if byte `at + i` is a dash. Higher bits are 0.
 fn dashes_from(bytes: &[u8], at: usize) -> u64
     requires { at + 16 ≤ length bytes.now }
@@ -30,20 +33,20 @@ fn dashes_at_end(text: &str) -> u64
     dashes_from(&last, 0)
 }
 
-/// A bit for each byte of a text of at most 32 bytes, set for a dash. The lowest bit is that of the first byte. A
-/// longer text has no bits.
+/// A bit for each byte of a text of at most `MAX_LENGTH_WITH_BITS` bytes, set for a dash. The lowest bit is that of the
+/// first byte. A longer text has no bits.
 pub(crate) fn dash_bits(text: &str) -> u64
     ensures { AreDashBits result text.now }
 {
     let bytes = text.as_bytes();
-    if 32 < bytes.len() {
+    if MAX_LENGTH_WITH_BITS < bytes.len() {
         return 0;
     }
     if bytes.len() <= 16 {
         return dash_bits_of_few(text);
     }
     let last = dashes_from(bytes, bytes.len() - 16);
-    dashes_from(bytes, 0) + ((last >> (32 - bytes.len())) << 16)
+    dashes_from(bytes, 0) + ((last >> (MAX_LENGTH_WITH_BITS - bytes.len())) << 16)
 }
 
 /// The bits of at most sixteen bytes.

@@ -5,7 +5,7 @@ ghost use Rattle.lexicon_fields.specs.OperatingSystem.{operating_system_of};
 ghost use Rattle.target_lexicon.specs.Placement.{parts_of};
 ghost use Rattle.target_lexicon.specs.Private.{IsLookedUp, AreDashBits, parts_after_dash};
 
-use crate::dashes::{dash_bits, dash_bits_of_rest, dash_in_long};
+use crate::dashes::{MAX_LENGTH_WITH_BITS, dash_bits, dash_bits_of_rest, dash_in_long};
 use lexicon_fields::{
     Architecture, BinaryFormat, Environment, FixedRow, OperatingSystem, Steps, VendorRef, fixed_row,
 };
@@ -31,8 +31,8 @@ fn row_of(text: &str) -> Option<FixedRow>
     fixed_row(text, &mut Steps::new())
 }
 
-/// The system that a text with this row, or without one, parses as. A text without a row may be a system like Darwin
-/// with a version.
+/// The system that a text with this row, or without one, parses as. A text without a row may be a system like
+/// Darwin, with a version or without.
 fn system_of(text: &str, row: Option<FixedRow>) -> Option<OperatingSystem>
     requires { IsLookedUp text.now row }
     ensures { result ≡ operating_system_of text.now }
@@ -43,7 +43,8 @@ fn system_of(text: &str, row: Option<FixedRow>) -> Option<OperatingSystem>
     }
 }
 
-/// Cuts a text at its first dash, given the bits of its dashes. The bits of what follows the dash are returned too.
+/// Cuts a text at its first dash, given the bits of its dashes. The bits of what follows the dash are returned too. If
+/// no bit is set, the text has no dash, or is too long to have bits: its length says which.
 #[inline(always)]
 fn split_at_dash(text: &str, bits: u64) -> (&str, Option<&str>, u64)
     requires { AreDashBits bits text.now }
@@ -51,7 +52,7 @@ fn split_at_dash(text: &str, bits: u64) -> (&str, Option<&str>, u64)
     ensures dash_bits { ForSome result.1 (λ rest. AreDashBits result.2 rest.now) }
 {
     if bits == 0 {
-        return if text.len() <= 32 {
+        return if text.len() <= MAX_LENGTH_WITH_BITS {
             (text, None, 0)
         } else {
             split_long_at_dash(text)
@@ -121,7 +122,7 @@ impl<'a> Part<'a> {
         }
     }
 
-    /// What the part reads as in each field.
+    /// What the part parses as in each field.
     pub(crate) fn architecture(&self) -> Option<Architecture>
         ensures { result ≡ architecture_of self.now.text.now }
     {

@@ -38,6 +38,7 @@ pub(crate) fn prefix_key(text: &str) -> u64
     if let Some(eight) = bytes.first_chunk::<8>() {
         return u64::from_be_bytes(*eight);
     }
+    // 4 to 7 bytes: the first four and the last four overlap, and the shift drops the overlap
     if let (Some(head), Some(tail)) = (bytes.first_chunk::<4>(), bytes.last_chunk::<4>()) {
         let head = u64::from(u32::from_be_bytes(*head));
         let tail = u64::from(u32::from_be_bytes(*tail));

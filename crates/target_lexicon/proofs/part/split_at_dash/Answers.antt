@@ -5,8 +5,8 @@ use Rattle.target_lexicon.specs.Private.{AreDashBits}
 use Rattle.target_lexicon.proofs.{DashBits.bits_after, DashBits.first_dash, DashBits.without_dash, PartLemmas.dash_at, PartLemmas.cut-found, PartLemmas.cut-whole}
 use Rattle.target_lexicon.proofs.part.split_at_dash.Goals as goal
 
-pub returns-then-text-le32-clause-parts : goal.returns-then-text-le32-clause-parts
-returns-then-text-le32-clause-parts c = cut-whole c.args.text.now (without_dash c.args.text.now c.args.bits c.requires (omega arith) (omega arith))
+pub returns-then-text-le-MAX_LENGTH_WITH_BITS-clause-parts : goal.returns-then-text-le-MAX_LENGTH_WITH_BITS-clause-parts
+returns-then-text-le-MAX_LENGTH_WITH_BITS-clause-parts c = cut-whole c.args.text.now (without_dash c.args.text.now c.args.bits c.requires (omega arith) (omega arith))
 
 pub range-requires-clause-end_boundary : goal.range-requires-clause-end_boundary
 range-requires-clause-end_boundary c =
