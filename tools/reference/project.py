@@ -167,7 +167,8 @@ class Project:
 
     def add_item(self, source, names, item):
         crate = source.crate
-        is_law = item.kind == "fn" and item.is_public and item.clauses and not item.parameters and not item.result
+        # A law does nothing. One for each value of a type has a parameter, and is in the module of laws.
+        is_law = item.kind == "fn" and item.is_public and item.clauses and not item.result and (not item.parameters or names[0] == "laws")
         names = names if names not in crate.rust else (*names[:-1], names[-1] + "'")
         item.word = crate.rust[names] = self.add(Word(
             names[-1].rstrip("'"), "law" if is_law else KINDS.get(item.kind, item.kind), ".".join((crate.name, *names[:-1])), crate.page,
