@@ -188,8 +188,8 @@ pub fn report_object(
     requires { is_plain (ref_value it.now.triple.vendor) ≡ true }
     ensures { IfOk result
         (λ value.
-        spec.IsReportObject report text.now (values_of_ref it.now.triple) (sources_of it.now.sources)
-        (view value)) }
+        spec.IsReportObject report text.now (values_of_ref it.now.triple)
+        (sources_of it.now.sources) (view value)) }
 {
     let mut members = target_members(alloc, text)?;
     match report {

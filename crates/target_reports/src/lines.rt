@@ -20,7 +20,8 @@ use std::alloc::{AllocError, Global};
 /// Appends the words of an answer.
 fn push_answer(out: &mut String, answer: &Answer<'_>) -> Result<(), AllocError>
     ensures { OnOk result
-        (string_bytes out.new ≡ string_bytes out.old ++ spec.answer_text (answer_value answer.now)) }
+        (string_bytes out.new
+        ≡ string_bytes out.old ++ spec.answer_text (answer_value answer.now)) }
 {
     match answer {
         Answer::None => out.push_str("-"),
