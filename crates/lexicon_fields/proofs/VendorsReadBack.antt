@@ -1,10 +1,10 @@
 -- How vendors are parsed: every plain one parses back from its name, and no text that parses as one has a dash.
-use Rattle.std.proofs.Common.{arith, [], ◌∷◌, not, ◌&&◌, ◌||◌, ap, ◌≡◌, ◌∙◌, ℕ, List, true, false, Option, Some, None, is_some, is_none, option_map, refl, sym}
+use Rattle.std.proofs.Common.{arith, Bool, if◌then◌else◌, [], ◌∷◌, not, ◌&&◌, ◌||◌, ap, ◌≡◌, ◌∙◌, ℕ, List, true, false, Option, Some, None, is_some, is_none, option_map, refl, sym}
 use Rattle.std.specs.{Char.is_ascii_lowercase, List.list_all, Option.option_or}
 use Rattle.std.proofs.{Math.Bool.and-true, Math.Bool.and-false, lemmas.Bool.and_parts, lemmas.Option.MatchOption-at_some, lemmas.Option.cond_some}
 use Rattle.lexicon_fields.specs.Names.{dash}
 use Rattle.lexicon_fields.specs.{declared.vendor.Vendor.Vendor, declared.known_vendor.KnownVendor.KnownVendor, declared.known_vendor.KnownVendor.TheVariants.Unknown, Names.named_values, Names.is_dash_free}
-use Rattle.lexicon_fields.specs.Vendor.{VendorValue, Known, Custom, known_vendor_name, known_vendors, custom_vendor_of, vendor_name, is_plain, is_free, is_vendor_character, has_vendor_form, vendor_of, vendor_value, owns_text, known_vendor_of, is_admitted}
+use Rattle.lexicon_fields.specs.Vendor.{VendorValue, Known, Custom, known_vendor_name, known_vendors, custom_vendor_of, vendor_name, is_plain, is_free, is_vendor_character, has_vendor_form, vendor_of, vendor_value, owns_text, known_vendor_of, is_admitted, IsCustom, OwnsCustomText}
 use Rattle.lexicon_fields.specs.{Architecture.architecture_of, declared.operating_system.OperatingSystem.OperatingSystem, Environment.environment_of, BinaryFormat.binary_format_of, FixedRow.has_row}
 use Rattle.lexicon_fields.specs.OperatingSystem.{darwin_prefixes, darwin_like_system, fixed_operating_system_of, operating_system_of}
 use Rattle.lexicon_fields.proofs.LookUpLemmas.{value_named-passes, holds-if_read, option_map-holds, option_or-holds, option_or-none, none_is, test_apart, all-dash_free}
@@ -80,6 +80,32 @@ unfolding is_admitted
 admitted_parts text admitted =
     let whole = and_parts (is_free text) (has_vendor_form text) admitted in
     ((and_parts _ _ (and_parts _ _ (and_parts _ _ (and_parts _ _ whole.0).0).0).0).0, whole.1)
+
+-- a text is admitted exactly if it parses as a custom vendor
+
+abbrev pub is_read_custom : Option VendorValue → Bool
+is_read_custom (Some (Custom text)) = true
+is_read_custom _ = false
+
+custom_by_kind : (text : List ℕ) (known : Option KnownVendor) (admitted : Bool) → (admitted ≡ true → known ≡ None)
+    → admitted ≡ is_read_custom (option_or (option_map Known known) (if admitted then Some (Custom text) else None))
+custom_by_kind text None true none = refl
+custom_by_kind text None false none = refl
+custom_by_kind text (Some known) false none = refl
+custom_by_kind text (Some known) true none = absurd (let bad = none refl in cc)
+
+pub admitted_as_custom : (text : List ℕ) (reading : Option VendorValue) → vendor_of text ≡ reading → is_admitted text ≡ is_read_custom reading
+unfolding vendor_of
+admitted_as_custom text reading is =
+    custom_by_kind text (known_vendor_of text) (is_admitted text) (λ admitted. none_is (known_vendor_of text) (admitted_parts text admitted).0) ∙ ap is_read_custom is
+
+pub custom_is_admitted : (text : List ℕ) (v : VendorValue) → vendor_of text ≡ Some v → IsCustom v → is_admitted text ≡ true
+custom_is_admitted text (Custom custom) is _ = admitted_as_custom text _ is
+custom_is_admitted text (Known known) is bad = absurd bad
+
+pub owner_is_admitted : (text : List ℕ) (v : Vendor) → vendor_of text ≡ Some (vendor_value v) → OwnsCustomText v → owns_text v ≡ is_admitted text
+owner_is_admitted text (vendor.Custom custom) is owns = owns _ ∙ sym (admitted_as_custom text _ is)
+owner_is_admitted text _ is owns = sym (admitted_as_custom text _ is)
 
 pub vendor_of-name : (v : VendorValue) → is_plain v ≡ true → vendor_of (vendor_name v) ≡ Some v
 unfolding vendor_of known_vendor_of

@@ -5,13 +5,9 @@ ghost use Rattle.std.specs.Cmp.{on_per, on_equiv};
 ghost use Rattle.std.specs.Cmp.Lexicographic.{pointwise, nat_list_eq_equiv, bytes_decides};
 ghost use Rattle.std.specs.Hash as fed;
 ghost use Rattle.std.specs.Hash.{on_Alike, same_Alike};
-ghost use Rattle.std.specs.List.{list_all};
-ghost use Rattle.lexicon_fields.specs.FixedRow.{has_row};
-ghost use Rattle.lexicon_fields.specs.Vendor.{custom_text, is_owned, owns_text, vendor_value, vendor_name, vendor_of, Known, known_vendor_of, is_vendor_character, has_vendor_form, is_admitted, is_plain, IsVendorErrorOf};
+ghost use Rattle.lexicon_fields.specs.Vendor.{custom_text, is_owned, owns_text, vendor_value, vendor_name, vendor_of, is_admitted, is_plain, IsVendorErrorOf};
 
-use crate::operating_system::OperatingSystem;
-use crate::steps::Steps;
-use crate::table::fixed_row;
+use crate::vendor_ref::VendorRef;
 use std::alloc::{AllocError, Global};
 use std::fmt;
 use std::hash::{Hash, Hasher};
@@ -130,31 +126,12 @@ impl Vendor {
         ensures owned { IfOk result (λ vendor. owns_text vendor ≡ is_admitted s.now) }
         ensures err { IfErr result (IsVendorErrorOf s.now) }
     {
-        match fixed_row(s, &mut Steps::new()) {
-            Some(row) => match row.vendor {
-                Some(known) => Ok(known.to_vendor()),
-                None => Err(VendorError::Unrecognized),
+        match VendorRef::from_str(s) {
+            Ok(vendor) => match vendor.to_vendor(alloc) {
+                Ok(owned) => Ok(owned),
+                Err(_) => Err(VendorError::OutOfMemory),
             },
-            None => Vendor::custom_from_str(alloc, s),
-        }
-    }
-
-    /// The result of `from_str` for a text that has no row in the table of names. The table isn't searched.
-    pub fn custom_from_str(alloc: Global, s: &str) -> Result<Self, VendorError>
-        requires { has_row s.now ≡ false }
-        ensures ok { IfOk result (λ vendor. vendor_of s.now ≡ Some (vendor_value vendor)) }
-        ensures owned { IfOk result (λ vendor. owns_text vendor ≡ is_admitted s.now) }
-        ensures err { IfErr result (IsVendorErrorOf s.now) }
-    {
-        if !has_vendor_form(s) {
-            return Err(VendorError::Unrecognized);
-        }
-        if OperatingSystem::parse_darwin_like(s).is_some() {
-            return Err(VendorError::Unrecognized);
-        }
-        match CustomVendor::owned_copy(alloc, s) {
-            Ok(custom) => Ok(Vendor::Custom(custom)),
-            Err(_) => Err(VendorError::OutOfMemory),
+            Err(_) => Err(VendorError::Unrecognized),
         }
     }
 
@@ -169,10 +146,7 @@ impl Vendor {
     pub fn is_plain(&self) -> bool
         ensures { result ≡ is_plain (vendor_value self.now) }
     {
-        match self {
-            Vendor::Custom(custom) => is_admitted(custom.as_str()),
-            _ => true,
-        }
+        self.as_vendor_ref().is_plain()
     }
 
     /// A copy of the same variant: it owns its text if this one does. `Err` if the allocation for that text fails.
@@ -181,26 +155,10 @@ impl Vendor {
         ensures variant { IfOk result (λ copy. owns_text copy ≡ owns_text self.now) }
         ensures succeeds { owns_text self.now ≡ false → IsOk result }
     {
-        Ok(match self {
-            // written by tools/names/write: each Vendor as itself
-            Vendor::Unknown => Vendor::Unknown,
-            Vendor::Amd => Vendor::Amd,
-            Vendor::Apple => Vendor::Apple,
-            Vendor::Espressif => Vendor::Espressif,
-            Vendor::Experimental => Vendor::Experimental,
-            Vendor::Fortanix => Vendor::Fortanix,
-            Vendor::Ibm => Vendor::Ibm,
-            Vendor::Kmc => Vendor::Kmc,
-            Vendor::Nintendo => Vendor::Nintendo,
-            Vendor::Nvidia => Vendor::Nvidia,
-            Vendor::Pc => Vendor::Pc,
-            Vendor::Rumprun => Vendor::Rumprun,
-            Vendor::Sun => Vendor::Sun,
-            Vendor::Uwp => Vendor::Uwp,
-            Vendor::Wrs => Vendor::Wrs,
-            // end of what is written
-            Vendor::Custom(custom) => Vendor::Custom(custom.clone(alloc)?),
-        })
+        match self {
+            Vendor::Custom(custom) => Ok(Vendor::Custom(custom.clone(alloc)?)),
+            known => known.as_vendor_ref().to_vendor(alloc),
+        }
     }
 }
 
@@ -221,39 +179,4 @@ pub enum VendorError {
     Unrecognized,
     /// The text is admitted, and the allocation for it failed.
     OutOfMemory,
-}
-
-/// Whether the text is admitted as a custom vendor.
-pub(crate) fn is_admitted(s: &str) -> bool
-    ensures { result ≡ is_admitted s.now }
-{
-    if !has_vendor_form(s) {
-        return false;
-    }
-    match fixed_row(s, &mut Steps::new()) {
-        Some(_) => false,
-        None => OperatingSystem::parse_darwin_like(s).is_none(),
-    }
-}
-
-/// Whether the text begins with a lower-case letter and has only characters of a vendor.
-pub(crate) fn has_vendor_form(s: &str) -> bool
-    ensures { result ≡ has_vendor_form s.now }
-{
-    match s.as_bytes().split_first() {
-        None => false,
-        Some((first, others)) => first.is_ascii_lowercase() && are_vendor_characters(others),
-    }
-}
-
-fn are_vendor_characters(bytes: &[u8]) -> bool
-    ensures { result ≡ list_all is_vendor_character bytes.now }
-{
-    bytes.iter().all(|byte| is_vendor_character(*byte))
-}
-
-fn is_vendor_character(byte: u8) -> bool
-    ensures { result ≡ is_vendor_character byte }
-{
-    byte.is_ascii_lowercase() || matches!(byte, b'0'..=b'9' | b'_' | b'.')
 }

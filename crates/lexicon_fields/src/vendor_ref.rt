@@ -1,15 +1,16 @@
 //! The vendors, of which a custom one borrows its text.
 ghost use Rattle.std.specs.Prelude.{◌≡◌, false, None, Some, IfOk, OnErr, option_map};
+ghost use Rattle.std.specs.List.{list_all};
 ghost use Rattle.lexicon_fields.specs.FixedRow.{has_row};
 ghost use Rattle.lexicon_fields.specs.OperatingSystem.{operating_system_of};
-ghost use Rattle.lexicon_fields.specs.Vendor.{IsCustom, OwnsCustomText, is_custom, is_plain, vendor_name, vendor_of, vendor_value};
+ghost use Rattle.lexicon_fields.specs.Vendor.{IsCustom, OwnsCustomText, is_custom, is_plain, has_vendor_form, is_vendor_character, vendor_name, vendor_of, vendor_value};
 ghost use Rattle.lexicon_fields.specs.VendorRef.{ref_value};
 
 use crate::known_vendor::KnownVendor;
 use crate::operating_system::OperatingSystem;
 use crate::steps::Steps;
 use crate::table::fixed_row;
-use crate::vendor::{CustomVendor, Vendor, has_vendor_form, is_admitted};
+use crate::vendor::{CustomVendor, Vendor};
 use std::alloc::{AllocError, Global};
 use std::fmt;
 
@@ -71,7 +72,11 @@ impl<'a> VendorRef<'a> {
     {
         match *self {
             VendorRef::Known(_) => true,
-            VendorRef::Custom(text) => is_admitted(text),
+            VendorRef::Custom(text) => match VendorRef::from_str(text) {
+                Ok(VendorRef::Custom(_)) => true,
+                Ok(VendorRef::Known(_)) => false,
+                Err(_) => false,
+            },
         }
     }
 
@@ -131,4 +136,26 @@ impl<'a> fmt::Display for VendorRef<'a> {
     fn fmt<W: fmt::Write>(&self, f: &mut fmt::Formatter<W>) -> fmt::Result {
         f.write_str(self.as_str())
     }
+}
+
+/// Whether the text begins with a lower-case letter and has only characters of a vendor.
+fn has_vendor_form(s: &str) -> bool
+    ensures { result ≡ has_vendor_form s.now }
+{
+    match s.as_bytes().split_first() {
+        None => false,
+        Some((first, others)) => first.is_ascii_lowercase() && are_vendor_characters(others),
+    }
+}
+
+fn are_vendor_characters(bytes: &[u8]) -> bool
+    ensures { result ≡ list_all is_vendor_character bytes.now }
+{
+    bytes.iter().all(|byte| is_vendor_character(*byte))
+}
+
+fn is_vendor_character(byte: u8) -> bool
+    ensures { result ≡ is_vendor_character byte }
+{
+    byte.is_ascii_lowercase() || matches!(byte, b'0'..=b'9' | b'_' | b'.')
 }

@@ -5,7 +5,7 @@ ghost use Rattle.lexicon_fields.specs.{Vendor.is_plain, VendorRef.ref_value};
 use crate::report::report;
 use explanations::{explain, parse_or_locate};
 use std::alloc::Global;
-use target_lexicon::{ParseErrorRef, Steps, Triple, TripleRef, Vendor, VendorRef, fixed_row};
+use target_lexicon::{ParseErrorRef, Triple, TripleRef, Vendor, VendorRef};
 
 /// A capacity that is enough for most texts.
 const CAPACITY: usize = 64;
@@ -44,14 +44,6 @@ pub(crate) fn report_parsed_vendor(rt: &impl Print, alloc: Global, text: &str) {
         &text,
         &Vendor::from_str(alloc, text),
     );
-    if fixed_row(text, &mut Steps::new()).is_none() {
-        report(
-            rt,
-            "Vendor::custom_from_str",
-            &text,
-            &Vendor::custom_from_str(alloc, text),
-        );
-    }
 }
 
 /// Reports the calls that borrow the text, and those on the triple or the refusal that it gives.
