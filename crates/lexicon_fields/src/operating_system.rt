@@ -89,7 +89,7 @@ impl OperatingSystem {
     }
 
     /// The system like Darwin that the text parses as, if any: one with an optional version. Most other texts are
-    /// rejected by their first letter.
+    /// refused by their first letter.
     #[tactic(auto, using(crate::proofs::RowLemmas::without_row_is_darwin_like))]
     pub fn parse_darwin_like(s: &str) -> Option<Self>
         ensures like { result ≡ darwin_like_system darwin_prefixes s.now }

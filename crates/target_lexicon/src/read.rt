@@ -248,17 +248,17 @@ impl<'a> TripleRef<'a> {
 }
 
 impl Triple {
-    /// The triple that a text reads as, or why it is refused. Most of `rustc`'s targets parse.
+    /// The triple that a text parses as, or why it is refused. Most of `rustc`'s targets parse.
     ///
     /// The texts `armv6k-nintendo-3ds` and `riscv32imc-esp-espidf` have a triple of their own. Any other
     /// text is cut at its dashes. The first part is the architecture. Each other part is taken by the
-    /// first field that it reads as, of those after the last one taken: vendor, operating system,
+    /// first field that it parses as, of those after the last one taken: vendor, operating system,
     /// environment, binary format. A field without a part is `Unknown`, and a missing binary format is
     /// the one that the other fields imply.
     ///
-    /// The first part that no field takes is rejected, as the architecture or as the field after the
+    /// The first part that no field takes is refused, as the architecture or as the field after the
     /// last one taken; after the binary format it is an `UnrecognizedField`. `OutOfMemory` says that
-    /// allocating a custom vendor or the rejected part failed; nothing else is allocated.
+    /// allocating a custom vendor or the refused part failed; nothing else is allocated.
     pub fn from_str(alloc: Global, text: &str) -> Result<Triple, ParseError>
         ensures ok { IfOk result (λ triple. ReadsAs text.now (values_of triple)) }
         ensures owned { IfOk result (λ triple. OwnsCustomText triple.vendor) }
