@@ -3,8 +3,11 @@
 //! The calls of [`Triple`] are in files by topic: `triple` (the type, `unknown`, `clone`), `host`, `read`
 //! (`from_str`), `display` (`Display`, `to_text`, and which fields are shown), `special` (the two special texts),
 //! `queries` (byte order, pointer width, calling convention, data model), `settle` (`comes_back`, `normal`,
-//! `settle`), `settles_as`, `json`. `part` looks up a part of a text, `dashes` finds its end, `default_format` has
-//! the implied format.
+//! `settle`), `settles_as`, `json`. Most of them call the same of [`TripleRef`], a borrowed triple (`triple_ref`).
+//!
+//! To parse, `part` looks up a part of a text, `dashes` finds its end, `default_format` has the implied format,
+//! `field_parts` keeps which part each field took, and `parse_error_ref` has the borrowed error. To print, `display`
+//! says what is shown, `pieces` holds it, and `put` writes it into a buffer.
 #![tactic(auto)]
 
 mod calling_convention;

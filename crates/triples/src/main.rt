@@ -1,4 +1,5 @@
-//! Reads lines of target triples and writes what they are.
+//! Reads lines of target triples and writes what they are. `main` calls `run`, which calls `output` for what to write,
+//! and then `conclude`, which gives the exit status.
 #![tactic(auto)]
 
 mod conclude;
