@@ -219,7 +219,7 @@ impl Architecture {
     }
 
     /// The name.
-    #[inline(always)]
+    #[inline(always)] // this saves 2 of 100 instructions of `print`
     pub fn name(self) -> &'static str
         ensures { result.now ≡ architecture_name self }
     {

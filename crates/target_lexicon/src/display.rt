@@ -99,7 +99,7 @@ impl<'a> TripleRef<'a> {
     }
 
     /// The pieces of the printed text.
-    #[inline(always)] // these hints and that of a system's `fmt` save 126 of the 1,056 instructions of `print`
+    #[inline(always)] // this file's hints save 5 of 100 instructions of `matrix`, and 1 of `print`
     #[tactic(auto, unfolding(crate::specs::Printing::text_of))]
     fn pieces(&self) -> Pieces<'a>
         ensures { pieces_text result ≡ text_of (values_of_ref self.now) }
