@@ -4,7 +4,7 @@ use Rattle.std.specs.Prelude.{is_some}
 use Rattle.std.proofs.{Math.Seq.take-append_seam, lemmas.Bool.cases_Bool}
 use Rattle.lexicon_fields.specs.{declared.architecture.Architecture.Architecture as AnyArchitecture, Architecture.architecture_of, Vendor.vendor_of, OperatingSystem.operating_system_of, Environment.environment_of, BinaryFormat.binary_format_of}
 use Rattle.target_lexicon.specs.Field.{Field, Architecture, Vendor, OperatingSystem, Environment, BinaryFormat, field_number, parses_as}
-use Rattle.target_lexicon.specs.FieldTexts.{FieldTexts, texts, texts_at, no_texts, taken_part, parts_left, taken_after_architecture, taken_texts, AreTextsOf, AreFieldTextsOf, AreTakenFrom}
+use Rattle.target_lexicon.specs.FieldTexts.{texts, texts_at, no_texts, taken_part, parts_left, taken_after_architecture, taken_texts, AreTextsOf, AreFieldTextsOf, AreTakenFrom}
 use Rattle.target_lexicon.specs.{Placement.ArePartsOf, Placement.IsLeastPlacement, Placement.HasPlacement, Placement.parts_of, SpecialTexts.special_values, Values.Values}
 use Rattle.target_lexicon.specs.Reading.{part_at, IsRefusal, IsRefusedAs, PartsReadAs, ReadsAs, expected_after, last_field}
 use Rattle.target_lexicon.specs.Refusal.{Expects, Refusal, refusal_with}

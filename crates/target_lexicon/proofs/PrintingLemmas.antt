@@ -1,10 +1,10 @@
 -- The pieces that are written are the text of the triple.
-use Rattle.std.proofs.Common.{◌≡◌, ℕ, ◌+◌, Bool, true, false, List, [], ◌∷◌, ◌++◌, ◌||◌, refl, sym, ap, append_assoc, arith, Some, None}
+use Rattle.std.proofs.Common.{◌≡◌, ℕ, Bool, true, false, List, [], ◌∷◌, ◌++◌, ◌||◌, refl, sym, ap, append_assoc, Some, None}
 use Rattle.std.specs.List.{join_with_byte}
-use Rattle.std.proofs.{lemmas.List.append-nil, lemmas.List.length-append, Math.Bool.and-false}
+use Rattle.std.proofs.{lemmas.List.append-nil, Math.Bool.and-false}
 use Rattle.lexicon_fields.specs.Names.{dash}
-use Rattle.lexicon_fields.specs.{Architecture.architecture_name, Vendor.vendor_name, OperatingSystem.operating_system_name, Environment.environment_name, BinaryFormat.binary_format_name}
-use Rattle.target_lexicon.specs.{Values.Values, Values.Environment, Values.is_unknown_environment, Values.is_newlib, Values.implies_newlib, Private.part_text, SpecialTexts.special_text}
+use Rattle.lexicon_fields.specs.{Architecture.architecture_name, Vendor.vendor_name, OperatingSystem.operating_system_name, OperatingSystem.version_suffix, OperatingSystem.system_version, Environment.environment_name, BinaryFormat.binary_format_name}
+use Rattle.target_lexicon.specs.{Values.Values, Values.OperatingSystem, Values.Environment, Values.is_unknown_environment, Values.is_newlib, Values.implies_newlib, Private.part_text, Private.shown_version, SpecialTexts.special_text}
 use Rattle.target_lexicon.specs.Values.environment
 use Rattle.target_lexicon.specs.Printing.{shows_vendor, shows_operating_system, shows_environment, shows_binary_format, shows_unknowns, cons_if, shown_names, text_with}
 
@@ -39,17 +39,39 @@ five_parts a p q r s w x y z =
       append-nil (part_text z s),
     ) (simp append_assoc)
 
+-- the name of a system and its version are one part
+system_part : (x : Bool) (prefix name : List ℕ) (s : OperatingSystem) → prefix ++ version_suffix (system_version s) ≡ name → part_text x prefix ++ shown_version x s ≡ part_text x name
+system_part true prefix name s is = ap (λ (n : List ℕ). dash ∷ n) is
+system_part false prefix name s is = refl
+
 -- without a special text these pieces are the text
-pub text_of_pieces : (unknowns : Bool) (t : Values) (first vendor system environment format v e f : List ℕ) (w x y z : Bool) → None ≡ special_text t
+pub text_of_pieces : (unknowns : Bool) (t : Values) (first vendor system version environment format v s e f : List ℕ) (w x y z : Bool) → None ≡ special_text t
     → first ≡ architecture_name t.architecture
     → vendor ≡ part_text w v → w ≡ shows_vendor t → v ≡ vendor_name t.vendor
-    → system ≡ part_text x (operating_system_name t.operating_system) → x ≡ (unknowns || shows_operating_system t)
+    → system ≡ part_text x s → version ≡ shown_version x t.operating_system → s ++ version_suffix (system_version t.operating_system) ≡ operating_system_name t.operating_system → x ≡ (unknowns || shows_operating_system t)
     → environment ≡ part_text y e → y ≡ (unknowns || shows_environment t) → e ≡ environment_name t.environment
     → format ≡ part_text z f → z ≡ (unknowns || shows_binary_format t) → f ≡ binary_format_name t.binary_format
-    → (((first ++ vendor) ++ system) ++ environment) ++ format ≡ text_with unknowns t
+    → ((((first ++ vendor) ++ system) ++ version) ++ environment) ++ format ≡ text_with unknowns t
 unfolding shown_names
-text_of_pieces unknowns t first vendor system environment format v e f w x y z none first_is vendor_is w_is v_is system_is x_is environment_is y_is e_is format_is z_is f_is =
-    rw (first_is, vendor_is, w_is, v_is, system_is, x_is, environment_is, y_is, e_is, format_is, z_is, f_is, sym none) (five_parts _ _ _ _ _ _ _ _ _)
+text_of_pieces unknowns t first vendor system version environment format v s e f w x y z none first_is vendor_is w_is v_is system_is version_is s_is x_is environment_is y_is e_is format_is z_is f_is =
+    rw (
+      first_is,
+      vendor_is,
+      append_assoc (architecture_name t.architecture ++ part_text w v) system version,
+      system_is,
+      version_is,
+      system_part x s (operating_system_name t.operating_system) t.operating_system s_is,
+      w_is,
+      v_is,
+      x_is,
+      environment_is,
+      y_is,
+      e_is,
+      format_is,
+      z_is,
+      f_is,
+      sym none,
+    ) (five_parts _ _ _ _ _ _ _ _ _)
 
 pub special_pieces : (unknowns : Bool) (t : Values) (text : List ℕ) → Some text ≡ special_text t → text ≡ text_with unknowns t
 special_pieces unknowns t text special = rw (sym special) refl

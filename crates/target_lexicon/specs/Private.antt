@@ -3,9 +3,10 @@ use Rattle.std.specs.Prelude.{◌≡◌, ◌≤◌, ◌==◌, ◌+◌, ◌-◌, 
 use Rattle.std.specs.Borrow.{Bor}
 use Rattle.std.specs.Simd.Lanes.{mask_l}
 use Rattle.lexicon_fields.specs.Names.{dash}
-use Rattle.lexicon_fields.specs.{declared.table.FixedRow.FixedRow, FixedRow.has_row, Architecture.architecture_of, Vendor.vendor_of, Vendor.is_plain, OperatingSystem.operating_system_of, Environment.environment_of}
+use Rattle.lexicon_fields.specs.{declared.table.FixedRow.FixedRow, FixedRow.has_row, Architecture.architecture_of, Vendor.vendor_of, Vendor.is_plain, OperatingSystem.operating_system_of, OperatingSystem.version_suffix, OperatingSystem.system_version, Environment.environment_of}
 use Rattle.lexicon_fields.specs.BinaryFormat.{binary_format_of}
-use Rattle.target_lexicon.specs.{Values.Known, Values.Values, Placement.parts_of}
+use Rattle.target_lexicon.specs.{declared.pieces.Piece.Piece, Values.Known, Values.OperatingSystem, Values.Values, Placement.parts_of}
+use Rattle.target_lexicon.specs.declared.pieces.Piece.TheVariants.{Hidden, Name}
 use Rattle.target_lexicon.specs.NormalStep.{prints_as_special, hides_newlib, prints_the_esp_idf_text, shows_only_none}
 
 -- the parts after a dash, if there is one
@@ -41,3 +42,12 @@ part_text is_shown part = if is_shown then dash ∷ part else []
 unfoldable pub is_in_no_family : Values → Bool
 is_in_no_family t =
     not (prints_as_special t) && not (hides_newlib t) && not (prints_the_esp_idf_text t) && not (shows_only_none t) && is_plain t.vendor
+
+-- a dash and the name, if it is shown
+abbrev pub piece_text : Piece → List ℕ
+piece_text Hidden = []
+piece_text (Name name) = dash ∷ name.now
+
+-- the version of a system, if it is shown
+abbrev pub shown_version : Bool → OperatingSystem → List ℕ
+shown_version is_shown system = if is_shown then version_suffix (system_version system) else []

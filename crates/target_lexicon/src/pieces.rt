@@ -1,15 +1,11 @@
 //! What is shown of a triple, in pieces, and how it is written.
 ghost use Rattle.std.specs.Prelude.{◌≡◌, ◌+◌, ◌<◌, ◌≤◌, ◌^◌, Some, IfOk, length, string_bytes};
 ghost use Rattle.lexicon_fields.specs.Laws.{max_name_length};
-ghost use Rattle.lexicon_fields.specs.OperatingSystem.{operating_system_name};
-ghost use Rattle.target_lexicon.specs.Piece.{piece_text};
-ghost use Rattle.target_lexicon.specs.Private.{part_text};
+ghost use Rattle.target_lexicon.specs.Private.{piece_text, part_text, shown_version};
 ghost use Rattle.lexicon_fields.specs.Put.{IsPut, Puts};
 ghost use Rattle.target_lexicon.specs.Written.{IsWritten};
 
-use crate::laws::versions_are_in_range;
-use crate::put::{put, put_dashed, put_dashed_system};
-use lexicon_fields::laws::names_are_short;
+use crate::put::put;
 use lexicon_fields::{MAX_VERSION_LENGTH, OperatingSystem, version_text};
 use std::alloc::{AllocError, Global};
 use std::fmt;
@@ -19,7 +15,6 @@ use std::fmt;
 pub(crate) enum Piece<'a> {
     Hidden,
     Name(&'a str),
-    System(OperatingSystem),
 }
 
 impl<'a> Piece<'a> {
@@ -35,18 +30,6 @@ impl<'a> Piece<'a> {
         }
     }
 
-    /// The piece of a system's name, if it is shown.
-    pub(crate) fn system_if(is_shown: bool, system: OperatingSystem) -> Piece<'a>
-        ensures text { piece_text result ≡ part_text is_shown (operating_system_name system) }
-        ensures bound { length (piece_text result) ≤ 1 + length (operating_system_name system) }
-    {
-        if is_shown {
-            Piece::System(system)
-        } else {
-            Piece::Hidden
-        }
-    }
-
     /// The length of the text.
     fn text_length(self) -> usize
         ensures { result ≡ length (piece_text self.entry) }
@@ -54,7 +37,6 @@ impl<'a> Piece<'a> {
         match self {
             Piece::Hidden => 0,
             Piece::Name(name) => 1 + name.len(),
-            Piece::System(system) => 1 + name_length(system),
         }
     }
 
@@ -65,8 +47,10 @@ impl<'a> Piece<'a> {
     {
         match self {
             Piece::Hidden => at,
-            Piece::Name(name) => put_dashed(out, at, name),
-            Piece::System(system) => put_dashed_system(out, at, system),
+            Piece::Name(name) => {
+                let at = put(out, at, b"-");
+                put(out, at, name.as_bytes())
+            }
         }
     }
 }
@@ -84,30 +68,27 @@ impl fmt::Display for Piece<'_> {
                 f.write_str("-")?;
                 f.write_str(name)
             }
-            Piece::System(system) => {
-                f.write_str("-")?;
-                fmt::Display::fmt(&system, f)
-            }
         }
     }
 }
 
 /// What is shown of a triple: the name of the architecture, or the special text, and a piece for each of the other
-/// fields.
+/// fields. The version of the operating system follows its name without a dash, and is empty if there is none.
 #[derive(Clone, Copy)]
-pub(crate) struct Pieces<'a> {
+pub(crate) struct Pieces<'a, 'd> {
     pub first: &'static str,
     pub vendor: Piece<'a>,
     pub operating_system: Piece<'a>,
+    pub version: &'d str,
     pub environment: Piece<'a>,
     pub binary_format: Piece<'a>,
     ghost fits: { length first.now + length (piece_text vendor)
-        + length (piece_text operating_system)
+        + length (piece_text operating_system) + length version.now
         + length (piece_text environment)
         + length (piece_text binary_format) < 2 ^ 64 },
 }
 
-impl Pieces<'_> {
+impl Pieces<'_, '_> {
     ghost use Rattle.target_lexicon.specs.Pieces.{pieces_text};
 
     /// The pieces of a special text, of which it is the only one.
@@ -119,6 +100,7 @@ impl Pieces<'_> {
             first: text,
             vendor: Piece::Hidden,
             operating_system: Piece::Hidden,
+            version: "",
             environment: Piece::Hidden,
             binary_format: Piece::Hidden,
         }
@@ -152,6 +134,7 @@ impl Pieces<'_> {
         self.first.len()
             + self.vendor.text_length()
             + self.operating_system.text_length()
+            + self.version.len()
             + self.environment.text_length()
             + self.binary_format.text_length()
     }
@@ -164,12 +147,13 @@ impl Pieces<'_> {
         let at = put(out, 0, self.first.as_bytes());
         let at = self.vendor.put(out, at);
         let at = self.operating_system.put(out, at);
+        let at = put(out, at, self.version.as_bytes());
         let at = self.environment.put(out, at);
         self.binary_format.put(out, at)
     }
 }
 
-impl fmt::Display for Pieces<'_> {
+impl fmt::Display for Pieces<'_, '_> {
     ghost use Rattle.target_lexicon.specs.Pieces.{pieces_text};
 
     ghost output = { λ it. Some (pieces_text it) };
@@ -181,23 +165,30 @@ impl fmt::Display for Pieces<'_> {
         f.write_str(self.first)?;
         self.vendor.fmt(f)?;
         self.operating_system.fmt(f)?;
+        // without this test a line of `print` takes 12 instructions more
+        if !self.version.is_empty() {
+            f.write_str(self.version)?;
+        }
         self.environment.fmt(f)?;
         self.binary_format.fmt(f)
     }
 }
 
-/// The length of a system's name.
-fn name_length(system: OperatingSystem) -> usize
-    ensures value { result ≡ length (operating_system_name system) }
-    ensures bound { result ≤ max_name_length }
+/// The digits of a system's version, if the system is shown and has one.
+pub(crate) fn version_if(
+    is_shown: bool,
+    system: OperatingSystem,
+    digits: &mut [u8; MAX_VERSION_LENGTH],
+) -> &str
+    ensures text { result.now ≡ shown_version is_shown system }
+    ensures bound { length result.now ≤ 13 }
 {
-    names_are_short();
-    versions_are_in_range(system);
-    match system.version() {
-        Some(version) => {
-            let mut digits = [0; MAX_VERSION_LENGTH];
-            system.prefix().len() + version_text(version, &mut digits).len()
+    if is_shown {
+        match system.version() {
+            Some(version) => version_text(version, digits),
+            None => "",
         }
-        None => system.prefix().len(),
+    } else {
+        ""
     }
 }

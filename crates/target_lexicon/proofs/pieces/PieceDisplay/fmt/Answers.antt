@@ -6,8 +6,3 @@ pub returns-in_ok-write_str-in-Name-clause-styled : goal.returns-in_ok-write_str
 returns-in_ok-write_str-in-Name-clause-styled g c = λ flush ok.
     let dash = c.write_str.ensures.styled flush (search rules) in
     rw c.in-Name.is (has_written_styled_append _ _ _ _ _ _ dash (c.write_str-in-Name.ensures.styled dash.flush ok))
-
-pub returns-in_ok-write_str-in-System-clause-styled : goal.returns-in_ok-write_str-in-System-clause-styled
-returns-in_ok-write_str-in-System-clause-styled g c = λ flush ok.
-    let dash = c.write_str-in-System.ensures.styled flush (search rules) in
-    rw c.in-System.is (has_written_styled_append _ _ _ _ _ _ dash (c.fmt.ensures.styled dash.flush ok))

@@ -1,4 +1,4 @@
-use Rattle.std.proofs.Common.{◌≡◌, ℕ, List, Result, Ok, Err, sym, subst}
+use Rattle.std.proofs.Common.{ℕ, List, Result, Ok, Err, sym, subst}
 use Rattle.std.specs.Prelude.{IfOk, IfErr}
 use Rattle.target_lexicon.specs.{declared.parse_error_ref.ParseErrorRef.ParseErrorRef, declared.triple_ref.TripleRef.TripleRef}
 use Rattle.target_lexicon.specs.{FieldTexts.AreFieldTextsOf, FieldTexts.AreTakenFrom, Reading.ReadsAs, Reading.IsRefusedAs, RemainingParts.outcome_of, ValuesRef.values_of_ref, ValuesRef.refusal_of_ref}

@@ -1,4 +1,6 @@
 use Rattle.std.proofs.Common.{◌||◌, ap, length, arith}
+use Rattle.std.proofs.lemmas.List.{length-append}
+use Rattle.lexicon_fields.specs.OperatingSystem.{version_suffix, system_version}
 use Rattle.target_lexicon.specs.ValuesRef.{values_of_ref}
 use Rattle.target_lexicon.proofs.PrintingLemmas.{text_of_pieces}
 use Rattle.target_lexicon.proofs.triple_ref.TripleRef.pieces_with.Goals as goal
@@ -11,6 +13,8 @@ invariant_of-result c =
       fits = omega (
         arith,
         ap length c.name.ensures,
+        ap length c.prefix.ensures,
+        length-append c.prefix.result.now (version_suffix (system_version triple.operating_system)),
         ap length c.name-2.ensures,
         ap length c.name-3.ensures,
         short.architecture triple.architecture,
@@ -22,8 +26,8 @@ invariant_of-result c =
 
 pub returns : goal.returns
 returns c =
-    text_of_pieces c.args.unknowns (values_of_ref c.args.self.now) _ _ _ _ _ _ _ _ _ _ _ _ c.in_default.ensures.text c.name.ensures
+    text_of_pieces c.args.unknowns (values_of_ref c.args.self.now) _ _ _ _ _ _ _ _ _ _ _ _ _ _ c.in_default.ensures.text c.name.ensures
     c.name_if.ensures.text c.shows_vendor.ensures c.as_str.ensures
-    c.system_if.ensures.text (ap (λ b. c.args.unknowns || b) c.shows_operating_system.ensures)
-    c.name_if-2.ensures.text (ap (λ b. c.args.unknowns || b) c.shows_environment.ensures) c.name-2.ensures
-    c.name_if-3.ensures.text (ap (λ b. c.args.unknowns || b) c.shows_binary_format.ensures) c.name-3.ensures
+    c.name_if-2.ensures.text c.version_if.ensures.text c.prefix.ensures (ap (λ b. c.args.unknowns || b) c.shows_operating_system.ensures)
+    c.name_if-3.ensures.text (ap (λ b. c.args.unknowns || b) c.shows_environment.ensures) c.name-2.ensures
+    c.name_if-4.ensures.text (ap (λ b. c.args.unknowns || b) c.shows_binary_format.ensures) c.name-3.ensures
