@@ -101,10 +101,10 @@ admitted_as_custom text reading is =
 
 pub custom_is_admitted : (text : List ℕ) (v : VendorValue) → vendor_of text ≡ Some v → IsCustom v → is_admitted text ≡ true
 custom_is_admitted text (Custom custom) is _ = admitted_as_custom text _ is
-custom_is_admitted text (Known known) is bad = absurd bad
+custom_is_admitted text (Known known) is bad = absurd cc
 
 pub owner_is_admitted : (text : List ℕ) (v : Vendor) → vendor_of text ≡ Some (vendor_value v) → OwnsCustomText v → owns_text v ≡ is_admitted text
-owner_is_admitted text (vendor.Custom custom) is owns = owns _ ∙ sym (admitted_as_custom text _ is)
+owner_is_admitted text (vendor.Custom custom) is owns = owns refl ∙ sym (admitted_as_custom text _ is)
 owner_is_admitted text _ is owns = sym (admitted_as_custom text _ is)
 
 pub vendor_of-name : (v : VendorValue) → is_plain v ≡ true → vendor_of (vendor_name v) ≡ Some v
