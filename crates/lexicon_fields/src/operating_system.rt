@@ -271,7 +271,6 @@ impl fmt::Display for OperatingSystem {
 
     ghost styled_output = { λ it _. Some (operating_system_name it) };
 
-    #[inline(always)]
     fn fmt<W: fmt::Write>(&self, f: &mut fmt::Formatter<W>) -> fmt::Result {
         f.write_str(self.prefix())?;
         match self.version() {
