@@ -25,4 +25,3 @@ short words only these lines are not among those on its own texts:
   status 0
   VendorRef::from_str of "foo": Ok(Custom("foo"))
   Vendor::from_str of "foo": Ok(Custom(Owned("foo")))
-  Vendor::custom_from_str of "foo": Ok(Custom(Owned("foo")))

@@ -1,14 +1,14 @@
 -- How vendors are parsed: every plain one parses back from its name, and no text that parses as one has a dash.
 use Rattle.std.proofs.Common.{arith, Bool, if◌then◌else◌, [], ◌∷◌, not, ◌&&◌, ◌||◌, ap, ◌≡◌, ◌∙◌, ℕ, List, true, false, Option, Some, None, is_some, is_none, option_map, refl, sym}
 use Rattle.std.specs.{Char.is_ascii_lowercase, List.list_all, Option.option_or}
-use Rattle.std.proofs.{Math.Bool.and-true, Math.Bool.and-false, lemmas.Bool.and_parts, lemmas.Option.MatchOption-at_some, lemmas.Option.cond_some}
+use Rattle.std.proofs.{Math.Bool.and-false, lemmas.Bool.and_parts, lemmas.Option.MatchOption-at_some, lemmas.Option.cond_some}
 use Rattle.lexicon_fields.specs.Names.{dash}
 use Rattle.lexicon_fields.specs.{declared.vendor.Vendor.Vendor, declared.known_vendor.KnownVendor.KnownVendor, declared.known_vendor.KnownVendor.TheVariants.Unknown, Names.named_values, Names.is_dash_free}
 use Rattle.lexicon_fields.specs.Vendor.{VendorValue, Known, Custom, known_vendor_name, known_vendors, custom_vendor_of, vendor_name, is_plain, is_free, is_vendor_character, has_vendor_form, vendor_of, vendor_value, owns_text, known_vendor_of, is_admitted, IsCustom, OwnsCustomText}
-use Rattle.lexicon_fields.specs.{Architecture.architecture_of, declared.operating_system.OperatingSystem.OperatingSystem, Environment.environment_of, BinaryFormat.binary_format_of, FixedRow.has_row}
+use Rattle.lexicon_fields.specs.{Architecture.architecture_of, Environment.environment_of, BinaryFormat.binary_format_of, FixedRow.has_row}
 use Rattle.lexicon_fields.specs.OperatingSystem.{darwin_prefixes, darwin_like_system, fixed_operating_system_of, operating_system_of}
 use Rattle.lexicon_fields.proofs.LookUpLemmas.{value_named-passes, holds-if_read, option_map-holds, option_or-holds, option_or-none, none_is, test_apart, all-dash_free}
-use Rattle.lexicon_fields.proofs.{RowTexts.row_text-dash_free, RowLemmas.known_vendor_of-row, RowLemmas.no_name_without_row}
+use Rattle.lexicon_fields.proofs.{RowTexts.row_text-dash_free, RowLemmas.known_vendor_of-row, RowLemmas.no_name_without_row, RowLemmas.without_row_is_darwin_like}
 use Rattle.lexicon_fields.specs.declared.vendor.Vendor.TheVariants as vendor
 
 -- a text is admitted if it has no row, is no system like Darwin, and has the form of a vendor
@@ -24,10 +24,7 @@ admitted_is text =
     ap (λ free. free && has_vendor_form text)
     (free_is (known_vendor_of text) (architecture_of text) (fixed_operating_system_of text) (darwin_like_system darwin_prefixes text) (environment_of text) (binary_format_of text))
 
-pub admitted_without_row : (text : List ℕ) (like : Option OperatingSystem) → has_row text ≡ false → has_vendor_form text ≡ true → like ≡ darwin_like_system darwin_prefixes text → is_admitted text ≡ is_none like
-admitted_without_row text like none form is = rw (admitted_is text, none, form, ← is) (and-true (is_none like))
-
-pub row_not_admitted : (text : List ℕ) → has_row text ≡ true → is_admitted text ≡ false
+row_not_admitted : (text : List ℕ) → has_row text ≡ true → is_admitted text ≡ false
 row_not_admitted text exists = rw (admitted_is text, exists) refl
 
 -- how a text parses as a vendor
@@ -37,29 +34,11 @@ pub row_read : (text : List ℕ) → has_row text ≡ true → option_map Known 
 unfolding vendor_of
 row_read text exists = rw (row_not_admitted text exists) (sym (option_or-none _))
 
--- the name of a known vendor: as that vendor, which owns no text
-pub known_read : (text : List ℕ) (v : Vendor) (known : KnownVendor) → vendor_value v ≡ Known known → Some known ≡ known_vendor_of text → vendor_of text ≡ Some (vendor_value v)
-unfolding vendor_of
-known_read text v known is found = rw (is, ← found) refl
-
-pub known_owns_nothing : (v : Vendor) (known : KnownVendor) → vendor_value v ≡ Known known → owns_text v ≡ false
-known_owns_nothing (vendor.Custom custom) known is = absurd cc
-known_owns_nothing _ known is = refl
-
--- every other text: as a custom vendor if it is admitted
-pub custom_read : (text : List ℕ) → known_vendor_of text ≡ None → is_admitted text ≡ true → vendor_of text ≡ Some (Custom text)
-unfolding vendor_of
-custom_read text none admitted = rw (none, admitted) refl
-
-pub unknown_text-refused : (text : List ℕ) → known_vendor_of text ≡ None → is_admitted text ≡ false → vendor_of text ≡ None
+unknown_text-refused : (text : List ℕ) → known_vendor_of text ≡ None → is_admitted text ≡ false → vendor_of text ≡ None
 unfolding vendor_of
 unknown_text-refused text none refused = rw (none, refused) refl
 
--- a system like Darwin that has no row
-pub darwin_like-refused : (text : List ℕ) (system : OperatingSystem) → has_row text ≡ false → darwin_like_system darwin_prefixes text ≡ Some system → vendor_of text ≡ None
-darwin_like-refused text system none like = unknown_text-refused text (no_name_without_row text none).1 (rw (admitted_is text, none, like) refl)
-
-pub formless_not_admitted : (text : List ℕ) → has_vendor_form text ≡ false → is_admitted text ≡ false
+formless_not_admitted : (text : List ℕ) → has_vendor_form text ≡ false → is_admitted text ≡ false
 unfolding is_admitted
 formless_not_admitted text formless = rw formless (and-false (is_free text))
 
@@ -71,6 +50,12 @@ known_form text (Some v) is formless = absurd (let bad : true ≡ false = sym (v
 
 pub formless_read : (text : List ℕ) → has_vendor_form text ≡ false → vendor_of text ≡ None
 formless_read text formless = unknown_text-refused text (known_form text (known_vendor_of text) refl formless) (formless_not_admitted text formless)
+
+-- a text without a row: as a custom vendor, if it parses as no system and has the form of a vendor
+pub without_row_read : (text : List ℕ) → has_row text ≡ false
+    → vendor_of text ≡ (if is_none (operating_system_of text) && has_vendor_form text then Some (Custom text) else None)
+unfolding vendor_of
+without_row_read text none = rw ((no_name_without_row text none).1, admitted_is text, none, without_row_is_darwin_like text _ refl none) refl
 
 -- every plain vendor parses back from its name
 

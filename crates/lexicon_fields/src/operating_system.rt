@@ -1,7 +1,7 @@
 //! The operating systems.
-ghost use Rattle.std.specs.Prelude.{◌≡◌, ◌++◌, false, Some, None, IfOk, IsNone, IsOkAnd};
+ghost use Rattle.std.specs.Prelude.{◌≡◌, ◌++◌, false, Some, None, IfOk, MatchOption, IsNone, IsOkAnd};
 ghost use Rattle.std.specs.Cow.{cow_str_bytes, IsBorrowedStr};
-ghost use Rattle.lexicon_fields.specs.FixedRow.{has_row};
+ghost use Rattle.lexicon_fields.specs.FixedRow.{IsRowOf, has_row};
 ghost use Rattle.lexicon_fields.specs.Names.{MatchesLookup};
 ghost use Rattle.lexicon_fields.specs.Version.{version_name};
 ghost use Rattle.lexicon_fields.specs.Private.{version_after, first_system};
@@ -9,7 +9,7 @@ ghost use Rattle.lexicon_fields.specs.OperatingSystem.{operating_system_name, op
 
 use crate::deployment_target::{DeploymentTarget, MAX_VERSION_LENGTH, version_text};
 use crate::steps::Steps;
-use crate::table::fixed_row;
+use crate::table::{FixedRow, fixed_row};
 use std::alloc::{AllocError, Global};
 use std::borrow::CowStr;
 use std::fmt;
@@ -79,12 +79,19 @@ impl OperatingSystem {
     pub fn from_str(s: &str) -> Result<Self, ()>
         ensures { MatchesLookup (operating_system_of s.now) result }
     {
-        if let Some(system) = OperatingSystem::parse_darwin_like(s) {
-            return Ok(system);
-        }
-        match fixed_row(s, &mut Steps::new()) {
-            Some(row) => row.operating_system.ok_or(()),
-            None => Err(()),
+        OperatingSystem::from_row(s, fixed_row(s, &mut Steps::new())).ok_or(())
+    }
+
+    /// The system that a text parses as, given its row in the table of names. A text without a row may be a system like
+    /// Darwin with a version.
+    #[inline(always)]
+    pub fn from_row(text: &str, row: Option<FixedRow>) -> Option<Self>
+        requires { MatchOption row (has_row text.now ≡ false) (IsRowOf text.now) }
+        ensures { result ≡ operating_system_of text.now }
+    {
+        match row {
+            Some(row) => row.operating_system,
+            None => OperatingSystem::parse_darwin_like(text),
         }
     }
 

@@ -7,13 +7,13 @@
 pub mod ComputedReading
 pub mod PartLemmas
 pub mod DashBits
+pub mod RowLookUps
 pub mod Elements
 pub mod FieldTextLemmas
 pub mod HashInputPairs
 pub mod FixedPointLemmas
 pub mod GreedyPlacement
 pub mod Lengths
-pub mod RowLookUps
 pub mod ModelsKnown
 pub mod NamesAcross
 pub mod OnLiterals

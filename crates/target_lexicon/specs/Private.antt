@@ -1,11 +1,12 @@
 -- Definitions for the contracts of private functions; no public contract cites them.
-use Rattle.std.specs.Prelude.{◌≡◌, ◌≤◌, ◌==◌, ◌+◌, ◌-◌, ◌/◌, ◌^◌, ℕ, ◌∷◌, List, [], length, drop, map, Bool, not, ◌&&◌, Option, Some, None, is_some, option_and_then, option_map, if◌then◌else◌}
+use Rattle.std.specs.Prelude.{◌≡◌, ◌≤◌, ◌==◌, ◌+◌, ◌-◌, ◌/◌, ◌^◌, ℕ, ◌∷◌, List, [], length, drop, map, Bool, not, ◌&&◌, Option, Some, None, is_some, option_and_then, if◌then◌else◌}
 use Rattle.std.specs.Borrow.{Bor}
+use Rattle.std.specs.Option.{ForSome}
 use Rattle.std.specs.Simd.Lanes.{mask_l}
 use Rattle.lexicon_fields.specs.Names.{dash}
-use Rattle.lexicon_fields.specs.{declared.table.FixedRow.FixedRow, FixedRow.has_row, Architecture.architecture_of, Vendor.vendor_of, Vendor.is_plain, OperatingSystem.operating_system_of, OperatingSystem.version_suffix, OperatingSystem.system_version, Environment.environment_of}
+use Rattle.lexicon_fields.specs.{declared.table.FixedRow.FixedRow, FixedRow.IsRowOf, FixedRow.has_row, Architecture.architecture_of, Vendor.is_plain, OperatingSystem.version_suffix, OperatingSystem.system_version, Environment.environment_of}
 use Rattle.lexicon_fields.specs.BinaryFormat.{binary_format_of}
-use Rattle.target_lexicon.specs.{declared.pieces.Piece.Piece, Values.Known, Values.OperatingSystem, Values.Values, Placement.parts_of}
+use Rattle.target_lexicon.specs.{declared.pieces.Piece.Piece, Values.OperatingSystem, Values.Values, Placement.parts_of}
 use Rattle.target_lexicon.specs.declared.pieces.Piece.TheVariants.{Hidden, Name}
 use Rattle.target_lexicon.specs.NormalStep.{prints_as_special, hides_newlib, prints_the_esp_idf_text, shows_only_none}
 
@@ -25,12 +26,11 @@ pub record AreDashBits (bits : ℕ) (text : List ℕ) : Type 0 where
   pub of_short : length text ≤ 32 → bits ≡ mask_l (map (λ b. b == dash) text)
   pub of_long : (length text ≤ 32 → ⊥) → bits ≡ 0
 
--- what the look-up of a text shows: its value in each field; without a row, vendor and operating system remain open
+-- what the look-up of a text shows: its row, if it has one, and its value in the fields that no other text has
 pub record IsLookedUp (text : List ℕ) (row : Option FixedRow) : Type 0 where
   pub known : is_some row ≡ has_row text
+  pub is_row : ForSome row (IsRowOf text)
   pub architecture : option_and_then (λ (r : FixedRow). r.architecture) row ≡ architecture_of text
-  pub vendor : (r : FixedRow) → row ≡ Some r → option_map Known r.vendor ≡ vendor_of text
-  pub operating_system : (r : FixedRow) → row ≡ Some r → r.operating_system ≡ operating_system_of text
   pub environment : option_and_then (λ (r : FixedRow). r.environment) row ≡ environment_of text
   pub binary_format : option_and_then (λ (r : FixedRow). r.binary_format) row ≡ binary_format_of text
 

@@ -31,18 +31,6 @@ fn row_of(text: &str) -> Option<FixedRow>
     fixed_row(text, &mut Steps::new())
 }
 
-/// The system that a text with this row, or without one, parses as. A text without a row may be a system like
-/// Darwin, with a version or without.
-fn system_of(text: &str, row: Option<FixedRow>) -> Option<OperatingSystem>
-    requires { IsLookedUp text.now row }
-    ensures { result ≡ operating_system_of text.now }
-{
-    match row {
-        Some(row) => row.operating_system,
-        None => OperatingSystem::parse_darwin_like(text),
-    }
-}
-
 /// Cuts a text at its first dash, given the bits of its dashes. The bits of what follows the dash are returned too. If
 /// no bit is set, the text has no dash, or is too long to have bits: its length says which.
 #[inline(always)] // this file's hints save 18 of 100 instructions of `print`
@@ -106,6 +94,7 @@ impl<'a> Part<'a> {
     }
 
     /// The first part of a text, given the bits of its dashes.
+    #[tactic(auto, using(crate::proofs::RowLookUps::row_found))]
     #[inline(always)]
     fn first_of(text: &'a str, bits: u64) -> Self
         requires { AreDashBits bits text.now }
@@ -116,7 +105,7 @@ impl<'a> Part<'a> {
         Part {
             text: first,
             row,
-            operating_system: system_of(first, row),
+            operating_system: OperatingSystem::from_row(first, row),
             after_dash,
             dash_bits,
         }
@@ -129,20 +118,11 @@ impl<'a> Part<'a> {
         self.row?.architecture
     }
 
-    /// A part that has no row and is no system may be a custom vendor.
+    #[tactic(auto, using(crate::proofs::RowLookUps::row_found))]
     pub(crate) fn vendor(&self) -> Option<VendorRef<'a>>
         ensures { option_map ref_value result ≡ vendor_of self.now.text.now }
     {
-        match self.row {
-            Some(row) => match row.vendor {
-                Some(known) => Some(VendorRef::Known(known)),
-                None => None,
-            },
-            None => match self.operating_system {
-                Some(_) => None,
-                None => VendorRef::custom_from_str(self.text),
-            },
-        }
+        VendorRef::from_row(self.text, self.row, self.operating_system)
     }
 
     pub(crate) fn operating_system(&self) -> Option<OperatingSystem>
