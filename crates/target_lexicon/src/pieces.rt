@@ -65,7 +65,7 @@ impl fmt::Display for Piece<'_> {
         match *self {
             Piece::Hidden => Ok(()),
             Piece::Name(name) => {
-                f.write_str("-")?;
+                f.write_char('-')?;
                 f.write_str(name)
             }
         }
