@@ -65,7 +65,7 @@ impl fmt::Display for Piece<'_> {
         match *self {
             Piece::Hidden => Ok(()),
             Piece::Name(name) => {
-                f.write_char('-')?;
+                f.write_str("-")?;
                 f.write_str(name)
             }
         }
@@ -175,6 +175,7 @@ impl fmt::Display for Pieces<'_, '_> {
 }
 
 /// The digits of a system's version, if the system is shown and has one.
+#[inline(always)]
 pub(crate) fn version_if(
     is_shown: bool,
     system: OperatingSystem,
