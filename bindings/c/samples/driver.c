@@ -118,10 +118,11 @@ static void show(const struct lexicon_triple *triple) {
            facts.c_long_long_bits, facts.c_pointer_bits);
 }
 
-/* The text, and a caret under the first byte of a part of it. After a tab, or a character of several bytes, it is off. */
+/* The text, and a mark under each character of a part of it; one if the part is empty. What is before the part is ASCII. */
 static void point_at(const char *text, size_t start, size_t size) {
-  printf("  %s\n  %*s", text, (int)start, "");
-  for (size_t i = 0; i < (size ? size : 1); i++) putchar(i ? '~' : '^');
+  printf("  %s\n  %*s^", text, (int)start, "");
+  for (size_t i = start + 1; i < start + size; i++)
+    if (((unsigned char)text[i] & 0xC0) != 0x80) putchar('~'); /* no further byte of a character in UTF-8 */
   putchar('\n');
 }
 

@@ -174,12 +174,16 @@ void show(const Target& target) {
   show_line("C types", c_types(target.facts));
 }
 
-// After a tab, or a character of several bytes, the caret is off.
+// A mark is under each character of the refused part; one if it is empty. What is before the part is ASCII.
 void show(const Fault& fault, Text text) {
   std::cout << "error: " << fault.line << '\n';
   if (!fault.has_part) return;
   std::cout << "  " << text << "\n  " << std::string(fault.start, ' ') << '^';
-  std::cout << std::string(fault.size > 1 ? fault.size - 1 : 0, '~') << '\n';
+  for (std::size_t i = 1; i < fault.size; i++) {
+    const auto byte = static_cast<unsigned char>(text[fault.start + i]);
+    if ((byte & 0xC0) != 0x80) std::cout << '~';  // no further byte of a character in UTF-8
+  }
+  std::cout << '\n';
 }
 
 }  // namespace
