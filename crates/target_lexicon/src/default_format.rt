@@ -18,7 +18,6 @@ pub fn default_binary_format(triple: &Triple) -> BinaryFormat
 
 impl TripleRef<'_> {
     /// The implied binary format, as [`default_binary_format`] says.
-    #[inline(always)] // a call would cost one in a hundred instructions of a line of `print`
     pub fn default_binary_format(&self) -> BinaryFormat
         ensures { result ≡ default_binary_format (values_of_ref self.now) }
     {
@@ -41,6 +40,13 @@ pub(crate) fn implied_format(
             _ => BinaryFormat::Unknown,
         },
         OperatingSystem::Aix => BinaryFormat::Xcoff,
+        OperatingSystem::Darwin(_)
+        | OperatingSystem::IOS(_)
+        | OperatingSystem::MacOSX(_)
+        | OperatingSystem::TvOS(_)
+        | OperatingSystem::VisionOS(_)
+        | OperatingSystem::WatchOS(_)
+        | OperatingSystem::XROS(_) => BinaryFormat::Macho,
         OperatingSystem::Windows => BinaryFormat::Coff,
         OperatingSystem::Nebulet
         | OperatingSystem::Emscripten
@@ -51,7 +57,30 @@ pub(crate) fn implied_format(
             Architecture::Unknown => BinaryFormat::Unknown,
             _ => BinaryFormat::Elf,
         },
-        system if system.is_like_darwin() => BinaryFormat::Macho,
-        _ => BinaryFormat::Elf,
+        OperatingSystem::AmdHsa
+        | OperatingSystem::Bitrig
+        | OperatingSystem::Cloudabi
+        | OperatingSystem::Cuda
+        | OperatingSystem::Cygwin
+        | OperatingSystem::Dragonfly
+        | OperatingSystem::Espidf
+        | OperatingSystem::Freebsd
+        | OperatingSystem::Fuchsia
+        | OperatingSystem::Haiku
+        | OperatingSystem::Hermit
+        | OperatingSystem::Horizon
+        | OperatingSystem::Hurd
+        | OperatingSystem::Illumos
+        | OperatingSystem::L4re
+        | OperatingSystem::Linux
+        | OperatingSystem::Netbsd
+        | OperatingSystem::Openbsd
+        | OperatingSystem::Psp
+        | OperatingSystem::Redox
+        | OperatingSystem::Solaris
+        | OperatingSystem::SolidAsp3
+        | OperatingSystem::Uefi
+        | OperatingSystem::WasiP1
+        | OperatingSystem::WasiP2 => BinaryFormat::Elf,
     }
 }

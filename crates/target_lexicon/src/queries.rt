@@ -40,6 +40,16 @@ impl TripleRef<'_> {
         ensures { MatchesLookup (calling_convention (values_of_ref self.now)) result }
     {
         match self.operating_system {
+            OperatingSystem::Darwin(_)
+            | OperatingSystem::IOS(_)
+            | OperatingSystem::MacOSX(_)
+            | OperatingSystem::TvOS(_)
+            | OperatingSystem::VisionOS(_)
+            | OperatingSystem::WatchOS(_)
+            | OperatingSystem::XROS(_) => match self.architecture {
+                Architecture::Aarch64(_) => Ok(CallingConvention::AppleAarch64),
+                _ => Ok(CallingConvention::SystemV),
+            },
             OperatingSystem::Aix
             | OperatingSystem::Bitrig
             | OperatingSystem::Cloudabi
@@ -63,11 +73,19 @@ impl TripleRef<'_> {
                 Architecture::Wasm32 => Ok(CallingConvention::WasmBasicCAbi),
                 _ => Err(()),
             },
-            system if system.is_like_darwin() => match self.architecture {
-                Architecture::Aarch64(_) => Ok(CallingConvention::AppleAarch64),
-                _ => Ok(CallingConvention::SystemV),
-            },
-            _ => Err(()),
+            OperatingSystem::AmdHsa
+            | OperatingSystem::Cuda
+            | OperatingSystem::Cygwin
+            | OperatingSystem::Espidf
+            | OperatingSystem::Horizon
+            | OperatingSystem::Illumos
+            | OperatingSystem::None_
+            | OperatingSystem::Psp
+            | OperatingSystem::SolidAsp3
+            | OperatingSystem::Uefi
+            | OperatingSystem::VxWorks
+            | OperatingSystem::WasiP1
+            | OperatingSystem::WasiP2 => Err(()),
         }
     }
 

@@ -1,0 +1,11 @@
+use Rattle.std.proofs.Common.{rules}
+use Rattle.target_lexicon.specs.ImpliedFormat.{implied_format}
+use Rattle.target_lexicon.proofs.default_format.implied_format.Goals as goal
+
+pub returns-in-Wasm32 : goal.returns-in-Wasm32
+unfolding implied_format
+returns-in-Wasm32 c = search rules
+
+pub returns-in-Unknown : goal.returns-in-Unknown
+unfolding implied_format
+returns-in-Unknown c = search rules
