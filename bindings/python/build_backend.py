@@ -24,9 +24,10 @@ NAME = "target_lexicon"
 FIRST_TIME = 315532800  # The first one that a zip file can have.
 LIBRARY = "lexicon/liblexicon.so.0"
 
-NEEDED = """the shared library of this package isn't built: {why}.
+NO_CARGO = """the shared library of this package isn't built: cargo doesn't run ({error}).
 Install Rust, which has cargo, or set the variable LEXICON_LIBRARY to PATH/liblexicon.so of a built library for C
 (liblexicon 0.3)."""
+CARGO_FAILED = "the shared library of this package isn't built: cargo ended with status {status}, and wrote why above."
 
 METADATA = """\
 Metadata-Version: 2.1
@@ -138,9 +139,9 @@ def built_library():
         try:
             status = subprocess.run(words, check=False).returncode
         except OSError as error:
-            raise SystemExit(NEEDED.format(why=f"cargo doesn't run ({error})")) from None
+            raise SystemExit(NO_CARGO.format(error=error)) from None
         if status:
-            raise SystemExit(NEEDED.format(why=f"cargo ended with status {status}"))
+            raise SystemExit(CARGO_FAILED.format(status=status))
         paths = [os.path.join(work, target, "release", it) for it in ("liblexicon.so", "liblexicon.dylib", "lexicon.dll")]
         content = read(next(it for it in paths if os.path.exists(it)))
     platform = linux_platform(content)

@@ -100,6 +100,10 @@ class Built(Folder):
         ran = run(*command, PATH=self.folder)
         self.assertNotEqual(ran.returncode, 0)
         self.assertRegex(ran.stdout + ran.stderr, "the shared library of this package isn't built: cargo doesn't run")
+        self.assertIn("Install Rust", ran.stdout + ran.stderr)
+        ran = run(*command, CARGO=shutil.which("false"))
+        self.assertRegex(ran.stdout + ran.stderr, "the shared library of this package isn't built: cargo ended with status 1")
+        self.assertNotIn("Install Rust", ran.stdout + ran.stderr)
         ran = run(*command, LEXICON_LIBRARY=os.path.join(SOURCE, "README.md"))
         self.assertIn("isn't a shared library for Linux", ran.stdout + ran.stderr)
         ran = run(*command, LEXICON_LIBRARY=lists.LIBRARY)
@@ -108,12 +112,15 @@ class Built(Folder):
 
     @unittest.skipUnless(shutil.which("cargo"), "no cargo")
     def test_pip_installs_sources_by_cargo(self):
-        """Of the folder and of the sdist, `pip install` makes a package with a library of its own."""
-        for source in SOURCE, built(".tar.gz"):
+        """Of the folder, of the sdist and of a wheel, `pip install` makes a package with a library of its own."""
+        ran = run(*PIP, "wheel", "--no-index", "--no-cache-dir", "-w", self.folder, SOURCE, **HOMES)
+        self.assertEqual(ran.returncode, 0, ran.stdout + ran.stderr)
+        wheel, = (os.path.join(self.folder, it) for it in os.listdir(self.folder))
+        for source, variables in (SOURCE, HOMES), (built(".tar.gz"), HOMES), (wheel, {"PATH": self.folder}):
             environment = tempfile.mkdtemp(dir=self.folder)
             venv.create(environment, with_pip=True)
             python = os.path.join(environment, "bin", "python")
-            ran = run(python, *PIP[1:], "install", "--no-index", "--no-cache-dir", source, **HOMES)
+            ran = run(python, *PIP[1:], "install", "--no-index", "--no-cache-dir", source, **variables)
             self.assertEqual(ran.returncode, 0, ran.stdout + ran.stderr)
             ran = run(python, "-I", "-c", f"{PRINTS}; import lexicon; print(lexicon.LIBRARY_PATH)")
             printed, library = ran.stdout.split()
@@ -156,7 +163,7 @@ class FindsTheLibrary(Folder):
         self.assertRegex(self.prints(LEXICON_LIBRARY=lists.LIBRARY).stderr, "ImportError: .* has other names than this package")
 
 
-class Samples(unittest.TestCase):
+class Samples(Folder):
     def test_page(self):
         """The examples of the page, as `python -m doctest` runs them."""
         results = doctest.testfile(os.path.join(SOURCE, "README.md"), module_relative=False, encoding="utf-8")
@@ -167,16 +174,24 @@ class Samples(unittest.TestCase):
         """The script of the page, run on the input that the page shows, writes what the page shows."""
         page = lists.read("bindings/python/README.md")
         script = re.search(r"<!-- recipe -->\n```python\n(.*?)```", page, re.S)[1]
-        self.assertLess(len(script.splitlines()), 14)
-        command, output = re.search(r"```console\n\$ (printf .*?) \| python3 matrix\.py\n(.*?)```", page, re.S).groups()
-        given = run("bash", "-c", command).stdout
-        ran = subprocess.run([sys.executable, "-I", "-c", script], input=given, capture_output=True, text=True, check=False)
-        self.assertEqual((ran.stderr + ran.stdout, ran.returncode), (output, 0))
-        given = "x86_64-foo-bar thumbv7a-none-eabi thumbv7a-unknown-none-eabi elf"
-        ran = subprocess.run([sys.executable, "-I", "-c", script], input=given, capture_output=True, text=True, check=False)
+        self.assertLess(len(script.splitlines()), 18)
+        found = re.search(r"```console\n\$ (rustc .*?) > known\n\$ (printf .*?) \| python3 matrix\.py known\n(.*?)```", page, re.S)
+        preferred = run("bash", "-c", found[1], **HOMES).stdout if shutil.which("rustc") else "x86_64-unknown-linux-gnu"
+        known = os.path.join(self.folder, "known")
+        with open(known, "w", encoding="utf-8") as it:
+            it.write(preferred)
+
+        def answers(given, *arguments):
+            return subprocess.run([sys.executable, "-I", "-c", script, *arguments], input=given, capture_output=True, text=True, check=False)
+
+        ran = answers(run("bash", "-c", found[2]).stdout, known)
+        self.assertEqual((ran.stderr + ran.stdout, ran.returncode), (found[3], 1))
+        ran = answers("x86_64-foo-bar thumbv7a-none-eabi thumbv7a-unknown-none-eabi elf")
         self.assertEqual([it["targets"] for it in json.loads(ran.stdout)["include"]], [["thumbv7a-none-eabi"]])
         refused = ["x86_64-foo-bar: Unrecognized operating system: bar", "elf: Unrecognized architecture: elf"]
-        self.assertEqual(ran.stderr.splitlines(), refused)
+        self.assertEqual((ran.stderr.splitlines(), ran.returncode), (refused, 1))
+        ran = answers("x86_64-linux-gnu x86_64-unknown-linux-gnu")
+        self.assertEqual(([it["targets"] for it in json.loads(ran.stdout)["include"]], ran.returncode), ([["x86_64-linux-gnu"]], 0))
 
     @unittest.skipUnless(shutil.which("rustc"), "no rustc")
     def test_counts_of_the_page(self):
