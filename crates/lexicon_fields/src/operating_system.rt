@@ -98,7 +98,6 @@ impl OperatingSystem {
     /// The system like Darwin that the text parses as, if any: one with an optional version. Most other texts are
     /// refused by their first letter.
     #[tactic(auto, using(crate::proofs::RowLemmas::without_row_is_darwin_like))]
-    #[inline(always)]
     pub fn parse_darwin_like(s: &str) -> Option<Self>
         ensures like { result ≡ darwin_like_system darwin_prefixes s.now }
         ensures without_row { has_row s.now ≡ false → result ≡ operating_system_of s.now }

@@ -25,7 +25,7 @@ pub(crate) struct Part<'a> {
 }
 
 /// The row of the name `text` in the table of fixed names, or `None` if the table hasn't it. Its steps aren't counted.
-#[inline(always)]
+#[inline]
 fn row_of(text: &str) -> Option<FixedRow>
     ensures { IsLookedUp text.now result }
 {
