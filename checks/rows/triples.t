@@ -159,6 +159,14 @@ Input that is not UTF-8, in each mode:
        14 status 2
        14 usage: triples [MODE]
 
+The manual page has the modes of the program in its synopsis and in its description:
+
+  $ sed -n 's/^ *"\(.*\)" => Some.*/\1/p' $TESTDIR/../../crates/triples/src/mode.rt | sort > modes && paste -sd ' ' modes
+  json matrix print settle show
+  $ page=$TESTDIR/../../bindings/c/command/triples.1
+  $ sed -n 's/^\.RB \[ \(.*\) \]$/\1/p' $page | sed 's/ | /\n/g' | sort | diff modes -
+  $ sed -n '/^\.TP$/ { n; s/^\.BR* \([a-z]*\).*/\1/p }' $page | sort | diff modes -
+
 ## Readers and writers that fail
 
 A folder can't be read:
