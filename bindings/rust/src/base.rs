@@ -34,7 +34,11 @@ pub mod fmt {
     impl<W: Write> Formatter<W> {
         #[inline(always)]
         pub fn write_str(&mut self, text: &str) -> Result {
-            self.0.write_str(text)
+            // A character of its own, such as a dash, costs a string less than a copied text.
+            match *text.as_bytes() {
+                [byte] => self.0.write_char(byte.into()),
+                _ => self.0.write_str(text),
+            }
         }
 
         #[inline(always)]
