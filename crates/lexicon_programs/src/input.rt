@@ -91,6 +91,8 @@ pub fn write_fault<W: Write>(writer: &mut Counted<W>, error: RunError) -> Result
     ensures begun { AppendsBeginning (W.contents (inner writer.old)) (W.contents (inner writer.new))
         (fault_line error) }
     ensures unfailed { OnOk result (failures writer.new ≡ failures writer.old) }
+    ensures counted { failures writer.old ≤ failures writer.new }
+    ensures write { IsErrOf result RunError.Write ↔ (failures writer.old < failures writer.new) }
     ensures only { IfErr result (λ e. e ≡ RunError.Write) }
 {
     write_all(writer, b"fault: ")?;

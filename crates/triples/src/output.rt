@@ -2,6 +2,7 @@
 ghost use Rattle.std.specs.Prelude.{◌≡◌, ◌<◌, ◌++◌, ◌∷◌, [], true, codes, length, string_bytes, IfOk, IfErr, OnOk, OnErr};
 ghost use Rattle.lexicon_fields.specs.Vendor.{is_plain};
 ghost use Rattle.lexicon_fields.specs.VendorRef.{ref_value};
+ghost use Rattle.target_lexicon.specs.FixedPoints.{canonical_text};
 ghost use Rattle.target_lexicon.specs.Refusal.{refusal_line};
 ghost use Rattle.target_lexicon.specs.ValuesRef.{values_of_ref, refusal_of_ref};
 ghost use Rattle.triples.specs.Output.{lines_of, IsLineOutput, IsMatrix, IsOutput, IsInputErrorOf, shown_text};
@@ -27,6 +28,16 @@ enum View {
     Canonical,
 }
 
+/// Appends the printed text of the canonical triple.
+fn push_canonical(output: &mut String, triple: &TripleRef<'_>) -> Result<(), AllocError>
+    requires { is_plain (ref_value triple.now.vendor) ≡ true }
+    ensures { OnOk result
+        (string_bytes output.new
+        ≡ string_bytes output.old ++ canonical_text (values_of_ref triple.now)) }
+{
+    output.write(&triple.settle())
+}
+
 /// Appends what is shown of a triple.
 fn push_text(output: &mut String, view: View, triple: TripleRef<'_>) -> Result<(), AllocError>
     requires { is_plain (ref_value triple.vendor) ≡ true }
@@ -37,7 +48,7 @@ fn push_text(output: &mut String, view: View, triple: TripleRef<'_>) -> Result<(
     match view {
         View::Printed => output.write(&triple),
         View::WithFacts => push_facts(output, &triple),
-        View::Canonical => output.write(&triple.settle()),
+        View::Canonical => push_canonical(output, &triple),
     }
 }
 
