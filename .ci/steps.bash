@@ -104,6 +104,7 @@ python3-markdown python3-markdown
 python3-pygments python3-pygments
 dot graphviz
 cram3 python3-cram
+python3-hypothesis python3-hypothesis
 /usr/share/cargo/registry librust-serde-json-dev
 g++ g++
 cmake cmake
