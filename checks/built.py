@@ -1,23 +1,44 @@
-"""The programs of the crates: those of the tree BUILT, which `bindings/c/install` made, or as `rt run` builds them."""
+"""The programs that checks run: those of the tree BUILT, which the gate makes, or as `rt run` or cargo builds them."""
 import os
 import subprocess
 import sys
 
 ROOT = os.path.dirname(os.path.dirname(os.path.realpath(__file__)))
+BUILT = os.environ.get("BUILT", "")
+# cargo takes crates from Debian's packages where these are installed, and then needs no network.
+DEBIAN_CRATES = f"{ROOT}/rust/debian.toml"
+CARGO = ["cargo", *(["--config", DEBIAN_CRATES, "--offline"] if os.path.isdir("/usr/share/cargo/registry") else [])]
+COMMANDS = f"{ROOT}/rust/lexicon-cli"
 
 
-def program(check, crate, status=1, words=()):
-    """The path of a crate's program. `rt run`, which decides whether it must be built, runs it with these words.
-
-    If that fails, the check ends with the status.
-    """
-    path = f"{os.environ.get('BUILT')}/bin/{crate}"
-    if os.path.exists(path):
-        return path
-    folder = f"{ROOT}/crates/{crate}"
-    print(f"{check}: rt run in crates/{crate}", flush=True)
-    ran = subprocess.run(["rt", "run", "--", *words], cwd=folder, stdin=subprocess.DEVNULL, stdout=subprocess.DEVNULL)
+def made(check, command, folder, status, **environment):
+    """Runs a command that makes a program. If that fails, the check ends with the status."""
+    print(f"{check}: {' '.join(command)}, in {folder}", flush=True)
+    ran = subprocess.run(command, cwd=folder, env={**os.environ, **environment}, stdin=subprocess.DEVNULL, stdout=subprocess.DEVNULL,
+                         stderr=subprocess.PIPE, text=True, errors="replace")
     if ran.returncode:
-        print(f"{check}: rt run failed in crates/{crate}")
+        print(*ran.stderr.splitlines()[-10:], f"{check}: that failed", sep="\n")
         sys.exit(status)
-    return f"{folder}/out/{crate}"
+
+
+def cargo_program(check, name, status=1):
+    """The path of a program of rust/lexicon-cli, which is a workspace of its own."""
+    environment = {}
+    if os.path.isdir("/usr/share/cargo/registry/clap-4.0.32"):
+        environment["CARGO_HOME"] = f"{COMMANDS}/target/debian"
+        made(check, ["./debian_crates", environment["CARGO_HOME"]], COMMANDS, status)
+    made(check, ["cargo", "build", "--quiet", "--release", "--locked"], COMMANDS, status, **environment)
+    return f"{os.environ.get('CARGO_TARGET_DIR', f'{COMMANDS}/target')}/release/{name}"
+
+
+def program(check, name, status=1, words=()):
+    """The path of a program: of a proved crate, if there is one of its name, otherwise of rust/lexicon-cli.
+
+    `rt run`, which decides whether it must be built, runs it with these words.
+    """
+    if BUILT and os.path.exists(f"{BUILT}/bin/{name}"):
+        return f"{BUILT}/bin/{name}"
+    if not os.path.isdir(f"{ROOT}/crates/{name}"):
+        return cargo_program(check, name, status)
+    made(check, ["rt", "run", "--", *words], f"{ROOT}/crates/{name}", status)
+    return f"{ROOT}/crates/{name}/out/{name}"

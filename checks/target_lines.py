@@ -8,7 +8,6 @@ environment follows.
 """
 import collections
 import itertools
-import json
 import os
 import random
 import string
@@ -48,8 +47,8 @@ FAMILIES = ["armv6k-nintendo-horizon", "armv6k-nintendo-3ds", "ANY-nintendo-hori
 
 
 def read(path):
-    with open(f"{ROOT}/{path}", encoding="utf-8") as it:
-        return it.read()
+    with open(f"{ROOT}/{path}", encoding="utf-8") as file:
+        return file.read()
 
 
 def table():
@@ -61,11 +60,11 @@ def table():
 
 def table_names():
     """The names of the table, some texts that are none, and the known triples."""
-    fields = {field: [it.name for it in table() if it.field == field] for field in (*FIELDS, "alias")}
+    fields = {field: [row.name for row in table() if row.field == field] for field in (*FIELDS, "alias")}
     fields["architecture"] += fields.pop("alias")
-    versioned = [it.name for it in table() if it.family == "Darwin"]
+    versioned = [row.name for row in table() if row.family == "Darwin"]
     each = [name for names in fields.values() for name in names]
-    return Names(*fields.values(), versioned, each, ["zilog", "bar", "gnux"], read("checks/known_triples").split())
+    return Names(*fields.values(), versioned, each, ["zilog", "bar", "gnux"], read("checks/known_triples.txt").split())
 
 
 def changed_text(rng, text):
@@ -93,7 +92,7 @@ def vendors(rng, names, n):
     """The known vendors, and n texts that are custom vendors or similar to one."""
     custom = [rng.choice(string.ascii_lowercase) + "".join(rng.choices(VENDOR_CHARACTERS, k=rng.randrange(9))) for _ in range(n // 2)]
     similar = [changed_text(rng, rng.choice(names.each)) for _ in range(n // 4)]
-    changed = [changed_text(rng, it) for it in custom[:n // 4]]
+    changed = [changed_text(rng, text) for text in custom[:n // 4]]
     return names.vendors * (1 + n // len(names.vendors)) + custom + similar + changed
 
 
@@ -105,7 +104,7 @@ def table_lines(rng, names, n):
     rows = list(itertools.product(names.architectures, names.systems, names.environments))
     rows = rows if n >= len(rows) else rng.sample(rows, n)
     row_vendors = rng.choices(["unknown"] * 10 + names.vendors + ["acme"], k=len(rows))
-    formats = rng.choices([""] * 6 + ["-" + it for it in names.formats], k=len(rows))
+    formats = rng.choices([""] * 6 + ["-" + name for name in names.formats], k=len(rows))
     return [f"{a}-{v}-{s}-{e}{f}" for (a, s, e), v, f in zip(rows, row_vendors, formats)]
 
 
@@ -113,7 +112,7 @@ def good(rng, names, n):
     """Fields in their order, with some left out."""
     columns = [names.architectures, ["", "unknown"] * 200 + vendors(rng, names, 1000), ["", "unknown"] + names.systems,
                [""] * 20 + names.environments, [""] * 6 + names.formats]
-    return ["-".join(filter(None, parts)) for parts in zip(*(rng.choices(it, k=n) for it in columns))]
+    return ["-".join(filter(None, parts)) for parts in zip(*(rng.choices(column, k=n) for column in columns))]
 
 
 def in_any_order(rng, names, n):
@@ -126,8 +125,8 @@ def in_any_order(rng, names, n):
 
 def near_known(rng, names, n):
     """Known triples with one or two changes."""
-    once = [changed_text(rng, it) for it in rng.choices(names.known, k=n)]
-    return [changed_text(rng, it) if rng.random() < 0.3 else it for it in once]
+    once = [changed_text(rng, text) for text in rng.choices(names.known, k=n)]
+    return [changed_text(rng, text) if rng.random() < 0.3 else text for text in once]
 
 
 def versions(rng, names, n):
@@ -154,17 +153,17 @@ def families(rng, names, n):
     vendor_choices = names.vendors + ["unknown"] * 9 + ["esp", "acme"]
     heads = [family.replace("ANY", architecture).replace("ONE", vendor) for family in FAMILIES
              for architecture, vendor in zip(rng.sample(names.architectures, 60), rng.choices(vendor_choices, k=60))]
-    environment_choices = ["", "-unknown", "-unknown", "-newlib", "-none"] * 12 + ["-" + it for it in names.environments]
+    environment_choices = ["", "-unknown", "-unknown", "-newlib", "-none"] * 12 + ["-" + name for name in names.environments]
     environments = rng.choices(environment_choices, k=n)
-    formats = rng.choices([""] * 4 + ["-unknown"] * 8 + ["-" + it for it in names.formats], k=n)
+    formats = rng.choices([""] * 4 + ["-unknown"] * 8 + ["-" + name for name in names.formats], k=n)
     return [head + e + f for head, e, f in zip(rng.choices(heads, k=n), environments, formats)]
 
 
 def repeats(rng, lines, n):
     """Earlier lines again, some in another spelling."""
-    spellings = [str, str, lambda it: it.replace("aarch64-", "arm64-"), lambda it: it.replace("-unknown-", "-", 1),
-                 lambda it: it + "-elf", lambda it: it + "-unknown",
-                 lambda it: it[:-8] if it.endswith("-unknown") else it, lambda it: it + ".0"]
+    spellings = [str, str, lambda line: line.replace("aarch64-", "arm64-"), lambda line: line.replace("-unknown-", "-", 1),
+                 lambda line: line + "-elf", lambda line: line + "-unknown", lambda line: line.removesuffix("-unknown"),
+                 lambda line: line + ".0"]
     few = rng.choices(lines, k=max(1, n // 3))
     return [spelling(line) for spelling, line in zip(rng.choices(spellings, k=n), rng.choices(few, k=n))]
 
@@ -189,20 +188,12 @@ def lines(names, n, seed):
     return found
 
 
-def json_string(rng, text):
-    """The text as a JSON string, in some cases with escapes: for checks/fuzz_json."""
-    if rng.random() < 0.7:
-        return json.dumps(text, ensure_ascii=rng.random() < 0.5)
-    characters = (f"\\u{ord(it):04x}" if ord(it) < 0x10000 and rng.random() < 0.3 else json.dumps(it)[1:-1] for it in text)
-    return '"' + "".join(characters) + '"'
-
-
 def main():
     names, wanted = table_names(), sys.argv[1:]
     found = lines(names, int(wanted[0]), 1)
     if wanted[1:] == ["--table"]:
         found += table_lines(random.Random("table"), names, sys.maxsize)
-    sys.stdout.buffer.write("".join(f"{it}\n" for it in found).encode())
+    sys.stdout.buffer.write("".join(f"{line}\n" for line in found).encode())
 
 
 if __name__ == "__main__":

@@ -1,7 +1,8 @@
-"""Upstream's crate, and the programs with the line modes of `triples` that are compared with it.
+"""Upstream's crate as a package of cargo, and the programs over it and over each language of this repository.
 
-The programs are over upstream's crate, and over each language of this repository: the program itself, the Rust crate
-(bindings/rust/checks/lines), the library for C (checks/lines.c) and the Python package (checks/lines_python).
+The programs have the line modes of `triples`: the proved one, the one of rust/lexicon-cli, and those of comparisons/ over
+the Rust crate, the library for C and the Python package. Upstream is 0.13.5, in a folder as cargo fetches it, or with
+files such as src__lib.rs.txt.
 """
 import collections
 import os
@@ -13,11 +14,31 @@ import tempfile
 
 import built
 
-RUST_CRATE = f"{built.ROOT}/bindings/rust"
+SOURCES = f"{built.ROOT}/checks/comparisons"
+RUST_CRATE = f"{built.ROOT}/rust/target-lexicon"
 LINE_MODES = ("print", "show", "settle", "matrix")
+ALL_MODES = (*LINE_MODES, "json")
+FEATURES = 'features = ["std", "arch_z80", "arch_zkasm"]'
 
-# The file that the crate's build script would make, which the crate includes, and a call for the program over it.
+MANIFEST = """[package]
+name = "target-lexicon"
+version = "0.13.5+upstream"
+edition = "2018"
+
+[features]
+std = []
+serde_support = ["serde", "std"]
+arch_zkasm = []
+arch_z80 = []
+
+[dependencies]
+serde = { version = "1.0", optional = true }
+
+[workspace]
+"""
+# The file that upstream's build script would write, which the crate includes, and a call for the programs over it.
 HOST = """
+/// The host, which is unknown here.
 pub const HOST: Triple = Triple {
     architecture: Architecture::Unknown,
     vendor: Vendor::Unknown,
@@ -26,12 +47,19 @@ pub const HOST: Triple = Triple {
     binary_format: BinaryFormat::Unknown,
 };
 impl Triple {
+    /// The host, which is unknown here.
     pub const fn host() -> Self {
         HOST
     }
+    /// The format that the other fields imply.
     pub fn implied_format(&self) -> BinaryFormat {
         crate::targets::default_binary_format(self)
     }
+}
+"""
+BUILD_SCRIPT = """fn main() {
+    let folder = std::env::var("OUT_DIR").expect("cargo sets OUT_DIR");
+    std::fs::write(folder + "/host.rs", include_str!("host.rs.txt")).expect("a file in OUT_DIR");
 }
 """
 
@@ -40,140 +68,111 @@ Program = collections.namedtuple("Program", "command modes name")
 
 
 def stop(why):
-    print(f"{os.path.basename(sys.argv[0])}: {why}")
+    print(f"compare: {why}")
     sys.exit(2)
+
+
+def write(path, text):
+    os.makedirs(os.path.dirname(path), exist_ok=True)
+    with open(path, "w", encoding="utf-8") as file:
+        file.write(text)
+
+
+def read(path):
+    with open(path, encoding="utf-8") as file:
+        return file.read()
 
 
 # ---- upstream's crate
 
 def copy_sources(crate, folder):
-    """Copies upstream's sources into a folder.
-
-    They are those of the crate's folder as cargo fetches it, in src/*.rs, or files such as src__lib.rs.txt, of which
-    lib.rs may end with the attributes of its tests.
-    """
-    found = {it: path for it in ("lib", "host", "data_model", "parse_error", "targets", "triple")
-             for path in (f"{crate}/src__{it}.rs.txt", f"{crate}/src/{it}.rs") if os.path.exists(path)}
+    """Copies upstream's sources into a folder."""
+    found = {name: path for name in ("lib", "host", "data_model", "parse_error", "targets", "triple")
+             for path in (f"{crate}/src__{name}.rs.txt", f"{crate}/src/{name}.rs") if os.path.exists(path)}
     if "lib" not in found:
-        stop(f"{crate} has no src/lib.rs: it must be the crate's folder as cargo fetches it")
-    os.makedirs(folder)
+        stop(f"{crate} has no src/lib.rs: it must be the folder of target-lexicon 0.13.5 as cargo fetches it")
     for name, path in found.items():
-        with open(path, encoding="utf-8") as it:
-            text = it.read()
-        with open(f"{folder}/{name}.rs", "w", encoding="utf-8") as it:
-            it.write(re.sub(r'(#\[cfg\(feature = "serde_support"\)\]\s*)+\Z', "", text))
+        # lib.rs.txt may end with the attributes of its tests.
+        write(f"{folder}/{name}.rs", re.sub(r'(#\[cfg\(feature = "serde_support"\)\]\s*)+\Z', "", read(path)))
 
 
 def sources(crate):
     """The paths of upstream's sources and tests."""
-    folders = [f"{crate}/{it}" for it in ("src", "tests") if os.path.isdir(f"{crate}/{it}")] or [crate]
-    return sorted(f"{folder}/{it}" for folder in folders for it in os.listdir(folder) if it.endswith((".rs", ".rs.txt")))
+    folders = [f"{crate}/{name}" for name in ("src", "tests") if os.path.isdir(f"{crate}/{name}")] or [crate]
+    return sorted(f"{folder}/{name}" for folder in folders for name in os.listdir(folder) if name.endswith((".rs", ".rs.txt")))
 
 
-def version_of(crate):
-    """The version in the crate's manifest."""
-    try:
-        with open(f"{crate}/Cargo.toml", encoding="utf-8") as it:
-            return re.search(r'^version = "(.*)"$', it.read(), re.MULTILINE)[1]
-    except (OSError, TypeError):
-        return "of a version that its folder doesn't say"
+def package(crate, folder):
+    """Makes a package of upstream's sources, which cargo builds without the network. Returns its folder."""
+    copy_sources(crate, f"{folder}/src")
+    write(f"{folder}/Cargo.toml", MANIFEST)
+    write(f"{folder}/build.rs", BUILD_SCRIPT)
+    write(f"{folder}/host.rs.txt", HOST)
+    return folder
 
 
 # ---- building
 
-def rustc(words, folder, what):
-    """Compiles with rustc, for sources that include what is in the folder."""
-    environment = {**os.environ, "OUT_DIR": folder}
-    if subprocess.run(["rustc", "-C", "opt-level=3", "--cap-lints", "allow", *words], env=environment).returncode:
-        stop(f"rustc doesn't build {what}")
-
-
-def build_library(crate, folder, words=()):
-    """Builds upstream's crate, with these words for rustc. Returns the library's path, which is in the folder."""
-    copy_sources(crate, f"{folder}/upstream_sources")
-    with open(f"{folder}/host.rs", "w", encoding="utf-8") as it:
-        it.write(HOST)
-    library = f"{folder}/libtarget_lexicon.rlib"
-    features = [it for name in ("std", "arch_zkasm", "arch_z80") for it in ("--cfg", f'feature="{name}"')]
-    rustc(["--edition", "2018", "--crate-type", "rlib", "--crate-name", "target_lexicon", *features, *words,
-           f"{folder}/upstream_sources/lib.rs", "-o", library], folder, "the crate")
-    return library
+def cargo_program(folder, name, source, crates, features=(), flags="", target=None):
+    """Builds a program of one source file over crates, which have names and folders. Returns the program's path."""
+    dependencies = "".join(f'{alias} = {{ package = "target-lexicon", path = "{path}", {FEATURES} }}\n' for alias, path in crates.items())
+    write(f"{folder}/{name}/Cargo.toml", f"""[package]
+name = "{name}"
+version = "0.0.0"
+edition = "2021"
+[[bin]]
+name = "{name}"
+path = "{SOURCES}/{source}"
+[dependencies]
+{dependencies}[features]
+{"".join(f"{feature} = []{chr(10)}" for feature in ("upstream", "c_library"))}[workspace]
+""")
+    words = [*built.CARGO, "build", "--quiet", "--release", "--manifest-path", f"{folder}/{name}/Cargo.toml",
+             "--target-dir", f"{folder}/target", "--features", ",".join(features), *(["--target", target] if target else [])]
+    if subprocess.run(words, env={**os.environ, "RUSTFLAGS": f"--cap-lints allow {flags}"}).returncode:
+        stop(f"cargo doesn't build checks/comparisons/{source}")
+    return f"{folder}/target/{target or ''}/release/{name}"
 
 
 def build(crate, folder):
     """Builds the program over upstream's crate. Returns its path, which is in the folder."""
-    if not shutil.which("rustc"):
-        stop("rustc is missing")
-    library, program = build_library(crate, folder), f"{folder}/upstream"
-    rustc(["--edition", "2021", "--cfg", "upstream", f"{RUST_CRATE}/checks/lines/main.rs", "--extern",
-           f"target_lexicon={library}", "-o", program], folder, "the program over it")
-    return program
+    return cargo_program(folder, "lines_upstream", "lines.rs", {"target-lexicon": package(crate, f"{folder}/upstream")}, ["upstream"])
 
 
-def build_rust_library(folder, words=()):
-    """Builds the Rust crate of this repository without cargo, with these words for rustc. Returns its path."""
-    script, library = f"{folder}/build_script", f"{folder}/libtarget_lexicon.rlib"
-    with open(f"{built.ROOT}/Cargo.toml", encoding="utf-8") as it:
-        edition = re.search(r'^edition = "(.*)"$', it.read(), re.MULTILINE)[1]
-    rustc(["--edition", edition, f"{RUST_CRATE}/build.rs", "-o", script], folder, "bindings/rust/build.rs")
-    version = subprocess.run(["rustc", "-vV"], check=True, capture_output=True, text=True).stdout
-    host = re.search(r"^host: (.*)$", version, re.MULTILINE)[1]
-    environment = {**os.environ, "CARGO_MANIFEST_DIR": built.ROOT, "OUT_DIR": folder, "TARGET": host, "HOST": host}
-    if subprocess.run([script], env=environment, stdout=subprocess.DEVNULL).returncode:
-        stop("bindings/rust/build.rs fails")
-    rustc(["--edition", edition, "--crate-type", "rlib", "--crate-name", "target_lexicon", *words, f"{RUST_CRATE}/src/lib.rs",
-           "-o", library], folder, "the Rust crate")
-    return library
-
-
-def build_rust_program(folder):
-    """Builds the program over the Rust crate of this repository. Returns its path."""
-    shutil.copytree(f"{RUST_CRATE}/checks/lines", f"{folder}/lines_program")
-    manifest = f"{folder}/lines_program/Cargo.toml"
-    with open(manifest, encoding="utf-8") as it:
-        text = it.read().replace("../../../..", built.ROOT)
-    with open(manifest, "w", encoding="utf-8") as it:
-        it.write(text)
-    words = ["cargo", "build", "--quiet", "--offline", "--release", "--manifest-path", manifest, "--target-dir", f"{folder}/target"]
-    if subprocess.run(words).returncode:
-        stop("cargo doesn't build the program over the Rust crate")
-    return f"{folder}/target/release/lines"
-
-
-def build_c_program(folder, tree):
-    """Builds the program over the library for C that is installed in a tree. Returns its path."""
-    path = f"{folder}/lines_c"
-    words = ["cc", "-O2", f"-I{tree}/include", f"{built.ROOT}/checks/lines.c", f"{tree}/lib/liblexicon.a", "-o", path]
-    if subprocess.run(words).returncode:
-        stop(f"cc doesn't build checks/lines.c with the library in {tree}")
-    return path
-
-
-# ---- the programs that are compared
-
-def add_options(parser):
-    """Adds the options that say what is compared with upstream."""
-    parser.add_argument("crate", metavar="CRATE")
-    parser.add_argument("--program", metavar="FILE")
-    parser.add_argument("--other", metavar="FILE", action="append", default=[])
-    parser.add_argument("--rust", action="store_true")
-    parser.add_argument("--c", metavar="TREE")
-    parser.add_argument("--python", action="store_true")
+def c_flags(tree):
+    return [f"-I{tree}/include", f"{SOURCES}/lines.c"]
 
 
 def programs(options, folder):
-    """The programs that the options name, which are built in the folder if they must be."""
-    if options.python and not options.c:
-        stop("--python needs --c")
-    found = [Program([options.program or built.program(os.path.basename(sys.argv[0]), "triples", 2)], LINE_MODES, "the program")]
-    found += [Program([it], LINE_MODES, it) for it in options.other]
-    if options.rust:
-        found.append(Program([build_rust_program(folder)], LINE_MODES, "the Rust crate"))
-    if options.c:
-        found.append(Program([build_c_program(folder, options.c)], LINE_MODES[:3], "the library for C"))
-    if options.python:
-        os.environ.update(PYTHONPATH=f"{built.ROOT}/bindings/python/src", LEXICON_LIBRARY=f"{options.c}/lib/liblexicon.so")
-        found.append(Program([f"{built.ROOT}/checks/lines_python"], LINE_MODES[:3], "the Python package"))
+    """The programs that are compared: those that the options name, otherwise all that can be had."""
+    tree = options.tree
+    can = {
+        "proved": shutil.which("rt") or os.path.exists(f"{tree}/bin/triples"),
+        "cargo": os.path.isdir(f"{built.ROOT}/rust/lexicon-cli"),
+        "rust": os.path.isdir(RUST_CRATE),
+        "c": os.path.exists(f"{tree}/lib/liblexicon.a") and shutil.which("cc"),
+        "python": os.path.exists(f"{tree}/lib/liblexicon.so"),
+    }
+    wanted = [name for name in can if can[name]] if options.of is None else options.of
+    found = [Program([path], ALL_MODES, path) for path in options.program]
+    for name in wanted:
+        if not can[name]:
+            stop(f"{name} can't be compared: {'BUILT or --tree must be a tree with the library for C' if name in ('c', 'python') else 'it is not there'}")
+        if name == "proved":
+            found.append(Program([built.program("compare", "triples", 2)], ALL_MODES, "the proved program"))
+        elif name == "cargo":
+            found.append(Program([built.cargo_program("compare", "triples", 2)], ALL_MODES, "triples by cargo"))
+        elif name == "rust":
+            path = cargo_program(folder, "lines", "lines.rs", {"target-lexicon": RUST_CRATE})
+            found.append(Program([path], LINE_MODES, "the Rust crate"))
+        elif name == "c":
+            if subprocess.run(["cc", "-O2", *c_flags(tree), f"{tree}/lib/liblexicon.a", "-o", f"{folder}/lines_c"]).returncode:
+                stop(f"cc doesn't build checks/comparisons/lines.c with the library in {tree}")
+            found.append(Program([f"{folder}/lines_c"], LINE_MODES[:3], "the library for C"))
+        else:
+            os.environ.update(PYTHONPATH=f"{built.ROOT}/bindings/python/src", LEXICON_LIBRARY=f"{tree}/lib/liblexicon.so")
+            found.append(Program([sys.executable, f"{SOURCES}/lines_python.py"], LINE_MODES[:3], "the Python package"))
+    print(f"compared: {', '.join(program.name for program in found)}", flush=True)
     return found
 
 
@@ -203,16 +202,16 @@ class Tally:
 
 def ask(command, lines):
     """A command's answers to the lines: each line has one."""
-    ran = subprocess.run(command, input="".join(f"{it}\n" for it in lines).encode(), capture_output=True)
+    ran = subprocess.run(command, input="".join(f"{line}\n" for line in lines).encode(), capture_output=True)
     found = ran.stdout.decode().split("\n")[:-1]
     if ran.returncode or len(found) != len(lines):
         stop(f"{command} ended with status {ran.returncode} and {len(found)} of {len(lines)} answers")
     return found
 
 
-def answers(command, file, folder):
+def answers(command, path, folder):
     """What a command writes for a file."""
-    with open(file, "rb") as given, tempfile.TemporaryFile(dir=folder) as output:
+    with open(path, "rb") as given, tempfile.TemporaryFile(dir=folder) as output:
         status = subprocess.run(command, stdin=given, stdout=output).returncode
         output.seek(0)
         written = output.read()
@@ -226,7 +225,7 @@ def differences(mode, who, texts, ours, theirs):
 
     A matrix has fewer answers than there are texts: of it the first difference.
     """
-    texts, ours, theirs = (it.decode().split("\n")[:-1] for it in (texts, ours, theirs))
+    texts, ours, theirs = (written.decode().split("\n")[:-1] for written in (texts, ours, theirs))
     if mode == "matrix":
         pairs = zip([*ours, "the end"], [*theirs, "the end"])
         return [(mode, "the first entry that differs", who, *next(pair for pair in pairs if pair[0] != pair[1]))]
@@ -235,21 +234,21 @@ def differences(mode, who, texts, ours, theirs):
     return [(mode, text, who, our, their) for text, our, their in zip(texts, ours, theirs) if our != their]
 
 
-def compare(upstream, compared, mode, file, folder):
+def compare(upstream, compared, mode, path, folder):
     """Compares the programs that have a mode with upstream on the texts of a file.
 
     Returns how many answers there are, how many of these aren't a refusal, and the differences.
     """
-    theirs, found = answers([upstream, mode], file, folder), []
+    theirs, found = answers([upstream, mode], path, folder), []
     for command, modes, who in compared:
-        ours = answers([*command, mode], file, folder) if mode in modes else theirs
+        ours = answers([*command, mode], path, folder) if mode in modes else theirs
         if ours != theirs:
-            with open(file, "rb") as texts:
+            with open(path, "rb") as texts:
                 found += differences(mode, who, texts.read(), ours, theirs)
     count, refused = theirs.count(b"\n"), theirs.startswith(b"error: ") + theirs.count(b"\nerror: ")
     return count, count - refused, found
 
 
 if __name__ == "__main__":
-    # usage: checks/upstream.py CRATE FOLDER
-    build(sys.argv[1], sys.argv[2])
+    # usage: checks/upstream.py CRATE FOLDER   makes the package in FOLDER/upstream, and its program with the line modes
+    print(build(sys.argv[1], sys.argv[2]))

@@ -1,9 +1,10 @@
-"""Builds the wheel and the sdist of the package `lexicon`: the backend, by PEP 517, that pyproject.toml names.
+"""Builds the wheel and the sdist of the package `lexicon`: the backend that pyproject.toml names (PEP 517 and 660).
 
 The wheel has the shared library that the variable LEXICON_LIBRARY names. Without that variable cargo builds the
 library, from the sources in the repository or, in an sdist, below the folder `native`. The same files give the same
 wheel and sdist, to the byte: names are sorted, and times are that of SOURCE_DATE_EPOCH, or else the first of January
-1980. The wheel isn't compressed, so that its bytes don't depend on the version of zlib.
+1980. The wheel isn't compressed, so that its bytes don't depend on the version of zlib. An editable wheel has only the
+path of the sources, beside which the library is written.
 """
 import base64
 import gzip
@@ -22,11 +23,10 @@ import zipfile
 HERE = os.path.dirname(os.path.abspath(__file__))
 NAME = "target_lexicon"
 FIRST_TIME = 315532800  # The first one that a zip file can have.
-LIBRARY = "lexicon/liblexicon.so.0"
 
 NO_CARGO = """the shared library of this package isn't built: cargo doesn't run ({error}).
 Install Rust, which has cargo, or set the variable LEXICON_LIBRARY to PATH/liblexicon.so of a built library for C
-(liblexicon 0.3)."""
+(liblexicon 0.4)."""
 CARGO_FAILED = "the shared library of this package isn't built: cargo ended with status {status}, and wrote why above."
 
 METADATA = """\
@@ -39,6 +39,7 @@ Requires-Python: >=3.9
 {needs}Classifier: Operating System :: POSIX :: Linux
 Classifier: Programming Language :: Python :: 3 :: Only
 Classifier: Programming Language :: Python :: Implementation :: CPython
+Classifier: Programming Language :: Python :: Implementation :: PyPy
 Classifier: Typing :: Typed
 Description-Content-Type: text/markdown
 
@@ -61,11 +62,29 @@ def prepare_metadata_for_build_wheel(metadata_directory, config_settings=None):
     return info
 
 
+get_requires_for_build_editable = get_requires_for_build_wheel
+prepare_metadata_for_build_editable = prepare_metadata_for_build_wheel
+
+
 def build_wheel(wheel_directory, config_settings=None, metadata_directory=None):
     content, platform = given_library() if os.environ.get("LEXICON_LIBRARY") else built_library()
+    return write_wheel(wheel_directory, {**package(), library_path(): content}, platform)
+
+
+def build_editable(wheel_directory, config_settings=None, metadata_directory=None):
+    content, platform = given_library() if os.environ.get("LEXICON_LIBRARY") else built_library()
+    sources = os.path.join(HERE, "src")
+    new = os.path.join(sources, f"{library_path()}.new")
+    with open(new, "wb") as it:
+        it.write(content)
+    os.replace(new, os.path.join(sources, library_path()))  # a running program keeps the one that it has
+    return write_wheel(wheel_directory, {f"__editable__.{NAME}.pth": f"{sources}\n".encode()}, platform)
+
+
+def write_wheel(wheel_directory, files, platform):
+    """Writes the wheel with these files and what is about them, and returns its name."""
     tag = f"py3-none-{platform}"
     info = f"{NAME}-{version()}.dist-info"
-    files = {**package(), LIBRARY: content}
     files[f"{info}/METADATA"] = metadata("")
     files[f"{info}/WHEEL"] = f"Wheel-Version: 1.0\nGenerator: build_backend\nRoot-Is-Purelib: false\nTag: {tag}\n".encode()
     files[f"{info}/LICENSE"] = licence()
@@ -76,7 +95,7 @@ def build_wheel(wheel_directory, config_settings=None, metadata_directory=None):
         for path in sorted(files, key=lambda it: (".dist-info/" in it, it)):
             entry = zipfile.ZipInfo(path, time.gmtime(epoch())[:6])
             entry.create_system = 3
-            entry.external_attr = (0o100755 if path == LIBRARY else 0o100644) << 16
+            entry.external_attr = (0o100755 if path == library_path() else 0o100644) << 16
             archive.writestr(entry, files[path])
     return name
 
@@ -111,14 +130,13 @@ def native():
 
 def native_files():
     """The files that cargo builds the library from, below `native`."""
-    script = read(os.path.join(native(), "bindings", "cargo", "c", "build.rs")).decode()
-    crates = re.findall(r'"(\w+)"', re.search(r"const CRATES: .*? = (\[.*?\]);", script, re.S)[1])
-    yield "bindings/rust/src/base.rs"
-    for part in ["bindings/cargo/c", "bindings/cargo/shim", "bindings/rust/build", *(f"crates/{it}/src" for it in crates)]:
-        for folder, folders, names in os.walk(os.path.join(native(), part)):
-            folders[:] = sorted(it for it in folders if it != "target")
+    for package_of_rust in "rust/lexicon-c", "rust/target-lexicon":
+        yield from (f"{package_of_rust}/{it}" for it in ("Cargo.toml", "build.rs"))
+        for folder, folders, names in os.walk(os.path.join(native(), package_of_rust, "src")):
+            folders.sort()
             below = os.path.relpath(folder, native()).replace(os.sep, "/")
             yield from (f"{below}/{name}" for name in sorted(names))
+    yield "rust/lexicon-c/Cargo.lock"
 
 
 def given_library():
@@ -134,8 +152,8 @@ def built_library():
     """The library that cargo builds, and the platform that it is for: this one, or that of CARGO_BUILD_TARGET."""
     target = os.environ.get("CARGO_BUILD_TARGET", "")
     with tempfile.TemporaryDirectory() as work:
-        words = [os.environ.get("CARGO", "cargo"), "build", "--quiet", "--release", "--locked", "--target-dir", work, "--manifest-path",
-                 os.path.join(native(), "bindings", "cargo", "c", "Cargo.toml")]
+        words = [os.environ.get("CARGO", "cargo"), "build", "--quiet", "--release", "--locked", "--offline", "--target-dir", work, "--manifest-path",
+                 os.path.join(native(), "rust", "lexicon-c", "Cargo.toml")]
         try:
             status = subprocess.run(words, check=False).returncode
         except OSError as error:
@@ -160,6 +178,11 @@ def package():
 def version():
     text = read(os.path.join(HERE, "pyproject.toml")).decode()
     return re.search(r'^version = "(.*)"$', text, re.M)[1]
+
+
+def library_path():
+    """Where the package has the library. Python would take a file whose name ends with `.so` for a module."""
+    return f"lexicon/liblexicon.so.{version().rpartition('.')[0]}"
 
 
 def metadata(needs):

@@ -1,10 +1,8 @@
 # Streams that are closed before a program starts
 
-A program with Rust's runtime finds `/dev/null` instead, so these rows are only for the proved programs.
+A program with Rust's runtime finds `/dev/null` instead, so these rows are only for the proved program.
 
   $ ! grep -q RUST_BACKTRACE "$(type -P triples)" || exit 80
-
-## `triples`
 
 A closed input can't be read, in no mode:
 
@@ -28,20 +26,8 @@ If something can't be written, the status is 1, or 2 without a mode; if there is
   [2]
   $ triples print < /dev/null >&-
 
-## `lexicon`
+The proved program writes nothing before it has read all:
 
-  $ lexicon settle <&-
-  fault: Read failed
-  [3]
-
-If one output is closed, the other is still written:
-
-  $ lexicon settle z80 x >&- < /dev/null
-  error: unrecognized architecture `x`
-    x
-    ^
-  fault: Write failed
-  [3]
-  $ lexicon settle z80 x 2>&- < /dev/null
-  z80-unknown-unknown-elf
-  [3]
+  $ { yes x86_64 | head -n 140000; printf '\xff'; } 2> /dev/null | triples print
+  fault: Input is not UTF-8
+  [1]

@@ -1,7 +1,7 @@
-"""The lists of names of bindings/c/lexicon.h: the enumerators of each field, and of the families of architectures."""
+"""The lists of names of rust/lexicon-c/include/lexicon.h: the enumerators of each field, and of the families of architectures."""
 import re
 
-PATH = "bindings/c/lexicon.h"
+PATH = "rust/lexicon-c/include/lexicon.h"
 REGION = re.compile(r"(?P<begin> */\* written by tools/names/write: (?P<list>.+) \*/\n)(?:.*\n)*?"
                     r"(?P<end> */\* end of what is written \*/\n)")
 LISTS = {"architecture": "the architectures", "vendor": "the vendors", "operating_system": "the operating systems",

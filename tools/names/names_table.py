@@ -104,12 +104,13 @@ class Table:
         self.types[name] = Type(name, word, variants, [it for it in variants if not it.holds], held)
 
     def architectures(self):
-        """A variant for each architecture without a family, and then one for each family."""
+        """A variant for each architecture without a family, and one for each family, in the order of their first numbers."""
         found = {}
         for it, plain in zip(self.field["architecture"], variants_of(self.field["architecture"])):
-            variant = Variant(it.family, "", f"{it.family}Architecture", "") if it.family else plain
+            sub = f"{it.family}Architecture"
+            variant = Variant(it.family, "", sub, f"One of the architectures of [`{sub}`].") if it.family else plain
             found.setdefault(variant.variant, variant)
-        return sorted(found.values(), key=lambda it: bool(it.holds))
+        return list(found.values())
 
 
 def variants_of(values):

@@ -25,7 +25,7 @@ def module(values):
     lists["family"] = [(name, "") for name in families]
     text = HEAD
     for field, (name, base, about) in CLASSES.items():
-        parse = f"\n\n    `{name}.parse` gives the value that a text is in this field.\n    " * (field != "family")
+        parse = f"\n\n    `{name}.parse` gives the value that a string is in this field.\n    " * (field != "family")
         text += f'\n\nclass {name}({base}):\n    """{about}{parse}"""\n\n'
         text += "".join(f"    #: {about}\n" * bool(about) + f'    {member(name)} = "{name}"\n' for name, about in lists[field])
     return text

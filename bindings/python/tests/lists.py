@@ -6,10 +6,11 @@ import sys
 
 #: The repository, the shared library, and the folder with the wheel and the sdist; and the program `triples`, or None.
 ROOT, LIBRARY, BUILT = (os.environ[f"LEXICON_TEST_{it}"] for it in ("ROOT", "LIBRARY", "BUILT"))
-PROGRAM = os.environ.get("LEXICON_TEST_PROGRAM")
+PROGRAM = os.environ.get("LEXICON_TEST_PROGRAM") or None
 
 FIELDS = ("architecture", "vendor", "operating_system", "environment", "binary_format")
 Row = collections.namedtuple("Row", "field variant name family")
+Name = collections.namedtuple("Name", "dialect name triple ways note")
 
 
 def read(path):
@@ -24,20 +25,26 @@ def table():
     return [Row(*row[:3], row[4] if len(row) > 4 else "") for row in rows]
 
 
+def elsewhere():
+    """The lines of the table of other tools' names: the dialect, the name, what it means, the ways, and a note that may be empty."""
+    rows = [line.split("\t") for line in read("tools/names/elsewhere.tsv").splitlines() if not line.startswith("#")]
+    return [Name(*row, *[""] * (5 - len(row))) for row in rows]
+
+
 def rows(file, name):
     """The rows of a list in the tests of the crates: a text, and what follows `=`."""
-    text = re.search(rf'const {name}: &str = "\\\n(.*?)";', read(f"crates/lexicon_tests/src/{file}.rt"), re.S)[1]
+    text = re.search(rf'const {name}: &str = "\\\n(.*?)";', read(f"crates/tests/src/{file}.rt"), re.S)[1]
     text = re.sub(r"\\u\{(\w+)\}", lambda it: chr(int(it[1], 16)), text).replace('\\"', '"')
     return [line.partition("=")[::2] for line in text.split("\n")]
 
 
 def known_triples():
-    return read("checks/known_triples").split()
+    return read("checks/known_triples.txt").split()
 
 
 def header_numbers(prefix):
     """The enumerators of the header that begin so: for each the number."""
-    return {name: int(number) for name, number in re.findall(rf"LEXICON_{prefix}_(\w+) = (\d+)", read("bindings/c/lexicon.h"))}
+    return {name: int(number) for name, number in re.findall(rf"LEXICON_{prefix}_(\w+) = (\d+)", read("rust/lexicon-c/include/lexicon.h"))}
 
 
 def generated_lines(count):

@@ -1,6 +1,7 @@
-"""Generated lines beside the program `triples`, threads, and memory."""
+"""Generated lines compared with the program `triples`, columns, threads, and memory."""
 import ctypes
 import subprocess
+import sys
 import threading
 import unittest
 
@@ -8,8 +9,8 @@ import lexicon
 import lists
 from lexicon import ParseError, Triple, _library
 
-LINES = 100_000
-CALLS = 1_000_000
+LINES = 20_000
+CALLS = 200_000
 
 
 def shown(value):
@@ -22,13 +23,13 @@ def show(text):
         it = Triple(text)
     except ParseError as error:
         return f"error: {error.line}"
-    return f"{it} {shown(it.endianness)} {shown(it.pointer_width)} {shown(it.calling_convention)} {shown(it.data_model)}"
+    return f"{it} {shown(it.endianness)} {shown(it.pointer_width)} {shown(it.default_calling_convention)} {shown(it.data_model)}"
 
 
 def settle(text):
     """What the program writes for a line in the mode `settle`."""
     try:
-        return str(Triple(text).settled())
+        return str(Triple(text).settle())
     except ParseError as error:
         return f"error: {error.line}"
 
@@ -67,7 +68,8 @@ class Lines(unittest.TestCase):
             ran = subprocess.run([lists.PROGRAM, mode], input=given, capture_output=True, check=True)
             expected = ran.stdout.decode().split("\n")[:-1]
             self.assertEqual(len(expected), LINES)
-            differ = [(line, call(line), it) for line, it in zip(self.lines, expected) if call(line) != it]
+            answers = zip(self.lines, map(call, self.lines), expected)
+            differ = [(line, answer, it) for line, answer, it in answers if answer != it]
             self.assertEqual(differ[:5], [])
 
     def test_forms_agree(self):
@@ -78,11 +80,11 @@ class Lines(unittest.TestCase):
             self.assertEqual(Triple.from_fields(*fields), it)
             self.assertEqual(lexicon.explain(line).triple, it)
             self.assertIs(it.comes_back(), Triple(str(it)) == it)
-            settled, answer = it.settled(), ctypes.c_bool()
-            self.assertEqual((settled.settled(), Triple(str(settled))), (settled, settled))
+            settled, answer = it.settle(), ctypes.c_bool()
+            self.assertEqual((settled.settle(), Triple(str(settled))), (settled, settled))
             _library.check(_library.equal(it._struct, last._struct, answer))
             self.assertIs(it == last, answer.value)
-            self.assertIs(it.same_target(last), settled == last.settled())
+            self.assertIs(it.same_target(last), settled == last.settle())
             last, count = it, count + 1
         self.assertGreater(count, LINES // 4)
 
@@ -90,24 +92,73 @@ class Lines(unittest.TestCase):
         for _, it in self.parsed():
             self.assertIs(it.replace(binary_format=None).binary_format, it.implied_format)
 
-    def test_threads(self):
-        lines = self.lines[:10000]
-        expected, found = [show(it) for it in lines], {}
+    def test_columns(self):
+        expected = [None if (line := settle(it)).startswith("error: ") else line for it in self.lines]
+        self.assertEqual(lexicon.settle_all(self.lines), expected)
+        self.assertEqual(lexicon.settle_all(iter(self.lines * 2)), expected * 2)
+        for line, facts in zip(self.lines, lexicon.facts_all(self.lines)):
+            try:
+                it = Triple(line)
+            except ParseError:
+                self.assertEqual(facts, (None,) * len(facts))
+                continue
+            self.assertEqual(facts._asdict(), it.to_dict())
+            for name, value in it.to_dict().items():
+                if name not in ("version", "printed"):
+                    answer = getattr(it, name)
+                    self.assertEqual(value, answer if isinstance(answer, (bool, int, type(None))) else str(answer), name)
+            self.assertEqual((facts.printed, facts.version), (str(it), it.version and ".".join(map(str, it.version))))
 
-        def work(number):
-            order = lines[number * 1000:] + lines[:number * 1000]
-            answers = [show(it) for it in order]
-            found[number] = answers[len(lines) - number * 1000:] + answers[:len(lines) - number * 1000]
-        threads = [threading.Thread(target=work, args=(number,)) for number in range(8)]
+
+class Threads(unittest.TestCase):
+    """Each call has memory of its own. With one struct or buffer for all calls, these fail: threads are switched within calls."""
+
+    def setUp(self):
+        self.addCleanup(sys.setswitchinterval, sys.getswitchinterval())
+        sys.setswitchinterval(1e-6)
+
+    def run_at_once(self, work, count=8):
+        """Runs the work in many threads that begin at once, and returns their answers."""
+        barrier, answers = threading.Barrier(count), [None] * count
+
+        def run(number):
+            barrier.wait()
+            try:
+                answers[number] = work(number)
+            except Exception as error:  # pylint: disable=broad-exception-caught
+                answers[number] = error
+        threads = [threading.Thread(target=run, args=(number,)) for number in range(count)]
         for it in threads:
             it.start()
         for it in threads:
             it.join()
-        self.assertEqual(found, {number: expected for number in range(8)})
+        return answers
+
+    def test_each_call_has_its_own_memory(self):
+        lines = lists.generated_lines(400)
+        expected = [(show(it), settle(it)) for it in lines]
+
+        def work(number):
+            order = lines[number * 40:] + lines[:number * 40]
+            return all([(show(it), settle(it)) for it in order] == expected[number * 40:] + expected[:number * 40] for _ in range(3))
+        self.assertEqual(self.run_at_once(work), [True] * 8)
+
+    def test_each_column_has_its_own_memory(self):
+        columns = [[f"x86_64-apple-ios{number}.{line % 250}.{line // 250}" for line in range(2000)] for number in range(8)]
+        expected = list(map(lexicon.settle_all, columns))
+        self.assertEqual(self.run_at_once(lambda number: lexicon.settle_all(columns[number])), expected)
+
+    def test_a_triple_is_asked_by_all_at_once(self):
+        for number in range(50):
+            it = Triple(f"x86_64-vendor{number}-linux")
+            answers = self.run_at_once(lambda _, it=it: (show(str(it)), str(it.vendor), it.canonical, hash(it)), 4)
+            self.assertEqual(len(set(answers)), 1, answers)
+            self.assertEqual(answers[0][1:3], (f"vendor{number}", str(it)))
 
 
+@unittest.skipUnless(sys.implementation.name == "cpython", "not CPython, which frees memory at once")
 class Memory(unittest.TestCase):
-    def test_a_million_calls_keep_nothing(self):
+    def test_many_calls_keep_nothing(self):
         texts = ["x86_64-unknown-linux-gnu", "arm64-apple-macosx13.2", "x86_64-foo-bar", "armv6k-nintendo-horizon-gnu"]
 
         def calls(first, count):
@@ -116,8 +167,10 @@ class Memory(unittest.TestCase):
                     show(text)
                 show(f"x86_64-vendor{number}-linux")
                 it = Triple(texts[3])
-                self.assertNotEqual(it, it.settled())
-                lexicon.explain(texts[number % 4])
+                self.assertNotEqual(it, it.settle())
+                lexicon.explain(texts[number % 2])
+                lexicon.settle_all(texts)
+                lexicon.facts_all(texts)
                 hash(it.replace(vendor=lexicon.CustomVendor(f"acme{number}")).vendor)
         calls(0, 50000)
         before = resident()

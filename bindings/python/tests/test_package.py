@@ -23,8 +23,12 @@ import lists
 
 SOURCE = os.path.join(lists.ROOT, "bindings", "python")
 PRINTS = "from lexicon import Triple; print(Triple('arm64-linux'))"
-# The version of the library's calls: the first two numbers.
+# The version of the library's calls: the first two numbers; and the name of the library.
 CALLS = re.escape(lexicon.__version__.rpartition(".")[0])
+NAME = f"liblexicon.so.{lexicon.__version__.rpartition('.')[0]}"
+# The folder that has the installed package; and the command that lies beside the program, or None.
+PACKAGES = os.path.dirname(os.path.dirname(lexicon.__file__))
+COMMAND = shutil.which("lexicon", path=os.path.dirname(lists.PROGRAM)) if lists.PROGRAM else None
 PIP = [sys.executable, "-m", "pip", "--disable-pip-version-check"]
 # Where Rust's programs have what they need.
 HOMES = {name: value for name, value in os.environ.items() if name in ("HOME", "RUSTUP_HOME", "RUSTUP_TOOLCHAIN", "CARGO_HOME")}
@@ -53,7 +57,7 @@ class Built(Folder):
     def test_installed_and_nothing_else(self):
         package = os.path.dirname(lexicon.__file__)
         self.assertTrue(package.startswith(sys.prefix) and sys.prefix != sys.base_prefix)
-        self.assertEqual(lexicon.LIBRARY_PATH, os.path.join(package, "liblexicon.so.0"))
+        self.assertEqual(lexicon.LIBRARY_PATH, os.path.join(package, NAME))
         self.assertTrue(filecmp.cmp(lexicon.LIBRARY_PATH, lists.LIBRARY, shallow=False))
         self.assertNotIn("LEXICON_LIBRARY", os.environ)
         with zipfile.ZipFile(built(".whl")) as wheel:
@@ -69,7 +73,7 @@ class Built(Folder):
             info = f"target_lexicon-{lexicon.__version__}.dist-info"
             said = email.message_from_bytes(wheel.read(f"{info}/WHEEL"))
             metadata = email.message_from_bytes(wheel.read(f"{info}/METADATA"))
-            self.assertIn(b"Apache-2.0", wheel.read(f"{info}/LICENSE"))
+            self.assertIn(b"LLVM Exceptions to the Apache 2.0 License", wheel.read(f"{info}/LICENSE"))
         self.assertEqual((said["Root-Is-Purelib"], said["Tag"]), ("false", name[:-4].split("-", 2)[2]))
         self.assertEqual((metadata["Version"], metadata["Requires-Dist"]), (lexicon.__version__, None))
 
@@ -110,27 +114,40 @@ class Built(Folder):
         self.assertEqual(ran.returncode, 0, ran.stderr)
         self.assertTrue(filecmp.cmp(os.path.join(self.folder, os.path.basename(built(".whl"))), built(".whl"), shallow=False))
 
-    @unittest.skipUnless(shutil.which("cargo"), "no cargo")
-    def test_pip_installs_sources_by_cargo(self):
-        """Of the folder, of the sdist and of a wheel, `pip install` makes a package with a library of its own."""
-        ran = run(*PIP, "wheel", "--no-index", "--no-cache-dir", "-w", self.folder, SOURCE, **HOMES)
+    @unittest.skipUnless(shutil.which("cargo") and shutil.which("git"), "no cargo and git")
+    def test_pip_installs_by_cargo(self):
+        """From git, of an sdist, of a wheel, and of sources that stay where they are; each has a library of its own."""
+        top = os.path.join(self.folder, "top")
+        ignored = shutil.ignore_patterns("target", "__pycache__", NAME)
+        for part in "bindings/python", "rust/lexicon-c", "rust/target-lexicon":
+            shutil.copytree(os.path.join(lists.ROOT, part), os.path.join(top, part), ignore=ignored)
+        shutil.copy(os.path.join(lists.ROOT, "LICENSE"), top)
+        git = ["git", "-C", top, "-c", "user.name=test", "-c", "user.email=test@example.invalid"]
+        for words in ["init", "--quiet"], ["add", "."], ["commit", "--quiet", "-m", "sources"]:
+            self.assertEqual(run(*git, *words).returncode, 0)
+        sources = os.path.join(top, "bindings", "python")
+        ran = run(*PIP, "wheel", "--no-index", "--no-cache-dir", "-w", self.folder, sources, **HOMES)
         self.assertEqual(ran.returncode, 0, ran.stdout + ran.stderr)
-        wheel, = (os.path.join(self.folder, it) for it in os.listdir(self.folder))
-        for source, variables in (SOURCE, HOMES), (built(".tar.gz"), HOMES), (wheel, {"PATH": self.folder}):
-            environment = tempfile.mkdtemp(dir=self.folder)
-            venv.create(environment, with_pip=True)
-            python = os.path.join(environment, "bin", "python")
-            ran = run(python, *PIP[1:], "install", "--no-index", "--no-cache-dir", source, **variables)
+        wheel, = (os.path.join(self.folder, it) for it in os.listdir(self.folder) if it.endswith(".whl"))
+        environment = os.path.join(self.folder, "environment")
+        venv.create(environment, with_pip=True)
+        python = os.path.join(environment, "bin", "python")
+        for words, variables, home in (
+            ([f"git+file://{top}#subdirectory=bindings/python"], HOMES, environment), ([built(".tar.gz")], HOMES, environment),
+            ([wheel], {"PATH": self.folder}, environment), (["-e", sources], HOMES, sources),
+        ):
+            pip = [python, *PIP[1:], "install", "--no-index", "--no-cache-dir", "--force-reinstall"]
+            ran = run(*pip, *words, **{"PATH": os.environ["PATH"], **variables})
             self.assertEqual(ran.returncode, 0, ran.stdout + ran.stderr)
             ran = run(python, "-I", "-c", f"{PRINTS}; import lexicon; print(lexicon.LIBRARY_PATH)")
             printed, library = ran.stdout.split()
-            self.assertEqual((printed, library.startswith(environment)), ("aarch64-unknown-linux", True), ran.stderr)
+            self.assertEqual((printed, library.startswith(home)), ("aarch64-unknown-linux", True), ran.stderr)
 
 
 class FindsTheLibrary(Folder):
     def setUp(self):
         super().setUp()
-        ignored = shutil.ignore_patterns("liblexicon.so.0", "__pycache__")
+        ignored = shutil.ignore_patterns(NAME, "__pycache__")
         shutil.copytree(os.path.dirname(lexicon.__file__), os.path.join(self.folder, "lexicon"), ignore=ignored)
 
     def prints(self, **variables):
@@ -140,11 +157,11 @@ class FindsTheLibrary(Folder):
         self.assertEqual(self.prints(LEXICON_LIBRARY=lists.LIBRARY).stdout, "aarch64-unknown-linux\n")
 
     def test_by_the_loader(self):
-        shutil.copy(lists.LIBRARY, os.path.join(self.folder, "liblexicon.so.0"))
+        shutil.copy(lists.LIBRARY, os.path.join(self.folder, NAME))
         self.assertEqual(self.prints(LD_LIBRARY_PATH=self.folder).stdout, "aarch64-unknown-linux\n")
 
     def test_the_package_comes_first(self):
-        shutil.copy(lists.LIBRARY, os.path.join(self.folder, "lexicon", "liblexicon.so.0"))
+        shutil.copy(lists.LIBRARY, os.path.join(self.folder, "lexicon", NAME))
         self.assertEqual(self.prints(LEXICON_LIBRARY="/nowhere").stdout, "aarch64-unknown-linux\n")
 
     def test_nowhere(self):
@@ -153,7 +170,7 @@ class FindsTheLibrary(Folder):
             self.assertRegex(self.prints(**variables).stderr, expected)
 
     def test_another_library(self):
-        expected = rf"ImportError: libc.so.6 isn't liblexicon {CALLS}: it hasn't lexicon_parse"
+        expected = rf"ImportError: libc.so.6 isn't liblexicon {CALLS}: it doesn't have lexicon_version"
         self.assertRegex(self.prints(LEXICON_LIBRARY="libc.so.6").stderr, expected)
 
     def test_other_names(self):
@@ -163,35 +180,82 @@ class FindsTheLibrary(Folder):
         self.assertRegex(self.prints(LEXICON_LIBRARY=lists.LIBRARY).stderr, "ImportError: .* has other names than this package")
 
 
+# A Python that has what the samples of columns need: Debian's, with its packages.
+DEBIAN_PYTHON = "/usr/bin/python3"
+HAS_DASK = os.path.exists(DEBIAN_PYTHON) and run(DEBIAN_PYTHON, "-c", "import pandas, dask.dataframe, distributed").returncode == 0
+
+
 class Samples(Folder):
-    def test_page(self):
-        """The examples of the page, as `python -m doctest` runs them."""
+    def test_examples_of_the_page(self):
+        """As `python -m doctest` runs them."""
         results = doctest.testfile(os.path.join(SOURCE, "README.md"), module_relative=False, encoding="utf-8")
         self.assertEqual(results.failed, 0)
         self.assertGreater(results.attempted, 20)
 
-    def test_recipe(self):
-        """The script of the page, run on the input that the page shows, writes what the page shows."""
+    def commands_run(self, python, is_of_pandas):
+        """Runs the commands of the page, which write what it shows: those on programs with pandas, or the others. Returns how many."""
         page = lists.read("bindings/python/README.md")
-        script = re.search(r"<!-- recipe -->\n```python\n(.*?)```", page, re.S)[1]
-        self.assertLess(len(script.splitlines()), 18)
-        found = re.search(r"```console\n\$ (rustc .*?) > known\n\$ (printf .*?) \| python3 matrix\.py known\n(.*?)```", page, re.S)
-        preferred = run("bash", "-c", found[1], **HOMES).stdout if shutil.which("rustc") else "x86_64-unknown-linux-gnu"
-        known = os.path.join(self.folder, "known")
-        with open(known, "w", encoding="utf-8") as it:
-            it.write(preferred)
+        programs = dict(re.findall(r"<!-- file: (\S+) -->\n```python\n(.*?)```", page, re.S))
+        for name, text in programs.items():
+            with open(os.path.join(self.folder, name), "w", encoding="utf-8") as it:
+                it.write(text)
+        os.mkdir(os.path.join(self.folder, "bin"))
+        with open(os.path.join(self.folder, "bin", "python3"), "w", encoding="utf-8") as it:
+            it.write(f'#!/bin/sh\nexec {python} "$@"\n')
+            os.chmod(it.name, 0o755)
+        variables = {"PATH": f"{self.folder}/bin:{os.environ['PATH']}"}
+        if is_of_pandas:
+            variables["PYTHONPATH"] = PACKAGES
+        count = 0
+        for block in re.findall(r"```console\n(.*?)```", page, re.S):
+            if any(name in block and "pandas" in text for name, text in programs.items()) == is_of_pandas:
+                for command, expected in re.findall(r"^\$ (.*)\n((?:[^$].*\n)*)", block, re.M):
+                    ran = run("bash", "-c", f"cd {self.folder} && {{ {command}; }} 2>&1", **variables)
+                    self.assertEqual(ran.stdout, expected, command)
+                    count += 1
+        return count
 
-        def answers(given, *arguments):
-            return subprocess.run([sys.executable, "-I", "-c", script, *arguments], input=given, capture_output=True, text=True, check=False)
+    @unittest.skipUnless(sys.version_info >= (3, 10), "the page's programs are for Python 3.10 or later")
+    def test_programs_of_the_page(self):
+        self.assertEqual(self.commands_run(sys.executable, False), 5)
 
-        ran = answers(run("bash", "-c", found[2]).stdout, known)
-        self.assertEqual((ran.stderr + ran.stdout, ran.returncode), (found[3], 1))
-        ran = answers("x86_64-foo-bar thumbv7a-none-eabi thumbv7a-unknown-none-eabi elf")
-        self.assertEqual([it["targets"] for it in json.loads(ran.stdout)["include"]], [["thumbv7a-none-eabi"]])
-        refused = ["x86_64-foo-bar: Unrecognized operating system: bar", "elf: Unrecognized architecture: elf"]
-        self.assertEqual((ran.stderr.splitlines(), ran.returncode), (refused, 1))
-        ran = answers("x86_64-linux-gnu x86_64-unknown-linux-gnu")
-        self.assertEqual(([it["targets"] for it in json.loads(ran.stdout)["include"]], ran.returncode), ([["x86_64-linux-gnu"]], 0))
+    @unittest.skipUnless(HAS_DASK, "no pandas and Dask")
+    def test_columns_of_the_page(self):
+        self.assertEqual(self.commands_run(DEBIAN_PYTHON, True), 3)
+
+    @unittest.skipUnless(HAS_DASK, "no pandas and Dask")
+    def test_two_processes_count_as_one(self):
+        ran = run(DEBIAN_PYTHON, os.path.join(SOURCE, "speed_many"), "50000", PYTHONPATH=PACKAGES)
+        self.assertEqual((ran.stdout.count("   50000 lines: "), ran.returncode), (2, 0), ran.stdout + ran.stderr)
+
+    def test_command(self):
+        def answer(*arguments, given=""):
+            ran = subprocess.run([sys.executable, "-I", "-m", "lexicon", *arguments], input=given, capture_output=True, text=True, check=False)
+            return ran.stdout, ran.stderr, ran.returncode
+        self.assertEqual(answer("settle", "-", given="arm64-linux\nx86_64-pc-linx\navr\n"), (
+            "aarch64-unknown-linux\navr-unknown-unknown\n", f"{self.refusal('x86_64-pc-linx')}\n", 1))
+        self.assertEqual(answer("explain", "arm64-linux"), (f"{lexicon.explain('arm64-linux')}\n", "", 0))
+        objects, _, status = answer("facts", "--json", "avr", "arm64-apple-ios17")
+        expected = [{"target": it, **lexicon.Triple(it).to_dict()} for it in ("avr", "arm64-apple-ios17")]
+        self.assertEqual((json.loads(objects), status), (expected, 0))
+        self.assertIn("  pointer_width               16\n  default_calling_convention  -\n", answer("facts", "avr")[0])
+        self.assertEqual(answer("--version"), (f"lexicon {lexicon.LIBRARY_VERSION}\n", "", 0))
+        self.assertEqual([answer(*it)[2] for it in ([], ["facts"], ["read", "x"], ["settle", "--json", "x"])], [2, 2, 2, 2])
+
+    @unittest.skipUnless(COMMAND, "no command lexicon beside the program")
+    def test_command_writes_what_the_command_lexicon_writes(self):
+        targets = ["arm64-apple-ios17.1", "avr", "x86_64-aple-linux", "x86_64-unknown-uefi", "armv6k-nintendo-3ds", "thumbv7m-none-eabi"]
+        for words in (["facts"], ["explain"], ["settle"]):
+            here, there = run(sys.executable, "-I", "-m", "lexicon", *words, *targets), run(COMMAND, *words, *targets)
+            self.assertEqual((here.stdout, here.returncode), (there.stdout, there.returncode))
+        objects = [json.loads(run(*it, "facts", "--json", *targets).stdout) for it in ([sys.executable, "-I", "-m", "lexicon"], [COMMAND])]
+        for here, there in zip(*objects):
+            self.assertEqual(list(here.items()), [it for it in there.items() if it[0] not in ("file", "line")])
+
+    def refusal(self, text):
+        with self.assertRaises(lexicon.ParseError) as caught:
+            lexicon.Triple(text)
+        return caught.exception
 
     @unittest.skipUnless(shutil.which("rustc"), "no rustc")
     def test_counts_of_the_page(self):
@@ -204,7 +268,7 @@ class Samples(Folder):
                 triples[text] = lexicon.Triple(text)
         self.assertEqual(len(triples), 263)
         self.assertTrue(all(it.comes_back() for it in triples.values()))
-        others = {str(it.settled()) for text, it in triples.items() if str(it.settled()) != text}
+        others = {str(it.settle()) for text, it in triples.items() if str(it.settle()) != text}
         self.assertEqual((len(others), others & set(triples)), (18, set()))
         taken = [it for it in triples.values()
                  if isinstance(it.vendor, lexicon.CustomVendor) and it.operating_system is lexicon.OperatingSystem.UNKNOWN]
@@ -224,8 +288,10 @@ class Samples(Folder):
         """What `help` says of arguments that may be left out, of an error, and of an enumeration."""
         shown = {value: pydoc.plain(pydoc.render_doc(value))
                  for value in (lexicon.Triple.replace, lexicon.ParseError, lexicon.Architecture, lexicon.Vendor)}
-        self.assertEqual(shown[lexicon.Triple.replace].count(" = ..."), 6)
-        for word in "kind", "part", "start", "end", "text", "line":
+        self.assertEqual(shown[lexicon.Triple.replace].count(" = KEEP"), 6)
+        for value in lexicon.Triple, lexicon.CustomVendor, lexicon.explain:
+            self.assertNotRegex(pydoc.plain(pydoc.render_doc(value)), r": .*\b_[A-Z]")
+        for word in "part", "start", "end", "text", "line", "field", "suggestion", "reason":
             self.assertIn(f"`{word}`", lexicon.ParseError.__doc__)
         self.assertIn("class ParseError in module lexicon\n", shown[lexicon.ParseError])
         for value in lexicon.Architecture, lexicon.Vendor:
@@ -239,6 +305,19 @@ class Samples(Folder):
                 for word, member in vars(value).items():
                     if not word.startswith("_") and (callable(member) or isinstance(member, (property, classmethod))):
                         self.assertTrue(getattr(member, "__doc__", None), f"{name}.{word}")
+
+
+class OtherPython(unittest.TestCase):
+    @unittest.skipUnless(shutil.which("pypy3"), "no pypy3")
+    def test_pypy(self):
+        """PyPy moves the objects that aren't of ctypes, so a pointer into one of them would be seen."""
+        here = os.path.dirname(os.path.abspath(__file__))
+        lists_of = {name: value for name, value in os.environ.items() if name.startswith("LEXICON_TEST_")}
+        ran = run("pypy3", "-m", "unittest", "discover", "-s", here, "-p", "test_[hrv]*.py", PYTHONPATH=PACKAGES, **lists_of)
+        self.assertRegex(ran.stderr, r"Ran [12]\d tests in")
+        self.assertEqual(ran.returncode, 0, ran.stderr)
+        ran = run("pypy3", "-m", "unittest", "test_lines.Threads", "test_python.Fields", PYTHONPATH=f"{PACKAGES}:{here}", **lists_of)
+        self.assertEqual(ran.returncode, 0, ran.stderr)
 
 
 class Types(unittest.TestCase):

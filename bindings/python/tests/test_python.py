@@ -1,13 +1,13 @@
 """What Python asks of a value: equality, hashes, order, copies, pickles, `repr`, and wrong arguments."""
 import copy
+import ctypes
 import itertools
 import json
 import pickle
 import unittest
 
 import lexicon
-from lexicon import (Architecture, BinaryFormat, CustomVendor, Environment, ErrorKind, OperatingSystem, ParseError, Triple,
-                     Vendor, _triple)
+from lexicon import (Architecture, BinaryFormat, CustomVendor, Environment, OperatingSystem, ParseError, Triple, Vendor)
 
 TEXTS = ["unknown", "x86_64-unknown-linux-gnu", "arm64-apple-macosx13.2", "arm64-apple-macosx", "arm64-apple-macosx0",
          "x86_64-acme-linux", "x86_64-acmf-linux", "armv6k-nintendo-horizon-gnu", "armv6k-nintendo-3ds", "wasm32-wasi",
@@ -45,8 +45,7 @@ class Equality(unittest.TestCase):
                 self.assertEqual((again, str(again), again.vendor, again.version), (triple, str(triple), triple.vendor, triple.version))
 
     def test_pickles_of_other_values(self):
-        for value in (CustomVendor("acme"), Environment.GNU, lexicon.DataModel.LP64, lexicon.explain("x86_64-linux"),
-                      Triple("x86_64-linux").sizes):
+        for value in CustomVendor("acme"), Environment.GNU, lexicon.DataModel.LP64, lexicon.explain("x86_64-linux"), lexicon.Keep.KEEP:
             self.assertEqual(pickle.loads(pickle.dumps(value)), value)
             self.assertEqual(copy.deepcopy(value), value)
 
@@ -66,7 +65,7 @@ class Equality(unittest.TestCase):
         for name in "architecture", "vendor", "version", "endianness", "other":
             with self.assertRaises(AttributeError):
                 setattr(triple, name, None)
-        for value, name in (triple, "architecture"), (vendor, "value"), (vendor, "other"):
+        for value, name in (triple, "architecture"), (vendor, "text"), (vendor, "other"):
             self.assertRaises(AttributeError, setattr, value, name, None)
         triple.__init__("arm-linux")
         self.assertEqual(str(triple), "x86_64-acme-linux")
@@ -82,7 +81,7 @@ class Equality(unittest.TestCase):
 class Fields(unittest.TestCase):
     def test_custom_vendors(self):
         vendor = Triple("x86_64-acme-linux").vendor
-        self.assertEqual((vendor, str(vendor), vendor.value, vendor.number), (CustomVendor("acme"), "acme", "acme", 255))
+        self.assertEqual((vendor, str(vendor), vendor.text, vendor.value, vendor.number), (CustomVendor("acme"), "acme", "acme", "acme", 255))
         self.assertEqual(hash(vendor), hash(CustomVendor("acme")))
         self.assertNotEqual(vendor, "acme")
         self.assertNotIsInstance(vendor, Vendor)
@@ -98,12 +97,17 @@ class Fields(unittest.TestCase):
         self.assertRaises(TypeError, json.dumps, Architecture.ARM)
         self.assertEqual(json.dumps(str(Architecture.ARM)), '"arm"')
 
-    def test_structs_are_aligned(self):
-        triples = [Triple(text) for text in TEXTS * 100]
-        self.assertEqual({_triple._address(it._struct) % 8 for it in triples}, {0})
+    def test_a_triple_owns_what_it_points_to(self):
+        it = Triple("x86_64-acme-linux-gnu")
+        for triple in (it, it.settle(), it.replace(environment=Environment.MUSL), it.replace(vendor=CustomVendor("acme")),
+                       it.explain().triple, pickle.loads(pickle.dumps(it)), Triple("armv7-acme-horizon-newlib").settle()):
+            begin, struct = ctypes.addressof(triple._owner), triple._struct
+            self.assertLessEqual(begin, struct.custom_vendor)
+            self.assertLessEqual(struct.custom_vendor + struct.custom_vendor_size, begin + len(triple._owner))
+        self.assertEqual((Triple("x86_64-linux")._owner, Triple("x86_64-linux")._struct.custom_vendor), (None, None))
 
     def test_custom_vendor_outlives_its_text(self):
-        vendors = [Triple(f"x86_64-vendor{number}-linux").replace(environment=Environment.GNU).settled() for number in range(10000)]
+        vendors = [Triple(f"x86_64-vendor{number}-linux").replace(environment=Environment.GNU).settle() for number in range(10000)]
         self.assertEqual([str(it) for it in vendors], [f"x86_64-vendor{number}-linux-gnu" for number in range(10000)])
         self.assertEqual([str(it.vendor) for it in vendors], [f"vendor{number}" for number in range(10000)])
 
@@ -123,7 +127,7 @@ class Fields(unittest.TestCase):
     def test_all_unknown(self):
         unknown = Triple.from_fields()
         self.assertEqual(unknown, Triple("unknown"))
-        self.assertEqual((unknown.endianness, unknown.pointer_width, unknown.calling_convention, unknown.data_model, unknown.sizes),
+        self.assertEqual((unknown.endianness, unknown.pointer_width, unknown.default_calling_convention, unknown.data_model, unknown.long_size),
                          (None,) * 5)
 
     def test_wrong_fields(self):
@@ -144,8 +148,39 @@ class Fields(unittest.TestCase):
                      lambda: triple.same_target("x86_64")):
             self.assertRaises(TypeError, call)
 
-    def test_explain_of_a_triple(self):
+    def test_explanations(self):
         self.assertEqual(Triple("arm64-linux").explain(), lexicon.explain("aarch64-unknown-linux"))
+        it = lexicon.explain("arm64-aple-ios17.2")
+        self.assertEqual([(source.value, str(source.origin), source.part, source.start, source.end) for _, source in it.sources], [
+            ("aarch64", "alias", "arm64", 0, 5), ("aple", "given", "aple", 6, 10), ("ios", "alias", "ios17.2", 11, 18),
+            ("unknown", "not given", None, 0, 0), ("macho", "implied", None, 0, 0)])
+        self.assertEqual(lexicon.explain("arm64-apple-ios17.2.0").operating_system.origin, lexicon.Origin.GIVEN)
+        self.assertEqual((it.suggestion, it.note), ("apple", "`aple` is a custom vendor; did you mean `apple`?"))
+        self.assertEqual(lexicon.explain("x86_64-linx").note, "`linx` is a custom vendor; did you mean `linux`?")
+        self.assertEqual(lexicon.explain("x86_64-acme-linux").note, "`acme` is a custom vendor")
+        self.assertEqual((lexicon.explain("x86_64-linux").suggestion, lexicon.explain("x86_64-linux").note), (None, None))
+
+    def test_suggestions(self):
+        for text, field, name in (("x86_64-pc-linx", "operating_system", "linux"), ("arm64e-apple-ios", "architecture", "arm64"),
+                                  ("amd64-linux", "architecture", "x86_64"), ("x86_64-pc-linux-gnuabi", "environment", "gnueabi"),
+                                  ("x86_64-pc-linux-gnu-mach0", "binary_format", "macho"), ("x86_64-linux-elf-gnu", None, None)):
+            with self.assertRaises(ParseError) as caught:
+                Triple(text)
+            error = caught.exception
+            self.assertEqual((error.field, error.suggestion), (field, name))
+            self.assertEqual(str(error).endswith(f"^ did you mean `{name}`?"), name is not None)
+
+    def test_columns_of_wrong_types(self):
+        for value in None, 3, float("nan"), b"x86_64":
+            for call in lexicon.settle_all, lexicon.facts_all:
+                self.assertRaisesRegex(TypeError, f"must be a str, not {type(value).__name__}", call, ["x86_64", value])
+        for call in lexicon.settle_all, lexicon.facts_all:
+            self.assertRaisesRegex(TypeError, "not one str", call, "x86_64-linux")
+        self.assertEqual(lexicon.settle_all([]), [])
+        vendor = "a" * 500
+        targets = ["x86_64-\udcff-linux", "x86_64-\u00e9", f"arm64-{vendor}-linux", "arm64-acme-linux"] * 2
+        self.assertEqual(lexicon.settle_all(targets), [None, None, f"aarch64-{vendor}-linux", "aarch64-acme-linux"] * 2)
+        self.assertEqual([it.vendor for it in lexicon.facts_all(targets)], [None, None, vendor, "acme"] * 2)
 
 
 class Texts(unittest.TestCase):
@@ -167,7 +202,7 @@ class Texts(unittest.TestCase):
             with self.assertRaises(ParseError) as caught:
                 call("x86_64-\udcff\ud800-linux")
             error = caught.exception
-            self.assertEqual((error.kind, error.start, error.part), (ErrorKind.UNICODE, 7, "\udcff\ud800"))
+            self.assertEqual((error.field, error.suggestion, error.start, error.part), (None, None, 7, "\udcff"))
             self.assertIn("x86_64-\\udcff\\ud800-linux", str(error))
             str(error).encode()
 
@@ -211,8 +246,8 @@ class Texts(unittest.TestCase):
             Triple("x86_64-foo-bar")
         error = caught.exception
         for again in pickle.loads(pickle.dumps(error)), copy.deepcopy(error), eval(repr(error), vars(lexicon)):
-            self.assertEqual((again.text, again.kind, again.start, again.part, str(again)),
-                             ("x86_64-foo-bar", ErrorKind.OPERATING_SYSTEM, 11, "bar", str(error)))
+            self.assertEqual((again.text, again.field, again.start, again.part, str(again)),
+                             ("x86_64-foo-bar", "operating_system", 11, "bar", str(error)))
 
     def test_huge_texts(self):
         size = 20_000_000
@@ -223,5 +258,5 @@ class Texts(unittest.TestCase):
             self.assertEqual(text[caught.exception.start:caught.exception.end], caught.exception.part)
         triple = Triple(f"x86_64-{'a' * size}-linux")
         self.assertEqual(str(triple), f"x86_64-{'a' * size}-linux")
-        self.assertEqual(len(str(triple.settled().vendor)), size)
+        self.assertEqual(len(str(triple.settle().vendor)), size)
         self.assertEqual(len(lexicon.explain(str(triple)).vendor.part), size)

@@ -4,7 +4,7 @@ import unittest
 
 import lexicon
 import lists
-from lexicon import Architecture, BinaryFormat, Environment, ErrorKind, OperatingSystem, SourceKind, Triple, Vendor
+from lexicon import Architecture, BinaryFormat, Environment, OperatingSystem, Origin, Triple, Vendor
 
 
 def shown(value):
@@ -12,9 +12,9 @@ def shown(value):
 
 
 def source(it):
-    if it.kind is SourceKind.GIVEN:
+    if it.part is not None:
         return f"{it.start}..{it.end}"
-    return "-" if it.kind is SourceKind.NOT_GIVEN else "implied"
+    return "-" if it.origin is Origin.NOT_GIVEN else "implied"
 
 
 class Rows(unittest.TestCase):
@@ -52,8 +52,7 @@ class Rows(unittest.TestCase):
             error = caught.exception
             self.assertEqual(error.line, line)
             self.assertEqual(error.text[error.start:error.end], error.part)
-            self.assertEqual(line, f"Unrecognized {error.kind}: {error.part}")
-            self.assertIsInstance(error.kind, ErrorKind)
+            self.assertEqual(line, f"Unrecognized {(error.field or 'field').replace('_', ' ')}: {error.part}")
 
     def test_printed(self):
         for text, printed in lists.rows("printing", "READ"):
@@ -62,23 +61,23 @@ class Rows(unittest.TestCase):
     def test_facts(self):
         for text, expected in lists.rows("queries", "ANSWERS"):
             it = Triple(text)
-            self.assertEqual(" ".join(map(shown, (it.endianness, it.pointer_width, it.calling_convention, it.data_model))), expected)
-            self.assertEqual(it.sizes is None, it.data_model is None)
+            self.assertEqual(" ".join(map(shown, (it.endianness, it.pointer_width, it.default_calling_convention, it.data_model))), expected)
+            self.assertEqual(it.long_size is None, it.data_model is None)
 
     def test_sizes(self):
-        sizes = {"x86_64-linux": (8, 16, 32, 64, 64, 32, 64, 64), "x86_64-windows": (8, 16, 32, 32, 64, 32, 64, 64),
-                 "i686-linux": (8, 16, 32, 32, 64, 32, 64, 32)}
+        sizes = {"x86_64-linux": (2, 4, 8, 8, 4, 8), "x86_64-windows": (2, 4, 4, 8, 4, 8), "i686-linux": (2, 4, 4, 8, 4, 8), "avr": (None,) * 6}
         for text, expected in sizes.items():
-            self.assertEqual(Triple(text).sizes, expected)
+            it = Triple(text)
+            self.assertEqual((it.short_size, it.int_size, it.long_size, it.long_long_size, it.float_size, it.double_size), expected)
 
     def test_round_trips(self):
         for text, expected in lists.rows("round_trips", "ROUND_TRIPS"):
             printed, _, last = expected.partition(" ")
             triple = Triple(text)
             self.assertEqual(str(triple), printed)
-            self.assertEqual(triple.settled(), Triple(last or printed))
+            self.assertEqual(triple.settle(), Triple(last or printed))
             self.assertEqual(triple.comes_back(), Triple(printed) == triple)
-            self.assertTrue(triple.settled().comes_back())
+            self.assertTrue(triple.settle().comes_back())
 
     def test_same_targets(self):
         for name, is_same in ("SAME", True), ("OTHER", False):
@@ -86,18 +85,17 @@ class Rows(unittest.TestCase):
                 one, other = Triple(first), Triple(second)
                 self.assertIs(one.same_target(other), is_same)
                 self.assertIs(other.same_target(one), is_same)
-                self.assertIs(str(one.settled()) == str(other.settled()), is_same)
+                self.assertIs(str(one.settle()) == str(other.settle()), is_same)
 
     def test_explained(self):
         for text, expected in lists.rows("explaining", "EXPLAINED"):
             it = lexicon.explain(text)
             self.assertEqual(" ".join(source(value) for _, value in it.sources), expected)
-            self.assertEqual((it.triple, it.error), (Triple(text), None))
+            self.assertEqual(it.triple, Triple(text))
 
-    def test_refused_texts_are_explained(self):
+    def test_refused_parts(self):
         for text, expected in lists.rows("explaining", "REFUSED"):
-            it = lexicon.explain(text)
-            part = f"{it.error.start}..{it.error.end}"
-            self.assertEqual(" ".join([part, *(source(value) for _, value in it.sources)]), expected)
-            self.assertIsNone(it.triple)
-            self.assertRaises(lexicon.ParseError, Triple, text)
+            for call in Triple, lexicon.explain:
+                with self.assertRaises(lexicon.ParseError) as caught:
+                    call(text)
+                self.assertEqual(f"{caught.exception.start}..{caught.exception.end}", expected.split()[0])

@@ -36,10 +36,9 @@ class Values(unittest.TestCase):
             self.assertEqual({it.name: it.number for it in of}, numbers)
 
     def test_numbers_of_facts_are_those_of_the_header(self):
-        header = lists.read("bindings/c/lexicon.h")
-        for of in lexicon.Endianness, lexicon.CallingConvention, lexicon.DataModel:
-            for member in of:
-                self.assertIn(f"LEXICON_{member.name} = {member.number + 1}", header)
+        for prefix, of in ("ENDIANNESS", lexicon.Endianness), ("CALLING_CONVENTION", lexicon.CallingConvention), ("DATA_MODEL", lexicon.DataModel), \
+                ("DIALECT", lexicon.Dialect):
+            self.assertEqual({"NONE": 0, **{it.name: it.number + 1 for it in of}}, lists.header_numbers(prefix))
 
     def test_names_in_triples(self):
         """A value in a triple, by its name and by a field, is the member."""
@@ -67,11 +66,11 @@ class Values(unittest.TestCase):
         self.assertIs(lexicon.Architecture.parse("arm64"), lexicon.Architecture.AARCH64)
         self.assertIs(lexicon.OperatingSystem.parse("darwin23.6"), lexicon.OperatingSystem.DARWIN)
         self.assertEqual(lexicon.Vendor.parse("acme"), lexicon.CustomVendor("acme"))
-        for of, kind in zip(CLASSES, lexicon.ErrorKind):
+        for of, field in zip(CLASSES, lists.FIELDS):
             for text in "", "Acme", "x86-64", "\0":
                 with self.assertRaises(lexicon.ParseError) as caught:
                     of.parse(text)
-                self.assertEqual((caught.exception.kind, caught.exception.part, caught.exception.start), (kind, text, 0))
+                self.assertEqual((caught.exception.field, caught.exception.part, caught.exception.start), (field, text, 0))
             for value in None, 3, b"gnu", of:
                 self.assertRaises(TypeError, of.parse, value)
 
@@ -79,5 +78,5 @@ class Values(unittest.TestCase):
         self.assertEqual(f"{lexicon.Architecture.ARMV8M_BASE}", "armv8m.base")
         self.assertEqual(repr(lexicon.OperatingSystem.NONE), "OperatingSystem.NONE")
         self.assertEqual(str(lexicon.CallingConvention.WASM_BASIC_C_ABI), "WasmBasicCAbi")
-        self.assertEqual(repr(lexicon.ErrorKind.BINARY_FORMAT), "ErrorKind.BINARY_FORMAT")
+        self.assertEqual(repr(lexicon.Origin.NOT_GIVEN), "Origin.NOT_GIVEN")
         self.assertNotEqual(lexicon.Vendor.UNKNOWN, lexicon.Environment.UNKNOWN)

@@ -1,12 +1,13 @@
 // The page: shows the targets of the text field in the table. `build` puts lexicon.js and this file into one.
-import { FIELDS, Triple, load, namesOf } from "../lexicon.js";
+import { DIALECTS, FIELDS, ParseError, Triple, load } from "../lexicon.js";
 
 const LABELS = {
   architecture: "Architecture", vendor: "Vendor", operatingSystem: "System", environment: "Environment", binaryFormat: "Format",
 };
+const TOOLS = { debian: "Debian", go: "Go", oci: "Container images", node: "Node", gnu: "GNU prefix" };
 const LONGEST_LINK = 32000;
 const SLICE = 12; // milliseconds of work between two chances for input
-const MOST_SUGGESTED = 3;
+const UNFOLDED = 3; // of more targets than these, the names in other tools are folded, and on a phone the cards
 
 const byId = (id) => document.getElementById(id);
 const field = byId("targets"), table = byId("table");
@@ -26,103 +27,132 @@ const cell = (label, ...inside) => {
 
 const linesOf = (text) => text.split("\n").map((line) => line.trim()).filter((line) => line !== "");
 
-// ---- suggestions
-
-/** The edits (a character more, less, other, or two swapped) from one text to another, or more than `most`. */
-function editDistance(from, to, most) {
-  if (Math.abs(from.length - to.length) > most) return most + 1;
-  let before = [], last = [...to, ""].map((_, index) => index);
-  for (let i = 1; i <= from.length; i++) {
-    const now = [i];
-    for (let j = 1; j <= to.length; j++) {
-      const isSame = from[i - 1] === to[j - 1];
-      now[j] = Math.min(last[j] + 1, now[j - 1] + 1, last[j - 1] + (isSame ? 0 : 1));
-      if (i > 1 && j > 1 && from[i - 1] === to[j - 2] && from[i - 2] === to[j - 1]) now[j] = Math.min(now[j], before[j - 2] + 1);
-    }
-    if (Math.min(...now) > most) return most + 1;
-    [before, last] = [last, now];
-  }
-  return last[to.length];
-}
-
-/** Known names near the refused part, with which the text parses at least up to the end of it. */
-function suggestionsFor({ kind, text, part, start, end }) {
-  const first = FIELDS.indexOf(kind), most = part.length > 4 ? 2 : 1;
-  if (first < 0 || part.length < 2 || part.length > 40) return [];
-  const [, word, version] = part.match(/^(.*?)([0-9.]*)$/s), found = new Map();
-  for (const each of FIELDS.slice(first)) {
-    for (const name of namesOf(each)) {
-      for (const [near, suffix] of version ? [[part, ""], [word, version]] : [[part, ""]]) {
-        const distance = near.length < 2 ? most + 1 : editDistance(near.toLowerCase(), name, most);
-        if (distance > most || name === "unknown" || found.has(name + suffix)) continue;
-        const fixed = text.slice(0, start) + name + suffix + text.slice(end), { error } = Triple.explain(fixed);
-        if (error === null || error.start > start) found.set(name + suffix, { name: name + suffix, fixed, distance });
-      }
-    }
-  }
-  return [...found.values()].sort((a, b) => a.distance - b.distance).slice(0, MOST_SUGGESTED);
-}
-
 // ---- rows
 
-function sourceWords(source, shown) {
-  if (source.kind !== "given") return small(source.kind);
-  return source.part === shown ? small("given") : small("from ", code(source.part));
+function markOf({ origin, part }, text, isCustom) {
+  if (isCustom) return [small("custom")];
+  if (origin === "alias") return [part === text && part.includes("-") ? small("from the whole") : small("alias ", code(part))];
+  return origin === "implied" ? [small("implied")] : [];
 }
 
-function fieldCell(triple, name, source) {
-  const { version } = triple, hasVersion = version !== null && name === "operatingSystem";
-  const shown = triple[name] + (hasVersion ? `${version.major}.${version.minor}.${version.patch}` : "");
-  const value = code(shown), words = sourceWords(source, shown);
-  if (source.kind === "not given") value.className = "dim";
-  if (name === "vendor" && triple.hasCustomVendor) words.prepend("custom, ");
-  return cell(LABELS[name], value, words);
-}
+const versionOf = ({ version: it }) => it && `${it.major}.${it.minor}.${it.patch}`;
 
-function printedCell(triple) {
-  const printed = `${triple}`, settled = `${triple.settled()}`;
-  if (printed !== settled) return cell("Printed", code(printed), element("small", { class: "canonical" }, "canonical: ", code(settled)));
-  return cell("Printed", code(printed), small(triple.comesBack() ? "canonical" : "canonical text of another triple"));
+function fieldCell(triple, name, source, text) {
+  const value = code(triple[name] + (name === "operatingSystem" ? versionOf(triple) ?? "" : ""));
+  if (source.origin === "not given") value.className = "dim";
+  return cell(LABELS[name], value, ...markOf(source, text, name === "vendor" && triple.hasCustomVendor));
 }
 
 const answerCell = (label, answer) => cell(label, answer === null ? element("span", { class: "dim" }, "none") : `${answer}`);
 
-function parsedRow({ text, triple, sources }) {
-  const facts = triple.facts();
-  return element("tr", { role: "row" }, element("th", { role: "rowheader", scope: "row" }, text),
-    ...FIELDS.map((name) => fieldCell(triple, name, sources[name])), printedCell(triple), answerCell("Byte order", facts.byteOrder),
-    answerCell("Pointers", facts.pointerBits && `${facts.pointerBits} bits`), answerCell("Convention", facts.callingConvention),
-    answerCell("Data model", facts.dataModel));
-}
-
-function soFar(sources) {
-  const given = FIELDS.filter((name) => sources[name].kind === "given");
-  if (!given.length) return [];
-  const parts = given.flatMap((name, at) => [at ? ", " : "", LABELS[name].toLowerCase(), " ", code(sources[name].part)]);
-  return [small("Before it: ", ...parts)];
-}
-
-function suggestionButton({ name, fixed }, text) {
-  const button = element("button", { type: "button", "aria-label": `${name}: replace ${text} by ${fixed}` }, name);
+function offer(name, text, fixed) {
+  const button = element("button", { type: "button", class: "offer", "aria-label": `${name}: replace ${text} by ${fixed}` }, name);
   button.addEventListener("click", () => replaceTarget(text, fixed));
   return button;
 }
 
-function refusedRow({ text, error, sources }) {
-  const part = element("strong", { class: "wrong" }, error.part || "(empty)"), offers = suggestionsFor(error);
-  const head = element("th", { role: "rowheader", scope: "row" }, text.slice(0, error.start), part, text.slice(error.end));
-  const inside = [element("p", { class: "message" }, error.message), ...soFar(sources)];
-  if (offers.length) inside.push(element("p", {}, "Did you mean ", ...offers.map((it) => suggestionButton(it, text)), "?"));
-  const answer = element("td", { role: "cell", class: "refused", colspan: 10, "aria-colspan": 10 }, ...inside);
-  const row = element("tr", { role: "row", class: "refused" }, head, answer);
-  row.isRefused = true;
+/** The question whether another name was meant by a part. */
+const question = (name, text, { start, end }) =>
+  ["Did you mean ", offer(name, text, text.slice(0, start) + name + text.slice(end)), "?"];
+
+const header = (text, ...inside) => element("th", { role: "rowheader", scope: "row" },
+  element("div", { class: "target" }, ...inside));
+
+/** The printed and the canonical form, where they aren't the target. */
+function* forms(triple, text) {
+  const printed = `${triple}`, canonical = `${triple.settled()}`;
+  if (printed !== text && printed !== canonical) yield small("prints ", code(printed));
+  if (canonical !== text) yield small("is ", code(canonical));
+}
+
+function foldButton(row, text) {
+  const button = element("button", { type: "button", class: "fold", "aria-label": `Details of ${text}` });
+  row.fold = (isFolded) => {
+    row.classList.toggle("folded", isFolded);
+    button.setAttribute("aria-expanded", !isFolded);
+  };
+  button.addEventListener("click", () => row.fold(!row.classList.contains("folded")));
+  return button;
+}
+
+/** The canonical form of what a target means to tools of GNU and LLVM, if that has a known vendor. */
+function meaningElsewhere(text) {
+  try {
+    const triple = Triple.read(text);
+    return triple.hasCustomVendor ? null : `${triple.settled()}`;
+  } catch (error) {
+    if (!(error instanceof ParseError)) throw error;
+    return null;
+  }
+}
+
+const meaning = (meant, text) => ["Other tools mean ", offer(meant, text, meant), "."];
+
+/** A cell with the names in other tools, which are looked up when they are shown. */
+function namesCell(triple, text) {
+  const label = "Names in other tools", list = element("dl");
+  const names = element("details", {}, element("summary", { "aria-label": `${label}: ${text}` }, label), list);
+  names.show = (isOpen) => {
+    names.open = isOpen;
+    if (!isOpen || list.firstChild) return;
+    for (const dialect of DIALECTS) {
+      const name = triple.nameIn(dialect), shown = name === null ? element("span", { class: "dim" }, "none") : code(name);
+      list.append(element("div", {}, element("dt", {}, TOOLS[dialect]), element("dd", {}, shown)));
+    }
+  };
+  names.addEventListener("toggle", () => names.show(names.open));
+  return element("td", { role: "cell", class: "elsewhere", colspan: 10, "aria-colspan": 10 }, names);
+}
+
+function parsedRow({ text, triple, fields, suggestion }) {
+  const facts = triple.facts(), head = header(text, text), row = element("tr", { role: "row" }, head);
+  head.classList.add("folds");
+  head.append(...forms(triple, text));
+  const meant = triple.hasCustomVendor ? meaningElsewhere(text) : null;
+  if (meant) head.append(small(...meaning(meant, text)));
+  else if (suggestion) head.append(small(code(fields.vendor.part), " is a custom vendor. ", ...question(suggestion, text, fields.vendor)));
+  row.append(...FIELDS.map((name) => fieldCell(triple, name, fields[name], text)));
+  if (facts.objectFormat !== triple.binaryFormat) row.lastChild.append(small("objects ", code(facts.objectFormat)));
+  row.append(answerCell("Byte order", facts.endianness),
+    answerCell("Pointers", facts.pointerWidth && `${facts.pointerWidth} bits`), answerCell("Convention", facts.defaultCallingConvention),
+    answerCell("Data model", facts.dataModel), namesCell(triple, text));
+  row.canonical = `${triple.settled()}`;
+  row.names = row.lastChild.firstChild;
+  row.double = head.appendChild(small());
+  head.append(foldButton(row, text));
   return row;
+}
+
+function soFar(fields) {
+  const given = FIELDS.filter((name) => fields[name].part !== null);
+  if (!given.length) return [];
+  const parts = given.flatMap((name, at) => [at ? ", " : "", LABELS[name].toLowerCase(), " ", code(fields[name].part)]);
+  return [small("Before it: ", ...parts)];
+}
+
+function refusedRow({ text, error, fields, suggestion }) {
+  const part = element("strong", { class: "wrong" }, error.part || "(empty)");
+  const head = header(text, text.slice(0, error.start), part, text.slice(error.end));
+  const inside = [element("p", { class: "message" }, error.message), ...soFar(fields)];
+  const meant = meaningElsewhere(text);
+  if (meant) inside.push(element("p", {}, ...meaning(meant, text)));
+  else if (suggestion) inside.push(element("p", {}, ...question(suggestion, text, error)));
+  const answer = element("td", { role: "cell", class: "refused", colspan: 9, "aria-colspan": 9 }, ...inside);
+  return element("tr", { role: "row", class: "refused" }, head, answer);
 }
 
 function rowOf(text) {
   const explained = Triple.explain(text), row = explained.error ? refusedRow(explained) : parsedRow(explained);
   row.target = text;
   return row;
+}
+
+/** Says of a row if an earlier one is of the same target. `first` has the first target of each canonical form. */
+function markDouble(row, first) {
+  const earlier = first.get(row.canonical);
+  if (earlier === undefined) first.set(row.canonical, row.target);
+  row.double.replaceChildren(...(earlier === undefined ? [] : earlier === row.target ? ["repeated"] : ["the same target as ", code(earlier)]));
+  return earlier !== undefined;
 }
 
 /** Replaces the target in the text field, shows it, and puts the focus on its row. */
@@ -167,8 +197,9 @@ function group(index) {
 /** Makes the rows those of the lines, and keeps each row that is there. A later call ends an earlier one. */
 async function show() {
   const run = ++runs, lines = linesOf(field.value), progress = byId("progress"), begin = performance.now();
-  const found = rowsFor(lines);
-  let body, next, refused = 0, until = performance.now() + SLICE;
+  const found = rowsFor(lines), first = new Map();
+  let body, next, parsed = 0, doubles = 0, until = performance.now() + SLICE;
+  table.hidden = lines.length === 0;
   table.setAttribute("aria-busy", "true");
   for (const [index, line] of lines.entries()) {
     if (index % GROUP === 0) {
@@ -176,9 +207,14 @@ async function show() {
       next = body.firstElementChild;
     }
     const row = found[index] ?? rowOf(line);
+    if (!found[index]) {
+      row.fold?.(lines.length > UNFOLDED);
+      row.names?.show(lines.length <= UNFOLDED);
+    }
     if (row === next) next = next.nextElementSibling;
     else body.insertBefore(row, next);
-    if (row.isRefused) refused++;
+    if (row.canonical) parsed++;
+    if (row.canonical && markDouble(row, first)) doubles++;
     if (performance.now() < until) continue;
     if (performance.now() - begin > 300) {
       progress.hidden = false;
@@ -192,8 +228,10 @@ async function show() {
   while (table.tBodies.length > 1 && !table.tBodies[table.tBodies.length - 1].firstChild) table.tBodies[table.tBodies.length - 1].remove();
   progress.hidden = true;
   table.removeAttribute("aria-busy");
-  const parsed = lines.length - refused;
-  byId("status").textContent = `${countOf(lines.length, "target")}: ${countOf(parsed)} parsed, ${countOf(refused)} refused.`;
+  const more = doubles ? `, ${countOf(doubles, "double")}` : "";
+  byId("status").textContent = lines.length
+    ? `${countOf(lines.length, "target")}: ${countOf(parsed)} parsed, ${countOf(lines.length - parsed)} refused${more}.`
+    : "No targets. Paste some above, one a line, such as what `rustc --print target-list` writes.";
   showLink(lines);
 }
 
@@ -227,12 +265,21 @@ function followLink() {
   if (lines.length) field.value = lines.join("\n");
 }
 
-/** What the table shows of a target, and more facts. */
+const snakeCase = (name) => name.replace(/[A-Z]/g, (letter) => `_${letter.toLowerCase()}`);
+const bytesOf = (text) => new TextEncoder().encode(text).length;
+
+/** What `lexicon facts --json` writes of a target. */
 function matrixEntry(text) {
-  const { triple, error, sources } = Triple.explain(text);
-  if (error) return { text, error: { kind: error.kind, message: error.message, part: error.part, start: error.start, end: error.end } };
-  const fields = Object.fromEntries(FIELDS.map((name) => [name, triple[name]]));
-  return { text, ...fields, version: triple.version, sources, printed: `${triple}`, canonical: `${triple.settled()}`, ...triple.facts() };
+  const { triple, error } = Triple.explain(text), place = { target: text, file: null, line: null };
+  if (error) {
+    const { part, start, end, suggestion } = error, name = error.field && snakeCase(error.field);
+    const [from, size] = [text.slice(0, start), text.slice(start, end)].map(bytesOf);
+    const reason = `unrecognized ${(name ?? "field").replace("_", " ")}`;
+    return { ...place, error: reason, part, start: from, end: from + size, field: name, suggestion };
+  }
+  const fields = FIELDS.flatMap((name) => [[name, triple[name]], ...(name === "operatingSystem" ? [["version", versionOf(triple)]] : [])]);
+  const facts = { ...Object.fromEntries(fields), ...triple.facts(), printed: `${triple}`, canonical: `${triple.settled()}` };
+  return { ...place, ...Object.fromEntries(Object.entries(facts).map(([name, fact]) => [snakeCase(name), fact])) };
 }
 
 async function copyMatrix() {

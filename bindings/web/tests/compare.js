@@ -6,26 +6,28 @@ const MODES = {
   print: (triple) => `${triple}`,
   settle: (triple) => `${triple.settled()}`,
   show: (triple) => {
-    const { byteOrder, pointerBits, callingConvention, dataModel } = triple.facts();
-    return [`${triple}`, ...[byteOrder, pointerBits, callingConvention, dataModel].map(wordOf)].join(" ");
+    const { endianness, pointerWidth, defaultCallingConvention, dataModel } = triple.facts();
+    return [`${triple}`, ...[endianness, pointerWidth, defaultCallingConvention, dataModel].map(wordOf)].join(" ");
   },
 };
 
 function* agreeing({ FIELDS, ParseError, Triple, numberOf }, line) {
-  const { triple, error, sources } = Triple.explain(line), given = FIELDS.filter((name) => sources[name].kind === "given");
-  yield given.every((name) => line.slice(sources[name].start, sources[name].end) === sources[name].part);
+  const { triple, error, fields } = Triple.explain(line), given = FIELDS.filter((name) => fields[name].part !== null);
+  yield given.every((name) => line.slice(fields[name].start, fields[name].end) === fields[name].part);
   if (error) {
     yield error instanceof ParseError && line.slice(error.start, error.end) === error.part;
-    yield error.message.endsWith(`: ${error.part}`) && given.every((name) => sources[name].end < error.start);
+    yield error.message.endsWith(`: ${error.part}`) && given.every((name) => fields[name].end < error.start);
     return;
   }
   const parsed = Triple.parse(line), settled = triple.settled(), printed = Triple.parse(`${settled}`), { version } = triple;
-  const isSpecial = given.length === 5 && sources.architecture.end === sources.vendor.end;
+  const isSpecial = given.length === 5 && fields.architecture.end === fields.vendor.end;
+  const values = Object.fromEntries(FIELDS.map((name) => [name, triple[name]]));
   yield parsed.equals(triple) && FIELDS.every((name) => parsed[name] === triple[name] && parsed.numbers[name] === triple.numbers[name]);
-  yield isSpecial || given.every((name) => numberOf(name, sources[name].part) === triple.numbers[name]);
-  yield FIELDS.every((name) => sources[name].kind !== "not given" || triple[name] === "unknown");
-  yield sources.binaryFormat.kind !== "implied" || triple.binaryFormat === triple.facts().impliedFormat;
-  yield Triple.of({ ...Object.fromEntries(FIELDS.map((name) => [name, triple[name]])), version }).equals(triple);
+  yield FIELDS.every((name) => fields[name].value === triple[name]);
+  yield isSpecial || given.every((name) => numberOf(name, fields[name].part) === triple.numbers[name]);
+  yield FIELDS.every((name) => fields[name].origin !== "not given" || triple[name] === "unknown");
+  yield fields.binaryFormat.origin !== "implied" || triple.binaryFormat === triple.facts().impliedFormat;
+  yield Triple.of({ ...values, version }).equals(triple) && triple.with({}).equals(triple);
   yield settled.comesBack() && printed.equals(settled) && triple.sameTarget(settled);
   yield triple.equals(settled) === (triple.equals(printed));
 }

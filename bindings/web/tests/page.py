@@ -1,6 +1,7 @@
 """The tests of the page: each opens it in Chromium, and types, presses and reads as a user does."""
 import functools
 import json
+import subprocess
 import time
 import urllib.parse
 
@@ -12,7 +13,7 @@ STATUS = "document.getElementById('status').textContent"
 CELLS = ROWS + """.map((row) => [...row.cells].map((cell) => {
   const texts = [], walker = document.createTreeWalker(cell, NodeFilter.SHOW_TEXT);
   while (walker.nextNode()) texts.push(walker.currentNode.data);
-  return texts.join(row.className ? "" : " ").replace(/\\s+/g, " ").replace(/ ,/g, ",");
+  return texts.join(row.classList.contains("refused") ? "" : " ").replace(/\\s+/g, " ").replace(/ ,/g, ",");
 }))"""
 
 # Counts the milliseconds of the longest time without a chance for input.
@@ -52,13 +53,13 @@ def typed(page, text):
     page.run("document.getElementById('targets').focus()")
     page.control("a")
     page.keys(Keys.DELETE)
-    page.until(f"{STATUS}.startsWith('0 targets')")
+    page.until(f"{STATUS}.startsWith('No targets. Paste')")
     if len(text) > 500:
         page.paste(text)
     else:
         page.keys(text)
-    count = len([it for it in text.split("\n") if it.strip()])
-    page.until(f"{STATUS}.startsWith('{count:,} target')")
+    if text:
+        page.until(f"{STATUS}.startsWith('{len(text.split()):,} target')")
 
 
 def opened(url, before, test):
@@ -77,45 +78,86 @@ def asks_for_two_files(page):
 
 def shows_fields(page):
     page.size(1280, 900)
-    typed(page, "arm64-linux-gnu\n\n  armv7a-nuttx-eabi \nclever-unknown-unknown-none\naarch64-apple-ios17.1")
-    same(page.run(STATUS), "4 targets: 4 parsed, 0 refused.")
+    typed(page, "arm64-linux-gnu\n\n  armv7a-nuttx-eabi \nclever-unknown-unknown-none\naarch64-apple-ios17.1\naarch64-unknown-linux-gnu-elf")
+    same(page.run(STATUS), "5 targets: 5 parsed, 0 refused, 1 double.")
     rows = page.run(CELLS)
-    same(rows[0], ["arm64-linux-gnu", "aarch64 from arm64", "unknown not given", "linux given", "gnu given", "elf implied",
-                   "aarch64-unknown-linux-gnu canonical", "little", "64 bits", "SystemV", "LP64"])
-    same(rows[1][2:4], ["nuttx custom, given", "unknown not given"])
-    same(rows[1][9:], ["none", "none"])
-    same(rows[2][6], "clever-unknown-none-elf canonical text of another triple")
-    same(rows[3][3], "ios17.1.0 from ios17.1")
-    same(rows[3][6], "aarch64-apple-ios17.1.0 canonical")
+    same(rows[0], ["arm64-linux-gnu is aarch64-unknown-linux-gnu", "aarch64 alias arm64", "unknown", "linux", "gnu", "elf implied",
+                   "little", "64 bits", "SystemV", "LP64", "Names in other tools"])
+    same(rows[1][2:4], ["nuttx custom", "unknown"])
+    same(rows[1][8:10], ["none", "none"])
+    same(rows[2][0], "clever-unknown-unknown-none is clever-unknown-none-elf")
+    same([rows[3][0], rows[3][3]], ["aarch64-apple-ios17.1 is aarch64-apple-ios17.1.0", "ios17.1.0 alias ios17.1"])
+    same([rows[4][0], rows[4][5]], ["aarch64-unknown-linux-gnu-elf is aarch64-unknown-linux-gnu the same target as arm64-linux-gnu", "elf"])
+    page.run("document.getElementById('targets').setSelectionRange(0, 16)")
+    page.keys(Keys.DELETE)
+    page.until(f"{STATUS} === '4 targets: 4 parsed, 0 refused.'")
+    same(page.run(CELLS)[3][0], "aarch64-unknown-linux-gnu-elf is aarch64-unknown-linux-gnu")
 
 
-def shows_special_text(page):
+def shows_special_strings_and_formats(page):
     page.size(1280, 900)
-    typed(page, "armv6k-nintendo-3ds")
-    same(page.run(CELLS)[0][1:6], [f"{it} from armv6k-nintendo-3ds" for it in ("armv6k", "nintendo", "horizon", "newlib", "elf")])
+    typed(page, "armv6k-nintendo-3ds\nx86_64-unknown-uefi\narm64")
+    same(page.run(CELLS)[0][1:6], [f"{it} from the whole" for it in ("armv6k", "nintendo", "horizon", "newlib", "elf")])
+    same(page.run(CELLS)[1][5], "elf implied objects coff")
+    same(page.run(CELLS)[2][1], "aarch64 alias arm64")
 
 
 def refuses_and_suggests(page):
     page.size(1280, 900)
-    typed(page, "x86_64-pc-windws-msvc\nx86_64--linux\nx86_64-<b>-linux\nx86_64-pc-\u4e2d\u6587\nx86_64-unknown-linux-gun")
-    same(page.run(STATUS), "5 targets: 0 parsed, 5 refused.")
+    typed(page, "x86_64-pc-windws-msvc\nx86_64--linux\nx86_64-<b>-linux\nx86_64-pc-\u4e2d\u6587\namd64-linux\nx86_64-linx-gnu")
+    same(page.run(STATUS), "6 targets: 1 parsed, 5 refused.")
     rows = page.run(CELLS)
     same(rows[0], ["x86_64-pc-windws-msvc", "Unrecognized operating system: windwsBefore it: architecture x86_64, vendor pc"
                    "Did you mean windows?"])
-    same([it.strip() for it in page.run(ROWS + ".map((row) => row.querySelector('strong').textContent)")],
-         ["windws", "(empty)", "<b>", "\u4e2d\u6587", "gun"])
+    same([it.strip() for it in page.run(ROWS + ".map((row) => row.querySelector('strong')?.textContent ?? '')")],
+         ["windws", "(empty)", "<b>", "\u4e2d\u6587", "amd64", ""])
     same(page.run("document.querySelector('tbody b')"), None)
-    same(rows[4][1].split("Did you mean ")[1], "gnu?")
-    page.run("document.querySelector('tbody button').focus()")
+    same(page.run("[...document.querySelectorAll('.offer')].map((it) => it.textContent)"),
+         ["windows", "x86_64-unknown-linux", "x86_64-unknown-linux", "linux"])
+    same(rows[5][0], "x86_64-linx-gnu is x86_64-linx-unknown-gnu-elf linx is a custom vendor. Did you mean linux ?")
+    page.run("document.querySelector('tbody .offer').focus()")
     page.keys(Keys.ENTER)
-    page.until(f"{STATUS} === '5 targets: 1 parsed, 4 refused.'")
+    page.until(f"{STATUS} === '6 targets: 2 parsed, 4 refused.'")
     same(page.run("document.getElementById('targets').value.split('\\n')[0]"), "x86_64-pc-windows-msvc")
-    same(page.run("document.activeElement.textContent"), "x86_64-pc-windows-msvc")
+    same(page.run("document.activeElement.querySelector('.target').textContent"), "x86_64-pc-windows-msvc")
+
+
+def names_other_tools(page):
+    """The names of more than three targets are folded, until each is opened. At any width they are in sight, and no wider than the page."""
+    shown = ("[...document.querySelectorAll('.elsewhere')].map((cell) => [...cell.querySelectorAll('dl > div')]"
+             ".filter((it) => it.checkVisibility({ contentVisibilityAuto: true })).map((it) => it.textContent).join('; '))")
+    typed(page, "arm64-linux-musl\navr-unknown")
+    for width in 400, 1280:
+        page.size(width, 900)
+        same(page.run(shown), ["Debianmusl-linux-arm64; Golinux/arm64; Container imageslinux/arm64; Nodelinux-arm64-musl; GNU prefixaarch64-linux-musl",
+                               "Debiannone; Gonone; Container imagesnone; Nodenone; GNU prefixnone"])
+        holds(page.run("document.documentElement.scrollWidth") <= width, f"at {width} pixels the page scrolls sideways")
+    typed(page, "arm64\nx86_64-pc-windows-msvc\nx86_64-linx\nwasm32-wasi")
+    same(page.run(shown), [""] * 4)
+    page.run("document.querySelectorAll('.elsewhere summary')[1].focus()")
+    page.keys(Keys.ENTER)
+    page.until("document.querySelectorAll('.elsewhere dl > div').length === 5")
+    same(page.run(shown), ["", "Debiannone; Gowindows/amd64; Container imageswindows/amd64; Nodewin32-x64; GNU prefixnone", "", ""])
+
+
+def says_what_other_tools_mean(page):
+    page.size(1280, 900)
+    typed(page, "x86_64-w64-mingw32\namd64-unknown-freebsd13.2\ni686-w64-windows-gnu\nlinux/amd64")
+    rows = page.run(CELLS)
+    same(rows[0][1].split("mingw32")[1], "Before it: architecture x86_64, vendor w64Other tools mean x86_64-pc-windows-gnu.")
+    same(rows[1][1].split("Other")[1], " tools mean x86_64-unknown-freebsd.")
+    holds(rows[2][0].endswith("Other tools mean i686-pc-windows-gnu ."), rows[2][0])
+    same(rows[3][1], "Unrecognized architecture: linux/amd64")
+    page.run("document.querySelector('tbody .offer').focus()")
+    page.keys(Keys.ENTER)
+    page.until(f"{STATUS} === '4 targets: 2 parsed, 2 refused.'")
+    same(page.run("document.getElementById('targets').value.split('\\n')[0]"), "x86_64-pc-windows-gnu")
+    same(page.run("document.activeElement.querySelector('.target').textContent"), "x86_64-pc-windows-gnu")
 
 
 def is_a_card(page):
     typed(page, "x86_64-unknown-linux-gnu\nx86_64-" + "z" * 300 + "-linux\nx86_64-pc-windws-msvc\n" + "y" * 300)
-    for width in 320, 400, 800, 1100, 1168, 1169, 1280, 1600:
+    for width in 320, 400, 800, 1100, 1198, 1199, 1280, 1600:
         page.size(width, 900)
         holds(page.run("document.documentElement.scrollWidth") <= width, f"at {width} pixels the page scrolls sideways")
         wide = page.run("[...document.querySelectorAll('main *')].filter((it) => it.getBoundingClientRect().right > innerWidth + 1"
@@ -126,17 +168,45 @@ def is_a_card(page):
     same(page.run("getComputedStyle(document.querySelectorAll('tbody td')[0], '::before').content"), '"Architecture" / ""')
 
 
-def breaks_no_convention(page):
-    """Where the table has its least width, the longest names of conventions are on one line."""
-    typed(page, "x86_64-pc-windows-msvc\nwasm32-wasi\narm64-apple-ios")
-    page.size(1169, 900)
+LINES = """((element) => {
+  const range = document.createRange();
+  range.selectNodeContents(element);
+  return new Set([...range.getClientRects()].map((it) => Math.round(it.bottom))).size;
+})"""
+
+
+def breaks_no_name(page):
+    """Where the table has its least width, the longest targets, systems and conventions are on one line."""
+    typed(page, "loongarch64-unknown-none-softfloat\nx86_64-pc-windows-msvc\nwasm32-wasi\narm64-apple-macosx14.10.1")
+    page.size(1199, 900)
     same(page.run("getComputedStyle(document.querySelector('tbody tr')).display"), "grid")
-    lines = page.run(ROWS + """.map((row) => {
-      const range = document.createRange();
-      range.selectNodeContents(document.createTreeWalker(row.cells[9], NodeFilter.SHOW_TEXT).nextNode());
-      return [row.cells[9].textContent, range.getClientRects().length];
-    })""")
-    same(lines, [["WindowsFastcall", 1], ["WasmBasicCAbi", 1], ["AppleAarch64", 1]])
+    same(page.run(f"[...document.querySelectorAll('.target, small code')].map({LINES})"), [1] * 7)
+    same(page.run(ROWS + f".flatMap((row) => [...row.cells].slice(1, 10).map((it) => {LINES}(it.querySelector('code, span') ?? it.firstChild)))"), [1] * 36)
+    same(page.run("[...document.querySelectorAll('thead th')].filter((it) => it.scrollWidth > it.clientWidth).length"), 0)
+    page.size(400, 900)
+    same(page.run(f"[...document.querySelectorAll('.target')].map({LINES})"), [1] * 4)
+
+
+def folds_on_a_phone(page):
+    """Cards of more than three targets are folded, until each is opened."""
+    shown = ROWS + ".map((row) => [...row.cells].filter((it) => it.getClientRects().length > 0).length)"
+    page.size(400, 900)
+    typed(page, "wasm32-wasi\narm64\nx86_64-foo-bar")
+    same(page.run(shown), [11, 11, 2])
+    typed(page, "wasm32-wasi\narm64\nx86_64-linux\nx86_64-foo-bar")
+    same(page.run(shown), [1, 1, 1, 2])
+    page.run("document.querySelector('.fold').focus()")
+    page.keys(Keys.ENTER)
+    same(page.run(shown), [11, 1, 1, 2])
+    same(page.run("[...document.querySelectorAll('.fold')].map((it) => it.getAttribute('aria-expanded'))"), ["true", "false", "false"])
+    page.size(1280, 900)
+    same(page.run(shown), [11, 11, 11, 2])
+
+
+def says_what_to_paste(page):
+    typed(page, "")
+    same(page.run("document.getElementById('table').hidden"), True)
+    same(page.run(STATUS), "No targets. Paste some above, one a line, such as what `rustc --print target-list` writes.")
 
 
 def complete_roles(page):
@@ -155,18 +225,19 @@ def is_accessible(page):
         typed(page, "x86_64-unknown-linux-gnu\nx86_64-pc-windws-msvc")
         roles = complete_roles(page)
         for wanted in [("heading", "Target triples"), ("textbox", "Targets"), ("button", "Copy as JSON"), ("link", "Link to these targets"),
-                       ("table", "What each target is"), ("columnheader", "Byte order"), ("rowheader", "x86_64-unknown-linux-gnu"),
+                       ("table", "What each target is"), ("columnheader", "Byte order"),
                        ("button", "windows: replace x86_64-pc-windws-msvc by x86_64-pc-windows-msvc")]:
             holds(wanted in roles, f"at {width} pixels there is no {wanted}")
-        same([role for role, _ in roles].count("columnheader"), 11)
-        same([role for role, _ in roles].count("cell"), 11)
+        holds([name.split()[0] for role, name in roles if role == "rowheader"] == ["x86_64-unknown-linux-gnu", "x86_64-pc-windws-msvc"],
+              f"at {width} pixels the rows have other headers: {roles}")
+        same([role for role, _ in roles].count("columnheader"), 10)
         holds("status" in [role for role, _ in roles], "there is no status")
     page.run("document.getElementById('targets').focus()")
     reached = []
-    for _ in range(3):
+    for _ in range(4):
         page.keys(Keys.TAB)
         reached.append(page.run("document.activeElement.textContent"))
-    same(reached, ["Copy as JSON", "Link to these targets", "windows"])
+    same(reached, ["Copy as JSON", "Link to these targets", "Names in other tools", "windows"])
 
 
 def has_a_link(page):
@@ -189,18 +260,19 @@ def opens_a_link(url):
         same(page.run(STATUS), "2 targets: 1 parsed, 1 refused.")
 
 
-def copies_the_matrix(page):
-    typed(page, "arm64-linux-gnu\nx86_64-foo-bar")
+def copies_the_matrix(program, page):
+    """What is copied is what `lexicon facts --json` writes."""
+    targets = ["arm64-apple-ios17.1", "avr-unknown", "x86_64-pc-linx", "x86_64-\u4e2d\u6587-linux", "x86_64-elf-linux"]
+    typed(page, "\n".join(targets))
     page.run("document.getElementById('copy').focus()")
     page.keys(Keys.ENTER)
     page.until(f"{STATUS}.startsWith('Copied')")
-    same(page.run(STATUS), "Copied 2 targets as JSON.")
-    first, second = json.loads(page.run("navigator.clipboard.readText()"))
-    same([first[it] for it in ("text", "architecture", "printed", "canonical", "byteOrder", "pointerBits", "dataModel")],
-         ["arm64-linux-gnu", "aarch64", "aarch64-unknown-linux-gnu", "aarch64-unknown-linux-gnu", "little", 64, "LP64"])
-    same(first["sources"]["architecture"], {"kind": "given", "start": 0, "end": 5, "part": "arm64"})
-    same(second, {"text": "x86_64-foo-bar", "error": {"kind": "operatingSystem", "message": "Unrecognized operating system: bar",
-                                                       "part": "bar", "start": 11, "end": 14}})
+    same(page.run(STATUS), "Copied 5 targets as JSON.")
+    copied = json.loads(page.run("navigator.clipboard.readText()"))
+    same([it["target"] for it in copied], targets)
+    wanted = subprocess.run([program, "facts", "--json", *targets], capture_output=True, check=False).stdout
+    same([list(it.items()) for it in copied], [list(it.items()) for it in json.loads(wanted)])
+    return "the same as the command's"
 
 
 def stays_responsive(page):
@@ -223,10 +295,12 @@ def stays_responsive(page):
     return f"10,000 lines, at most {max(waits)} milliseconds without a chance for input"
 
 
-def page_tests(url):
-    """The name of each test of the page at a URL, and the test."""
-    tests = [asks_for_two_files, shows_fields, shows_special_text, refuses_and_suggests, is_a_card, breaks_no_convention, is_accessible,
-             has_a_link, copies_the_matrix, stays_responsive]
+def page_tests(url, program):
+    """The name of each test of the page at a URL, and the test; `program` is the command `lexicon`."""
+    tests = [asks_for_two_files, shows_fields, shows_special_strings_and_formats, refuses_and_suggests,
+             names_other_tools, says_what_other_tools_mean, is_a_card, breaks_no_name, folds_on_a_phone,
+             says_what_to_paste, is_accessible, has_a_link, functools.partial(copies_the_matrix, program), stays_responsive]
     for test in tests:
-        yield test.__name__.replace("_", " "), functools.partial(opened, f"{url}/", "", test)
+        name = getattr(test, "func", test).__name__
+        yield name.replace("_", " "), functools.partial(opened, f"{url}/", "", test)
     yield "opens a link", functools.partial(opens_a_link, url)

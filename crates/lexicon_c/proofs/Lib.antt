@@ -1,6 +1,4 @@
--- Ascii: bytes that two loads show to be text. Lines: the line of a refusal. Names: numbers past the end of a field.
--- Triples: triples as numbers.
-pub mod Ascii
-pub mod Lines
+-- Names: numbers past the end of a field. SpelledVendors: vendors of strings that are spelled like triples. Triples: triples as numbers.
 pub mod Names
+pub mod SpelledVendors
 pub mod Triples

@@ -1,25 +1,27 @@
 -- Triples as numbers.
-use Rattle.std.proofs.Common.{◌≡◌, ◌↔◌, ℕ, ◌<◌, List, [], ◌∷◌, true, false, inl, inr, Option, Some, None, Ok, Err, refl, sym, ◌∙◌, subst, ap, arith, get_or, zero, suc}
+use Rattle.std.proofs.Common.{◌≡◌, ℕ, ◌<◌, List, [], ◌∷◌, true, false, inl, inr, Option, Some, None, Ok, Err, refl, sym, ◌∙◌, subst, ap, arith, get_or, zero, suc}
 use Rattle.std.specs.Prelude.{◌==◌, MatchOption, MatchResult, if◌then◌else◌, option_and_then, slice_get}
-use Rattle.std.specs.{Char.is_ascii_lowercase, List.list_all, Str.IsAscii, Str.IsUtf8}
+use Rattle.std.specs.{Char.is_ascii_lowercase, List.list_all, Str.IsUtf8}
 use Rattle.std.proofs.{lemmas.Bool.and_parts, lemmas.Str.IsUtf8-from_ascii, lemmas.Bool.cases_Bool, lemmas.Bool.Decides.nat_tests}
 use Rattle.lexicon_fields.specs.{Architecture.architecture_values, BinaryFormat.binary_format_values, Environment.environment_values, OperatingSystem.system_version}
 use Rattle.lexicon_fields.specs.Vendor.{has_vendor_form, is_admitted, is_free, is_vendor_character}
 use Rattle.lexicon_fields.specs.declared.deployment_target.DeploymentTarget.{DeploymentTarget}
 use Rattle.lexicon_names.specs.Numbers.{operating_system_at}
 use Rattle.target_lexicon.specs.Values.{Architecture, BinaryFormat, Environment, OperatingSystem, Values, VendorValue, values}
-use Rattle.lexicon_c.specs.Outcome.{Outcome, NoSuchValue}
+use Rattle.lexicon_c.specs.declared.triple.Fault.{Fault}
+use Rattle.lexicon_c.specs.declared.triple.Fault.TheVariants.{NoSuchValue}
 use Rattle.lexicon_c.specs.Triple.{AreNumbersOf, no_version, operating_system_in, triple_in, vendor_text, vendor_with, version_in}
-use Rattle.lexicon_c.specs.declared.triple.LexiconTriple.{LexiconTriple}
+use Rattle.lexicon_c.specs.declared.triple.NumberedTriple.{NumberedTriple}
+use Rattle.lexicon_c.specs.declared.triple.TripleNumbers.{TripleNumbers}
 
 -- the triple of numbers, or the fault of the first field that has one
-module _ (n : LexiconTriple) (text : List ℕ) where
+module _ (n : TripleNumbers) (text : List ℕ) where
   pub no_architecture : slice_get architecture_values n.architecture ≡ None → triple_in n text ≡ Err NoSuchValue
   unfolding triple_in
   no_architecture a = rw a refl
 
   module _ (architecture : Architecture) (a : slice_get architecture_values n.architecture ≡ Some architecture) where
-    pub vendor_fault : (fault : Outcome) → vendor_with n.vendor text ≡ Err fault → triple_in n text ≡ Err fault
+    pub vendor_fault : (fault : Fault) → vendor_with n.vendor text ≡ Err fault → triple_in n text ≡ Err fault
     unfolding triple_in
     vendor_fault fault v = rw (a, v) refl
 
@@ -44,7 +46,7 @@ module _ (n : LexiconTriple) (text : List ℕ) where
           whole_triple format f = rw (a, v, s, e, f) refl
 
 -- what holds of the triple of these numbers
-pub on_triple : (n : LexiconTriple) (text : List ℕ) (P : Values → Type 0) (F : Outcome → Type 0) (t : Values) → triple_in n text ≡ Ok t → P t
+pub on_triple : (n : TripleNumbers) (text : List ℕ) (P : Values → Type 0) (F : Fault → Type 0) (t : Values) → triple_in n text ≡ Ok t → P t
     → MatchResult (triple_in n text) P F
 on_triple n text P F t is holds = subst (λ r. MatchResult r P F) (sym is) holds
 
@@ -61,21 +63,21 @@ version_given None h v (none, zeros) = (rw none refl, λ _. (ap (λ v. v.major) 
 version_given (Some w) h v (one, same) = (rw one (ap (λ v. Some (Some v)) same), λ zero. absurd (omega (arith, zero, one)))
 
 -- the numbers of a triple, field by field
-pub are_numbers : (t : Values) (n : LexiconTriple) → slice_get architecture_values n.architecture ≡ Some t.architecture
-    → vendor_with n.vendor (vendor_text t.vendor) ≡ Ok t.vendor
-    → operating_system_at n.operating_system (system_version t.operating_system) ≡ Some t.operating_system
-    → slice_get environment_values n.environment ≡ Some t.environment → slice_get binary_format_values n.binary_format ≡ Some t.binary_format
-    → version_in n ≡ Some (system_version t.operating_system) → (n.has_version ≡ 0 → (n.major ≡ 0) × (n.minor ≡ 0) × (n.patch ≡ 0)) → AreNumbersOf t n
-are_numbers t n a v s e f version none =
+pub are_numbers : (t : Values) (triple : NumberedTriple) → slice_get architecture_values triple.numbers.architecture ≡ Some t.architecture
+    → vendor_with triple.numbers.vendor (vendor_text t.vendor) ≡ Ok t.vendor
+    → operating_system_at triple.numbers.operating_system (system_version t.operating_system) ≡ Some t.operating_system
+    → slice_get environment_values triple.numbers.environment ≡ Some t.environment → slice_get binary_format_values triple.numbers.binary_format ≡ Some t.binary_format
+    → version_in triple.numbers ≡ Some (system_version t.operating_system)
+    → (triple.numbers.has_version ≡ 0 → (triple.numbers.major ≡ 0) × (triple.numbers.minor ≡ 0) × (triple.numbers.patch ≡ 0))
+    → triple.custom_vendor.now ≡ vendor_text t.vendor → AreNumbersOf t triple
+are_numbers t triple a v s e f version none text =
+    let n = triple.numbers in
     let system : operating_system_in n ≡ Some t.operating_system = ap (option_and_then (operating_system_at n.operating_system)) version ∙ s in
     record {
-      is_triple = whole_triple n (vendor_text t.vendor) t.architecture a t.vendor v t.operating_system system t.environment e t.binary_format f;
+      is_triple = ap (triple_in n) text ∙ whole_triple n (vendor_text t.vendor) t.architecture a t.vendor v t.operating_system system t.environment e t.binary_format f;
+      vendor = text;
       no_version = none;
     }
-
--- two sides of an equation may be replaced
-pub same_iff : {A : Type 0} (P : Type 0) {a b c d : A} → a ≡ c → b ≡ d → P ↔ (a ≡ b) → P ↔ (c ≡ d)
-same_iff P first second iff = (λ p. sym first ∙ iff.0 p ∙ second, λ same. iff.1 (first ∙ same ∙ sym second))
 
 -- the text of a custom vendor is ASCII
 character_ascii : (c : ℕ) → is_vendor_character c ≡ true → c < 128
@@ -98,12 +100,12 @@ admitted_ascii : (text : List ℕ) → is_admitted text ≡ true → (k : ℕ) �
 unfolding is_admitted
 admitted_ascii text admitted = λ k. form_ascii text k (and_parts (is_free text) (has_vendor_form text) admitted).1
 
-pub admitted_text : (text : List ℕ) → is_admitted text ≡ true → IsUtf8 text
+admitted_text : (text : List ℕ) → is_admitted text ≡ true → IsUtf8 text
 admitted_text text admitted = IsUtf8-from_ascii text (admitted_ascii text admitted)
 
-pub not_admitted : (text : List ℕ) → ¬ (IsAscii text) → is_admitted text ≡ false
-not_admitted text high =
+pub not_admitted : (text : List ℕ) → ¬ (IsUtf8 text) → is_admitted text ≡ false
+not_admitted text other =
     elim (cases_Bool (is_admitted text)) [
-      | inl admitted ↦ absurd (high (admitted_ascii text admitted))
-      | inr other ↦ other
+      | inl admitted ↦ absurd (other (admitted_text text admitted))
+      | inr not ↦ not
     ]

@@ -1,7 +1,7 @@
 -- What C asks of a triple, as numbers.
-use Rattle.std.specs.Prelude.{◌≡◌, ℕ, Bool, false, Option, Some, None, List, [], ◌∷◌, if◌then◌else◌, slice_get}
+use Rattle.std.specs.Prelude.{◌≡◌, ℕ, Bool, false, Option, Some, None, List, [], ◌∷◌, slice_get}
 use Rattle.std.specs.Option.{option_map_or}
-use Rattle.target_lexicon.specs.{DataModel.size_bits, DataModel.sizes_of, ImpliedFormat.default_binary_format, Values.Values}
+use Rattle.target_lexicon.specs.{DataModel.size_bytes, DataModel.sizes_of, ImpliedFormat.default_binary_format, Values.Values}
 use Rattle.target_lexicon.specs.{declared.calling_convention.CallingConvention.CallingConvention, declared.data_model.CDataModel.CDataModel}
 use Rattle.target_lexicon.specs.declared.calling_convention.CallingConvention.TheVariants.{SystemV, WasmBasicCAbi, WindowsFastcall, AppleAarch64}
 use Rattle.target_lexicon.specs.declared.data_model.CDataModel.TheVariants.{LP32, ILP32, LLP64, LP64, ILP64}
@@ -10,7 +10,8 @@ use Rattle.target_lexicon.specs.Values.architecture
 use Rattle.lexicon_fields.specs.{ArchitectureQueries.is_thumb, BinaryFormat.binary_format_values, PointerWidth.width_bits, Vendor.is_custom}
 use Rattle.lexicon_fields.specs.{declared.endianness.Endianness.Endianness, declared.endianness.Endianness.TheVariants.Little, declared.endianness.Endianness.TheVariants.Big}
 use Rattle.lexicon_names.specs.Numbers.{family_number}
-use Rattle.lexicon_c.specs.{declared.facts.LexiconFacts.LexiconFacts, declared.facts.LexiconTypeBits.LexiconTypeBits}
+use Rattle.tool_names.specs.ObjectFormat.{object_format}
+use Rattle.lexicon_c.specs.{declared.triple_facts.TripleFacts.TripleFacts, declared.triple_facts.TypeSizes.TypeSizes}
 use Rattle.lexicon_fields.specs.OperatingSystem as system
 use Rattle.target_lexicon.specs.Queries as query
 
@@ -39,20 +40,18 @@ model_number (Some ILP64) = 5
 abbrev pub models_by_number : List (Option CDataModel)
 models_by_number = None ∷ Some LP32 ∷ Some ILP32 ∷ Some LLP64 ∷ Some LP64 ∷ Some ILP64 ∷ []
 
--- the bits of C's types in a data model; 0 where there is none
-abbrev pub type_bits : Option CDataModel → LexiconTypeBits
-type_bits None = record { char = 0; short = 0; int = 0; long = 0; long_long = 0; float = 0; double = 0; pointer = 0 }
-type_bits (Some model) =
+-- the sizes of C's types in bytes in a data model; 0 where there is none
+abbrev pub type_sizes : Option CDataModel → TypeSizes
+type_sizes None = record { short = 0; int = 0; long = 0; long_long = 0; float = 0; double = 0 }
+type_sizes (Some model) =
     let sizes = sizes_of model in
     record {
-      char = 8;
-      short = size_bits sizes.short;
-      int = size_bits sizes.int;
-      long = size_bits sizes.long;
-      long_long = size_bits sizes.long_long;
-      float = size_bits sizes.float;
-      double = size_bits sizes.double;
-      pointer = size_bits sizes.pointer;
+      short = size_bytes sizes.short;
+      int = size_bytes sizes.int;
+      long = size_bytes sizes.long;
+      long_long = size_bytes sizes.long_long;
+      float = size_bytes sizes.float;
+      double = size_bytes sizes.double;
     }
 
 -- whether an architecture is an Arm one that is Thumb
@@ -60,18 +59,16 @@ abbrev pub is_thumb_architecture : Architecture → Bool
 is_thumb_architecture (architecture.Arm sub) = is_thumb sub
 is_thumb_architecture _ = false
 
-abbrev pub bit : Bool → ℕ
-bit b = if b then 1 else 0
-
 -- these are the facts of the triple
-pub record AreFactsOf (t : Values) (facts : LexiconFacts) : Type 0 where
+pub record AreFactsOf (t : Values) (facts : TripleFacts) : Type 0 where
   pub endianness : facts.endianness ≡ endianness_number (query.endianness t)
-  pub pointer_bits : facts.pointer_bits ≡ option_map_or width_bits (query.pointer_width t) 0
-  pub calling_convention : facts.calling_convention ≡ convention_number (query.calling_convention t)
+  pub pointer_width : facts.pointer_width ≡ option_map_or width_bits (query.pointer_width t) 0
+  pub default_calling_convention : facts.default_calling_convention ≡ convention_number (query.calling_convention t)
   pub data_model : facts.data_model ≡ model_number (query.data_model t)
+  pub sizes : facts.sizes ≡ type_sizes (query.data_model t)
   pub implied_format : slice_get binary_format_values facts.implied_format ≡ Some (default_binary_format t)
+  pub object_format : slice_get binary_format_values facts.object_format ≡ Some (object_format t)
   pub family : facts.family ≡ family_number t.architecture
-  pub is_thumb : facts.is_thumb ≡ bit (is_thumb_architecture t.architecture)
-  pub is_like_darwin : facts.is_like_darwin ≡ bit (system.is_like_darwin t.operating_system)
-  pub has_custom_vendor : facts.has_custom_vendor ≡ bit (is_custom t.vendor)
-  pub types : facts.types ≡ type_bits (query.data_model t)
+  pub is_thumb : facts.is_thumb ≡ is_thumb_architecture t.architecture
+  pub is_like_darwin : facts.is_like_darwin ≡ system.is_like_darwin t.operating_system
+  pub has_custom_vendor : facts.has_custom_vendor ≡ is_custom t.vendor

@@ -1,12 +1,11 @@
 -- The number of the value that a text is in one field, and the name of a number.
-use Rattle.std.specs.Prelude.{◌≡◌, ℕ, List, Option, Some, None, Ok, false, option_map, slice_get}
-use Rattle.std.specs.Str.{IsUtf8}
+use Rattle.std.specs.Prelude.{◌≡◌, ℕ, List, Option, Some, None, Ok, option_map, slice_get}
 use Rattle.lexicon_fields.specs.{Architecture.architecture_name, Architecture.architecture_of, Architecture.architecture_values, BinaryFormat.binary_format_name, BinaryFormat.binary_format_of, BinaryFormat.binary_format_values}
 use Rattle.lexicon_fields.specs.{Environment.environment_name, Environment.environment_of, Environment.environment_values, OperatingSystem.operating_system_name, OperatingSystem.operating_system_of, OperatingSystem.system_version}
 use Rattle.lexicon_fields.specs.{Vendor.known_vendor_name, Vendor.known_vendors, Vendor.vendor_of}
 use Rattle.lexicon_names.specs.Numbers.{operating_system_at}
-use Rattle.target_lexicon.specs.{Field.Field, Field.parses_as, Refusal.Expects, Refusal.refusal_with}
-use Rattle.lexicon_c.specs.{Outcome.Outcome, Outcome.Done, Outcome.Refused, Outcome.NotUtf8, Triple.vendor_text, Triple.vendor_with}
+use Rattle.target_lexicon.specs.{Field.Field, Field.parses_as}
+use Rattle.lexicon_c.specs.Triple.{vendor_text, vendor_with}
 use Rattle.target_lexicon.specs.Field as field
 
 -- the number is that of the value which the text parses as
@@ -21,14 +20,6 @@ IsNumberIn field.OperatingSystem text number =
     IsNumberBy operating_system_of (λ n s. operating_system_at n (system_version s) ≡ Some s) text number
 IsNumberIn field.Environment text number = IsNumberBy environment_of (λ n e. slice_get environment_values n ≡ Some e) text number
 IsNumberIn field.BinaryFormat text number = IsNumberBy binary_format_of (λ n f. slice_get binary_format_values n ≡ Some f) text number
-
--- what holds at each outcome of a call for the number of a text in this field
-abbrev pub WritesNumber : Field → List ℕ → ℕ → ℕ → Outcome → Type 0
-WritesNumber f text old new Done = IsUtf8 text × IsNumberIn f text new
-WritesNumber f text old new (Refused refusal) =
-    IsUtf8 text × (refusal ≡ refusal_with (Expects f) text) × (parses_as f text ≡ false) × (new ≡ old)
-WritesNumber f text old new NotUtf8 = ¬ (IsUtf8 text) × (new ≡ old)
-WritesNumber f text old new _ = ⊥
 
 -- the name of a field's value by its number
 abbrev pub name_at : Field → ℕ → Option (List ℕ)

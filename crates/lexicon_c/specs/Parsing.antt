@@ -1,18 +1,27 @@
--- What is written of a text that is parsed: where its fields come from, and the refused part.
-use Rattle.std.specs.Prelude.{◌≡◌, ℕ, List, length}
-use Rattle.std.specs.Str.{IsUtf8}
-use Rattle.explanations.specs.Explanation.{AreInText, AreSourcesOf, FromPart, Implied, IsInText, IsRefusedAfter, NotGiven, SourceValue, SourceValues}
-use Rattle.target_lexicon.specs.{Reading.ReadsAs, Reading.IsRefusedAs, Refusal.Refusal, Values.Values}
-use Rattle.lexicon_c.specs.{Outcome.Outcome, Outcome.Done, Outcome.Refused, Outcome.NotUtf8, Outcome.refusal_status}
-use Rattle.lexicon_c.specs.{declared.sources.LexiconError.LexiconError, declared.sources.LexiconSource.LexiconSource, declared.sources.LexiconSources.LexiconSources}
+-- What is answered of a text that is parsed: the triple, where its fields come from, and the refused part.
+use Rattle.std.specs.Prelude.{◌≡◌, ℕ, suc, List, Option, Some, None, Result, Ok, Err}
+use Rattle.target_lexicon.specs.Explanation.{AreInText, AreSourcesOf, FromPart, Implied, IsInText, IsRefusedAfter, NotGiven, PlacedPart, SourceValue, SourceValues}
+use Rattle.target_lexicon.specs.{Field.Field, Field.field_number, Reading.ReadsAs, Reading.IsRefusedAs, Values.Values}
+use Rattle.target_lexicon.specs.Refusal.{Refusal}
+use Rattle.lexicon_c.specs.{declared.error.TextError.TextError, declared.sources.FieldSource.FieldSource, declared.sources.FieldSources.FieldSources}
+
+-- the text parses as a triple of which this holds, or it is refused, and that holds of the refusal
+abbrev pub Parses : {R E : Type 0} → List ℕ → (Values → R → Type 0) → (Refusal → E → Type 0) → Result R E → Type 0
+Parses text read refused (Ok answer) = (t : Values) × ReadsAs text t × read t answer
+Parses text read refused (Err error) = (refusal : Refusal) × IsRefusedAs text refusal × refused refusal error
+
+-- the status of a refusal, by what was expected
+abbrev pub refusal_status : Option Field → ℕ
+refusal_status (Some field) = suc (field_number field)
+refusal_status None = 6
 
 -- a source as numbers: 0 is no part, 1 a part with its range, 2 the other fields
-abbrev pub source_numbers : SourceValue → LexiconSource
-source_numbers NotGiven = record { kind = 0; start = 0; size = 0 }
-source_numbers (FromPart start end part) = record { kind = 1; start = start; size = length part }
-source_numbers Implied = record { kind = 2; start = 0; size = 0 }
+abbrev pub source_numbers : SourceValue → FieldSource
+source_numbers NotGiven = record { origin = 0; start = 0; end = 0 }
+source_numbers (FromPart part) = record { origin = 1; start = part.start; end = part.end }
+source_numbers Implied = record { origin = 2; start = 0; end = 0 }
 
-abbrev pub sources_numbers : SourceValues → LexiconSources
+abbrev pub sources_numbers : SourceValues → FieldSources
 sources_numbers s = record {
   architecture = source_numbers s.architecture;
   vendor = source_numbers s.vendor;
@@ -22,27 +31,19 @@ sources_numbers s = record {
 }
 
 -- these are the sources of the text's fields
-abbrev pub ExplainsTriple : List ℕ → LexiconSources → Type 0
+abbrev pub ExplainsTriple : List ℕ → FieldSources → Type 0
 ExplainsTriple text sources = (s : SourceValues) × AreSourcesOf text s × AreInText text s × (sources ≡ sources_numbers s)
 
 -- what was expected, and the range of the refused part
-abbrev pub IsErrorAt : Refusal → SourceValue → LexiconError → Type 0
-IsErrorAt refusal (FromPart start end part) error =
-    error ≡ record { expected = refusal_status refusal.expected; start = start; size = length part }
-IsErrorAt refusal _ error = ⊥
+abbrev pub IsErrorAt : Refusal → PlacedPart → TextError → Type 0
+IsErrorAt refusal part error =
+    error ≡ record { status = refusal_status refusal.expected; start = part.start; end = part.end }
 
 -- the text is refused at the part of the error, after parts that fill fields of which this holds
-pub record ExplainsRefusal (text : List ℕ) (refusal : Refusal) (holds : SourceValues → Type 0) (error : LexiconError) : Type 0 where
+pub record IsErrorAfter (text : List ℕ) (holds : SourceValues → Type 0) (refusal : Refusal) (error : TextError) : Type 0 where
   pub sources : SourceValues
-  pub part : SourceValue
+  pub part : PlacedPart
   pub refused_after : IsRefusedAfter text refusal sources part
   pub in_text : IsInText text part
   pub is_error : IsErrorAt refusal part error
   pub sources_hold : holds sources
-
--- what holds at each outcome of a call that parses a text; if it isn't UTF-8, nothing is changed
-abbrev pub Parses : List ℕ → Type 0 → (Values → Type 0) → (Refusal → Type 0) → Outcome → Type 0
-Parses text unchanged read refused Done = IsUtf8 text × ((t : Values) × ReadsAs text t × read t)
-Parses text unchanged read refused (Refused refusal) = IsUtf8 text × IsRefusedAs text refusal × refused refusal
-Parses text unchanged read refused NotUtf8 = ¬ (IsUtf8 text) × unchanged
-Parses text unchanged read refused _ = ⊥

@@ -12,7 +12,7 @@ use target_lexicon::{Architecture, BinaryFormat, Environment, Field, OperatingSy
 
 /// The number of the value that the text is in the field.
 #[tactic(auto, unfolding(target_lexicon::specs::Field::parses_as))]
-pub(crate) fn number_in(field: Field, text: &str) -> Option<u32>
+pub fn number_in(field: Field, text: &str) -> Option<u32>
     ensures { MatchOption result (parses_as field text.now ≡ false)
         (IsNumberIn field text.now) }
 {
@@ -41,7 +41,7 @@ pub(crate) fn number_in(field: Field, text: &str) -> Option<u32>
 }
 
 /// The name of the field's value with this number, if there is one.
-pub(crate) fn name_at(field: Field, number: u32) -> Option<&'static str>
+pub fn name_at(field: Field, number: u32) -> Option<&'static str>
     ensures { option_map (λ name. name.now) result ≡ name_at field number }
 {
     let Ok(number) = u8::try_from(number) else {

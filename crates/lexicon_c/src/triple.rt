@@ -1,15 +1,13 @@
 //! Triples as numbers.
-ghost use Rattle.std.specs.Prelude.{◌≡◌, ◌↔◌, true, Ok, Err, [], IfOk, IsTrue, MatchOption, MatchResult};
+ghost use Rattle.std.specs.Prelude.{◌≡◌, ◌↔◌, true, false, Ok, Err, IfOk, IsTrue, MatchOption, MatchResult};
 ghost use Rattle.lexicon_fields.specs.OperatingSystem.{system_version};
 ghost use Rattle.lexicon_fields.specs.Vendor.{is_admitted, is_plain};
 ghost use Rattle.lexicon_fields.specs.VendorRef.{ref_value};
 ghost use Rattle.target_lexicon.specs.ValuesRef.{values_of_ref};
-ghost use Rattle.lexicon_c.specs.Outcome.{outcome_of};
+ghost use Rattle.target_lexicon.specs.Values.{Custom};
+ghost use Rattle.lexicon_c.specs.declared.triple.Fault.TheVariants.{NoSuchVendor};
 ghost use Rattle.lexicon_c.specs.Triple.{AreNumbersOf, no_version, triple_in, operating_system_in, vendor_text, vendor_with, version_in};
 
-use crate::output::LexiconText;
-use crate::status::Status;
-use crate::utf8::is_ascii;
 use lexicon_names::{
     architecture_at, architecture_number, binary_format_at, binary_format_number, environment_at,
     environment_number, known_vendor_at, known_vendor_number, operating_system_at,
@@ -22,10 +20,10 @@ use target_lexicon::{DeploymentTarget, OperatingSystem, TripleRef, VendorRef};
 /// The number that says that a vendor is a custom one.
 pub(crate) const CUSTOM_VENDOR: u8 = 255;
 
-/// A triple by the numbers of its values. The text of a custom vendor is beside it.
+/// The numbers of a triple's values.
 #[repr(C)]
 #[derive(Clone, Copy)]
-pub struct LexiconTriple {
+pub struct TripleNumbers {
     pub architecture: u16,
     /// 255 for a custom vendor.
     pub vendor: u8,
@@ -40,32 +38,46 @@ pub struct LexiconTriple {
     pub major: u16,
 }
 
-/// The triple of these numbers, where a custom vendor has this text, or why there is none.
+/// A triple as C has it: the numbers, and the text of a custom vendor, which is empty for a known one.
+#[derive(Clone, Copy)]
+pub struct NumberedTriple<'a> {
+    pub numbers: TripleNumbers,
+    pub custom_vendor: &'a [u8],
+}
+
+/// Why there is no triple of some numbers.
+#[derive(Clone, Copy)]
+pub enum Fault {
+    /// A number is that of no value.
+    NoSuchValue,
+    /// No text parses as the custom vendor.
+    NoSuchVendor,
+}
+
+/// The triple of these numbers, or the fault of the first field that has one.
 #[inline(always)]
-pub(crate) fn triple_in<'a>(
-    numbers: &LexiconTriple,
-    text: &'a [u8],
-) -> Result<TripleRef<'a>, Status>
+pub(crate) fn triple_in<'a>(triple: &NumberedTriple<'a>) -> Result<TripleRef<'a>, Fault>
     ensures triple { MatchResult result
-        (λ t. triple_in numbers.now text.entry.now ≡ Ok (values_of_ref t))
-        (λ s. triple_in numbers.now text.entry.now ≡ Err (outcome_of s [])) }
+        (λ t. triple_in triple.now.numbers triple.now.custom_vendor.now ≡ Ok (values_of_ref t))
+        (λ fault. triple_in triple.now.numbers triple.now.custom_vendor.now ≡ Err fault) }
     ensures plain { IfOk result (λ t. is_plain (ref_value t.vendor) ≡ true) }
 {
+    let numbers = &triple.numbers;
     let Some(architecture) = architecture_at(numbers.architecture) else {
-        return Err(Status::NoSuchValue);
+        return Err(Fault::NoSuchValue);
     };
-    let vendor = match vendor_with(numbers.vendor, text) {
+    let vendor = match vendor_with(numbers.vendor, triple.custom_vendor) {
         Ok(vendor) => vendor,
-        Err(status) => return Err(status),
+        Err(fault) => return Err(fault),
     };
     let Some(operating_system) = operating_system_in(numbers) else {
-        return Err(Status::NoSuchValue);
+        return Err(Fault::NoSuchValue);
     };
     let Some(environment) = environment_at(numbers.environment) else {
-        return Err(Status::NoSuchValue);
+        return Err(Fault::NoSuchValue);
     };
     let Some(binary_format) = binary_format_at(numbers.binary_format) else {
-        return Err(Status::NoSuchValue);
+        return Err(Fault::NoSuchValue);
     };
     Ok(TripleRef {
         architecture,
@@ -78,42 +90,44 @@ pub(crate) fn triple_in<'a>(
 
 /// The vendor of a number, where a custom one has this text.
 #[inline(always)]
-fn vendor_with<'a>(number: u8, text: &'a [u8]) -> Result<VendorRef<'a>, Status>
+fn vendor_with<'a>(number: u8, text: &'a [u8]) -> Result<VendorRef<'a>, Fault>
     ensures vendor { MatchResult result
         (λ v. vendor_with number text.entry.now ≡ Ok (ref_value v))
-        (λ s. vendor_with number text.entry.now ≡ Err (outcome_of s [])) }
+        (λ fault. vendor_with number text.entry.now ≡ Err fault) }
     ensures plain { IfOk result (λ v. is_plain (ref_value v) ≡ true) }
 {
     if number == CUSTOM_VENDOR {
-        if is_custom_vendor(text) {
-            let text = unsafe { str::from_utf8_unchecked(text) };
-            Ok(VendorRef::Custom(text))
-        } else {
-            Err(Status::NoSuchVendor)
-        }
+        custom_vendor(text)
     } else {
         match known_vendor_at(number) {
             Some(known) => Ok(VendorRef::Known(known)),
-            None => Err(Status::NoSuchValue),
+            None => Err(Fault::NoSuchValue),
         }
     }
 }
 
-/// Whether the bytes are a text that parses as a custom vendor.
+/// The custom vendor of a text, if the text parses as one.
 #[inline(never)]
-fn is_custom_vendor(bytes: &[u8]) -> bool
-    ensures { result ≡ is_admitted bytes.now }
+fn custom_vendor(bytes: &[u8]) -> Result<VendorRef<'_>, Fault>
+    ensures vendor { MatchResult result
+        (λ v. (ref_value v ≡ Custom bytes.entry.now) × (is_admitted bytes.entry.now ≡ true))
+        (λ fault. (fault ≡ NoSuchVendor) × (is_admitted bytes.entry.now ≡ false)) }
+    ensures plain { IfOk result (λ v. is_plain (ref_value v) ≡ true) }
 {
-    if !is_ascii(bytes) {
-        return false;
+    let Ok(text) = str::from_utf8(bytes) else {
+        return Err(Fault::NoSuchVendor);
+    };
+    let vendor = VendorRef::Custom(text);
+    if vendor.is_plain() {
+        Ok(vendor)
+    } else {
+        Err(Fault::NoSuchVendor)
     }
-    let text = unsafe { str::from_utf8_unchecked(bytes) };
-    VendorRef::Custom(text).is_plain()
 }
 
 /// The system of these numbers, with its version, if there is one.
 #[inline(always)]
-fn operating_system_in(numbers: &LexiconTriple) -> Option<OperatingSystem>
+fn operating_system_in(numbers: &TripleNumbers) -> Option<OperatingSystem>
     ensures { result ≡ operating_system_in numbers.now }
 {
     let version = match numbers.has_version {
@@ -130,7 +144,7 @@ fn operating_system_in(numbers: &LexiconTriple) -> Option<OperatingSystem>
 
 /// The numbers of a triple.
 #[inline(always)]
-pub(crate) fn numbers_of(triple: &TripleRef<'_>) -> LexiconTriple
+pub(crate) fn numbers_of<'a>(triple: &TripleRef<'a>) -> NumberedTriple<'a>
     requires { is_plain (ref_value triple.now.vendor) ≡ true }
     ensures { AreNumbersOf (values_of_ref triple.now) result }
 {
@@ -149,14 +163,18 @@ pub(crate) fn numbers_of(triple: &TripleRef<'_>) -> LexiconTriple
 
 /// The numbers of a triple with these numbers of its version.
 #[inline(always)]
-fn numbers_with(triple: &TripleRef<'_>, has_version: u8, version: DeploymentTarget) -> LexiconTriple
+fn numbers_with<'a>(
+    triple: &TripleRef<'a>,
+    has_version: u8,
+    version: DeploymentTarget,
+) -> NumberedTriple<'a>
     requires plain { is_plain (ref_value triple.now.vendor) ≡ true }
     requires version { MatchOption (system_version triple.now.operating_system)
         ((has_version ≡ 0) × (version ≡ no_version))
         (λ v. (has_version ≡ 1) × (version ≡ v)) }
     ensures { AreNumbersOf (values_of_ref triple.now) result }
 {
-    LexiconTriple {
+    let numbers = TripleNumbers {
         architecture: architecture_number(triple.architecture),
         vendor: vendor_number(triple.vendor),
         operating_system: operating_system_number(triple.operating_system),
@@ -166,6 +184,10 @@ fn numbers_with(triple: &TripleRef<'_>, has_version: u8, version: DeploymentTarg
         minor: version.minor,
         patch: version.patch,
         major: version.major,
+    };
+    NumberedTriple {
+        numbers,
+        custom_vendor: vendor_text(triple.vendor),
     }
 }
 
@@ -184,14 +206,12 @@ pub(crate) fn vendor_number(vendor: VendorRef<'_>) -> u8
 
 /// The text of a custom vendor; no text for a known one.
 #[inline(always)]
-pub(crate) fn vendor_text<'a>(vendor: VendorRef<'a>) -> LexiconText<'a>
-    ensures { result.text.now ≡ vendor_text (ref_value vendor.entry) }
+fn vendor_text<'a>(vendor: VendorRef<'a>) -> &'a [u8]
+    ensures { result.now ≡ vendor_text (ref_value vendor.entry) }
 {
     match vendor {
-        VendorRef::Known(_) => LexiconText { text: b"" },
-        VendorRef::Custom(text) => LexiconText {
-            text: text.as_bytes(),
-        },
+        VendorRef::Known(_) => b"",
+        VendorRef::Custom(text) => text.as_bytes(),
     }
 }
 

@@ -1,13 +1,13 @@
 -- The rows are exactly those of the texts that are a fixed name of some field.
-use Rattle.std.proofs.Common.{◌≡◌, ◌≢◌, ◌↔◌, ◌∙◌, ℕ, ◌+◌, ◌<◌, ◌≤◌, List, [], true, false, Option, Some, None, is_some, refl, ap, sym, get_or, arith, Ordering, Less, Greater, nat_cmp, inl, inr, Contains}
+use Rattle.std.proofs.Common.{◌≡◌, ◌≢◌, ◌↔◌, ◌∙◌, ℕ, ◌+◌, ◌<◌, ◌≤◌, List, [], true, false, Option, Some, None, is_some, refl, ap, sym, arith, Ordering, Less, Greater, nat_cmp, inl, inr, Contains}
 use Rattle.std.specs.{Cmp.Lexicographic.slice_cmp, Cmp.Lexicographic.nat_list_eq_equiv, Str.bytes_eq, Option.option_or, Prelude.is_none, Ordering.is_eq}
 use Rattle.std.proofs.{lemmas.Bool.or_parts, lemmas.Bool.cases_lt, lemmas.Bool.cases_Bool, lemmas.Bool.false_from_ne_true, lemmas.List.Folds.list_any_at}
 use Rattle.std.proofs.{lemmas.Map.Text.is_eq-slice_cmp, lemmas.Map.Views.Contains-from_any, lemmas.Map.Views.list_any-from_Contains}
-use Rattle.std.proofs.{lemmas.Option.get_or_from_slice_get, lemmas.Option.slice_get-get_or, lemmas.Slice.Eq.bytes_eq-Decides}
+use Rattle.std.proofs.lemmas.Slice.Eq.{bytes_eq-Decides}
 use Rattle.lexicon_fields.specs.{Names.named_values, Architecture.architecture_of, declared.known_vendor.KnownVendor.KnownVendor, Vendor.known_vendor_name, Vendor.known_vendors, Vendor.known_vendor_of, declared.operating_system.OperatingSystem.OperatingSystem, Environment.environment_of, BinaryFormat.binary_format_of}
 use Rattle.lexicon_fields.specs.OperatingSystem.{operating_system_name, operating_system_of, darwin_prefixes, darwin_like_system, fixed_operating_systems, fixed_operating_system_of}
 use Rattle.lexicon_fields.specs.FixedRow.{has_row, row_count, row_texts, row_text}
-use Rattle.lexicon_fields.proofs.{LookUpLemmas.value_named-passes, LookUpLemmas.option_or-none, LookUpLemmas.none_is, RowTexts.is_row_text, RowTexts.rows_below, RowTexts.rows_above, RowTexts.row_text-passes, RowTexts.length-row_texts}
+use Rattle.lexicon_fields.proofs.{LookUpLemmas.value_named-passes, LookUpLemmas.option_or-none, LookUpLemmas.none_is, RowTexts.is_row_text, RowTexts.rows_below, RowTexts.rows_above, RowTexts.row_text-passes, RowTexts.length-row_texts, RowTexts.row_text-default}
 use Rattle.lexicon_fields.proofs.NamesReadBack.{architecture_of-row, environment_of-row, binary_format_of-row}
 
 pub known_vendor_of-row : (text : List ℕ) (v : KnownVendor) → known_vendor_of text ≡ Some v → is_row_text text ≡ true
@@ -48,9 +48,6 @@ row_text-found i below = list_any_at (bytes_eq (row_text i)) row_texts i [] (ome
 
 pub row-exists : (i : ℕ) → i < row_count → has_row (row_text i) ≡ true
 row-exists i below = row_text-exists (row_text i) (row_text-found i below)
-
-row_text-default : (i : ℕ) (d : List ℕ) → i < row_count → get_or row_texts i d ≡ row_text i
-row_text-default i d below = get_or_from_slice_get row_texts i (row_text i) d (slice_get-get_or row_texts i [] (omega (arith, length-row_texts)))
 
 -- the row with a text
 row_text-at : (s : List ℕ) → is_row_text s ≡ true → (i : ℕ) × (i < row_count) × (row_text i ≡ s)

@@ -2,7 +2,7 @@
 use Rattle.std.proofs.Common.{◌≡◌, ◌∙◌, ℕ, ◌<◌, List, [], ap, sym, map, length, get_or, arith}
 use Rattle.std.proofs.lemmas.List.{get_or-map, length-map}
 use Rattle.lexicon_fields.specs.FixedRow.{row_count, row_texts, row_text}
-use Rattle.lexicon_fields.proofs.RowTexts.{length-row_texts}
+use Rattle.lexicon_fields.proofs.RowTexts.{length-row_texts, row_text-default}
 
 -- the table has as many rows as there are texts
 pub rows-length : {X : Type 0} (text : X → List ℕ) (xs : List X) → map text xs ≡ row_texts → length xs ≡ row_count
@@ -19,3 +19,8 @@ pub column-is : {X V : Type 0} (column : X → V) (find : List ℕ → V) (xs : 
     → i < row_count → length xs ≡ row_count → map column xs ≡ map find row_texts → column (get_or xs i d) ≡ find (row_text i)
 column-is column find xs i d below long same =
     maps-agree column find xs row_texts i d [] (omega (arith, long)) (omega (arith, length-row_texts)) same
+
+-- the text at an index is that of the row
+pub text-is : {X : Type 0} (text : X → List ℕ) (xs : List X) (i : ℕ) (d : X) → i < row_count → map text xs ≡ row_texts → text (get_or xs i d) ≡ row_text i
+text-is text xs i d below texts =
+    sym (get_or-map text xs i d (text d) (omega (arith, rows-length text xs texts))) ∙ ap (λ (vs : List (List ℕ)). get_or vs i (text d)) texts ∙ row_text-default i (text d) below

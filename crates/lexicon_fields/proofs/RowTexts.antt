@@ -1,15 +1,20 @@
 -- The texts of the rows: they are in strictly increasing order, and which texts are among them.
-use Rattle.std.proofs.Common.{◌≡◌, ◌∙◌, ℕ, ◌+◌, ◌-◌, ◌<◌, ◌≤◌, List, [], ◌∷◌, Bool, true, refl, ap, sym, subst, length, arith, Ordering, Less, Equal, Greater, inl, inr, nat_cmp}
+use Rattle.std.proofs.Common.{◌≡◌, ◌∙◌, ℕ, ◌+◌, ◌-◌, ◌<◌, ◌≤◌, List, [], ◌∷◌, Bool, true, refl, ap, sym, subst, length, get_or, arith, Ordering, Less, Equal, Greater, inl, inr, nat_cmp}
 use Rattle.std.specs.{Cmp.Lexicographic.slice_cmp, Str.bytes_eq, List.list_all, List.list_any, List.Sorted.IsStrictlySortedBy}
 use Rattle.std.specs.Ordering.{is_lt, is_eq, ordering_reverse}
 use Rattle.std.proofs.lemmas.Bool.{agree_below, agree_below_at, and_parts, cases_order, cases_lt, cases_Bool}
 use Rattle.std.proofs.{lemmas.Cmp.nat_list_cmp_total, lemmas.Map.Keys.sorted_from_all_adjacent, lemmas.Map.Keys.Less-from_sorted}
 use Rattle.std.proofs.{lemmas.Map.Text.is_eq-slice_cmp, lemmas.Slice.Eq.bytes_eq-Decides}
+use Rattle.std.proofs.lemmas.Option.{get_or_from_slice_get, slice_get-get_or}
 use Rattle.lexicon_fields.specs.{Names.is_dash_free, FixedRow.row_count, FixedRow.row_texts, FixedRow.row_text}
 
 pub length-row_texts : length row_texts ≡ row_count
 unfolding row_texts
 length-row_texts = refl
+
+-- row i is the same whatever is read past the end
+pub row_text-default : (i : ℕ) (d : List ℕ) → i < row_count → get_or row_texts i d ≡ row_text i
+row_text-default i d below = get_or_from_slice_get row_texts i (row_text i) d (slice_get-get_or row_texts i [] (omega (arith, length-row_texts)))
 
 -- each text precedes the next one, shown for 48 rows at a time
 

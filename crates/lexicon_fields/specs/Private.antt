@@ -3,13 +3,6 @@ use Rattle.std.specs.Prelude.{ℕ, zero, suc, ◌+◌, ◌*◌, ◌^◌, ◌&&�
 use Rattle.std.specs.Borrow.{Bor}
 use Rattle.std.specs.Option.{option_or}
 use Rattle.lexicon_fields.specs.{declared.deployment_target.DeploymentTarget.DeploymentTarget, declared.operating_system.OperatingSystem.OperatingSystem, Names.Pair}
-use Rattle.lexicon_fields.specs.{declared.architecture.Architecture.Architecture, declared.known_vendor.KnownVendor.KnownVendor, declared.environment.Environment.Environment, declared.binary_format.BinaryFormat.BinaryFormat, declared.table.rows.Meaning.Meaning}
-use Rattle.lexicon_fields.specs.declared.architecture.Architecture.TheVariants as architecture
-use Rattle.lexicon_fields.specs.declared.known_vendor.KnownVendor.TheVariants as known_vendor
-use Rattle.lexicon_fields.specs.declared.operating_system.OperatingSystem.TheVariants as operating_system
-use Rattle.lexicon_fields.specs.declared.environment.Environment.TheVariants as environment
-use Rattle.lexicon_fields.specs.declared.binary_format.BinaryFormat.TheVariants as binary_format
-use Rattle.lexicon_fields.specs.declared.table.rows.Meaning.TheVariants as meaning
 use Rattle.lexicon_fields.specs.OperatingSystem.{optional_version_of, text_after_prefix}
 use Rattle.lexicon_fields.specs.Version.{pieces_of}
 
@@ -52,32 +45,3 @@ abbrev pub are_within : Option ℕ → ℕ → ℕ → ℕ → List (List ℕ) �
 are_within byte start end i [] = true
 are_within byte start end i (text ∷ texts) =
     ((nat_le start i && nat_lt i end) || not (is_first_byte byte text)) && are_within byte start end (suc i) texts
-
--- the value that a row's text has in each field, by what it means
-
-abbrev pub architecture_meant : Meaning → Option Architecture
-architecture_meant (meaning.Architecture it) = Some it
-architecture_meant meaning.Unknown = Some architecture.Unknown
-architecture_meant _ = None
-
-abbrev pub vendor_meant : Meaning → Option KnownVendor
-vendor_meant (meaning.Vendor it) = Some it
-vendor_meant meaning.Unknown = Some known_vendor.Unknown
-vendor_meant _ = None
-
-abbrev pub operating_system_meant : Meaning → Option OperatingSystem
-operating_system_meant (meaning.OperatingSystem it) = Some it
-operating_system_meant meaning.None = Some operating_system.None_
-operating_system_meant meaning.Unknown = Some operating_system.Unknown
-operating_system_meant _ = None
-
-abbrev pub environment_meant : Meaning → Option Environment
-environment_meant (meaning.Environment it) = Some it
-environment_meant meaning.None = Some environment.None
-environment_meant meaning.Unknown = Some environment.Unknown
-environment_meant _ = None
-
-abbrev pub binary_format_meant : Meaning → Option BinaryFormat
-binary_format_meant (meaning.BinaryFormat it) = Some it
-binary_format_meant meaning.Unknown = Some binary_format.Unknown
-binary_format_meant _ = None

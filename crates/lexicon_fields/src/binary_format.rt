@@ -14,7 +14,9 @@ use std::str::FromStr;
 #[derive(Clone, Copy, Debug, PartialEq, Eq, Hash)]
 pub enum BinaryFormat {
     // written by tools/names/write: the variants of BinaryFormat
+    /// A format that isn't known.
     Unknown,
+    /// ELF, of most systems like Unix.
     Elf,
     /// COFF, the format of Windows.
     Coff,

@@ -13,14 +13,17 @@ pub const MAX_VERSION_LENGTH: usize = 13;
 /// The oldest version of a system like Darwin on which a target runs, within the limits of a Mach-O file.
 #[derive(Clone, Copy, Debug, PartialEq, Eq, PartialOrd, Ord, Hash)]
 pub struct DeploymentTarget {
+    /// The `10` of `10.15.7`.
     pub major: u16,
+    /// The `15` of `10.15.7`.
     pub minor: u8,
+    /// The `7` of `10.15.7`.
     pub patch: u8,
 }
 
 impl DeploymentTarget {
     /// The version that the text parses as, if any: one to three pieces between dots, each an optional plus and digits.
-    pub(crate) fn from_text(text: &str) -> Option<DeploymentTarget>
+    pub fn from_text(text: &str) -> Option<DeploymentTarget>
         ensures { result ≡ version_of text.now }
     {
         let (major, rest) = first_piece(text);

@@ -14,19 +14,25 @@ use std::str::FromStr;
 #[derive(Clone, Copy, Debug, PartialEq, Eq, Hash)]
 pub enum Environment {
     // written by tools/names/write: the variants of Environment
+    /// An environment that the string doesn't say.
     Unknown,
     /// AMD graphics processors where the generic address space is number 0.
     AmdGiz,
+    /// Android's C library, Bionic.
     Android,
+    /// Android on 32-bit Arm, with Arm's embedded ABI.
     Androideabi,
     /// Arm's embedded ABI, which passes floating-point arguments in integer registers.
     Eabi,
     /// Arm's embedded ABI, which passes floating-point arguments in floating-point registers.
     Eabihf,
+    /// The GNU C library; on Windows, MinGW.
     Gnu,
     /// GNU, with the 64-bit ABI of MIPS.
     Gnuabi64,
+    /// GNU, with Arm's embedded ABI without floating-point registers.
     Gnueabi,
+    /// GNU, with Arm's embedded ABI with floating-point registers.
     Gnueabihf,
     /// GNU, with the signal processing engine of PowerPC.
     Gnuspe,
@@ -36,29 +42,41 @@ pub enum Environment {
     GnuIlp32,
     /// MinGW, with LLVM's tools and libraries.
     GnuLlvm,
+    /// The kernel of Hermit.
     HermitKernel,
+    /// The kernel of Hurd.
     HurdKernel,
+    /// The kernel of Linux.
     LinuxKernel,
     /// Mac Catalyst: an iOS program on macOS.
     Macabi,
+    /// The C library musl.
     Musl,
+    /// Musl, with Arm's embedded ABI without floating-point registers.
     Musleabi,
+    /// Musl, with Arm's embedded ABI with floating-point registers.
     Musleabihf,
     /// Musl, with the 64-bit ABI of MIPS.
     Muslabi64,
     /// Microsoft's Visual C++.
     Msvc,
+    /// The C library Newlib, of embedded systems.
     Newlib,
     /// No environment, if the text says so. A text that names none has `Unknown`.
     None,
+    /// The kernel of the operating system.
     Kernel,
+    /// The C library uClibc.
     Uclibc,
+    /// uClibc, with Arm's embedded ABI without floating-point registers.
     Uclibceabi,
+    /// uClibc, with Arm's embedded ABI with floating-point registers.
     Uclibceabihf,
     /// An enclave of Intel SGX.
     Sgx,
     /// Apple's simulators.
     Sim,
+    /// Floating-point numbers are computed by software.
     Softfloat,
     /// The signal processing engine of PowerPC.
     Spe,

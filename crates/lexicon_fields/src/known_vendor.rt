@@ -8,20 +8,35 @@ use crate::vendor::Vendor;
 #[derive(Clone, Copy, Debug, PartialEq, Eq, Hash)]
 pub enum KnownVendor {
     // written by tools/names/write: the variants of KnownVendor
+    /// A vendor that the string doesn't say, or none.
     Unknown,
+    /// AMD.
     Amd,
+    /// Apple.
     Apple,
+    /// Espressif, of the ESP32.
     Espressif,
+    /// No vendor: a target that is tried out.
     Experimental,
+    /// Fortanix, of enclaves of Intel SGX.
     Fortanix,
+    /// IBM.
     Ibm,
+    /// Kyoto Microcomputer, of the system SOLID.
     Kmc,
+    /// Nintendo.
     Nintendo,
+    /// NVIDIA.
     Nvidia,
+    /// Computers that are compatible with IBM's PC.
     Pc,
+    /// The unikernel Rumprun.
     Rumprun,
+    /// Sun Microsystems, now Oracle.
     Sun,
+    /// Microsoft's Universal Windows Platform.
     Uwp,
+    /// Wind River Systems.
     Wrs,
     // end of what is written
 }

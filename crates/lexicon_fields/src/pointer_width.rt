@@ -5,8 +5,11 @@ ghost use Rattle.lexicon_fields.specs.PointerWidth.{width_bits, width_bytes, wid
 /// The width of a pointer in the default address space.
 #[derive(Clone, Copy, Debug, PartialEq, Eq, Hash)]
 pub enum PointerWidth {
+    /// 16 bits.
     U16,
+    /// 32 bits.
     U32,
+    /// 64 bits.
     U64,
 }
 

@@ -23,7 +23,6 @@ impl Steps {
     }
 
     /// Counts one more step. The count is a number of the proof, and can't overflow.
-    #[inline(always)] // rustc saves nothing by it; of the kit's own build it isn't measured
     pub fn tick(&mut self)
         ensures { self.new.count ≡ self.old.count + 1 }
     {

@@ -1,9 +1,9 @@
-//! The table of the fixed names, and of the alias `arm64`.
+//! The table of the fixed names, and of the alias `arm64`. A function is inlined if it returns a wide value.
 ghost use Rattle.std.specs.Prelude.{◌≡◌, ◌+◌, ◌<◌, ◌≤◌, true, false, MatchOption};
 ghost use Rattle.std.specs.Cmp.Lexicographic.{slice_cmp};
 ghost use Rattle.std.specs.Ordering.{nat_cmp};
 ghost use Rattle.lexicon_fields.specs.FixedRow.{has_row, IsRowOf, row_count, row_text, row_texts};
-ghost use Rattle.lexicon_fields.specs.Private.{are_within};
+ghost use Rattle.lexicon_fields.specs.Private.{are_within, prefix_key_of};
 
 mod prefix_key;
 mod rows;
@@ -14,7 +14,7 @@ use crate::environment::Environment;
 use crate::known_vendor::KnownVendor;
 use crate::operating_system::OperatingSystem;
 use crate::steps::Steps;
-use rows::row;
+use rows::{Row, row_at};
 use std::cmp::Ordering;
 use std::ops::Range;
 
@@ -36,36 +36,22 @@ pub struct FixedRow {
 
 /// The row of the text, or `None` if the text is neither a fixed name nor the alias `arm64`. `steps` ticks once for
 /// each row that is compared with the text: at least once, and at most eight times.
-#[inline(always)] // this file's hints save 6 of 100 instructions of `print`
+#[inline(always)]
 pub fn fixed_row(text: &str, steps: &mut Steps) -> Option<FixedRow>
     ensures row { MatchOption result (has_row text.now ≡ false) (IsRowOf text.now) }
     ensures counted { steps.old.count < steps.new.count }
     ensures few { steps.new.count ≤ steps.old.count + 8 }
 {
-    match row_number(text, steps) {
-        Some(i) => Some(row_at(i)),
+    match row_of(text, steps) {
+        Some(row) => Some(row.fixed),
         None => None,
     }
 }
 
-/// The order by bytes of the text of row `i`, counted from 0, relative to `text`.
-#[inline(always)]
-pub fn row_order(i: usize, text: &str, steps: &mut Steps) -> Ordering
-    requires { i < row_count }
-    ensures order { result ≡ slice_cmp nat_cmp (row_text i) text.now }
-    ensures count { steps.new.count ≡ steps.old.count + 1 }
-{
-    steps.tick();
-    let key = prefix_key::prefix_key(text);
-    let (own, own_key, _) = row(i);
-    prefix_key::order(own_key, own, key, text)
-}
-
-/// The number of the text's row, by a binary search among the rows that begin with the text's first byte.
-#[inline(never)]
-fn row_number(text: &str, steps: &mut Steps) -> Option<usize>
+/// The row of the text, found by a binary search among the rows that begin with the text's first byte.
+fn row_of(text: &str, steps: &mut Steps) -> Option<&'static Row>
     ensures row { MatchOption result (has_row text.now ≡ false)
-        (λ i. (i < row_count) × (row_text i ≡ text.now)) }
+        (λ row. IsRowOf text.now row.now.fixed) }
     ensures counted { steps.old.count < steps.new.count }
     ensures few { steps.new.count ≤ steps.old.count + 8 }
 {
@@ -73,15 +59,37 @@ fn row_number(text: &str, steps: &mut Steps) -> Option<usize>
         start: mut low,
         end: mut high,
     } = rows_by_first_byte(text.as_bytes().first().copied());
+    let key = prefix_key::prefix_key(text);
     while low < high {
         let middle = (low + high) / 2;
-        match row_order(middle, text, steps) {
+        match order_by_key(middle, key, text, steps) {
             Ordering::Less => low = middle + 1,
             Ordering::Greater => high = middle,
-            Ordering::Equal => return Some(middle),
+            Ordering::Equal => return Some(row_at(middle)),
         }
     }
     None
+}
+
+/// The order by bytes of the text of row `i`, counted from 0, relative to `text`.
+pub fn row_order(i: usize, text: &str, steps: &mut Steps) -> Ordering
+    requires { i < row_count }
+    ensures order { result ≡ slice_cmp nat_cmp (row_text i) text.now }
+    ensures count { steps.new.count ≡ steps.old.count + 1 }
+{
+    order_by_key(i, prefix_key::prefix_key(text), text, steps)
+}
+
+/// The order by bytes of the text of row `i` relative to `text`, which has this prefix key.
+fn order_by_key(i: usize, key: u64, text: &str, steps: &mut Steps) -> Ordering
+    requires row { i < row_count }
+    requires key { key ≡ prefix_key_of 8 text.now }
+    ensures order { result ≡ slice_cmp nat_cmp (row_text i) text.now }
+    ensures count { steps.new.count ≡ steps.old.count + 1 }
+{
+    steps.tick();
+    let row = row_at(i);
+    prefix_key::order(row.prefix_key, row.fixed.text, key, text)
 }
 
 /// The rows that begin with this byte, as the thumb index of a dictionary finds them; all rows, if none begins so.
@@ -118,22 +126,5 @@ fn rows_by_first_byte(byte: Option<u8>) -> Range<usize>
         Some(b'z') => 189..192,
         // end of what is written
         _ => 0..ROW_COUNT,
-    }
-}
-
-/// Row `i`, counted from 0.
-#[inline(always)]
-fn row_at(i: usize) -> FixedRow
-    requires { i < row_count }
-    ensures { IsRowOf (row_text i) result }
-{
-    let (text, _, meaning) = row(i);
-    FixedRow {
-        text,
-        architecture: meaning.architecture(),
-        vendor: meaning.vendor(),
-        operating_system: meaning.operating_system(),
-        environment: meaning.environment(),
-        binary_format: meaning.binary_format(),
     }
 }

@@ -1,4 +1,5 @@
 //! The vendors, of which a custom one borrows its text.
+// Hint of inlining: `from_row` takes a row, which is wide.
 ghost use Rattle.std.specs.Prelude.{◌≡◌, false, None, Some, IfOk, MatchOption, OnErr, option_map};
 ghost use Rattle.std.specs.List.{list_all};
 ghost use Rattle.lexicon_fields.specs.FixedRow.{IsRowOf, has_row};

@@ -13,9 +13,3 @@ known_names field.Vendor = map known_vendor_name known_vendors
 known_names field.OperatingSystem = map operating_system_name fixed_operating_systems ++ map (λ prefix. prefix.0) darwin_prefixes
 known_names field.Environment = map environment_name environment_values
 known_names field.BinaryFormat = map binary_format_name binary_format_values
-
--- the names of all fields, one field after another
-unfoldable pub all_known_names : List (List ℕ)
-all_known_names =
-    known_names field.Architecture ++ (known_names field.Vendor ++ (known_names field.OperatingSystem
-    ++ (known_names field.Environment ++ known_names field.BinaryFormat)))

@@ -1,5 +1,6 @@
 //! The known names of each field.
 ghost use Rattle.std.specs.Prelude.{◌≡◌, map};
+ghost use Rattle.lexicon_fields.specs.Architecture.{architecture_aliases};
 ghost use Rattle.lexicon_names.specs.KnownNames.{known_names};
 
 use lexicon_fields::Field;
@@ -230,4 +231,15 @@ pub fn names(field: Field) -> &'static [&'static str]
             // end of what is written
         ],
     }
+}
+
+/// The aliases of architectures.
+pub fn aliases() -> &'static [&'static str]
+    ensures { map (λ name. name.now) result.now ≡ map (λ alias. alias.0) architecture_aliases }
+{
+    &[
+        // written by tools/names/write: the aliases of architectures
+        "arm64",
+        // end of what is written
+    ]
 }

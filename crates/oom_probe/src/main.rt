@@ -1,77 +1,184 @@
-//! Makes each call of the libraries that may allocate, and writes a line for each call: its name, its argument as it is
-//! after the call, and its result. So a call that changed its argument would show.
-//!
-//! The program makes the calls on texts of its own, and then on each line of its input. `checks/fail_allocations` gives
-//! it no input, and makes each of its allocations fail in turn; checks/rows/oom_probe.t gives it large lines.
+//! Makes each call of the libraries that takes an allocator, and writes a line for each: its name, and after the call
+//! `ok` or its error. `checks/fail_allocations` makes each allocation of the program fail in turn. A call that should
+//! allocate nothing has a line that begins with `no memory: `.
 #![tactic(auto)]
 
-mod clones;
-mod input;
-mod json;
-mod no_allocation;
-mod parsing;
-mod report;
-
-use clones::{report_parse_error, report_triple, report_versioned_system};
-use input::{input_bytes, report_input};
-use json::{report_parsed_list, report_printed_list};
-use no_allocation::report_calls_without_allocation;
-use parsing::report_parsing;
-use report::report;
 use serde_json::Value;
 use std::alloc::Global;
-use std::process::ExitCode;
-use target_lexicon::{Triple, list_from_json};
+use std::fmt::Debug;
+use target_lexicon::{
+    CustomVendor, DefaultToHost, DefaultToUnknown, DeploymentTarget, OperatingSystem, ParseError,
+    Triple, TripleRef, Vendor, list_from_json, list_to_json,
+};
 
-/// Reports the calls whose arguments are allocated, or returns `None` if the allocation of an argument fails.
-fn report_calls_on_allocated(rt: &impl Print, alloc: Global) -> Option<()> {
-    report_parse_error(rt, alloc, String::from_str(alloc, "foo").ok()?);
-    report_triple(
-        rt,
-        alloc,
-        Triple::from_str(alloc, "x86_64-customvendor-linux").ok()?,
-    );
-    report_settle(rt, alloc, "riscv32imc-esp-espidf-unknown-unknown")?;
-    report_list(rt, alloc, "[\"x86_64\",\"x86_64-foo-linux\"]")?;
-    report_list(
-        rt,
-        alloc,
-        "[\"x86_64-longervendor-linux\",\"avr\",\"x86_64-a-linux\",\"avr-pc-none\",\"x86_64-customvendor-linux\"]",
-    )
+/// What the line of a call that should allocate nothing begins with.
+const NO_MEMORY: &str = "no memory: ";
+
+/// Writes the beginning of a line, before the call.
+fn begin(rt: &impl Print, memory: &str, call: &str, argument: &str) {
+    let _ = print!(rt; "{memory}{call} of {argument}");
 }
 
-fn report_settle(rt: &impl Print, alloc: Global, text: &str) -> Option<()> {
-    let triple = Triple::from_str(alloc, text).ok()?;
-    report(rt, "Triple::comes_back", &text, &triple.comes_back());
-    let other = Triple::from_str(alloc, text).ok()?.normal();
-    report(rt, "Triple::settles_as", &text, &triple.settles_as(&other));
-    report(rt, "Triple::normal", &text, &other);
-    report(rt, "Triple::settle", &text, &triple.settle());
-    Some(())
-}
-
-fn report_list(rt: &impl Print, alloc: Global, text: &str) -> Option<()> {
-    let list = Value::from_str(alloc, text).ok()?;
-    report_parsed_list(rt, alloc, &list, list.as_array()?.as_slice());
-    let triples = list_from_json(alloc, &list).ok()?;
-    report_printed_list(rt, alloc, &triples);
-    Some(())
-}
-
-fn main(rt: HostRuntime) -> ExitCode {
-    report_parsing(&rt, rt.alloc());
-    report_calls_without_allocation(&rt, rt.alloc());
-    report_versioned_system(&rt, rt.alloc());
-    if report_calls_on_allocated(&rt, rt.alloc()).is_none() {
-        let _ = rt.println("No memory for an argument");
-        return ExitCode::FAILURE;
+/// Writes the end of the line, after the call, and gives what the call returned, if it is no error.
+fn end<T: Drop, E: Debug + Drop>(rt: &impl Print, returned: Result<T, E>) -> Option<T> {
+    match returned {
+        Ok(value) => {
+            let _ = println!(rt; ": ok");
+            Some(value)
+        }
+        Err(error) => {
+            let _ = println!(rt; ": {error:?}");
+            None
+        }
     }
-    let Some(bytes) = input_bytes(rt.alloc(), &mut rt.stdin()) else {
-        return ExitCode::FAILURE;
+}
+
+/// The same for a call that has no error.
+fn end_without_error(rt: &impl Print) {
+    let _ = println!(rt; ": ok");
+}
+
+/// Calls on a string, which need memory or not.
+fn report_parsing(rt: &impl Print, alloc: Global, text: &str, memory: &str) {
+    begin(rt, memory, "Triple::from_str", text);
+    let _ = end(rt, Triple::from_str(alloc, text));
+    match TripleRef::from_str(text) {
+        Ok(triple) => report_borrowed(rt, alloc, text, memory, triple),
+        Err(error) => {
+            begin(rt, "", "ParseErrorRef::to_error", text);
+            let _ = end(rt, error.to_error(alloc));
+        }
+    }
+}
+
+/// Calls on a borrowed triple and its vendor, which need memory to be owned or not.
+fn report_borrowed(
+    rt: &impl Print,
+    alloc: Global,
+    text: &str,
+    memory: &str,
+    triple: TripleRef<'_>,
+) {
+    begin(rt, memory, "TripleRef::to_triple", text);
+    let _ = end(rt, triple.to_triple(alloc));
+    begin(rt, "", "TripleRef::to_text", text);
+    let _ = end(rt, triple.to_text(alloc));
+    begin(rt, "", "TripleRef::to_upstream_text", text);
+    let _ = end(rt, triple.to_upstream_text(alloc));
+    begin(rt, "", "TripleRef::to_json", text);
+    let _ = end(rt, triple.to_json(alloc));
+    begin(rt, memory, "VendorRef::to_vendor", text);
+    let _ = end(rt, triple.vendor.to_vendor(alloc));
+}
+
+/// Calls on a triple that owns the text of its vendor, or has a known vendor.
+fn report_owned(rt: &impl Print, alloc: Global, text: &str, memory: &str) -> Option<()> {
+    begin(rt, memory, "Triple::from_str", text);
+    let triple = end(rt, Triple::from_str(alloc, text))?;
+    begin(rt, memory, "Triple::clone", text);
+    let _ = end(rt, triple.clone(alloc));
+    begin(rt, "", "Triple::to_text", text);
+    let _ = end(rt, triple.to_text(alloc));
+    begin(rt, "", "Triple::to_upstream_text", text);
+    let _ = end(rt, triple.to_upstream_text(alloc));
+    begin(rt, memory, "Vendor::clone", text);
+    let _ = end(rt, triple.vendor.clone(alloc));
+    begin(rt, "", "Triple::to_json", text);
+    let value = end(rt, triple.to_json(alloc))?;
+    begin(rt, memory, "Triple::from_json", text);
+    let host = DefaultToHost(end(rt, Triple::from_json(alloc, &value))?);
+    begin(rt, memory, "DefaultToHost::clone", text);
+    let _ = end(rt, host.clone(alloc));
+    let unknown = DefaultToUnknown(host.0);
+    begin(rt, memory, "DefaultToUnknown::clone", text);
+    let _ = end(rt, unknown.clone(alloc));
+    report_steps(rt, text, triple);
+    Some(())
+}
+
+/// Calls that take a triple, and so could allocate, but don't.
+fn report_steps(rt: &impl Print, text: &str, triple: Triple) {
+    begin(rt, NO_MEMORY, "Triple::comes_back", text);
+    let _ = triple.comes_back();
+    end_without_error(rt);
+    begin(rt, NO_MEMORY, "Triple::settles_as", text);
+    let _ = triple.settles_as(&triple);
+    end_without_error(rt);
+    if triple.vendor.is_plain() {
+        begin(rt, NO_MEMORY, "Triple::normal and Triple::settle", text);
+        let _ = triple.normal().settle();
+        end_without_error(rt);
+    }
+}
+
+/// Calls on vendors.
+fn report_vendors(rt: &impl Print, alloc: Global) {
+    for text in ["apple", "ios17", "Foo"] {
+        begin(rt, NO_MEMORY, "Vendor::from_str", text);
+        let _ = end(rt, Vendor::from_str(alloc, text));
+    }
+    begin(rt, NO_MEMORY, "CustomVendor::clone", "a static text");
+    let _ = end(rt, CustomVendor::Static("foo").clone(alloc));
+    begin(rt, "", "Vendor::from_str", "foo");
+    if let Some(Vendor::Custom(custom)) = end(rt, Vendor::from_str(alloc, "foo")) {
+        begin(rt, "", "CustomVendor::clone", "foo");
+        let _ = end(rt, custom.clone(alloc));
+    }
+}
+
+/// Calls on systems and errors.
+fn report_names(rt: &impl Print, alloc: Global) -> Option<()> {
+    begin(rt, NO_MEMORY, "OperatingSystem::into_str", "none");
+    let _ = end(rt, OperatingSystem::None_.into_str(alloc));
+    let version = DeploymentTarget {
+        major: 23,
+        minor: 6,
+        patch: 0,
     };
-    match str::from_utf8(&bytes) {
-        Ok(text) => report_input(&rt, rt.alloc(), text),
-        Err(_) => return ExitCode::FAILURE,
-    }
-    ExitCode::SUCCESS
+    begin(rt, "", "OperatingSystem::into_str", "darwin23.6.0");
+    let _ = end(rt, OperatingSystem::Darwin(Some(version)).into_str(alloc));
+    begin(
+        rt,
+        NO_MEMORY,
+        "ParseError::clone",
+        "an error without a part",
+    );
+    let _ = end(rt, ParseError::OutOfMemory.clone(alloc));
+    begin(rt, "", "String::from_str", "foo");
+    let error = ParseError::UnrecognizedVendor(end(rt, String::from_str(alloc, "foo"))?);
+    begin(rt, "", "ParseError::clone", "an error with a part");
+    let _ = end(rt, error.clone(alloc));
+    Some(())
+}
+
+/// Calls on a list, of which the elements 1 and 3 need memory.
+fn report_list(rt: &impl Print, alloc: Global) -> Option<()> {
+    let text = "[\"x86_64\",\"x86_64-foo-linux\",\"avr\",\"avr-bar\"]";
+    begin(rt, "", "Value::from_str", text);
+    let list = end(
+        rt,
+        match Value::from_str(alloc, text) {
+            Ok(value) => Ok(value),
+            Err(_) => Err(ParseError::OutOfMemory),
+        },
+    )?;
+    begin(rt, "", "list_from_json", text);
+    let triples = end(rt, list_from_json(alloc, &list))?;
+    begin(rt, "", "list_to_json", text);
+    let _ = end(rt, list_to_json(alloc, triples.as_slice()));
+    Some(())
+}
+
+fn main(rt: HostRuntime) {
+    let alloc = rt.alloc();
+    report_parsing(&rt, alloc, "x86_64-unknown-linux-gnu", NO_MEMORY);
+    report_parsing(&rt, alloc, "armv6k-nintendo-3ds", NO_MEMORY);
+    report_parsing(&rt, alloc, "x86_64-customvendor-linux", "");
+    report_parsing(&rt, alloc, "foo", "");
+    report_parsing(&rt, alloc, "x86_64-customvendor-linux-foo-bar", "");
+    let _ = report_owned(&rt, alloc, "riscv32imc-esp-espidf-unknown-unknown", "");
+    let _ = report_owned(&rt, alloc, "clever-unknown-unknown-none", NO_MEMORY);
+    report_vendors(&rt, alloc);
+    let _ = report_names(&rt, alloc);
+    let _ = report_list(&rt, alloc);
 }

@@ -112,15 +112,18 @@ module _ (text p : List ℕ) (ps : List (List ℕ)) (ordinary : special_values t
   by_architecture None h = is_refused _ (refused_first p ps (ap is_some h))
   by_architecture (Some a) h = by_given a (reading_from_vendor a ps) h (ap is_some h) (vendor-gives a ps)
 
-  pub parts-hold : Holds text (reading_of_parts (p ∷ ps))
+  parts-hold : Holds text (reading_of_parts (p ∷ ps))
   parts-hold = by_architecture (architecture_of p) refl
 
 by_parts : (text : List ℕ) (parts : List (List ℕ)) → special_values text ≡ None → parts_of text ≡ parts → Holds text (reading_of_parts parts)
 by_parts text [] ordinary are = absurd (parts_of-some text are)
 by_parts text (p ∷ ps) ordinary are = parts-hold text p ps ordinary are
 
+pub ordinary-holds : (text : List ℕ) → special_values text ≡ None → Holds text (reading_of_parts (parts_of text))
+ordinary-holds text ordinary = by_parts text (parts_of text) ordinary refl
+
 by_special : (text : List ℕ) (o : Option Values) → special_values text ≡ o → Holds text (reading_unless_special o text)
-by_special text None ordinary = by_parts text (parts_of text) ordinary refl
+by_special text None ordinary = ordinary-holds text ordinary
 by_special text (Some t) special = rw special refl
 
 reading-holds : (text : List ℕ) → Holds text (reading text)

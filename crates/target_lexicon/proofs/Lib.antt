@@ -1,15 +1,13 @@
--- Parsing: PartLemmas, DashBits, RowLookUps, Vendors (the parts of a text and their values); NamesAcross (the names
 -- of one field, parsed as an earlier field); GreedyPlacement, RefusalLemmas, UniqueReading, ComputedReading (from
--- parsing as a function to the least placement); FieldTextLemmas (the part of each field); ReadValues (facts about
+-- parsing as a function to the least placement); SourceLemmas (the source of each field); ReadValues (facts about
 -- all parsed triples). Printing: PrintingLemmas, Upstream, Lengths (how much longer than the text). Round trips:
 -- RoundTrips, TextRoundTrips (a printed text parsed again); StepCases, FixedPointLemmas, SettleLemmas, ModelsKnown,
 -- QueriesKept; Elements. SameValues: equality of triples. HashInputPairs: what fields feed a hasher.
 pub mod ComputedReading
 pub mod PartLemmas
-pub mod DashBits
 pub mod RowLookUps
 pub mod Elements
-pub mod FieldTextLemmas
+pub mod SourceLemmas
 pub mod HashInputPairs
 pub mod FixedPointLemmas
 pub mod GreedyPlacement

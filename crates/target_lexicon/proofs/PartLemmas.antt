@@ -1,9 +1,8 @@
 -- A text has exactly one list of parts.
-use Rattle.std.proofs.Common.{◌≡◌, ◌≢◌, ℕ, List, [], ◌∷◌, ◌++◌, ◌+◌, ◌-◌, take, drop, get_or, Bool, true, false, nat_eq, Some, None, refl, sym, length, ◌<◌, ◌∙◌, ap, arith, ◌≤◌, inl, inr}
-use Rattle.std.specs.List.{list_all, list_any, join_with_byte, onto_first, slice_range, position, position_or_len}
+use Rattle.std.proofs.Common.{◌≡◌, ◌≢◌, ◌+◌, ◌-◌, get_or, drop, take, ℕ, List, [], ◌∷◌, ◌++◌, Bool, true, false, nat_eq, refl, sym, length, ◌<◌, ◌∙◌, ap, arith, inl, inr}
+use Rattle.std.specs.List.{list_all, list_any, join_with_byte, onto_first, before_first, after_first, slice_range, position_or_len}
 use Rattle.std.specs.Prelude.{◌==◌, ◌||◌, not}
-use Rattle.std.proofs.{lemmas.Bool.and_parts, lemmas.Bool.cases_Bool, lemmas.Bool.eqb-true, lemmas.Grind.common_steps, lemmas.List.Quantifiers.position-Some}
-use Rattle.std.proofs.lemmas.List.Sums.{fails_before_first, position_or_len_is}
+use Rattle.std.proofs.{lemmas.Bool.and_parts, lemmas.Bool.cases_Bool, lemmas.Bool.ne_eqb, lemmas.Bool.eq-eqb, lemmas.List.Sums.fails_before_first, lemmas.List.Sums.position_or_len_is}
 use Rattle.std.proofs.lemmas.List.Splits.{join_with_byte-slice_split, slice_split_first, slice_split_none}
 use Rattle.lexicon_fields.specs.Names.{dash}
 use Rattle.lexicon_fields.specs.Names.{is_dash_free}
@@ -66,22 +65,23 @@ pub parts-only : (text : List ℕ) (others : List (List ℕ)) → ArePartsOf tex
 parts-only text [] are = absurd (are.some refl)
 parts-only text (p ∷ ps) are = sym (parts_of-joined p ps are.dash_free) ∙ ap parts_of are.joined
 
--- a text that is cut at its first dash
-module _ (text : List ℕ) (i : ℕ) (found : position (λ b. b == dash) text ≡ Some i) where
-  pub dash_at : (i < length text) × (get_or text i 0 ≡ dash)
-  dash_at = let at = position-Some (λ b. b == dash) text i 0 found in (at.0, eqb-true (get_or text i 0) dash at.1)
+-- a text that is cut at its first dash, or that has none
+pub parts_of-cut : (text part after : List ℕ) → part ≡ before_first (λ b. b == dash) text → after ≡ after_first (λ b. b == dash) text
+    → position_or_len (λ b. b == dash) text < length text → parts_of text ≡ part ∷ parts_of after
+parts_of-cut text part after before rest found = slice_split_first (λ b. b == dash) text 0 found ∙ (λ i. sym before i ∷ parts_of (sym rest i))
 
-  pub cut-found : (part after : List ℕ) → part ≡ slice_range text 0 i → after ≡ drop (i + 1) text → parts_of text ≡ part ∷ parts_of after
-  cut-found part after prefix back =
-      let at = position-Some (λ b. b == dash) text i 0 found in
-      let same : position_or_len (λ b. b == dash) text ≡ i = position_or_len_is (λ b. b == dash) text i 0 (omega (arith, at.0)) at.2 (λ _. at.1) in
-      let whole : i ≡ i - 0 = omega arith in
-      slice_split_first (λ b. b == dash) text 0 (omega (arith, same, at.0))
-      ∙ ap (λ (n : ℕ). take n text ∷ parts_of (drop (n + 1) text)) same
-      ∙ ap (λ (xs : List ℕ). xs ∷ parts_of (drop (i + 1) text)) (ap (λ (n : ℕ). take n text) whole ∙ sym prefix)
-      ∙ ap (λ (xs : List ℕ). part ∷ parts_of xs) (sym back)
+pub parts_of-uncut : (text : List ℕ) → position_or_len (λ b. b == dash) text ≡ length text → parts_of text ≡ text ∷ []
+parts_of-uncut text none = slice_split_none (λ b. b == dash) text (λ k d h. fails_before_first (λ b. b == dash) text k d (omega (arith, none, h)))
 
-pub cut-whole : (text : List ℕ) → position (λ b. b == dash) text ≡ None → parts_of text ≡ text ∷ []
-cut-whole text none =
-    let past : length text ≤ position_or_len (λ b. b == dash) text = grind (arith, common_steps) in
-    slice_split_none (λ b. b == dash) text (λ k d h. fails_before_first (λ b. b == dash) text k d (omega (arith, past, h)))
+module _ (text : List ℕ) (i : ℕ) (within : i < length text) (here : get_or text i 0 ≡ dash) (none : (k : ℕ) → k < i → get_or text k 0 ≢ dash) where
+  first_dash : position_or_len (λ b. b == dash) text ≡ i
+  first_dash = position_or_len_is (λ b. b == dash) text i 0 (omega (arith, within)) (λ k h. ne_eqb (get_or text k 0) dash (none k h)) (λ _. eq-eqb (get_or text i 0) dash here)
+
+  pub parts_of-cut-at : (part after : List ℕ) → part ≡ slice_range text 0 i → after ≡ drop (i + 1) text → parts_of text ≡ part ∷ parts_of after
+  parts_of-cut-at part after prefix rest =
+      let whole : i - 0 ≡ i = omega arith in
+      parts_of-cut text part after (prefix ∙ (λ j. take (whole j) text) ∙ ap (λ n. take n text) (sym first_dash)) (rest ∙ ap (λ n. drop (n + 1) text) (sym first_dash))
+      (omega (arith, within, first_dash))
+
+pub parts_of-whole : (text : List ℕ) → ((k : ℕ) → k < length text → get_or text k 0 ≢ dash) → parts_of text ≡ text ∷ []
+parts_of-whole text none = parts_of-uncut text (position_or_len_is (λ b. b == dash) text (length text) 0 (omega arith) (λ k h. ne_eqb (get_or text k 0) dash (none k h)) (λ more. absurd (omega (arith, more))))

@@ -3,7 +3,7 @@ use Rattle.std.proofs.Common.{◌≡◌, ℕ, suc, ◌≤◌, List, [], ◌∷�
 use Rattle.std.proofs.{Math.Seq.take-append_seam, lemmas.List.take-append-le, lemmas.Bool.cases_Bool}
 use Rattle.std.specs.Prelude.{slice_get}
 use Rattle.target_lexicon.specs.{Field.Field, Field.Architecture, Field.parses_as, Placement.HasPlacement, Reading.IsRefusal, Reading.IsExpectedAfter, Reading.expected_after, Reading.last_field}
-use Rattle.target_lexicon.specs.Refusal.{Expects, refusal_with}
+use Rattle.target_lexicon.specs.Refusal.{refusal_with}
 use Rattle.target_lexicon.proofs.GreedyPlacement.{filled, unread, after_architecture, greedy-least, greedy-finds, placement_prefix}
 
 -- the parts that fill fields, and the part at which they stop
@@ -56,7 +56,7 @@ stop (f ∷ fs) (p ∷ ps) q rest e =
         }
 
 -- the first part is refused if it is not an architecture
-abbrev pub refused_first : (p : List ℕ) (ps : List (List ℕ)) → parses_as Architecture p ≡ false → IsRefusal (p ∷ ps) (refusal_with (Expects Architecture) p)
+abbrev pub refused_first : (p : List ℕ) (ps : List (List ℕ)) → parses_as Architecture p ≡ false → IsRefusal (p ∷ ps) (refusal_with (Some Architecture) p)
 refused_first p ps skips = record {
   count = 0;
   refused = refl;

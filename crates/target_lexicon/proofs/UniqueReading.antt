@@ -3,7 +3,7 @@ use Rattle.std.proofs.Common.{◌≡◌, ℕ, ◌<◌, List, [], ◌∷◌, take
 use Rattle.std.specs.Prelude.{MatchOption, slice_get}
 use Rattle.lexicon_fields.specs.{Architecture.architecture_of, Vendor.vendor_of, OperatingSystem.operating_system_of, Environment.environment_of, BinaryFormat.binary_format_of}
 use Rattle.target_lexicon.specs.{Field.Field, ImpliedFormat.default_binary_format, Placement.ArePartsOf, Placement.parts_of, Placement.HasPlacement, SpecialTexts.special_values, Values.Values}
-use Rattle.target_lexicon.specs.Refusal.{Expected, ExpectsNone, Refusal, refusal_with}
+use Rattle.target_lexicon.specs.Refusal.{Refusal, refusal_with}
 use Rattle.target_lexicon.specs.Reading.{IsValueOf, HoldsParts, PartsReadAs, ReadsAs, IsRefusal, IsExpectedAfter, IsRefusedAs, IsRefused, expected_after, last_field}
 use Rattle.target_lexicon.proofs.{GreedyPlacement.placement_prefix, GreedyPlacement.least-unique, PartLemmas.parts-only, SameValues.same_values}
 
@@ -42,11 +42,11 @@ same_count parts x y a b =
     let second : b.count < a.count → ⊥ = λ before. b.unplaced (a.placed b.count before) in
     omega arith
 
-abbrev expected_after_all : List Field → Expected
-expected_after_all [] = ExpectsNone
+abbrev expected_after_all : List Field → Option Field
+expected_after_all [] = None
 expected_after_all (f ∷ fs) = expected_after (last_field f fs)
 
-same_expected : (prefix : List (List ℕ)) (j k : Expected) → IsExpectedAfter prefix j → IsExpectedAfter prefix k → j ≡ k
+same_expected : (prefix : List (List ℕ)) (j k : Option Field) → IsExpectedAfter prefix j → IsExpectedAfter prefix k → j ≡ k
 same_expected [] j k h l = h ∙ sym l
 same_expected (p ∷ ps) j k (f, (fs, least, h)) (g, (gs, other, l)) =
     h ∙ ap expected_after_all (least-unique (p ∷ ps) (f ∷ fs) (g ∷ gs) least other) ∙ sym l

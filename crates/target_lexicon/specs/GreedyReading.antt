@@ -4,7 +4,7 @@ use Rattle.std.specs.Prelude.{◌≡◌, ℕ, List, [], ◌∷◌, Option, Some,
 use Rattle.lexicon_fields.specs.{Vendor.IsCustom, Vendor.vendor_of, Architecture.architecture_of, declared.known_vendor.KnownVendor.TheVariants.Unknown, Environment.environment_of}
 use Rattle.lexicon_fields.specs.{OperatingSystem.operating_system_of, BinaryFormat.binary_format_of}
 use Rattle.target_lexicon.specs.{declared.parse_error.ParseError.ParseError, declared.triple.Triple.Triple, Reading.ReadsAs, Reading.IsErrorOf, Reading.expected_after, Field.Field, Placement.parts_of}
-use Rattle.target_lexicon.specs.{Refusal.refusal_of, Refusal.Expects, Refusal.Refusal, Refusal.refusal_with, ImpliedFormat.implied_format, SpecialTexts.special_values}
+use Rattle.target_lexicon.specs.{Refusal.refusal_of, Refusal.Refusal, Refusal.refusal_with, ImpliedFormat.implied_format, SpecialTexts.special_values}
 use Rattle.target_lexicon.specs.Values.{values_of, Architecture, OperatingSystem, Environment, VendorValue, Known, Values, values}
 use Rattle.target_lexicon.specs.Values.operating_system
 use Rattle.target_lexicon.specs.Values.environment
@@ -48,11 +48,11 @@ reading_from_vendor a parts =
 -- the parts after an architecture, and the refusal of a part that is none
 abbrev pub reading_after_architecture : Option Architecture → List ℕ → List (List ℕ) → Result Values Refusal
 reading_after_architecture (Some a) p ps = reading_from_vendor a ps
-reading_after_architecture None p ps = Err (refusal_with (Expects field.Architecture) p)
+reading_after_architecture None p ps = Err (refusal_with (Some field.Architecture) p)
 
 -- a text has one part at least; without any, the empty one would be refused
 abbrev pub reading_of_parts : List (List ℕ) → Result Values Refusal
-reading_of_parts [] = Err (refusal_with (Expects field.Architecture) [])
+reading_of_parts [] = Err (refusal_with (Some field.Architecture) [])
 reading_of_parts (p ∷ ps) = reading_after_architecture (architecture_of p) p ps
 
 abbrev pub reading_unless_special : Option Values → List ℕ → Result Values Refusal

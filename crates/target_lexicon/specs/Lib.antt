@@ -1,8 +1,8 @@
 pub mod CallingConvention
 pub mod DataModel
+pub mod Explanation
 pub mod Families
 pub mod Field
-pub mod FieldTexts
 pub mod FixedPoints
 pub mod ImpliedFormat
 pub mod Json

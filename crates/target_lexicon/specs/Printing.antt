@@ -1,5 +1,5 @@
 -- The printed text of a triple: upstream's rules, and one rule on top of them, `shows_unknowns`. These definitions
--- are held to their subject by a comparison with upstream (`checks/compare_upstream`), from which the texts differ
+-- are held to their subject by a comparison with upstream (`checks/compare lines`), from which the texts differ
 -- only by that rule (`OnlyUnknownsDifferFromUpstream`), and by the round trip: a printed text reads as the triple or
 -- its normal step (`RoundIsNormalStep`).
 use Rattle.std.specs.Prelude.{◌≡◌, ◌≢◌, ◌↔◌, ℕ, Bool, true, false, not, ◌&&◌, ◌||◌, List, [], ◌∷◌, None, unwrap_or}

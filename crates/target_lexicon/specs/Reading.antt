@@ -2,7 +2,7 @@
 use Rattle.std.specs.Prelude.{◌≡◌, ℕ, ◌<◌, suc, List, [], ◌∷◌, Option, Some, None, take, slice_get, if◌then◌else◌, ◌==◌, IfSome, MatchOption, ◌⊎◌}
 use Rattle.lexicon_fields.specs.{Architecture.architecture_of, Vendor.IsCustom, Vendor.vendor_of, OperatingSystem.operating_system_of, Environment.environment_of, BinaryFormat.binary_format_of}
 use Rattle.target_lexicon.specs.{declared.parse_error.ParseError.ParseError, Field.Field, Field.field_number, ImpliedFormat.default_binary_format, Placement.ArePartsOf, Placement.IsLeastPlacement, Placement.HasPlacement}
-use Rattle.target_lexicon.specs.{Refusal.Expected, Refusal.Expects, Refusal.ExpectsNone, Refusal.Refusal, Refusal.refusal_of, SpecialTexts.special_values, Values.Values}
+use Rattle.target_lexicon.specs.{Refusal.Refusal, Refusal.refusal_of, SpecialTexts.special_values, Values.Values}
 use Rattle.target_lexicon.specs.Values.architecture
 use Rattle.target_lexicon.specs.Values.operating_system
 use Rattle.target_lexicon.specs.Values.environment
@@ -11,7 +11,7 @@ use Rattle.lexicon_fields.specs.Vendor as vendor
 use Rattle.target_lexicon.specs.Field as field
 
 -- the part that a placement assigns to the field, if any
-abbrev pub part_at : Field → List (List ℕ) → List Field → Option (List ℕ)
+abbrev pub part_at : {A : Type 0} → Field → List A → List Field → Option A
 part_at f [] gs = None
 part_at f (p ∷ ps) [] = None
 part_at f (p ∷ ps) (g ∷ gs) = if field_number g == field_number f then Some p else part_at f ps gs
@@ -39,12 +39,12 @@ ReadsAs text t = MatchOption (special_values text)
     ((parts : List (List ℕ)) × ArePartsOf text parts × PartsReadAs parts t) (λ values. t ≡ values)
 
 -- what is expected after this field is filled: the next field, and none after the binary format
-abbrev pub expected_after : Field → Expected
-expected_after field.Architecture = Expects field.Vendor
-expected_after field.Vendor = Expects field.OperatingSystem
-expected_after field.OperatingSystem = Expects field.Environment
-expected_after field.Environment = Expects field.BinaryFormat
-expected_after field.BinaryFormat = ExpectsNone
+abbrev pub expected_after : Field → Option Field
+expected_after field.Architecture = Some field.Vendor
+expected_after field.Vendor = Some field.OperatingSystem
+expected_after field.OperatingSystem = Some field.Environment
+expected_after field.Environment = Some field.BinaryFormat
+expected_after field.BinaryFormat = None
 
 -- the last of the fields
 abbrev pub last_field : Field → List Field → Field
@@ -53,8 +53,8 @@ last_field f (g ∷ gs) = last_field g gs
 
 -- what is expected after these parts: the field after the last one that their least placement fills, and after no parts
 -- the architecture
-abbrev pub IsExpectedAfter : List (List ℕ) → Expected → Type 0
-IsExpectedAfter [] expected = expected ≡ Expects field.Architecture
+abbrev pub IsExpectedAfter : List (List ℕ) → Option Field → Type 0
+IsExpectedAfter [] expected = expected ≡ Some field.Architecture
 IsExpectedAfter (p ∷ ps) expected =
     (first : Field) × ((others : List Field) × IsLeastPlacement (p ∷ ps) (first ∷ others) × (expected ≡ expected_after (last_field first others)))
 

@@ -5,9 +5,13 @@ ghost use Rattle.target_lexicon.specs.DataModel.{model_name, size_bits, size_byt
 /// The size of a type.
 #[derive(Clone, Copy, Debug, PartialEq, Eq, Hash)]
 pub enum Size {
+    /// 8 bits.
     U8,
+    /// 16 bits.
     U16,
+    /// 32 bits.
     U32,
+    /// 64 bits.
     U64,
 }
 

@@ -1,4 +1,4 @@
-//! The text of a triple.
+//! The text of a triple. Functions are inlined if they return a wide value, or if that saves a hundredth of printing.
 ghost use Rattle.std.specs.Prelude.{◌≡◌, Some, IfOk, string_bytes};
 ghost use Rattle.lexicon_fields.specs.VendorRef.{ref_value};
 ghost use Rattle.target_lexicon.specs.Printing as spec;
@@ -8,14 +8,14 @@ ghost use Rattle.target_lexicon.specs.Values.{values_of, implies_newlib};
 ghost use Rattle.target_lexicon.specs.ValuesRef.{values_of_ref};
 ghost use Rattle.target_lexicon.specs.Written.{IsWritten};
 
-use crate::laws::versions_are_in_range;
 use crate::pieces::{Piece, Pieces, version_if};
+use crate::settle::versions_are_in_range;
 use crate::triple::Triple;
 use crate::triple_ref::TripleRef;
 use lexicon_fields::laws::names_are_short;
 use lexicon_fields::{
-    Architecture, ArmArchitecture, BinaryFormat, Environment, KnownVendor, MAX_VERSION_LENGTH,
-    OperatingSystem, VendorRef,
+    Architecture, ArmArchitecture, BinaryFormat, Environment, KnownVendor, OperatingSystem,
+    VendorRef,
 };
 use std::alloc::{AllocError, Global};
 use std::fmt;
@@ -25,9 +25,9 @@ impl fmt::Display for TripleRef<'_> {
 
     ghost styled_output = { λ it _. Some (text_of (values_of_ref it)) };
 
-    #[inline(always)] // in the Rust crate, saves 2 of 100 instructions of printing
+    #[inline(always)]
     fn fmt<W: fmt::Write>(&self, f: &mut fmt::Formatter<W>) -> fmt::Result {
-        self.pieces(&mut [0; MAX_VERSION_LENGTH]).fmt(f)
+        self.pieces().fmt(f)
     }
 }
 
@@ -73,7 +73,7 @@ impl<'a> TripleRef<'a> {
     pub fn to_text(&self, alloc: Global) -> Result<String, AllocError>
         ensures { IfOk result (λ text. string_bytes text ≡ text_of (values_of_ref self.now)) }
     {
-        self.pieces(&mut [0; MAX_VERSION_LENGTH]).to_text(alloc)
+        self.pieces().to_text(alloc)
     }
 
     /// The text that upstream prints for the triple, as [`Triple::to_upstream_text`] says.
@@ -81,8 +81,7 @@ impl<'a> TripleRef<'a> {
         ensures { IfOk result
             (λ text. string_bytes text ≡ upstream_text_of (values_of_ref self.now)) }
     {
-        self.upstream_pieces(&mut [0; MAX_VERSION_LENGTH])
-            .to_text(alloc)
+        self.upstream_pieces().to_text(alloc)
     }
 
     /// Writes the printed text at the front of the buffer if it fits there, and returns its length. If it doesn't fit,
@@ -90,41 +89,36 @@ impl<'a> TripleRef<'a> {
     pub fn write_to(&self, out: &mut [u8]) -> usize
         ensures { IsWritten (text_of (values_of_ref self.now)) out.old out.new result }
     {
-        self.pieces(&mut [0; MAX_VERSION_LENGTH]).write_to(out)
+        self.pieces().write_to(out)
     }
 
     /// Writes the text that upstream prints for the triple, as [`TripleRef::write_to`] writes the printed one.
     pub fn write_upstream_to(&self, out: &mut [u8]) -> usize
         ensures { IsWritten (upstream_text_of (values_of_ref self.now)) out.old out.new result }
     {
-        self.upstream_pieces(&mut [0; MAX_VERSION_LENGTH])
-            .write_to(out)
+        self.upstream_pieces().write_to(out)
     }
 
     /// The pieces of the printed text.
-    #[inline(always)] // these hints save 74 of the 1,084 instructions of a line of `print`
+    #[inline(always)]
     #[tactic(auto, unfolding(crate::specs::Printing::text_of))]
-    fn pieces<'d>(&self, digits: &'d mut [u8; MAX_VERSION_LENGTH]) -> Pieces<'a, 'd>
+    fn pieces(&self) -> Pieces<'a>
         ensures { pieces_text result ≡ text_of (values_of_ref self.now) }
     {
-        self.pieces_with(self.shows_unknowns(), digits)
+        self.pieces_with(self.shows_unknowns())
     }
 
     /// The pieces of upstream's text.
     #[tactic(auto, unfolding(crate::specs::Printing::upstream_text_of))]
-    fn upstream_pieces<'d>(&self, digits: &'d mut [u8; MAX_VERSION_LENGTH]) -> Pieces<'a, 'd>
+    fn upstream_pieces(&self) -> Pieces<'a>
         ensures { pieces_text result ≡ upstream_text_of (values_of_ref self.now) }
     {
-        self.pieces_with(false, digits)
+        self.pieces_with(false)
     }
 
     /// The pieces by upstream's rules, or with the last three fields shown whatever these say.
     #[inline(always)]
-    fn pieces_with<'d>(
-        &self,
-        unknowns: bool,
-        digits: &'d mut [u8; MAX_VERSION_LENGTH],
-    ) -> Pieces<'a, 'd>
+    fn pieces_with(&self, unknowns: bool) -> Pieces<'a>
         ensures { pieces_text result ≡ spec.text_with unknowns (values_of_ref self.now) }
     {
         names_are_short();
@@ -139,7 +133,7 @@ impl<'a> TripleRef<'a> {
             first: self.architecture.name(),
             vendor: Piece::name_if(self.shows_vendor(), self.vendor.as_str()),
             operating_system: Piece::name_if(system, self.operating_system.prefix()),
-            version: version_if(system, self.operating_system, digits),
+            version: version_if(system, self.operating_system),
             environment: Piece::name_if(environment, self.environment.name()),
             binary_format: Piece::name_if(binary_format, self.binary_format.name()),
         }

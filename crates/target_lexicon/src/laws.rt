@@ -13,6 +13,12 @@ ghost use Rattle.target_lexicon.specs.Printing.{OnlyUnknownsDifferFromUpstream};
 ghost use Rattle.target_lexicon.specs.Values.{Values, values_of};
 ghost use Rattle.target_lexicon.specs.ValuesRef.{values_of_ref, refusal_of_ref};
 ghost use Rattle.target_lexicon.specs.declared.data_model.CDataModel.{CDataModel};
+ghost use Rattle.target_lexicon.specs.Explanation.{part_value, source_value, sources_of};
+ghost use Rattle.target_lexicon.specs.declared.explanation.ExplainedError.{ExplainedError};
+ghost use Rattle.target_lexicon.specs.declared.explanation.Explanation.{Explanation};
+ghost use Rattle.target_lexicon.specs.declared.explanation.Source.{Source};
+ghost use Rattle.target_lexicon.specs.declared.explanation.Sources.{Sources};
+ghost use Rattle.target_lexicon.specs.declared.explanation.TextPart.{TextPart};
 ghost use Rattle.target_lexicon.specs.declared.json_error.JsonError.{JsonError};
 ghost use Rattle.target_lexicon.specs.declared.list_error.ListError.{ListError};
 ghost use Rattle.target_lexicon.specs.declared.parse_error.ParseError.{ParseError};
@@ -25,15 +31,13 @@ ghost use Rattle.target_lexicon.specs.declared.defaults.DefaultToUnknown.{Defaul
 use crate::calling_convention::CallingConvention;
 use crate::data_model::{CDataModel, Size};
 use crate::defaults::{DefaultToHost, DefaultToUnknown};
-use crate::field_parts::FieldParts;
+use crate::explanation::{ExplainedError, Explanation, Source, Sources, TextPart};
 use crate::json_error::JsonError;
 use crate::list_error::ListError;
 use crate::parse_error::ParseError;
 use crate::parse_error_ref::ParseErrorRef;
-use crate::read::Reading;
 use crate::triple::Triple;
 use crate::triple_ref::TripleRef;
-use lexicon_fields::OperatingSystem;
 pub use lexicon_fields::laws::{
     copies_of_fields_equal_their_sources, custom_vendors_are_equal_by_text,
     custom_vendors_hash_by_text, names_are_short, names_grow_at_most, names_read_back,
@@ -84,11 +88,6 @@ pub fn read_triples_are_plain()
 {
     read_versions_are_in_range();
 }
-
-/// The version of a system, if it has one, is in range by its types. So a triple in code with a plain vendor is plain.
-pub fn versions_are_in_range(operating_system: OperatingSystem)
-    ensures { HasVersionInRange operating_system }
-{}
 
 /// The printed text of a triple is at most 22 bytes longer than each text that parses as it, and so is the text of the
 /// canonical triple. A refused part is not longer than the text.
@@ -197,8 +196,8 @@ pub fn round_is_normal_step()
     names_read_back();
 }
 
-/// A second normal step changes no triple, so one round trip gives the canonical form. (By upstream's rules it changes
-/// one, hence the name.)
+/// A second normal step changes none: one round trip gives the canonical form. The name is from upstream's rules of
+/// printing, by which it changes one.
 #[tactic(auto, using(crate::proofs::SettleLemmas::second_changes_none))]
 pub fn second_step_changes_one()
     ensures { OneStepSettles }
@@ -255,6 +254,30 @@ pub fn list_errors_are_equal_by_value()
         IsTrue (⟦<ListError as PartialEq>⟧.eq x y) ↔ (list_error_value x ≡ list_error_value y) }
 {}
 
+/// Two parts are equal exactly if their bytes and ranges are. Two sources are equal exactly if they are the same
+/// variant, with equal parts. Two explanations are equal exactly if their triples and sources are; two explained
+/// errors, exactly if their refusals, parts and sources are.
+pub fn explanations_are_equal_by_value()
+    ensures part { (x y : TextPart) →
+        IsTrue (⟦<TextPart<'static> as PartialEq>⟧.eq x y) ↔ (part_value x ≡ part_value y) }
+    ensures source { (x y : Source) →
+        IsTrue (⟦<Source<'static> as PartialEq>⟧.eq x y) ↔ (source_value x ≡ source_value y) }
+    ensures sources { (x y : Sources) →
+        IsTrue (⟦<Sources<'static> as PartialEq>⟧.eq x y) ↔ (sources_of x ≡ sources_of y) }
+    ensures explanation { (x y : Explanation) →
+        IsTrue (⟦<Explanation<'static> as PartialEq>⟧.eq x y)
+        ↔ ((values_of_ref x.triple ≡ values_of_ref y.triple)
+        × (sources_of x.sources ≡ sources_of y.sources)) }
+    ensures error { (x y : ExplainedError) →
+        IsTrue (⟦<ExplainedError<'static> as PartialEq>⟧.eq x y)
+        ↔ ((refusal_of_ref x.error ≡ refusal_of_ref y.error)
+        × (part_value x.part ≡ part_value y.part)
+        × (sources_of x.sources ≡ sources_of y.sources)) }
+{
+    triple_refs_are_equal_by_value();
+    error_refs_are_equal_by_value();
+}
+
 /// A copy of a value is that value, and copying allocates nothing.
 pub fn copies_equal_their_sources()
     ensures size { CopiesEqualTheirSources ⟦<Size as Clone>⟧.is_clone
@@ -267,10 +290,16 @@ pub fn copies_equal_their_sources()
         ⟦<TripleRef<'static> as Clone>⟧.is_infallible }
     ensures error_ref { CopiesEqualTheirSources ⟦<ParseErrorRef<'static> as Clone>⟧.is_clone
         ⟦<ParseErrorRef<'static> as Clone>⟧.is_infallible }
-    ensures field_parts { CopiesEqualTheirSources ⟦<FieldParts<'static> as Clone>⟧.is_clone
-        ⟦<FieldParts<'static> as Clone>⟧.is_infallible }
-    ensures reading { CopiesEqualTheirSources ⟦<Reading<'static> as Clone>⟧.is_clone
-        ⟦<Reading<'static> as Clone>⟧.is_infallible }
+    ensures part { CopiesEqualTheirSources ⟦<TextPart<'static> as Clone>⟧.is_clone
+        ⟦<TextPart<'static> as Clone>⟧.is_infallible }
+    ensures source { CopiesEqualTheirSources ⟦<Source<'static> as Clone>⟧.is_clone
+        ⟦<Source<'static> as Clone>⟧.is_infallible }
+    ensures sources { CopiesEqualTheirSources ⟦<Sources<'static> as Clone>⟧.is_clone
+        ⟦<Sources<'static> as Clone>⟧.is_infallible }
+    ensures explanation { CopiesEqualTheirSources ⟦<Explanation<'static> as Clone>⟧.is_clone
+        ⟦<Explanation<'static> as Clone>⟧.is_infallible }
+    ensures explained_error { CopiesEqualTheirSources ⟦<ExplainedError<'static> as Clone>⟧.is_clone
+        ⟦<ExplainedError<'static> as Clone>⟧.is_infallible }
 {}
 
 /// Sizes, data models and calling conventions feed a hasher the same exactly if their variants are the same.

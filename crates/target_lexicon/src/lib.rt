@@ -5,18 +5,17 @@
 //! `queries` (byte order, pointer width, calling convention, data model), `settle` (`comes_back`, `normal`,
 //! `settle`), `settles_as`, `json`. Most of them call the same of [`TripleRef`], a borrowed triple (`triple_ref`).
 //!
-//! To parse, `part` looks up a part of a text, `dashes` finds its end, `default_format` has the implied format,
-//! `field_parts` keeps which part each field took, and `parse_error_ref` has the borrowed error. To print, `display`
-//! says what is shown, `pieces` holds it, and `put` writes it into a buffer.
+//! To parse, `part` finds a part of a string and looks it up, `explanation` says which part gave each field,
+//! `default_format` has the implied format, and `parse_error_ref` the borrowed error. To print, `display` says what is
+//! shown, `pieces` holds it, and `put` writes it into a buffer.
 #![tactic(auto)]
 
 mod calling_convention;
-mod dashes;
 mod data_model;
 mod default_format;
 mod defaults;
 mod display;
-mod field_parts;
+mod explanation;
 mod host;
 mod json;
 mod json_error;
@@ -40,19 +39,20 @@ pub use calling_convention::CallingConvention;
 pub use data_model::{CDataModel, Size};
 pub use default_format::default_binary_format;
 pub use defaults::{DefaultToHost, DefaultToUnknown};
-pub use field_parts::FieldParts;
+pub use explanation::{ExplainedError, Explanation, Source, Sources, TextPart};
 pub use json::{list_from_json, list_to_json};
 pub use json_error::JsonError;
 pub use lexicon_fields::{
     Aarch64Architecture, Architecture, ArmArchitecture, BinaryFormat, CleverArchitecture,
     CustomVendor, DeploymentTarget, Endianness, Environment, Field, FixedRow, KnownVendor,
-    Mips32Architecture, Mips64Architecture, OperatingSystem, PointerWidth, ROW_COUNT,
-    Riscv32Architecture, Riscv64Architecture, Steps, Vendor, VendorError, VendorRef,
-    X86_32Architecture, Z80Architecture, fixed_row, row_order, write_decimal,
+    MAX_VERSION_LENGTH, Mips32Architecture, Mips64Architecture, OperatingSystem, PointerWidth,
+    ROW_COUNT, Riscv32Architecture, Riscv64Architecture, Steps, Vendor, VendorError, VendorRef,
+    X86_32Architecture, Z80Architecture, fixed_row, row_order, version_text, write_decimal,
 };
 pub use list_error::ListError;
 pub use parse_error::ParseError;
 pub use parse_error_ref::ParseErrorRef;
-pub use read::Reading;
+pub use read::{explain, parse_or_locate};
+pub use settle::versions_are_in_range;
 pub use triple::Triple;
 pub use triple_ref::TripleRef;

@@ -1,11 +1,12 @@
 //! Why a text doesn't parse as a triple, with the refused part borrowed.
 ghost use Rattle.std.specs.Prelude.{◌≡◌, ◌<◌, Some, IfOk, length, option_map};
-ghost use Rattle.target_lexicon.specs.Refusal.{refusal_of, refusal_line, refusal_prefix};
+ghost use Rattle.target_lexicon.specs.Refusal.{refusal_of, refusal_line, refusal_prefix, refusal_with};
 ghost use Rattle.target_lexicon.specs.ValuesRef.{refusal_of_ref};
 ghost use Rattle.target_lexicon.specs.Written.{IsWritten};
 
 use crate::parse_error::ParseError;
 use crate::put::put;
+use lexicon_fields::Field;
 use std::alloc::{AllocError, Global};
 use std::fmt;
 
@@ -28,6 +29,34 @@ pub enum ParseErrorRef<'a> {
 }
 
 impl<'a> ParseErrorRef<'a> {
+    /// The refusal of a part where this field was expected; `None` is no field.
+    pub fn new(expected: Option<Field>, part: &'a str) -> Self
+        ensures { refusal_of_ref result ≡ refusal_with expected part.entry.now }
+    {
+        match expected {
+            Some(Field::Architecture) => ParseErrorRef::UnrecognizedArchitecture(part),
+            Some(Field::Vendor) => ParseErrorRef::UnrecognizedVendor(part),
+            Some(Field::OperatingSystem) => ParseErrorRef::UnrecognizedOperatingSystem(part),
+            Some(Field::Environment) => ParseErrorRef::UnrecognizedEnvironment(part),
+            Some(Field::BinaryFormat) => ParseErrorRef::UnrecognizedBinaryFormat(part),
+            None => ParseErrorRef::UnrecognizedField(part),
+        }
+    }
+
+    /// The field that was expected: this one or a later one. After a binary format none was, and it is `None`.
+    pub fn expected(&self) -> Option<Field>
+        ensures { result ≡ (refusal_of_ref self.now).expected }
+    {
+        match self {
+            ParseErrorRef::UnrecognizedArchitecture(_) => Some(Field::Architecture),
+            ParseErrorRef::UnrecognizedVendor(_) => Some(Field::Vendor),
+            ParseErrorRef::UnrecognizedOperatingSystem(_) => Some(Field::OperatingSystem),
+            ParseErrorRef::UnrecognizedEnvironment(_) => Some(Field::Environment),
+            ParseErrorRef::UnrecognizedBinaryFormat(_) => Some(Field::BinaryFormat),
+            ParseErrorRef::UnrecognizedField(_) => None,
+        }
+    }
+
     /// The same refusal with a copy of the part. `Err` if the allocation for that copy fails.
     pub fn to_error(&self, alloc: Global) -> Result<ParseError, AllocError>
         ensures { IfOk result (λ error. refusal_of error ≡ Some (refusal_of_ref self.now)) }

@@ -1,12 +1,14 @@
-//! What is shown of a triple, in pieces, and how it is written.
+//! What is shown of a triple, in pieces, and how it is written. Functions are inlined if that saves a hundredth of
+//! printing.
 ghost use Rattle.std.specs.Prelude.{◌≡◌, ◌+◌, ◌<◌, ◌≤◌, ◌^◌, Some, IfOk, length, string_bytes};
 ghost use Rattle.lexicon_fields.specs.Laws.{max_name_length};
+ghost use Rattle.lexicon_fields.specs.OperatingSystem.{version_suffix, system_version};
 ghost use Rattle.target_lexicon.specs.Private.{piece_text, part_text, shown_version};
 ghost use Rattle.lexicon_fields.specs.Put.{IsPut, Puts};
 ghost use Rattle.target_lexicon.specs.Written.{IsWritten};
 
 use crate::put::put;
-use lexicon_fields::{MAX_VERSION_LENGTH, OperatingSystem, version_text};
+use lexicon_fields::{DeploymentTarget, MAX_VERSION_LENGTH, OperatingSystem, version_text};
 use std::alloc::{AllocError, Global};
 use std::fmt;
 
@@ -60,7 +62,7 @@ impl fmt::Display for Piece<'_> {
 
     ghost styled_output = { λ it _. Some (piece_text it) };
 
-    #[inline(always)] // this file's hints save 6 of 100 instructions of `print`
+    #[inline(always)]
     fn fmt<W: fmt::Write>(&self, f: &mut fmt::Formatter<W>) -> fmt::Result {
         match *self {
             Piece::Hidden => Ok(()),
@@ -73,22 +75,22 @@ impl fmt::Display for Piece<'_> {
 }
 
 /// What is shown of a triple: the name of the architecture, or the special text, and a piece for each of the other
-/// fields. The version of the operating system follows its name without a dash, and is empty if there is none.
+/// fields. The version of the operating system follows its name without a dash.
 #[derive(Clone, Copy)]
-pub(crate) struct Pieces<'a, 'd> {
+pub(crate) struct Pieces<'a> {
     pub first: &'static str,
     pub vendor: Piece<'a>,
     pub operating_system: Piece<'a>,
-    pub version: &'d str,
+    pub version: Option<DeploymentTarget>,
     pub environment: Piece<'a>,
     pub binary_format: Piece<'a>,
     ghost fits: { length first.now + length (piece_text vendor)
-        + length (piece_text operating_system) + length version.now
+        + length (piece_text operating_system) + length (version_suffix version)
         + length (piece_text environment)
         + length (piece_text binary_format) < 2 ^ 64 },
 }
 
-impl Pieces<'_, '_> {
+impl Pieces<'_> {
     ghost use Rattle.target_lexicon.specs.Pieces.{pieces_text};
 
     /// The pieces of a special text, of which it is the only one.
@@ -100,7 +102,7 @@ impl Pieces<'_, '_> {
             first: text,
             vendor: Piece::Hidden,
             operating_system: Piece::Hidden,
-            version: "",
+            version: None,
             environment: Piece::Hidden,
             binary_format: Piece::Hidden,
         }
@@ -134,9 +136,34 @@ impl Pieces<'_, '_> {
         self.first.len()
             + self.vendor.text_length()
             + self.operating_system.text_length()
-            + self.version.len()
+            + self.version_length()
             + self.environment.text_length()
             + self.binary_format.text_length()
+    }
+
+    /// The length of the version's text.
+    fn version_length(&self) -> usize
+        ensures { result ≡ length (version_suffix self.now.version) }
+    {
+        match self.version {
+            Some(version) => version_text(version, &mut [0; MAX_VERSION_LENGTH]).len(),
+            None => 0,
+        }
+    }
+
+    /// Writes the version's text, as [`put`] writes a text.
+    fn put_version(&self, out: &mut [u8], at: usize) -> usize
+        requires { at + length (version_suffix self.now.version) ≤ length out.old }
+        ensures { Puts (version_suffix self.now.version) out.old at out.new result }
+    {
+        match self.version {
+            Some(version) => put(
+                out,
+                at,
+                version_text(version, &mut [0; MAX_VERSION_LENGTH]).as_bytes(),
+            ),
+            None => at,
+        }
     }
 
     /// Writes the text at the front of a buffer that has room for it, and returns its end.
@@ -147,13 +174,13 @@ impl Pieces<'_, '_> {
         let at = put(out, 0, self.first.as_bytes());
         let at = self.vendor.put(out, at);
         let at = self.operating_system.put(out, at);
-        let at = put(out, at, self.version.as_bytes());
+        let at = self.put_version(out, at);
         let at = self.environment.put(out, at);
         self.binary_format.put(out, at)
     }
 }
 
-impl fmt::Display for Pieces<'_, '_> {
+impl fmt::Display for Pieces<'_> {
     ghost use Rattle.target_lexicon.specs.Pieces.{pieces_text};
 
     ghost output = { λ it. Some (pieces_text it) };
@@ -165,31 +192,20 @@ impl fmt::Display for Pieces<'_, '_> {
         f.write_str(self.first)?;
         self.vendor.fmt(f)?;
         self.operating_system.fmt(f)?;
-        // without this test a line of `print` takes 12 instructions more
-        if !self.version.is_empty() {
-            f.write_str(self.version)?;
+        if let Some(version) = self.version {
+            f.write_str(version_text(version, &mut [0; MAX_VERSION_LENGTH]))?;
         }
         self.environment.fmt(f)?;
         self.binary_format.fmt(f)
     }
 }
 
-/// The digits of a system's version, if the system is shown and has one.
+/// The version of a system, if the system is shown and has one.
 #[inline(always)]
-pub(crate) fn version_if(
-    is_shown: bool,
-    system: OperatingSystem,
-    digits: &mut [u8; MAX_VERSION_LENGTH],
-) -> &str
-    ensures text { result.now ≡ shown_version is_shown system }
-    ensures bound { length result.now ≤ 13 }
+pub(crate) fn version_if(is_shown: bool, system: OperatingSystem) -> Option<DeploymentTarget>
+    ensures text { version_suffix result ≡ shown_version is_shown system }
+    ensures bound { length (version_suffix result)
+        ≤ length (version_suffix (system_version system)) }
 {
-    if is_shown {
-        match system.version() {
-            Some(version) => version_text(version, digits),
-            None => "",
-        }
-    } else {
-        ""
-    }
+    if is_shown { system.version() } else { None }
 }

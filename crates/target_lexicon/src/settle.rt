@@ -6,6 +6,7 @@ ghost use Rattle.lexicon_fields.specs.declared.known_vendor.KnownVendor.TheVaria
 ghost use Rattle.lexicon_fields.specs.declared.vendor.Vendor.TheVariants.{Espressif};
 ghost use Rattle.lexicon_fields.specs.declared.vendor_ref.VendorRef.TheVariants.{Known};
 ghost use Rattle.target_lexicon.specs.FixedPoints.{settled_values};
+ghost use Rattle.lexicon_fields.specs.Laws.{HasVersionInRange};
 ghost use Rattle.target_lexicon.specs.Laws.{ComesBack};
 ghost use Rattle.target_lexicon.specs.NormalStep.{normal_step, prints_as_special, hides_newlib, prints_the_esp_idf_text, shows_only_none, elf_if_unknown};
 ghost use Rattle.target_lexicon.specs.Private.{is_in_no_family};
@@ -14,7 +15,7 @@ ghost use Rattle.target_lexicon.specs.Reading.{ReadsAs};
 ghost use Rattle.target_lexicon.specs.Values.{values_of};
 ghost use Rattle.target_lexicon.specs.ValuesRef.{values_of_ref};
 
-use crate::laws::{round_is_normal_step, settled_texts_are_keys, versions_are_in_range};
+use crate::laws::{round_is_normal_step, settled_texts_are_keys};
 use crate::triple::Triple;
 use crate::triple_ref::TripleRef;
 use lexicon_fields::{
@@ -39,8 +40,8 @@ impl Triple {
         self.as_triple_ref().comes_back()
     }
 
-    /// The triple that this triple's printed text parses as. The vendor must be plain, as that of every parsed triple
-    /// is. Nothing is copied or allocated.
+    /// The normal step of the triple: the triple that its printed text parses as. The vendor must be plain, as that of
+    /// every parsed triple is. Nothing is copied or allocated.
     ///
     /// A triple that comes back is unchanged. Otherwise the first of these cases that holds decides, by the families of
     /// `comes_back`:
@@ -60,10 +61,10 @@ impl Triple {
         self.step()
     }
 
-    /// The canonical form of the triple: the normal step, taken until the triple comes back. One step is enough (law
-    /// `second_step_changes_one`). The vendor must be plain, as for `normal`. A triple that comes back is unchanged.
-    /// No other canonical triple has the same text (law `settled_texts_are_keys`), so the text serves as a key. Nothing
-    /// is allocated.
+    /// The canonical form of the triple, which is what one normal step gives: it comes back, and a second step changes
+    /// nothing (law `second_step_changes_one`). The vendor must be plain, as for `normal`. A triple that comes back is
+    /// unchanged. No other canonical triple has the same text (law `settled_texts_are_keys`), so the text serves as a
+    /// key. Nothing is allocated.
     pub fn settle(self) -> Triple
         requires { is_plain (vendor_value self.vendor) ≡ true }
         ensures steps { values_of result ≡ settled_values (values_of self) }
@@ -77,7 +78,7 @@ impl Triple {
     }
 
     /// The normal step.
-    fn step(mut self) -> Triple
+    pub(crate) fn step(mut self) -> Triple
         ensures step { values_of result ≡ normal_step (values_of self) }
         ensures vendor { (result.vendor ≡ self.vendor) ⊎ (result.vendor ≡ Espressif) }
     {
@@ -233,3 +234,9 @@ fn elf_if_unknown(binary_format: BinaryFormat) -> BinaryFormat
         _ => binary_format,
     }
 }
+
+/// The version of a system, if it has one, is in range by its types, as the laws of round trips ask. A call does
+/// nothing: it says this to the prover.
+pub fn versions_are_in_range(operating_system: OperatingSystem)
+    ensures { HasVersionInRange operating_system }
+{}

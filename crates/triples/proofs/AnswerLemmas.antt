@@ -1,31 +1,13 @@
 -- The answers to the lines of an input, one after another.
-use Rattle.std.proofs.Common.{◌≡◌, ℕ, Bool, true, false, ◌||◌, not, List, [], ◌∷◌, ◌++◌, codes, if◌then◌else◌, Result, Ok, Err, OnOk, refl, sym, ap, ◌∙◌, append_assoc}
-use Rattle.std.proofs.{lemmas.List.append-nil, lemmas.Map.Text.is_eq-slice_cmp, Math.Bool.or-false, Math.Bool.or_comm, Math.Bool.or_assoc}
-use Rattle.std.proofs.{lemmas.List.Folds.list_any-append, lemmas.Cmp.nat_cmp_total, lemmas.Cmp.tied_itself}
-use Rattle.std.specs.{BTreeMap.is_at, BTreeSet.BTreeSet, BTreeSet.insert_key, Ordering.nat_cmp, Ordering.is_eq, Ordering.ordering_then, Ordering.match_ordering}
-use Rattle.std.specs.{Cmp.Lexicographic.slice_cmp, Cmp.Lexicographic.same_text, List.list_any, Str.bytes_eq, String.string_bytes, String.string_cmp}
-use Rattle.std.specs.declared.cmp.Ordering.{Ordering}
-use Rattle.std.specs.declared.cmp.Ordering.TheVariants.{Less, Equal, Greater}
+use Rattle.std.proofs.Common.{◌≡◌, ℕ, Bool, true, false, ◌||◌, not, List, [], ◌∷◌, ◌++◌, codes, String, if◌then◌else◌, Result, Ok, Err, OnOk, refl, sym, ap, ◌∙◌, append_assoc}
+use Rattle.std.proofs.{lemmas.List.append-nil, lemmas.List.Folds.list_any-append, Math.Bool.or-false}
+use Rattle.std.proofs.lemmas.{Bool.Decides.same_from_decides, Map.Text.hash_set_updates_text, Slice.Eq.bytes_eq-Decides}
+use Rattle.std.specs.{HashSet.IsEmpty, HashSet.UpdatesBy, HashSet.contains_text, List.list_any, Str.bytes_eq, String.string_bytes, String.string_eq}
+use Rattle.std.specs.declared.alloc.Global.{Global}
 use Rattle.target_lexicon.specs.{FixedPoints.canonical_text, Reading.ReadsAs, Reading.IsRefusedAs, Refusal.Refusal, Refusal.refusal_line, Values.Values}
-use Rattle.triples.specs.declared.matrix.HashedText.{HashedText}
-use Rattle.triples.specs.Words.{line_feed}
+use Rattle.triples.specs.Lines.{line_feed}
 use Rattle.triples.specs.Output.{Answer, Shown, Refused, IsAnswer, AreAnswers, IsLineOutput, IsMatrix, shows, is_kept_after, kept_answers, matrix_of, answer_bytes, written_lines}
-use Rattle.triples.specs.Private.{hash_of, text_cmp, has_text, HasOneMore, is_repeated, AddsAnswer, AddsEntry}
-
--- a key that is inserted among others, none of which is equal to it
-module _ {K : Type 0} (cmp : K → K → Ordering) (test : K → Bool) (k : K) where
-  abbrev Inserts : List K → List K → Type 0
-  Inserts old new = list_any test new ≡ (list_any test old || test k)
-
-  inserts : (xs : List K) → list_any (is_at (cmp k)) xs ≡ false → Inserts xs (insert_key cmp xs k)
-  inserts [] absent = or-false (test k)
-  inserts (x ∷ xs) absent =
-      let new = insert_key cmp xs k in
-      (elim (cmp k x) as (λ order. (is_eq order || list_any (is_at (cmp k)) xs) ≡ false → Inserts (x ∷ xs) (match_ordering order (k ∷ x ∷ xs) (x ∷ xs) (x ∷ new))) [
-        | Less ↦ λ none. or_comm (test k) (list_any test (x ∷ xs))
-        | Equal ↦ λ bad. absurd cc
-        | Greater ↦ λ none. ap (λ (b : Bool). test x || b) (inserts xs none) ∙ sym (or_assoc (test x) (list_any test xs) (test k))
-      ]) absent
+use Rattle.triples.specs.Private.{Seen, HasOneMore, is_repeated, AddsAnswer, AddsEntry}
 
 -- the lines so far precede the rest, and these are their answers
 pub record AreAnswersSoFar (shown : Values → List ℕ) (lines rest : List (List ℕ)) (before : List Answer) : Type 0 where
@@ -48,13 +30,13 @@ pub so-far-none : {shown : Values → List ℕ} {lines : List (List ℕ)} {outpu
 so-far-none empty = record { before = []; answers = record { whole = λ more are. are }; written_lines = empty }
 
 -- the same for a matrix: the answers that stay were written, and what they show was seen
-pub record IsMatrixSoFar (lines rest : List (List ℕ)) (output : List ℕ) (seen : BTreeSet HashedText) : Type 0 where
+pub record IsMatrixSoFar (lines rest : List (List ℕ)) (output : List ℕ) (seen : Seen) : Type 0 where
   pub before : List Answer
   pub answers : AreAnswersSoFar canonical_text lines rest before
   pub written_lines : output ≡ written_lines (matrix_of before)
-  pub agree : (text : List ℕ) → has_text seen text ≡ list_any (shows text) before
+  pub agree : (text : List ℕ) → contains_text seen text ≡ list_any (shows text) before
 
-pub matrix-none : {lines : List (List ℕ)} {output : List ℕ} {seen : BTreeSet HashedText} → output ≡ [] → ((text : List ℕ) → has_text seen text ≡ false)
+pub matrix-none : {lines : List (List ℕ)} {output : List ℕ} {seen : Seen} → output ≡ [] → ((text : List ℕ) → contains_text seen text ≡ false)
     → IsMatrixSoFar lines lines output seen
 matrix-none empty none = record { before = []; answers = record { whole = λ more are. are }; written_lines = empty; agree = none }
 
@@ -74,8 +56,8 @@ written_lines-append : (xs ys : List Answer) → written_lines (xs ++ ys) ≡ wr
 written_lines-append [] ys = refl
 written_lines-append (x ∷ xs) ys = ap (λ (t : List ℕ). answer_bytes x ++ (line_feed ∷ t)) (written_lines-append xs ys) ∙ sym (append_assoc (answer_bytes x) (line_feed ∷ written_lines xs) (written_lines ys))
 
-repeated-stays : (before : List Answer) (seen : BTreeSet HashedText) (answer : Answer)
-    → ((text : List ℕ) → has_text seen text ≡ list_any (shows text) before)
+repeated-stays : (before : List Answer) (seen : Seen) (answer : Answer)
+    → ((text : List ℕ) → contains_text seen text ≡ list_any (shows text) before)
     → (if is_repeated seen answer then [] else answer ∷ []) ≡ if_stays (is_kept_after before answer) answer
 repeated-stays before seen (Shown text) agree =
     rw (agree text) (elim (list_any (shows text) before) as (λ b. (if b then [] else Shown text ∷ []) ≡ if_stays (not b) (Shown text)) [ true ↦ refl | false ↦ refl ])
@@ -99,7 +81,7 @@ pub so-far-whole : {shown : Values → List ℕ} {lines rest : List (List ℕ)} 
 so-far-whole none far = (far.before, so-far-end none far.answers, far.written_lines)
 
 -- one more answer, which the matrix may keep
-pub matrix-more : {lines rest others : List (List ℕ)} {line old new : List ℕ} {seen_old seen_new : BTreeSet HashedText}
+pub matrix-more : {lines rest others : List (List ℕ)} {line old new : List ℕ} {seen_old seen_new : Seen}
     → rest ≡ line ∷ others → AddsEntry line old new seen_old seen_new → IsMatrixSoFar lines rest old seen_old → IsMatrixSoFar lines others new seen_new
 matrix-more {seen_old} cut adds far = record {
   before = far.before ++ adds.answer ∷ [];
@@ -115,7 +97,7 @@ matrix-more {seen_old} cut adds far = record {
       ∙ sym (push-any text far.before adds.answer);
 }
 
-pub matrix-whole : {lines rest : List (List ℕ)} {output : List ℕ} {seen : BTreeSet HashedText} → rest ≡ [] → IsMatrixSoFar lines rest output seen → IsMatrix lines output
+pub matrix-whole : {lines rest : List (List ℕ)} {output : List ℕ} {seen : Seen} → rest ≡ [] → IsMatrixSoFar lines rest output seen → IsMatrix lines output
 matrix-whole none far = (far.before, so-far-end none far.answers, far.written_lines)
 
 -- what a line that parses adds, and what a refused line adds
@@ -134,19 +116,19 @@ refusal-adds (Ok _) shown line old new refusal refused grown = record {
 }
 refusal-adds (Err _) shown line old new refusal refused grown = tt
 
-module _ (line old new : List ℕ) (seen_old seen_new : BTreeSet HashedText) where
+module _ (line old new : List ℕ) (seen_old seen_new : Seen) where
   unless-seen : (b : Bool) (text : List ℕ) → (if b then [] else text ++ line_feed ∷ []) ≡ written_lines (if b then [] else Shown text ∷ [])
   unless-seen true text = refl
   unless-seen false text = refl
 
   pub read-enters : {T E : Type 0} (done : Result T E) (t : Values) (text : List ℕ) → ReadsAs line t → text ≡ canonical_text t
-      → OnOk done (new ≡ old ++ (if has_text seen_old text then [] else text ++ line_feed ∷ []))
+      → OnOk done (new ≡ old ++ (if contains_text seen_old text then [] else text ++ line_feed ∷ []))
       → OnOk done (HasOneMore seen_old seen_new text)
       → OnOk done (AddsEntry line old new seen_old seen_new)
   read-enters (Ok _) t text reads is grown seen = record {
     answer = Shown text;
     is = (t, reads, is);
-    grown = grown ∙ ap (λ (t : List ℕ). old ++ t) (unless-seen (has_text seen_old text) text);
+    grown = grown ∙ ap (λ (t : List ℕ). old ++ t) (unless-seen (contains_text seen_old text) text);
     seen = seen;
   }
   read-enters (Err _) t text reads is grown seen = tt
@@ -158,33 +140,28 @@ module _ (line old new : List ℕ) (seen_old seen_new : BTreeSet HashedText) whe
     answer = Refused (codes "error: " ++ refusal_line refusal);
     is = (refusal, refused, refl);
     grown = grown;
-    seen = λ text. sym (or-false (has_text seen_old text));
+    seen = λ text. sym (or-false (contains_text seen_old text));
   }
   refusal-enters (Err _) refusal refused grown = tt
 
--- by the hash, then by the text
-abbrev hashed_cmp : HashedText → HashedText → Ordering
-hashed_cmp a b = ordering_then (nat_cmp a.hash b.hash) (string_cmp a.text b.text)
+bytes_eq-comm : (a b : List ℕ) → bytes_eq a b ≡ bytes_eq b a
+bytes_eq-comm a b =
+    let back = bytes_eq-Decides b a in
+    same_from_decides (bytes_eq a b) (bytes_eq b a) (bytes_eq-Decides a b) (λ is. sym (back.0 is), λ is. back.1 (sym is))
 
--- a test that implies another changes nothing beside it
-then-same : (x : Ordering) (order : Ordering) (b : Bool) → is_eq order ≡ b → (b ≡ true → x ≡ Equal) → is_eq (ordering_then x order) ≡ b
-then-same Equal order b is implied = is
-then-same _ order true is implied = absurd (let bad = implied refl in cc)
-then-same _ order false is implied = refl
-
--- a text with its hash is found by its bytes
-found-by-bytes : (text other : List ℕ) → is_eq (ordering_then (nat_cmp (hash_of other) (hash_of text)) (slice_cmp nat_cmp other text)) ≡ bytes_eq other text
-found-by-bytes text other =
-    then-same (nat_cmp (hash_of other) (hash_of text)) (slice_cmp nat_cmp other text) (bytes_eq other text) (is_eq-slice_cmp other text)
-    (λ is. ap (λ (t : List ℕ). nat_cmp (hash_of t) (hash_of text)) (same_text other text (sym is)) ∙ tied_itself nat_cmp_total (hash_of text))
+or-if : (a b : Bool) → (if a then true else b) ≡ (b || a)
+or-if true true = refl
+or-if true false = refl
+or-if false true = refl
+or-if false false = refl
 
 -- a set into which a text is inserted has it and its earlier ones
-pub inserted : {T E : Type 0} (done : Result T E) (key : HashedText) (text : List ℕ) (seen_old seen_new : BTreeSet HashedText)
-    → key.hash ≡ hash_of text → string_bytes key.text ≡ text → list_any (is_at (hashed_cmp key)) seen_old.keys ≡ false
-    → seen_new.keys ≡ insert_key hashed_cmp seen_old.keys key
-    → OnOk done ((other : List ℕ) → has_text seen_new other ≡ (has_text seen_old other || bytes_eq other text))
-inserted (Ok _) key text seen_old seen_new hash same absent keys = λ other.
-    ap (λ (ks : List HashedText). list_any (is_at (text_cmp other)) ks) keys
-    ∙ inserts hashed_cmp (is_at (text_cmp other)) key seen_old.keys absent
-    ∙ ap (λ (b : Bool). has_text seen_old other || b) (rw (hash, same) (found-by-bytes text other))
-inserted (Err _) key text seen_old seen_new hash same absent keys = tt
+pub inserted : (text : List ℕ) (old new : Seen) → UpdatesBy string_eq (λ other. bytes_eq text (string_bytes other)) old new true → HasOneMore old new text
+inserted text old new updates = λ other.
+    hash_set_updates_text text old new true updates other
+    ∙ or-if (bytes_eq text other) (contains_text old other)
+    ∙ ap (λ (b : Bool). contains_text old other || b) (bytes_eq-comm text other)
+
+-- an empty set has no text
+pub none-seen : (seen : Seen) → IsEmpty seen → (text : List ℕ) → contains_text seen text ≡ false
+none-seen seen empty text = ap (λ (keys : List (String Global)). list_any (λ other. bytes_eq text (string_bytes other)) keys) empty

@@ -4,8 +4,8 @@ use Rattle.serde_json.specs.{Data.Data, Read.read, Find.as_array, View.items_of,
 use Rattle.serde_json.proofs.OnLiterals.{serde_json_on_literals}
 use Rattle.target_lexicon.specs.{Json.json_of, Values.Values}
 use Rattle.triples.specs.{JsonOutput.IsJsonAnswerErrorOf, JsonOutput.IsJsonInputErrorOf}
-use Rattle.lexicon_programs.specs.declared.run_error.RunError.{RunError}
-use Rattle.lexicon_programs.specs.declared.run_error.RunError.TheVariants as run_error
+use Rattle.triples.specs.declared.run_error.RunError.{RunError}
+use Rattle.triples.specs.declared.run_error.RunError.TheVariants as run_error
 
 -- a list of texts has no floating-point number
 pub no_float : (ts : List Values) → items_have_float (items_of (map json_of ts)) ≡ false

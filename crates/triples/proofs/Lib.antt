@@ -1,5 +1,7 @@
--- AnswerLemmas, JsonAnswers: the answers to them. MatrixLawLemmas: the laws of the
--- matrix.
+-- LineLemmas: the lines of an input. AnswerLemmas, JsonAnswers: the answers to them. MatrixLawLemmas: the laws of the
+-- matrix. KnownBytes: bytes that are read and written.
 pub mod AnswerLemmas
 pub mod JsonAnswers
+pub mod KnownBytes
+pub mod LineLemmas
 pub mod MatrixLawLemmas

@@ -6,9 +6,9 @@ use Rattle.serde_json.specs.Read.{read}
 use Rattle.serde_json.specs.Written.{compact_text}
 use Rattle.target_lexicon.specs.Json.{JsonErrorValue, Parse, Element, ListReadsAs, IsListErrorOf, list_json_of, list_error_line}
 use Rattle.target_lexicon.specs.Values.{Values}
-use Rattle.triples.specs.Words.{line_feed}
-use Rattle.lexicon_programs.specs.declared.run_error.RunError.{RunError}
-use Rattle.lexicon_programs.specs.declared.run_error.RunError.TheVariants as run_error
+use Rattle.triples.specs.Lines.{line_feed}
+use Rattle.triples.specs.declared.run_error.RunError.{RunError}
+use Rattle.triples.specs.declared.run_error.RunError.TheVariants as run_error
 
 -- the compact text of the list that the value parses as
 abbrev pub IsListWritten : Data → List ℕ → Type 0

@@ -1,7 +1,10 @@
 pub mod Facts
+pub mod Faults
 pub mod JsonOutput
+pub mod Lines
 pub mod MatrixLaws
 pub mod Output
 pub mod Private
 pub mod Run
+pub mod Streams
 pub mod Words

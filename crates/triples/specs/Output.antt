@@ -5,17 +5,17 @@ use Rattle.std.specs.Str.{bytes_eq}
 use Rattle.target_lexicon.specs.{FixedPoints.canonical_text, Printing.text_of, Reading.ReadsAs, Reading.IsRefusedAs, Refusal.Refusal, Refusal.refusal_line, Values.Values}
 use Rattle.triples.specs.{declared.mode.Mode.Mode, Facts.text_with_facts}
 use Rattle.triples.specs.declared.mode.Mode.TheVariants.{Print, Show, Settle, Json, Matrix}
-use Rattle.triples.specs.{declared.output.View.View, declared.output.View.TheVariants.Printed, declared.output.View.TheVariants.WithFacts, declared.output.View.TheVariants.Canonical}
-use Rattle.lexicon_programs.specs.{declared.run_error.RunError.RunError, declared.run_error.RunError.TheVariants.OutOfMemory}
-pub use Rattle.lexicon_programs.specs.Lines.{lines_of}
-use Rattle.triples.specs.Words.{line_feed}
+use Rattle.triples.specs.{declared.run_error.RunError.RunError, declared.run_error.RunError.TheVariants.OutOfMemory}
+use Rattle.triples.specs.Lines.{line_feed, lines_of}
 use Rattle.triples.specs.JsonOutput.{IsJsonOutput, IsJsonInputErrorOf}
 
--- what is shown of a triple
-abbrev pub shown_text : View → Values → List ℕ
-shown_text Printed = text_of
-shown_text WithFacts = text_with_facts
-shown_text Canonical = canonical_text
+-- what a mode shows of a triple
+abbrev pub shown_text : Mode → Values → List ℕ
+shown_text Print = text_of
+shown_text Show = text_with_facts
+shown_text Settle = canonical_text
+shown_text Matrix = canonical_text
+shown_text Json = text_of
 
 -- the answer to a line: what is shown of its triple, or the text of its refusal
 pub data Answer : Type 0 where

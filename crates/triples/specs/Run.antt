@@ -2,7 +2,6 @@
 use Rattle.std.specs.Prelude.{ℕ, List, Option, IfSome}
 use Rattle.triples.specs.{declared.mode.Mode.Mode, Output.IsOutput}
 use Rattle.std.specs.Str.{IsUtf8}
-pub use Rattle.lexicon_programs.specs.Streams.{AppendsBeginning, ConsumesSome, inner, failures}
 
 -- if the bytes of the input are known, they are UTF-8, and `GrewBy` holds for the bytes that the writer had, those that
 -- it has now, and the output of the mode for the input

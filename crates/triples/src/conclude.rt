@@ -1,10 +1,12 @@
 //! The end of the program: its exit status, and what it prints.
 ghost use Rattle.std.specs.Prelude.{◌≡◌};
 ghost use Rattle.std.specs.Io.KnownBytes.{Appends};
-ghost use Rattle.triples.specs.Run.{inner, failures, AppendsBeginning};
+ghost use Rattle.triples.specs.Streams.{inner, failures, AppendsBeginning};
 ghost use Rattle.triples.specs.Words.{status_of, closing_words};
 
-use lexicon_programs::{Counted, RunError, write_and_flush, write_fault};
+use crate::counted::Counted;
+use crate::input::{write_and_flush, write_fault};
+use crate::run_error::RunError;
 use std::io::Write;
 
 /// Writes the closing line of the program, and returns the exit status:

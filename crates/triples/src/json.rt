@@ -6,7 +6,7 @@ ghost use Rattle.target_lexicon.specs.Json.{Parse, Element, json_error_value, li
 ghost use Rattle.target_lexicon.specs.Values.{values_of};
 ghost use Rattle.triples.specs.JsonOutput.{IsJsonAnswer, IsJsonAnswerErrorOf, IsJsonOutput, IsJsonInputErrorOf};
 
-use lexicon_programs::RunError;
+use crate::run_error::RunError;
 use serde_json::Value;
 use std::alloc::{AllocError, Global};
 use target_lexicon::{JsonError, ListError, ParseError, Triple, list_from_json, list_to_json};

@@ -4,18 +4,27 @@ ghost use Rattle.lexicon_fields.specs.Laws.{ComparesByValue, CopiesEqualTheirSou
 ghost use Rattle.triples.specs.MatrixLaws.{EntriesAreSettledTriples, KeepsEntriesOnce, FirstEntriesStayInOrder, EachSettledTripleHasAnEntry, MatricesAreTheirOwn};
 ghost use Rattle.triples.specs.Output.{Answer};
 ghost use Rattle.triples.specs.declared.mode.Mode.{Mode};
+ghost use Rattle.triples.specs.declared.run_error.RunError.{RunError};
 
 use crate::mode::Mode;
+use crate::run_error::RunError;
 
 /// Modes are equal exactly if their variants are.
 pub fn modes_are_equal_by_variant()
     ensures { ComparesByValue ⟦<Mode as PartialEq>⟧.eq }
 {}
 
-/// A copy of a mode is that value, and copying allocates nothing.
+/// Two errors of a run are equal exactly if they are the same variant.
+pub fn errors_are_equal_by_variant()
+    ensures { ComparesByValue ⟦<RunError as PartialEq>⟧.eq }
+{}
+
+/// A copy of a mode, or of an error of a run, is that value, and copying allocates nothing.
 pub fn copies_equal_their_sources()
-    ensures { CopiesEqualTheirSources ⟦<Mode as Clone>⟧.is_clone
+    ensures modes { CopiesEqualTheirSources ⟦<Mode as Clone>⟧.is_clone
         ⟦<Mode as Clone>⟧.is_infallible }
+    ensures errors { CopiesEqualTheirSources ⟦<RunError as Clone>⟧.is_clone
+        ⟦<RunError as Clone>⟧.is_infallible }
 {}
 
 /// Mode `settle` writes the same text for two lines that parse exactly if their canonical triples are equal.

@@ -3,18 +3,22 @@
 #![tactic(auto)]
 
 mod conclude;
+mod counted;
 mod facts;
+mod input;
 mod json;
 mod laws;
+mod lines;
 mod matrix;
 mod mode;
 mod output;
 mod run;
+mod run_error;
 #[cfg(test)]
 mod tests;
 
 use conclude::conclude;
-use lexicon_programs::Counted;
+use counted::Counted;
 use mode::Mode;
 use run::run;
 use std::env;

@@ -2,65 +2,45 @@
 ghost use Rattle.std.specs.Prelude.{◌≡◌, ◌<◌, ◌++◌, ◌∷◌, [], true, codes, length, string_bytes, IfOk, IfErr, OnOk, OnErr};
 ghost use Rattle.lexicon_fields.specs.Vendor.{is_plain};
 ghost use Rattle.lexicon_fields.specs.VendorRef.{ref_value};
-ghost use Rattle.target_lexicon.specs.FixedPoints.{canonical_text};
 ghost use Rattle.target_lexicon.specs.Refusal.{refusal_line};
 ghost use Rattle.target_lexicon.specs.ValuesRef.{values_of_ref, refusal_of_ref};
-ghost use Rattle.triples.specs.Output.{lines_of, IsLineOutput, IsMatrix, IsOutput, IsInputErrorOf, shown_text};
+ghost use Rattle.triples.specs.Lines.{line_feed, lines_of};
+ghost use Rattle.triples.specs.Output.{IsLineOutput, IsMatrix, IsOutput, IsInputErrorOf, shown_text};
 ghost use Rattle.triples.specs.Private.{AddsAnswer, AddsEntry};
-ghost use Rattle.triples.specs.Words.{line_feed};
 
 use crate::facts::push_facts;
 use crate::json::json_output;
-use crate::matrix::Seen;
+use crate::lines::first_line;
+use crate::matrix::push_first;
 use crate::mode::Mode;
-use lexicon_programs::{RunError, first_line};
+use crate::run_error::RunError;
 use std::alloc::{AllocError, Global};
+use std::collections::HashSet;
 use target_lexicon::{ParseErrorRef, TripleRef};
 
-/// What is shown of the triple of each line.
-#[derive(Clone, Copy)]
-enum View {
-    /// Its printed text.
-    Printed,
-    /// Its printed text, byte order, pointer width, calling convention and data model.
-    WithFacts,
-    /// The printed text of the canonical triple.
-    Canonical,
-}
-
-/// Appends the printed text of the canonical triple.
-fn push_canonical(output: &mut String, triple: &TripleRef<'_>) -> Result<(), AllocError>
-    requires { is_plain (ref_value triple.now.vendor) ≡ true }
-    ensures { OnOk result
-        (string_bytes output.new
-        ≡ string_bytes output.old ++ canonical_text (values_of_ref triple.now)) }
-{
-    output.write(&triple.settle())
-}
-
-/// Appends what is shown of a triple.
-fn push_text(output: &mut String, view: View, triple: TripleRef<'_>) -> Result<(), AllocError>
+/// Appends what a mode shows of a triple.
+fn push_text(output: &mut String, mode: Mode, triple: TripleRef<'_>) -> Result<(), AllocError>
     requires { is_plain (ref_value triple.vendor) ≡ true }
     ensures { OnOk result
         (string_bytes output.new
-        ≡ string_bytes output.old ++ shown_text view (values_of_ref triple.entry)) }
+        ≡ string_bytes output.old ++ shown_text mode (values_of_ref triple.entry)) }
 {
-    match view {
-        View::Printed => output.write(&triple),
-        View::WithFacts => push_facts(output, &triple),
-        View::Canonical => push_canonical(output, &triple),
+    match mode {
+        Mode::Print | Mode::Json => output.write(&triple),
+        Mode::Show => push_facts(output, &triple),
+        Mode::Settle | Mode::Matrix => output.write(&triple.settle()),
     }
 }
 
-/// Appends what is shown of a triple, and a line feed.
-fn push_line(output: &mut String, view: View, triple: TripleRef<'_>) -> Result<(), AllocError>
+/// Appends what a mode shows of a triple, and a line feed.
+fn push_line(output: &mut String, mode: Mode, triple: TripleRef<'_>) -> Result<(), AllocError>
     requires { is_plain (ref_value triple.vendor) ≡ true }
     ensures { OnOk result
         (string_bytes output.new
         ≡ string_bytes output.old
-        ++ (shown_text view (values_of_ref triple.entry) ++ line_feed ∷ [])) }
+        ++ (shown_text mode (values_of_ref triple.entry) ++ line_feed ∷ [])) }
 {
-    push_text(output, view, triple)?;
+    push_text(output, mode, triple)?;
     output.push('\n')
 }
 
@@ -80,13 +60,13 @@ fn push_refusal(output: &mut String, refusal: ParseErrorRef<'_>) -> Result<(), A
 }
 
 /// Appends the answer to a line, and a line feed.
-fn push_answer(output: &mut String, view: View, line: &str) -> Result<(), AllocError>
+fn push_answer(output: &mut String, mode: Mode, line: &str) -> Result<(), AllocError>
     ensures { OnOk result
-        (AddsAnswer (shown_text view) line.now (string_bytes output.old)
+        (AddsAnswer (shown_text mode) line.now (string_bytes output.old)
         (string_bytes output.new)) }
 {
     match TripleRef::from_str(line) {
-        Ok(triple) => push_line(output, view, triple),
+        Ok(triple) => push_line(output, mode, triple),
         Err(refusal) => push_refusal(output, refusal),
     }
 }
@@ -95,23 +75,23 @@ fn push_answer(output: &mut String, view: View, line: &str) -> Result<(), AllocE
 fn push_entry(
     alloc: Global,
     output: &mut String,
-    seen: &mut Seen,
+    seen: &mut HashSet<String>,
     line: &str,
 ) -> Result<(), AllocError>
     ensures { OnOk result
-        (AddsEntry line.now (string_bytes output.old) (string_bytes output.new) seen.old.texts
-        seen.new.texts) }
+        (AddsEntry line.now (string_bytes output.old) (string_bytes output.new) seen.old
+        seen.new) }
 {
     match TripleRef::from_str(line) {
-        Ok(triple) => seen.push_first(alloc, output, &triple.settle()),
+        Ok(triple) => push_first(alloc, output, seen, &triple.settle()),
         Err(refusal) => push_refusal(output, refusal),
     }
 }
 
 /// The answers to the lines of an input, in order, with a line feed after each.
-fn answers(alloc: Global, view: View, input: &str) -> Result<String, AllocError>
+fn answers(alloc: Global, mode: Mode, input: &str) -> Result<String, AllocError>
     ensures output { IfOk result
-        (λ output. IsLineOutput (shown_text view) (lines_of input.now) (string_bytes output)) }
+        (λ output. IsLineOutput (shown_text mode) (lines_of input.now) (string_bytes output)) }
     ensures memory { OnErr result (0 < length input.now) }
 {
     let mut output = String::new(alloc);
@@ -121,7 +101,7 @@ fn answers(alloc: Global, view: View, input: &str) -> Result<String, AllocError>
     let mut rest = input;
     while !rest.is_empty() {
         let (line, others) = first_line(rest);
-        push_answer(&mut output, view, line)?;
+        push_answer(&mut output, mode, line)?;
         rest = others;
     }
     Ok(output)
@@ -133,7 +113,7 @@ fn matrix(alloc: Global, input: &str) -> Result<String, AllocError>
     ensures memory { OnErr result (0 < length input.now) }
 {
     let mut output = String::new(alloc);
-    let mut seen = Seen::new(alloc);
+    let mut seen = HashSet::new(alloc);
     let mut rest = input;
     while !rest.is_empty() {
         let (line, others) = first_line(rest);
@@ -149,9 +129,7 @@ pub(crate) fn output(alloc: Global, mode: Mode, input: &str) -> Result<String, R
     ensures err { IfErr result (λ e. IsInputErrorOf mode input.now e) }
 {
     match mode {
-        Mode::Print => Ok(answers(alloc, View::Printed, input)?),
-        Mode::Show => Ok(answers(alloc, View::WithFacts, input)?),
-        Mode::Settle => Ok(answers(alloc, View::Canonical, input)?),
+        Mode::Print | Mode::Show | Mode::Settle => Ok(answers(alloc, mode, input)?),
         Mode::Matrix => Ok(matrix(alloc, input)?),
         Mode::Json => json_output(alloc, input),
     }

@@ -2,13 +2,16 @@
 ghost use Rattle.std.specs.Prelude.{◌≡◌, ◌≢◌, ◌<◌, ◌≤◌, ◌↔◌, IsErrOf, OnOk, IfErr, IfSome};
 ghost use Rattle.std.specs.Str.{IsUtf8};
 ghost use Rattle.std.specs.Io.KnownBytes.{Appends, Keeps, IsAtEnd};
-ghost use Rattle.triples.specs.Run.{inner, failures, AppendsBeginning, ConsumesSome, WritesOutput};
-ghost use Rattle.lexicon_programs.specs.Faults.{IsOfJson};
+ghost use Rattle.triples.specs.Run.{WritesOutput};
+ghost use Rattle.triples.specs.Streams.{inner, failures, AppendsBeginning, ConsumesSome};
+ghost use Rattle.triples.specs.Faults.{IsOfJson};
 ghost use Rattle.triples.specs.JsonOutput.{IsJsonInputErrorOf};
 
+use crate::counted::Counted;
+use crate::input::{read_all, write_and_flush};
 use crate::mode::Mode;
 use crate::output::output;
-use lexicon_programs::{Counted, RunError, read_all, write_and_flush};
+use crate::run_error::RunError;
 use std::alloc::Global;
 use std::io::{Read, Write};
 

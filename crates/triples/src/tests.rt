@@ -6,7 +6,7 @@ mod faulty;
 mod rows;
 mod runs;
 
-use lexicon_programs::Counted;
+use crate::counted::Counted;
 use std::io::ErrorKind;
 use std::mem::size_of;
 

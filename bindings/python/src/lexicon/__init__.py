@@ -4,38 +4,45 @@
 >>> print(triple, triple.pointer_width, triple.binary_format)
 wasm32-wasi 32 wasm
 
-`Triple` has the fields, the facts and the printed text of a triple. `explain` says which part of a text gave which
-field.
+`Triple` has the fields, the facts and the printed string of a triple. `explain` says which part of a string gave which
+field. `Triple.read` and `Triple.name_in` know the names of other tools. `settle_all` and `facts_all` answer for a column
+of targets.
 """
-from ._errors import ErrorKind, ParseError
-from ._explain import Explanation, Source, SourceKind, explain
-from ._facts import CallingConvention, CSizes, DataModel, Endianness
+from ._columns import Facts, facts_all, settle_all
+from ._dialects import Dialect
+from ._errors import ParseError
+from ._explain import Explanation, Origin, Source, explain
+from ._facts import CallingConvention, DataModel, Endianness
 from ._fields import CustomVendor
-from ._library import LIBRARY_PATH, LibraryError
-from ._triple import Triple
+from ._library import LIBRARY_PATH, LIBRARY_VERSION, LibraryError
+from ._library import VERSION as __version__
+from ._triple import Keep, Triple
 from ._values import Architecture, BinaryFormat, Environment, Family, OperatingSystem, Vendor
-
-__version__ = "0.3.0"
 
 __all__ = [
     "LIBRARY_PATH",
+    "LIBRARY_VERSION",
     "Architecture",
     "BinaryFormat",
-    "CSizes",
     "CallingConvention",
     "CustomVendor",
     "DataModel",
+    "Dialect",
     "Endianness",
     "Environment",
-    "ErrorKind",
     "Explanation",
+    "Facts",
     "Family",
+    "Keep",
     "LibraryError",
     "OperatingSystem",
+    "Origin",
     "ParseError",
     "Source",
-    "SourceKind",
     "Triple",
     "Vendor",
+    "__version__",
     "explain",
+    "facts_all",
+    "settle_all",
 ]

@@ -1,94 +1,87 @@
-"""Why a text is refused."""
+"""Why a string is refused."""
 from __future__ import annotations
 
-import enum
-from typing import Tuple
+from typing import Optional, Tuple
 
 from . import _library
 
-# How many characters of a text, and of the refused part, a message shows.
+#: The names of the fields, in their order.
+FIELDS = ("architecture", "vendor", "operating_system", "environment", "binary_format")
+
+# How many characters of a string, and of the refused part, a message shows.
 _SHOWN_BEFORE, _SHOWN_PART, _SHOWN_AFTER = 40, 60, 20
 
+# The status in Python for a string that UTF-8 can't encode.
+_LONE_SURROGATE = 7
 
-class ErrorKind(enum.Enum):
-    """What was expected where a text is refused."""
-
-    #: The first part is no architecture.
-    ARCHITECTURE = "architecture"
-    #: The part after the architecture is nothing that may follow it.
-    VENDOR = "vendor"
-    #: Likewise after the vendor.
-    OPERATING_SYSTEM = "operating system"
-    #: Likewise after the operating system.
-    ENVIRONMENT = "environment"
-    #: Likewise after the environment.
-    BINARY_FORMAT = "binary format"
-    #: A part follows the binary format, so that no field is left for it.
-    FIELD = "field"
-    #: The text has a lone surrogate, so that UTF-8 can't encode it.
-    UNICODE = "unicode"
-
-    def __str__(self) -> str:
-        return str(self.value)
-
-    def __repr__(self) -> str:
-        return f"ErrorKind.{self.name}"
-
-
-#: The kinds by status.
-KINDS = (None, *ErrorKind)
-_STATUSES = {kind: status for status, kind in enumerate(KINDS)}
+# The statuses that the library gives for a refused string in UTF-8.
+_REFUSALS = (*range(1, _library.UNRECOGNIZED_FIELD + 1), _library.UNKNOWN_NAME, _library.NAME_WITHOUT_TRIPLE)
 
 
 class ParseError(ValueError):
-    """A text is refused. The message shows where:
+    """A string is refused. The message shows where:
 
-    >>> Triple("x86_64-foo-bar")
+    >>> Triple("x86_64-pc-linx")
     Traceback (most recent call last):
-    lexicon.ParseError: Unrecognized operating system: bar
-      x86_64-foo-bar
-                 ^^^
+    lexicon.ParseError: Unrecognized operating system: linx
+      x86_64-pc-linx
+                ^^^^ did you mean `linux`?
 
-    `kind` is an `ErrorKind`, what was expected. `part` is the refused part, from `start` to `end` of the whole `text`.
-    `line` is the first line of the message with the whole part, and nothing escaped.
+    `part` is the refused part, from `start` to `end` of the whole `text`. `field` is what was expected there, such as
+    `operating_system`. It is None for a part after the binary format, where no field is left, for a lone surrogate, and
+    for a name in a dialect. `suggestion` is the name that may have been meant, or None. `reason` says why no triple means
+    the same as a name that a dialect has; otherwise it is None. `line` is the first line of the message with the whole
+    part, and nothing escaped.
     """
 
     # The name by which tracebacks and callers know it.
     __module__ = "lexicon"
 
-    def __init__(self, text: str, kind: ErrorKind, start: int, part: str) -> None:
-        super().__init__(text, kind, start, part)
-        #: The whole text that is refused.
+    def __init__(self, text: str, status: int, start: int, part: str, reason: Optional[str] = None) -> None:
+        super().__init__(text, status, start, part, reason)
+        #: The whole string that is refused.
         self.text = text
-        #: What was expected.
-        self.kind = kind
-        #: Where the refused part begins in the text, as an index of the `str`.
+        #: Where the refused part begins in the string, as an index of the `str`.
         self.start = start
         #: The refused part.
         self.part = part
+        #: Why no triple means the same as a name that the dialect has; None for any other refusal.
+        self.reason = reason
+        self._status = status
 
     @property
     def end(self) -> int:
-        """Where the refused part ends in the text."""
+        """Where the refused part ends in the string."""
         return self.start + len(self.part)
+
+    @property
+    def field(self) -> Optional[str]:
+        """The name of the field that was expected, as a triple has it. None if no field was."""
+        return FIELDS[self._status - 1] if self._status <= len(FIELDS) else None
+
+    @property
+    def suggestion(self) -> Optional[str]:
+        """The name that may have been meant by the part, or None if there is none."""
+        if self._status == _LONE_SURROGATE:
+            return None
+        return _library.suggestion(self._status, self.part.encode())
 
     @property
     def line(self) -> str:
         """The line that the library writes of the error, with the whole part and nothing escaped."""
-        return _line(self.kind, self.part)
+        return self._line(self.part)
+
+    def _line(self, part: str) -> str:
+        return f"Lone surrogate: {part}" if self._status == _LONE_SURROGATE else _library.error_line(self._status, part.encode())
 
     def __str__(self) -> str:
         part = _shown(_cut(self.part))
         before, after = self.text[: self.start], self.text[self.end:]
         begin = _shown(before if len(before) <= _SHOWN_BEFORE else "..." + before[-_SHOWN_BEFORE:])
         end = _shown(after if len(after) <= _SHOWN_AFTER else after[:_SHOWN_AFTER] + "...")
-        return f"{_line(self.kind, part)}\n  {begin}{part}{end}\n  {' ' * len(begin)}{'^' * max(1, len(part))}"
-
-
-def _line(kind: ErrorKind, part: str) -> str:
-    if kind is ErrorKind.UNICODE:
-        return f"Lone surrogate: {part}"
-    return _library.error_line(_STATUSES[kind], part)
+        name = self.suggestion
+        hint = f" did you mean `{name}`?" if name else f" {self.reason}" if self.reason else ""
+        return f"{self._line(part)}\n  {begin}{part}{end}\n  {' ' * len(begin)}{'^' * max(1, len(part))}{hint}"
 
 
 def _cut(part: str) -> str:
@@ -96,37 +89,27 @@ def _cut(part: str) -> str:
 
 
 def _shown(text: str) -> str:
-    """The text with every character that isn't printable ASCII escaped, so that columns are characters."""
+    """The string with every character that isn't printable ASCII escaped, so that columns are characters."""
     return "".join(it if " " <= it <= "~" else it.encode("unicode_escape").decode() for it in text)
 
 
 def encoded(text: object, what: str) -> bytes:
-    """The text in UTF-8. Anything but a `str` is a TypeError, and a lone surrogate is a ParseError."""
+    """The string in UTF-8. Anything but a `str` is a TypeError, and a lone surrogate is a ParseError."""
     if not isinstance(text, str):
         raise TypeError(f"{what} must be a str, not {type(text).__name__}")
     try:
         return str.encode(text)
     except UnicodeEncodeError as error:
-        raise ParseError(text, ErrorKind.UNICODE, error.start, text[error.start: error.end]) from None
+        raise ParseError(text, _LONE_SURROGATE, error.start, text[error.start]) from None
 
 
-def range_in(text: bytes, start: int, size: int) -> Tuple[int, str]:
-    """Where the bytes begin in the decoded text, and their text."""
-    return len(text[:start].decode()), text[start: start + size].decode()
+def range_in(utf8: bytes, start: int, end: int) -> Tuple[int, str]:
+    """Where the bytes begin in the decoded string, and their string."""
+    return len(utf8[:start].decode()), utf8[start:end].decode()
 
 
-def refusal(text: str, utf8: bytes) -> ParseError:
-    """Why the library refuses this text."""
-    triple, error = _library.TripleBuffer(), _library.ErrorBuffer()
-    if _library.parse(utf8, len(utf8), triple, error) == _library.OK:
-        raise _library.LibraryError("a text was refused and then parsed")
-    return error_of(text, utf8, error.raw)
-
-
-def error_of(text: str, utf8: bytes, error: bytes) -> ParseError:
-    """The error of a `struct lexicon_error`."""
-    expected, start, size = _library.ERROR.unpack(error)
-    kind = KINDS[expected]
-    if kind is None:
-        raise _library.LibraryError(f"a refusal of kind {expected}")
-    return ParseError(text, kind, *range_in(utf8, start, size))
+def refusal(text: str, utf8: bytes, error: _library.ErrorStruct, reason: Optional[str] = None) -> ParseError:
+    """The error that the library wrote."""
+    if error.status not in _REFUSALS:
+        raise _library.LibraryError(f"a refusal with the status {error.status}")
+    return ParseError(text, error.status, *range_in(utf8, error.start, error.end), reason)

@@ -1,57 +1,60 @@
-"""From which part of a text each field of its triple comes."""
+"""From which part of a string each field of its triple comes."""
 from __future__ import annotations
 
+import ctypes
 import enum
 from typing import Iterator, NamedTuple, Optional, Tuple
 
 from . import _library
-from ._errors import ParseError, encoded, error_of, range_in
-from ._triple import Triple, _triple_of
+from ._errors import FIELDS, encoded, range_in, refusal
+from ._triple import Triple, _triple_of, _version_text
 
 
-class SourceKind(enum.Enum):
+class Origin(enum.Enum):
     """Where the value of a field comes from."""
 
-    #: No part of the text is of this field, which is unknown.
+    #: No part of the string is of this field, which is unknown.
     NOT_GIVEN = "not given"
-    #: A part of the text. A special text such as `armv6k-nintendo-3ds` is one part, of all fields.
+    #: A part of the string, which is the name of the value.
     GIVEN = "given"
     #: The binary format that the other fields imply.
-    IMPLIED = "implied by the other fields"
+    IMPLIED = "implied"
+    #: A part of the string that is another spelling. A special string such as `armv6k-nintendo-3ds` is one part, of all fields.
+    ALIAS = "alias"
+
+    def __str__(self) -> str:
+        return str(self.value)
 
     def __repr__(self) -> str:
-        return f"SourceKind.{self.name}"
+        return f"Origin.{self.name}"
 
 
-_KINDS = tuple(SourceKind)
+_ORIGINS = tuple(Origin)
 
 
 class Source(NamedTuple):
-    """Where the value of one field comes from: if it is given, the part of the text, which begins at `start`."""
+    """Where the value of one field comes from. `part` is the part of the string from `start` to `end`, if it is given."""
 
-    kind: SourceKind
+    value: str
+    origin: Origin
+    part: Optional[str] = None
     start: int = 0
-    part: str = ""
 
     @property
     def end(self) -> int:
-        """Where the part ends in the text."""
-        return self.start + len(self.part)
+        """Where the part ends in the string."""
+        return self.start + len(self.part or "")
 
     def __str__(self) -> str:
-        return f"{self.part}, {self.start} to {self.end}" if self.kind is SourceKind.GIVEN else str(self.kind.value)
+        word = "given as" if self.origin is Origin.GIVEN else str(self.origin)
+        return word if self.part is None else f"{word} `{self.part}`"
 
 
 class Explanation(NamedTuple):
-    """From which part of a text each field comes, and the triple, or why the text is refused.
-
-    Of a text that is refused, the parts before the refused one have their fields. As a `str` it has a line for each
-    field.
-    """
+    """The triple of a string, and from which part each of its fields comes. Its `str` has a line for each field."""
 
     text: str
-    triple: Optional[Triple]
-    error: Optional[ParseError]
+    triple: Triple
     architecture: Source
     vendor: Source
     operating_system: Source
@@ -61,37 +64,61 @@ class Explanation(NamedTuple):
     @property
     def sources(self) -> Tuple[Tuple[str, Source], ...]:
         """The names of the fields, each with its source."""
-        return tuple((name, getattr(self, name)) for name in self._fields[3:])
+        return tuple((name, getattr(self, name)) for name in FIELDS)
+
+    @property
+    def suggestion(self) -> Optional[str]:
+        """The known name that may have been meant by a custom vendor, or None."""
+        return _library.vendor_suggestion(self.triple._struct)
+
+    @property
+    def note(self) -> Optional[str]:
+        """What a reader may have overlooked: that the vendor is a custom one. None if it isn't."""
+        if not self.triple.has_custom_vendor:
+            return None
+        hint = f"; did you mean `{self.suggestion}`?" if self.suggestion else ""
+        return f"`{self.vendor.value}` is a custom vendor{hint}"
 
     def __str__(self) -> str:
-        lines = [f"{name.replace('_', ' ')}: {source}" for name, source in self.sources]
-        return "\n".join(lines if self.error is None else [*lines, str(self.error)])
+        version = _version_text(self.triple.version)
+        values = {name: f"{source.value} {version}" if version and name == "operating_system" else source.value
+                  for name, source in self.sources}
+        width = max(len(value) for value in values.values() if len(value) <= 40)
+        custom = {"vendor": "custom, "} if self.triple.has_custom_vendor else {}
+        lines = [f"  {name:16}  {values[name]:{width}}  {custom.get(name, '')}{source}" for name, source in self.sources]
+        if self.note:
+            lines.append(f"  {'note':16}  {self.note}")
+        return "\n".join([self.text, *lines])
 
 
 def explain(text: str) -> Explanation:
-    """From which part of a text each field comes. A text that is refused is explained too.
+    """The triple of a string, and from which part each of its fields comes. A string that is refused raises a `ParseError`.
 
     >>> print(explain("armv7a-nuttx-eabi"))
-    architecture: armv7a, 0 to 6
-    vendor: nuttx, 7 to 12
-    operating system: not given
-    environment: eabi, 13 to 17
-    binary format: implied by the other fields
-
-    A text with a lone surrogate raises a ParseError, and anything but a `str` a TypeError.
+    armv7a-nuttx-eabi
+      architecture      armv7a   given as `armv7a`
+      vendor            nuttx    custom, given as `nuttx`
+      operating_system  unknown  not given
+      environment       eabi     given as `eabi`
+      binary_format     elf      implied
+      note              `nuttx` is a custom vendor
     """
     utf8 = encoded(text, "the text of a triple")
-    triple, sources, error = _library.TripleBuffer(), _library.SourcesBuffer(), _library.ErrorBuffer()
-    status = _library.explain(utf8, len(utf8), triple, sources, error)
-    return Explanation(
-        text,
-        _triple_of(triple.raw, utf8) if status == _library.OK else None,
-        None if status == _library.OK else error_of(text, utf8, error.raw),
-        *_sources(utf8, sources.raw),
-    )
+    owner = ctypes.create_string_buffer(utf8, len(utf8))
+    struct, sources, error = _library.TripleStruct(), _library.SourcesStruct(), _library.ErrorStruct()
+    if _library.explain(owner, len(utf8), struct, sources, error) != _library.OK:
+        raise refusal(text, utf8, error)
+    triple = _triple_of(struct, owner)
+    return Explanation(text, triple, *_sources(triple, utf8, sources))
 
 
-def _sources(utf8: bytes, sources: bytes) -> Iterator[Source]:
-    for kind, start, size in _library.SOURCE.iter_unpack(sources):
-        found = _KINDS[kind]
-        yield Source(found, *range_in(utf8, start, size)) if found is SourceKind.GIVEN else Source(found)
+def _sources(triple: Triple, utf8: bytes, sources: _library.SourcesStruct) -> Iterator[Source]:
+    for name in FIELDS:
+        source, value = getattr(sources, name), str(getattr(triple, name))
+        origin = _ORIGINS[source.origin]
+        if origin is not Origin.GIVEN:
+            yield Source(value, origin)
+            continue
+        start, part = range_in(utf8, source.start, source.end)
+        whole = value + (_version_text(triple.version) or "") if name == "operating_system" else value
+        yield Source(value, Origin.GIVEN if part == whole else Origin.ALIAS, part, start)

@@ -1,8 +1,6 @@
 """What a compiler asks of a triple."""
 from __future__ import annotations
 
-from typing import NamedTuple
-
 from ._fields import NamedValue
 
 
@@ -30,16 +28,3 @@ class DataModel(NamedValue):
     LLP64 = "LLP64"
     LP64 = "LP64"
     ILP64 = "ILP64"
-
-
-class CSizes(NamedTuple):
-    """The sizes of the types of C in a data model, in bits."""
-
-    c_char: int
-    c_short: int
-    c_int: int
-    c_long: int
-    c_long_long: int
-    c_float: int
-    c_double: int
-    c_pointer: int

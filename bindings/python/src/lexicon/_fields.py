@@ -5,7 +5,7 @@ import enum
 from typing import TYPE_CHECKING, Tuple, Type, TypeVar, Union, cast
 
 from . import _library
-from ._errors import KINDS, ParseError, encoded
+from ._errors import FIELDS, ParseError, encoded
 
 if TYPE_CHECKING:
     from ._values import Vendor
@@ -13,9 +13,9 @@ if TYPE_CHECKING:
 Member = TypeVar("Member", bound="NamedValue")
 Value = TypeVar("Value", bound="FieldValue")
 
-# The fields in their order, by the names of their classes.
-_FIELDS = ("Architecture", "Vendor", "OperatingSystem", "Environment", "BinaryFormat")
-_VENDOR = 1
+# The numbers of the fields, by the names of their classes.
+_FIELDS = {name.title().replace("_", ""): number for number, name in enumerate(FIELDS)}
+_VENDOR = _FIELDS["Vendor"]
 
 
 class NamedValue(enum.Enum):
@@ -49,14 +49,14 @@ class FieldValue(NamedValue):
 
     @classmethod
     def parse(cls: Type[Value], text: str) -> Value:
-        """The value that a text is in this field, outside any triple. A version is parsed and dropped.
+        """The value that a string is in this field, outside any triple. A version is parsed and dropped.
 
         >>> Architecture.parse("arm64")
         Architecture.AARCH64
         >>> OperatingSystem.parse("ios17.2")
         OperatingSystem.IOS
         """
-        return members(cls)[_number_of(_FIELDS.index(cls.__name__), text)]
+        return members(cls)[_number_of(_FIELDS[cls.__name__], text)]
 
 
 class VendorValue(NamedValue):
@@ -64,14 +64,14 @@ class VendorValue(NamedValue):
 
     @classmethod
     def parse(cls, text: str) -> Union[Vendor, CustomVendor]:
-        """The vendor that a text is, outside any triple.
+        """The vendor that a string is, outside any triple.
 
         >>> Vendor.parse("pc"), Vendor.parse("acme")
         (Vendor.PC, CustomVendor('acme'))
         """
         number = _number_of(_VENDOR, text)
         if number == _library.CUSTOM_VENDOR:
-            return CustomVendor._of(text.encode())
+            return CustomVendor._of(text)
         return cast("Vendor", members(cls)[number])
 
 
@@ -81,43 +81,49 @@ def members(of: Type[Member]) -> Tuple[Member, ...]:
 
 
 def _number_of(field: int, text: str) -> int:
-    """The number of the value that a text is in the field, or a ParseError."""
+    """The number of the value that a string is in the field, or a ParseError."""
     status, number = _library.number(field, encoded(text, "the name of a value"))
     if status == _library.OK:
         return number
-    kind = KINDS[status] if status < len(KINDS) else None
-    if kind is None:
+    if status != field + 1:
         raise _library.LibraryError(f"unexpected status {status}")
-    raise ParseError(text, kind, 0, text)
+    raise ParseError(text, status, 0, text)
 
 
 class CustomVendor:
-    """A vendor that has no name of its own in the library: a text that parses as a vendor, and as nothing else.
+    """A vendor that has no name of its own in the library: a string that parses as a vendor, and as nothing else.
 
-    Immutable, hashable, and equal by text. A text that is no vendor raises a ParseError, a known vendor a ValueError.
+    Immutable, hashable, and equal by string. A string that is no vendor raises a ParseError, a known vendor a ValueError.
+    `case CustomVendor(text):` of a `match` gives the string.
 
     >>> Triple("x86_64-acme-linux").vendor == CustomVendor("acme")
     True
     """
 
     __slots__ = ("_text",)
-    _text: bytes
+    __match_args__ = ("text",)
+    _text: str
 
     def __new__(cls, text: str) -> "CustomVendor":
         if _number_of(_VENDOR, text) != _library.CUSTOM_VENDOR:
             raise ValueError(f"{text} is a known vendor: Vendor.{text.upper()}")
-        return cls._of(text.encode())
+        return cls._of(text)
 
     @classmethod
-    def _of(cls, text: bytes) -> "CustomVendor":
+    def _of(cls, text: str) -> "CustomVendor":
         self = object.__new__(cls)
         self._text = text
         return self
 
     @property
+    def text(self) -> str:
+        """The string."""
+        return self._text
+
+    @property
     def value(self) -> str:
-        """The text, as the `value` of a known vendor is its name."""
-        return self._text.decode()
+        """The string, as the `value` of a known vendor is its name."""
+        return self._text
 
     @property
     def number(self) -> int:

@@ -4,11 +4,12 @@ from __future__ import annotations
 import ctypes
 import enum
 import operator
-from typing import TYPE_CHECKING, Any, Callable, Iterable, Optional, Tuple, Type, Union, final
+from typing import TYPE_CHECKING, Any, Callable, Dict, Iterable, Optional, Tuple, Type, Union, final
 
 from . import _library
+from ._dialects import NO_DIALECT, Dialect, dialect_number
 from ._errors import encoded, refusal
-from ._facts import CallingConvention, CSizes, DataModel, Endianness
+from ._facts import CallingConvention, DataModel, Endianness
 from ._fields import CustomVendor, members
 from ._values import Architecture, BinaryFormat, Environment, Family, OperatingSystem, Vendor
 
@@ -32,26 +33,21 @@ _MODELS: Tuple[Optional[DataModel], ...] = (None, *members(DataModel))
 for _field, _values in enumerate((_ARCHITECTURES, _VENDORS, _SYSTEMS, _ENVIRONMENTS, _FORMATS)):
     _library.check_names(_field, [str(it) for it in _values])
 
-# Where `struct lexicon_triple` has the numbers of bytes, and the largest numbers of a version.
-_VENDOR, _SYSTEM, _ENVIRONMENT, _FORMAT, _HAS_VERSION = range(2, 7)
 _LARGEST_VERSION = (65535, 255, 255)
-_CUSTOM = _library.CUSTOM_VENDOR
-_numbers_of: Callable[[bytes], Tuple[int, ...]] = _library.NUMBERS.unpack_from
-
-# An error that nobody looks at: the refused text is parsed again where somebody does.
-_IGNORED_ERROR = _library.ErrorBuffer()
+_numbers_of: Callable[[_library.TripleStruct], Tuple[int, ...]] = operator.attrgetter(
+    "architecture", "vendor", "operating_system", "environment", "binary_format", "has_version", "major", "minor", "patch")
 
 
-class _Keep(enum.Enum):
-    """The argument of `Triple.replace` for what stays as it is."""
+class Keep(enum.Enum):
+    """`KEEP` is the argument of `Triple.replace` for what stays as it is."""
 
     KEEP = "keep"
 
     def __repr__(self) -> str:
-        return "..."
+        return self.name
 
 
-_KEEP = _Keep.KEEP
+_KEEP = Keep.KEEP
 
 
 @final
@@ -62,29 +58,29 @@ class Triple:
     >>> str(triple), triple.architecture, triple.version, triple.pointer_width
     ('aarch64-apple-macosx13.2.0', Architecture.AARCH64, (13, 2, 0), 64)
 
-    A text that is refused raises a `ParseError`, anything but a `str` a `TypeError`. A triple is immutable and
-    hashable. Triples are equal by the values of their fields, and ordered by their printed texts, then by the fields;
-    in texts, ios17 comes before ios9. No class derives from this one.
+    A string that is refused raises a `ParseError`, anything but a `str` a `TypeError`. A triple is immutable and
+    hashable. Triples are equal by the values of their fields, and ordered by their printed strings, then by the fields;
+    in strings, ios17 comes before ios9. No class derives from this one.
     """
 
-    # The struct of C; the bytes that a custom vendor is in; the facts and the printed text, once somebody has asked.
+    # The struct of C; the memory that a custom vendor is in; the facts and the printed string, once somebody has asked.
     __slots__ = ("_struct", "_owner", "_facts", "_text", "__weakref__")
-    _struct: bytes
-    _owner: Optional[bytes]
-    _facts: Optional[bytes]
+    _struct: _library.TripleStruct
+    _owner: Optional[ctypes.Array[ctypes.c_char]]
+    _facts: Optional[_library.FactsStruct]
     _text: Optional[str]
 
     def __new__(cls, text: str) -> "Triple":
         utf8 = text.encode() if type(text) is str and text.isascii() else encoded(text, "the text of a triple")
-        out = _library.TripleBuffer()
-        if _library.parse(utf8, len(utf8), out, _IGNORED_ERROR):
-            raise refusal(text, utf8)
-        self = object.__new__(cls)
-        self._struct = struct = out.raw
-        self._owner = utf8 if struct[_VENDOR] == _CUSTOM else None
-        self._facts = None
-        self._text = None
-        return self
+        struct, error = _library.TripleStruct(), _library.ErrorStruct()
+        if _library.parse(utf8, len(utf8), struct, error):
+            raise refusal(text, utf8, error)
+        owner = None
+        if struct.custom_vendor is not None:
+            # The struct points into the argument. Parsed again, it points into memory that the triple owns.
+            owner = ctypes.create_string_buffer(utf8, len(utf8))
+            _library.check(_library.parse(owner, len(utf8), struct, error))
+        return _triple_of(struct, owner)
 
     def __init_subclass__(cls, **arguments: Any) -> None:
         raise TypeError("Triple is final: no class derives from it")
@@ -93,6 +89,29 @@ class Triple:
     def parse(cls, text: str) -> "Triple":
         """The same as `Triple(text)`."""
         return cls(text)
+
+    @classmethod
+    def read(cls, text: str, dialect: Union[Dialect, str, None] = None) -> "Triple":
+        """The triple that a name of another tool means. The tool is a `Dialect`, or its name; none is guessed.
+
+        >>> Triple.read("linux/arm64", Dialect.OCI), Triple.read("armhf", "debian")
+        (Triple('aarch64-unknown-linux'), Triple('arm-unknown-linux-gnueabihf'))
+
+        Without a dialect the string is spelled like a triple, as `cc -dumpmachine` and `config.guess` print it:
+
+        >>> Triple.read("x86_64-w64-mingw32"), Triple.read("amd64-unknown-freebsd13.2")
+        (Triple('x86_64-pc-windows-gnu'), Triple('x86_64-unknown-freebsd'))
+
+        What a name doesn't state is unknown. A name that the dialect doesn't have, and one that no triple means, raise a
+        `ParseError`, whose `reason` says why of the latter. A dialect that there isn't raises another ValueError.
+        """
+        number = NO_DIALECT if dialect is None else dialect_number(dialect)
+        utf8 = encoded(text, "the name of a target")
+        owner = ctypes.create_string_buffer(utf8, len(utf8))
+        struct, error = _library.TripleStruct(), _library.ErrorStruct()
+        if _library.read(number, owner, len(utf8), struct, error) != _library.OK:
+            raise refusal(text, utf8, error, _library.reason(number, utf8))
+        return _triple_of(struct, owner)
 
     @classmethod
     def from_fields(
@@ -111,22 +130,27 @@ class Triple:
 
         A version has one to three numbers. A system that has no version raises a ValueError if there is one.
         """
-        numbers = [
+        struct = _library.TripleStruct(
             _number(architecture, Architecture, "architecture"),
             _number(vendor, (Vendor, CustomVendor), "vendor"),
             _number(operating_system, OperatingSystem, "operating_system"),
             _number(environment, Environment, "environment"),
-        ]
-        owner = vendor._text if isinstance(vendor, CustomVendor) else None
-        text_range = (0, 0) if owner is None else (_address(owner), len(owner))
-        without = _triple_of(_library.TRIPLE.pack(*numbers, 0, 0, 0, 0, 0, *text_range), owner)
+        )
+        owner = None
+        if isinstance(vendor, CustomVendor):
+            text = vendor.text.encode()
+            owner = ctypes.create_string_buffer(text, len(text))
+            struct.custom_vendor, struct.custom_vendor_size = ctypes.addressof(owner), len(text)
+        facts = _facts_of(struct)
         full = _full_version(version)
-        if full is not None and not without.is_like_darwin:
-            raise ValueError(f"the operating system {operating_system} has no version")
-        major, minor, patch = full or (0, 0, 0)
-        chosen = without.implied_format if binary_format is None else binary_format
-        numbers += [_number(chosen, BinaryFormat, "binary_format"), int(full is not None), minor, patch, major]
-        return _triple_of(_library.TRIPLE.pack(*numbers, *text_range), owner)
+        if full is not None:
+            if not facts.is_like_darwin:
+                raise ValueError(f"the operating system {operating_system} has no version")
+            struct.has_version = 1
+            struct.major, struct.minor, struct.patch = full
+        is_implied = binary_format is None
+        struct.binary_format = facts.implied_format if is_implied else _number(binary_format, BinaryFormat, "binary_format")
+        return _triple_of(struct, owner)
 
     @classmethod
     def host(cls) -> "Triple":
@@ -142,100 +166,160 @@ class Triple:
     @property
     def architecture(self) -> Architecture:
         """The architecture, in some families with a sub-architecture."""
-        return _ARCHITECTURES[_numbers_of(self._struct)[0]]
+        return _ARCHITECTURES[self._struct.architecture]
 
     @property
     def vendor(self) -> Union[Vendor, CustomVendor]:
         """The vendor."""
         if self._owner is None:
-            return _VENDORS[self._struct[_VENDOR]]
-        return CustomVendor._of(self._vendor_text())
+            return _VENDORS[self._struct.vendor]
+        return CustomVendor._of(self._vendor_text().decode())
 
     @property
     def operating_system(self) -> OperatingSystem:
         """The operating system, without its version."""
-        return _SYSTEMS[self._struct[_SYSTEM]]
+        return _SYSTEMS[self._struct.operating_system]
 
     @property
     def environment(self) -> Environment:
         """The environment: the ABI, or the C library."""
-        return _ENVIRONMENTS[self._struct[_ENVIRONMENT]]
+        return _ENVIRONMENTS[self._struct.environment]
 
     @property
     def binary_format(self) -> BinaryFormat:
-        """The format of object files."""
-        return _FORMATS[self._struct[_FORMAT]]
+        """The format of object files that the string gives, or that upstream takes as implied."""
+        return _FORMATS[self._struct.binary_format]
 
     @property
     def version(self) -> Optional[Version]:
-        """The version of the operating system: major, minor and patch. None if the text has none."""
-        *_, has_version, minor, patch, major = _numbers_of(self._struct)
-        return (major, minor, patch) if has_version else None
+        """The version of the operating system: major, minor and patch. None if the string has none."""
+        it = self._struct
+        return (it.major, it.minor, it.patch) if it.has_version else None
 
     @property
     def endianness(self) -> Optional[Endianness]:
         """The order of bytes, or None if it isn't known."""
-        return _ENDIANNESS[(self._facts or self._ask())[0]]
+        return _ENDIANNESS[(self._facts or self._ask()).endianness]
 
     @property
     def pointer_width(self) -> Optional[int]:
         """The bits of a pointer, 16, 32 or 64, or None if they aren't known. The environment `gnux32` counts."""
-        return (self._facts or self._ask())[1] or None
+        return (self._facts or self._ask()).pointer_width or None
 
     @property
-    def calling_convention(self) -> Optional[CallingConvention]:
+    def default_calling_convention(self) -> Optional[CallingConvention]:
         """The default calling convention of C, or None if it isn't known."""
-        return _CONVENTIONS[(self._facts or self._ask())[2]]
+        return _CONVENTIONS[(self._facts or self._ask()).default_calling_convention]
 
     @property
     def data_model(self) -> Optional[DataModel]:
-        """The data model of C, or None if it isn't known."""
-        return _MODELS[(self._facts or self._ask())[3]]
+        """The data model of C, or None if it isn't known. Then the sizes of C's types are None too."""
+        return _MODELS[(self._facts or self._ask()).data_model]
+
+    @property
+    def short_size(self) -> Optional[int]:
+        """The bytes of C's `short`, or None without a data model."""
+        return (self._facts or self._ask()).short_size or None
+
+    @property
+    def int_size(self) -> Optional[int]:
+        """The bytes of C's `int`, or None without a data model."""
+        return (self._facts or self._ask()).int_size or None
+
+    @property
+    def long_size(self) -> Optional[int]:
+        """The bytes of C's `long`, or None without a data model.
+
+        >>> Triple("x86_64-pc-windows-msvc").long_size
+        4
+        """
+        return (self._facts or self._ask()).long_size or None
+
+    @property
+    def long_long_size(self) -> Optional[int]:
+        """The bytes of C's `long long`, or None without a data model."""
+        return (self._facts or self._ask()).long_long_size or None
+
+    @property
+    def float_size(self) -> Optional[int]:
+        """The bytes of C's `float`, or None without a data model."""
+        return (self._facts or self._ask()).float_size or None
+
+    @property
+    def double_size(self) -> Optional[int]:
+        """The bytes of C's `double`, or None without a data model."""
+        return (self._facts or self._ask()).double_size or None
 
     @property
     def implied_format(self) -> BinaryFormat:
-        """The binary format that the other fields imply."""
-        return _FORMATS[(self._facts or self._ask())[4]]
+        """The binary format that the other fields imply, as upstream has it: ELF for UEFI."""
+        return _FORMATS[(self._facts or self._ask()).implied_format]
+
+    @property
+    def object_format(self) -> BinaryFormat:
+        """The format that toolchains write, where the triple leaves it open: COFF for UEFI. It gives the linker."""
+        return _FORMATS[(self._facts or self._ask()).object_format]
 
     @property
     def family(self) -> Family:
         """The family of the architecture: all of 32-bit Arm, Thumb too, is `Family.ARM`; AArch64 is its own."""
-        return _FAMILIES[(self._facts or self._ask())[5]]
+        return _FAMILIES[(self._facts or self._ask()).family]
 
     @property
     def is_thumb(self) -> bool:
         """Whether the architecture is Arm's with the instructions Thumb."""
-        return (self._facts or self._ask())[6] != 0
+        return (self._facts or self._ask()).is_thumb
 
     @property
     def is_like_darwin(self) -> bool:
         """Whether the operating system is one of Apple's. Only these have a version."""
-        return (self._facts or self._ask())[7] != 0
+        return (self._facts or self._ask()).is_like_darwin
 
     @property
-    def sizes(self) -> Optional[CSizes]:
-        """The sizes of the types of C, in bits, or None if the data model isn't known.
+    def has_custom_vendor(self) -> bool:
+        """Whether the vendor is a `CustomVendor`."""
+        return self._owner is not None
 
-        >>> Triple("x86_64-pc-windows-msvc").sizes.c_long
-        32
+    @property
+    def canonical(self) -> str:
+        """The printed string of the canonical form, which is a key for the target."""
+        return str(self.settle())
+
+    def to_dict(self) -> Dict[str, Union[str, int, bool, None]]:
+        """All answers, with the names that `lexicon facts --json` has.
+
+        >>> it = Triple("arm64-apple-ios17").to_dict()
+        >>> it["version"], it["long_size"], it["canonical"]
+        ('17.0.0', 8, 'aarch64-apple-ios17.0.0')
         """
-        facts = self._facts or self._ask()
-        return CSizes(*facts[9:]) if facts[3] else None
+        from ._columns import facts_of
 
-    def settled(self) -> "Triple":
-        """The canonical form of the triple, which comes back. So its text is a key for the target.
+        return facts_of(self)._asdict()
+
+    def name_in(self, dialect: Union[Dialect, str]) -> Optional[str]:
+        """The name that another tool has for the target, or None if it has none. The tool is a `Dialect`, or its name.
+
+        >>> triple = Triple("aarch64-unknown-linux-gnu")
+        >>> triple.name_in(Dialect.DEBIAN), triple.name_in("oci"), Triple("avr-unknown-unknown").name_in("go")
+        ('arm64', 'linux/arm64', None)
+
+        The vendor doesn't matter, nor what the dialect doesn't name.
+        """
+        return _library.name_in(dialect_number(dialect), self._struct)
+
+    def settle(self) -> "Triple":
+        """The canonical form of the triple, which comes back. So its string is a key for the target.
 
         >>> one, other = Triple("armv7-nintendo-horizon"), Triple("armv7-nintendo-horizon-newlib")
-        >>> one == other, one.settled() == other.settled()
+        >>> one == other, one.settle() == other.settle()
         (False, True)
         """
-        out = _library.TripleBuffer.from_buffer_copy(self._struct)
-        _library.check(_library.settle(out))
-        settled = out.raw
-        return self if settled == self._struct else _triple_of(settled, self._owner)
+        struct = _library.TripleStruct.from_buffer_copy(self._struct)
+        _library.check(_library.settle(struct))
+        return self if _numbers_of(struct) == _numbers_of(self._struct) else _triple_of(struct, self._owner)
 
     def comes_back(self) -> bool:
-        """Whether the printed text parses as this triple.
+        """Whether the printed string parses as this triple.
 
         >>> Triple("armv6k-nintendo-horizon-gnu").comes_back()
         False
@@ -259,12 +343,12 @@ class Triple:
     def replace(
         self,
         *,
-        architecture: Union[Architecture, _Keep] = _KEEP,
-        vendor: Union[Vendor, CustomVendor, _Keep] = _KEEP,
-        operating_system: Union[OperatingSystem, _Keep] = _KEEP,
-        environment: Union[Environment, _Keep] = _KEEP,
-        binary_format: Union[BinaryFormat, _Keep, None] = _KEEP,
-        version: Union[Iterable[int], _Keep, None] = _KEEP,
+        architecture: Union[Architecture, Keep] = _KEEP,
+        vendor: Union[Vendor, CustomVendor, Keep] = _KEEP,
+        operating_system: Union[OperatingSystem, Keep] = _KEEP,
+        environment: Union[Environment, Keep] = _KEEP,
+        binary_format: Union[BinaryFormat, Keep, None] = _KEEP,
+        version: Union[Iterable[int], Keep, None] = _KEEP,
     ) -> "Triple":
         """The triple with other values in the fields that are given.
 
@@ -290,28 +374,26 @@ class Triple:
         )
 
     def explain(self) -> "Explanation":
-        """From which part of the printed text each field comes. `lexicon.explain` explains any text."""
+        """From which part of the printed string each field comes. `lexicon.explain` explains any string."""
         from ._explain import explain
 
         return explain(str(self))
 
-    def _ask(self) -> bytes:
+    def _ask(self) -> _library.FactsStruct:
         """The facts, which are kept."""
-        out = _library.FactsBuffer()
-        _library.check(_library.facts(self._struct, out))
-        self._facts = facts = out.raw
+        self._facts = facts = _facts_of(self._struct)
         return facts
 
     def _vendor_text(self) -> bytes:
-        """The text of the custom vendor, which is within `_owner`."""
-        return ctypes.string_at(*_library.VENDOR_TEXT.unpack_from(self._struct, _library.VENDOR_TEXT_AT))
+        """The string of the custom vendor, which is within `_owner`."""
+        return ctypes.string_at(self._struct.custom_vendor or 0, self._struct.custom_vendor_size)
 
     def _values(self) -> Tuple[Any, ...]:
         """All that makes a triple the one that it is."""
         return _numbers_of(self._struct), b"" if self._owner is None else self._vendor_text()
 
     def _order(self) -> Tuple[Any, ...]:
-        """By what triples are ordered: the printed text, and the values if it is the same."""
+        """By what triples are ordered: the printed string, and the values if it is the same."""
         return str(self), self._values()
 
     def __str__(self) -> str:
@@ -332,9 +414,7 @@ class Triple:
     def __eq__(self, other: object) -> bool:
         if not isinstance(other, Triple):
             return NotImplemented
-        if self._struct == other._struct and self._owner is other._owner:
-            return True
-        return self._values() == other._values()
+        return self is other or self._values() == other._values()
 
     def __hash__(self) -> int:
         return hash(self._values())
@@ -370,19 +450,24 @@ class Triple:
         return _triple_from_fields, fields
 
 
-def _triple_of(struct: bytes, owner: Optional[bytes]) -> Triple:
+def _triple_of(struct: _library.TripleStruct, owner: Optional[ctypes.Array[ctypes.c_char]]) -> Triple:
     """The triple of a struct, whose custom vendor, if it has one, is within the owner."""
     self = object.__new__(Triple)
     self._struct = struct
-    self._owner = owner if struct[_VENDOR] == _CUSTOM else None
+    self._owner = owner if struct.vendor == _library.CUSTOM_VENDOR else None
     self._facts = None
     self._text = None
     return self
 
 
-def _address(text: bytes) -> int:
-    """Where the bytes are, for as long as somebody holds them."""
-    return ctypes.cast(ctypes.c_char_p(text), ctypes.c_void_p).value or 0
+def _facts_of(struct: _library.TripleStruct) -> _library.FactsStruct:
+    facts = _library.FactsStruct()
+    _library.check(_library.facts(struct, facts))
+    return facts
+
+
+def _version_text(version: Optional[Version]) -> Optional[str]:
+    return None if version is None else ".".join(map(str, version))
 
 
 def _triple_from_fields(*fields: Any) -> Triple:

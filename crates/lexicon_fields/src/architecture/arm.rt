@@ -21,48 +21,79 @@ pub enum ArmArchitecture {
     Arm,
     /// Arm of no stated version, big-endian.
     Armeb,
+    /// Armv4.
     Armv4,
+    /// Armv4, with Thumb.
     Armv4t,
+    /// Armv5, with Thumb.
     Armv5t,
+    /// Armv5, with Thumb and the DSP instructions.
     Armv5te,
+    /// Armv5, with Thumb, the DSP instructions and Jazelle.
     Armv5tej,
+    /// Armv6.
     Armv6,
+    /// Armv6, with Jazelle.
     Armv6j,
+    /// Armv6, with the extensions of the MPCore.
     Armv6k,
+    /// Armv6, with the security extensions.
     Armv6z,
+    /// Armv6, with the kernel and the security extensions.
     Armv6kz,
+    /// Armv6, with Thumb-2.
     Armv6t2,
+    /// Armv6-M, of microcontrollers.
     Armv6m,
+    /// Armv7 of no stated profile.
     Armv7,
+    /// Armv7-A, of applications.
     Armv7a,
     /// Armv7 of Apple's watches.
     Armv7k,
+    /// Armv7-A, with the virtualization extensions.
     Armv7ve,
+    /// Armv7-M, of microcontrollers.
     Armv7m,
+    /// Armv7-R, of real-time systems.
     Armv7r,
     /// Armv7 of Apple's A6.
     Armv7s,
+    /// Armv8 of no stated profile, 32-bit.
     Armv8,
+    /// Armv8-A, 32-bit.
     Armv8a,
+    /// Armv8.1-A, 32-bit.
     Armv8_1a,
+    /// Armv8.2-A, 32-bit.
     Armv8_2a,
+    /// Armv8.3-A, 32-bit.
     Armv8_3a,
+    /// Armv8.4-A, 32-bit.
     Armv8_4a,
+    /// Armv8.5-A, 32-bit.
     Armv8_5a,
     /// Armv8-M, the baseline.
     Armv8mBase,
     /// Armv8-M, the mainline.
     Armv8mMain,
+    /// Armv8-R, of real-time systems.
     Armv8r,
     /// Armv7-R, big-endian.
     Armebv7r,
     /// Thumb of no stated version, big-endian.
     Thumbeb,
+    /// Armv4 in Thumb.
     Thumbv4t,
+    /// Armv5 in Thumb, with the DSP instructions.
     Thumbv5te,
+    /// Armv6-M in Thumb.
     Thumbv6m,
+    /// Armv7-A in Thumb.
     Thumbv7a,
+    /// Armv7-M in Thumb, with the DSP instructions.
     Thumbv7em,
+    /// Armv7-M in Thumb.
     Thumbv7m,
     /// Armv7-A in Thumb, with the vector instructions Neon.
     Thumbv7neon,

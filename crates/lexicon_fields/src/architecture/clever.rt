@@ -16,6 +16,7 @@ pub enum CleverArchitecture {
     // written by tools/names/write: the variants of CleverArchitecture
     /// No stated version.
     Clever,
+    /// Version 1.0.
     Clever1_0,
     // end of what is written
 }

@@ -18,11 +18,17 @@ pub enum Riscv32Architecture {
     Riscv32,
     /// The general extensions, `imafd`, and compressed instructions.
     Riscv32gc,
+    /// The base integer instructions only.
     Riscv32i,
+    /// The base instructions, with multiplication.
     Riscv32im,
+    /// The base instructions, with multiplication and atomics.
     Riscv32ima,
+    /// The base instructions, with multiplication, atomics and compressed instructions.
     Riscv32imac,
+    /// The base instructions, with multiplication, atomics, single-precision floats and compressed instructions.
     Riscv32imafc,
+    /// The base instructions, with multiplication and compressed instructions.
     Riscv32imc,
     // end of what is written
 }
@@ -92,6 +98,7 @@ pub enum Riscv64Architecture {
     Riscv64,
     /// The general extensions, `imafd`, and compressed instructions.
     Riscv64gc,
+    /// The base instructions, with multiplication, atomics and compressed instructions.
     Riscv64imac,
     /// The profile RVA23.
     Riscv64a23,

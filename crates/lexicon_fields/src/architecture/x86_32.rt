@@ -14,8 +14,11 @@ use std::str::FromStr;
 #[derive(Clone, Copy, Debug, PartialEq, Eq, Hash)]
 pub enum X86_32Architecture {
     // written by tools/names/write: the variants of X86_32Architecture
+    /// Intel's 80386 and later.
     I386,
+    /// Intel's Pentium and later.
     I586,
+    /// Intel's Pentium Pro and later.
     I686,
     // end of what is written
 }

@@ -14,14 +14,21 @@ use std::str::FromStr;
 #[derive(Clone, Copy, Debug, PartialEq, Eq, Hash)]
 pub enum Z80Architecture {
     // written by tools/names/write: the variants of Z80Architecture
+    /// Zilog's Z80.
     Z80,
+    /// Zilog's Z180.
     Z180,
+    /// Zilog's eZ80.
     Ez80,
     /// Sharp's SM83, of the Game Boy.
     Sm83,
+    /// The Rabbit 2000.
     Rabbit2000,
+    /// The Rabbit 2000A.
     Rabbit2000A,
+    /// The Rabbit 3000.
     Rabbit3000,
+    /// The Rabbit 3000A.
     Rabbit3000A,
     /// Toshiba's TLCS-90.
     Tlcs90,

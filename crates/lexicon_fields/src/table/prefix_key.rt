@@ -7,7 +7,6 @@ ghost use Rattle.lexicon_fields.specs.Private.{prefix_key_of};
 use std::cmp::Ordering;
 
 /// The order by bytes of two texts with these prefix keys.
-#[inline(always)] // rustc saves nothing by this file's hints; of the kit's own build it isn't measured
 pub(crate) fn order(own_key: u64, own: &str, key: u64, text: &str) -> Ordering
     requires own { own_key ≡ prefix_key_of 8 own.now }
     requires text { key ≡ prefix_key_of 8 text.now }
@@ -30,7 +29,6 @@ pub(crate) fn order(own_key: u64, own: &str, key: u64, text: &str) -> Ordering
 }
 
 /// The first eight bytes as a big-endian number; a missing byte is zero.
-#[inline(always)]
 pub(crate) fn prefix_key(text: &str) -> u64
     ensures { result ≡ prefix_key_of 8 text.now }
 {
@@ -48,7 +46,6 @@ pub(crate) fn prefix_key(text: &str) -> u64
 }
 
 /// The prefix key of at most three bytes.
-#[inline(always)]
 fn prefix_key_of_few(bytes: &[u8]) -> u64
     requires { length bytes.now < 4 }
     ensures { result ≡ prefix_key_of 8 bytes.now }

@@ -3,7 +3,8 @@
 
 use super::faulty::{Fault, FaultyTarget, FaultyWriter, WriterCalls};
 use crate::conclude::conclude;
-use lexicon_programs::{Counted, RunError};
+use crate::counted::Counted;
+use crate::run_error::RunError;
 use std::alloc::Global;
 use std::fmt::Write as _;
 use std::io::ErrorKind;

@@ -1,7 +1,7 @@
 //! Inputs of each mode and their outputs, and inputs that have no output.
 
 use crate::mode::Mode;
-use lexicon_programs::RunError;
+use crate::run_error::RunError;
 
 /// A mode, an input, and the output for it.
 pub(super) type Row = (Mode, &'static str, &'static str);

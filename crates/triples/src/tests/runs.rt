@@ -3,9 +3,10 @@
 use super::SPECIAL_KINDS;
 use super::faulty::{Fault, FaultyReader, FaultyWriter, WriterCalls};
 use super::rows::{REFUSED_ROWS, ROWS, Row};
+use crate::counted::Counted;
 use crate::mode::Mode;
 use crate::run::run;
-use lexicon_programs::{Counted, RunError};
+use crate::run_error::RunError;
 use std::alloc::Global;
 use std::io::ErrorKind;
 

@@ -7,4 +7,4 @@ pub returns : goal.returns
 returns c =
     let given = version_given (system_version c.args.triple.now.operating_system) c.args.has_version c.args.version c.requires.version in
     are_numbers (values_of_ref c.args.triple.now) _ c.architecture_number.ensures c.vendor_number.ensures c.operating_system_number.ensures
-    c.environment_number.ensures c.binary_format_number.ensures given.0 given.1
+    c.environment_number.ensures c.binary_format_number.ensures given.0 given.1 c.vendor_text.ensures

@@ -1,28 +1,25 @@
-use lib.Count.{count_trailing_zeros}
-use Rattle.std.proofs.Common.{◌/◌, ◌^◌, ℕ, Bor, List, subst, arith}
-use Rattle.std.proofs.{lemmas.Option.same_Some, lemmas.Str.IsCharBoundary-before_ascii, lemmas.Str.lead_after_ascii}
-use Rattle.target_lexicon.specs.Private.{AreDashBits}
-use Rattle.target_lexicon.proofs.{DashBits.bits_after, DashBits.first_dash, DashBits.without_dash, PartLemmas.dash_at, PartLemmas.cut-found, PartLemmas.cut-whole}
+use Rattle.std.proofs.Common.{◌≡◌, ◌∙◌, [], ◌∷◌, ◌+◌, length, get_or, ap, sym, subst, arith, rules}
+use Rattle.std.specs.Str.{IsUtf8}
+use Rattle.std.proofs.lemmas.Str.{IsCharBoundary-after_ascii}
+use Rattle.target_lexicon.specs.Explanation.{placed_from}
+use Rattle.target_lexicon.specs.Placement.{parts_of}
+use Rattle.target_lexicon.proofs.PartLemmas.{parts_of-cut-at, parts_of-whole}
 use Rattle.target_lexicon.proofs.part.split_at_dash.Goals as goal
 
-pub returns-then-text-le-MAX_LENGTH_WITH_BITS-clause-parts : goal.returns-then-text-le-MAX_LENGTH_WITH_BITS-clause-parts
-returns-then-text-le-MAX_LENGTH_WITH_BITS-clause-parts c = cut-whole c.args.text.now (without_dash c.args.text.now c.args.bits c.requires (omega arith) (omega arith))
-
-pub range-requires-clause-end_boundary : goal.range-requires-clause-end_boundary
-range-requires-clause-end_boundary c =
-    let dash = dash_at c.args.text.now _ (first_dash c.args.text.now c.args.bits c.requires (omega arith)) in
-    IsCharBoundary-before_ascii c.args.text.now _ dash.0 (omega (arith, dash.1))
-
 pub range_from-requires : goal.range_from-requires
-range_from-requires c =
-    let dash = dash_at c.args.text.now _ (first_dash c.args.text.now c.args.bits c.requires (omega arith)) in
-    λ _. (omega (arith, dash.0), λ more high. lead_after_ascii c.args.text.now _ c.utf8.text (omega (arith, dash.1)) more high)
+range_from-requires c _ =
+    let dash : get_or c.args.rest.text.now c.in-Some.at 0 ≡ 45 = search rules in
+    IsCharBoundary-after_ascii _ _ (subst IsUtf8 c.as_bytes.ensures.value c.as_bytes.ensures.utf8) (search rules) (omega arith)
 
-pub returns-clause-parts : goal.returns-clause-parts
-returns-clause-parts c =
-    cut-found c.args.text.now _ (first_dash c.args.text.now c.args.bits c.requires (omega arith)) _ _ c.range.ensures.value c.range_from.ensures.value
+pub returns-in-Some-clause-parts : goal.returns-in-Some-clause-parts
+returns-in-Some-clause-parts c =
+    let start = c.args.rest.start in
+    let part = c.range.result.now in
+    let after = c.range_from.result.now in
+    let size : length part ≡ c.in-Some.at = omega arith in
+    ap (placed_from start) (parts_of-cut-at c.args.rest.text.now c.in-Some.at (search rules) (search rules) (search rules) part after c.range.ensures.value c.range_from.ensures.value)
+    ∙ (λ i. record { text = part; start = start; end = start + size i } ∷ placed_from (start + size i + 1) (parts_of after))
 
-pub returns-clause-dash_bits : goal.returns-clause-dash_bits
-returns-clause-dash_bits c =
-    let after = bits_after c.args.text.now c.range_from.result.now c.args.bits _ c.requires (omega arith) c.range_from.ensures.value in
-    λ rest is. subst (λ (text : Bor (List ℕ)). AreDashBits (c.args.bits / 2 ^ count_trailing_zeros 64 c.args.bits / 2) text.now) (same_Some _ _ is) after
+pub returns-in-None-clause-parts : goal.returns-in-None-clause-parts
+returns-in-None-clause-parts c =
+    ap (placed_from c.args.rest.start) (parts_of-whole c.args.rest.text.now (search rules)) ∙ ap (λ part. part ∷ []) (sym c.requires)

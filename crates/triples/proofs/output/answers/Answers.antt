@@ -1,7 +1,7 @@
 -- Each iteration answers the first remaining line.
 use Rattle.std.proofs.Common.{ap, rules, arith}
 use Rattle.std.proofs.{lemmas.Grind.common_steps, lemmas.List.nil_from_length}
-use Rattle.triples.specs.Output.{lines_of}
+use Rattle.triples.specs.Lines.{lines_of}
 use Rattle.triples.proofs.AnswerLemmas.{so-far-none, so-far-more, so-far-whole}
 use Rattle.triples.proofs.output.answers.Goals as goal
 

@@ -2,7 +2,8 @@
 use Rattle.std.proofs.Common.{length, string_bytes, ◌≤◌}
 use denote.Text.{Utf8}
 use denote.Shadow.{shadow}
-use Rattle.triples.specs.Output.{lines_of, shown_text}
+use Rattle.triples.specs.Lines.{lines_of}
+use Rattle.triples.specs.Output.{shown_text}
 use Rattle.triples.proofs.AnswerLemmas.{IsSoFar}
 use Rattle.triples.proofs.output.answers.Given as goal
 
@@ -10,7 +11,7 @@ abbrev pub invariant-loop-rest : goal.invariant-loop-rest
 invariant-loop-rest l = record {
   utf8 : shadow (Utf8 l.rest);
   shorter : length l.rest ≤ length l.input;
-  so_far : IsSoFar (shown_text l.view) (lines_of l.input) (lines_of l.rest) (string_bytes l.output);
+  so_far : IsSoFar (shown_text l.mode) (lines_of l.input) (lines_of l.rest) (string_bytes l.output);
 }
 
 abbrev pub decreases-loop-rest : goal.decreases-loop-rest

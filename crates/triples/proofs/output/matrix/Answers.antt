@@ -1,15 +1,15 @@
 -- Each iteration answers the first remaining line.
 use Rattle.std.proofs.Common.{ap, rules, arith}
 use Rattle.std.proofs.{lemmas.Grind.common_steps, lemmas.List.nil_from_length}
-use Rattle.triples.specs.Output.{lines_of}
-use Rattle.triples.proofs.AnswerLemmas.{matrix-none, matrix-more, matrix-whole}
+use Rattle.triples.specs.Lines.{lines_of}
+use Rattle.triples.proofs.AnswerLemmas.{matrix-none, matrix-more, matrix-whole, none-seen}
 use Rattle.triples.proofs.output.matrix.Goals as goal
 
 pub loop-rest-init : goal.loop-rest-init
 loop-rest-init c = record {
   utf8 = search rules;
   shorter = omega arith;
-  so_far = matrix-none (grind (arith, common_steps)) c.new-seen.ensures;
+  so_far = matrix-none (grind (arith, common_steps)) (none-seen c.new-seen.result c.new-seen.ensures.empty);
 }
 
 pub loop-rest-preserved : goal.loop-rest-preserved

@@ -7,10 +7,10 @@ use Rattle.triples.proofs.output.push_answer.Goals as goal
 
 pub returns-in-Err : goal.returns-in-Err
 returns-in-Err c =
-    refusal-adds c.push_refusal.result (shown_text c.args.view) c.args.line.now (string_bytes c.args.output.now) (string_bytes c.push_refusal.new.output)
+    refusal-adds c.push_refusal.result (shown_text c.args.mode) c.args.line.now (string_bytes c.args.output.now) (string_bytes c.push_refusal.new.output)
     (refusal_of_ref c.in-Err.refusal) c.in-Err.ensures.err c.push_refusal.ensures
 
 pub returns-in-Ok : goal.returns-in-Ok
 returns-in-Ok c =
-    read-adds c.push_line.result (shown_text c.args.view) c.args.line.now (string_bytes c.args.output.now) (string_bytes c.push_line.new.output)
+    read-adds c.push_line.result (shown_text c.args.mode) c.args.line.now (string_bytes c.args.output.now) (string_bytes c.push_line.new.output)
     (values_of_ref c.in-Ok.triple) c.in-Ok.ensures.ok c.push_line.ensures

@@ -1,0 +1,37 @@
+"""The tools whose names of targets are read and written."""
+from __future__ import annotations
+
+from typing import Union
+
+from ._fields import NamedValue
+
+
+class Dialect(NamedValue):
+    """A tool, or a group of tools, that names targets in its own way."""
+
+    #: Debian's architectures, as dpkg names them: `amd64`, `armhf`, `musl-linux-arm64`.
+    DEBIAN = "debian"
+    #: Go's ports: `linux/amd64`.
+    GO = "go"
+    #: Platforms of container images: `linux/arm/v7`.
+    OCI = "oci"
+    #: `process.platform` and `process.arch` of Node, as npm joins them: `linux-x64`, `linux-x64-musl`.
+    NODE = "node"
+    #: Prefixes of GNU's cross compilers, which are only written: `x86_64-w64-mingw32`.
+    GNU = "gnu"
+
+
+#: The number in the library for C of no dialect: the string is spelled like a triple.
+NO_DIALECT = 0
+
+
+def dialect_number(dialect: Union[Dialect, str]) -> int:
+    """The number in the library for C of a dialect, given as a member or by its name."""
+    if isinstance(dialect, str):
+        names = [it.value for it in Dialect]
+        if dialect not in names:
+            raise ValueError(f"the dialect must be one of {', '.join(names)}, not {dialect}")
+        return names.index(dialect) + 1
+    if not isinstance(dialect, Dialect):
+        raise TypeError(f"the dialect must be of type Dialect or str, not {type(dialect).__name__}")
+    return dialect.number + 1

@@ -1,1 +1,0 @@
-//! Upstream's own tests, over this crate: see `tests.rs`.

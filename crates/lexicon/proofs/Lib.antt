@@ -1,4 +1,0 @@
--- AnswerLemmas: the answers to targets. JsonAnswerLemmas and FloatlessLemmas: JSON objects.
-pub mod AnswerLemmas
-pub mod FloatlessLemmas
-pub mod JsonAnswerLemmas

@@ -1,0 +1,47 @@
+-- Names of targets in other tools, where a dialect is a number.
+use Rattle.std.specs.Prelude.{◌≡◌, ℕ, List, [], ◌∷◌, length, Option, Some, None, Result, Ok, Err}
+use Rattle.target_lexicon.specs.Values.{Values}
+use Rattle.tool_names.specs.{Spelling.PartRefusal, Spelling.spelled_reading, ToolNames.Unread, ToolNames.IsUnknown, ToolNames.HasNoTriple, ToolNames.name_meaning}
+use Rattle.tool_names.specs.declared.dialect.Dialect.{Dialect}
+use Rattle.tool_names.specs.declared.dialect.Dialect.TheVariants.{Debian, Go, Oci, Node, Gnu}
+use Rattle.lexicon_c.specs.{Parsing.refusal_status, Triple.AreNumbersOf, declared.error.TextError.TextError, declared.triple.NumberedTriple.NumberedTriple}
+
+-- the dialects by number. The first is none: strings that are spelled like triples. A number never changes its meaning
+abbrev pub dialects_by_number : List (Option Dialect)
+dialects_by_number = None ∷ Some Debian ∷ Some Go ∷ Some Oci ∷ Some Node ∷ Some Gnu ∷ []
+
+-- the refusal of a part
+abbrev pub part_error : PartRefusal → TextError
+part_error it = record { status = refusal_status it.refusal.expected; start = it.start; end = it.end }
+
+-- the status of a name that isn't read
+abbrev pub unread_status : Unread → ℕ
+unread_status IsUnknown = 12
+unread_status (HasNoTriple why) = 13
+
+-- the refusal of a name: the whole name is refused
+abbrev pub name_error : List ℕ → Unread → TextError
+name_error name unread = record { status = unread_status unread; start = 0; end = length name }
+
+-- a result with this error for each that it may have
+abbrev pub with_error : {E : Type 0} → (E → TextError) → Result Values E → Result Values TextError
+with_error error (Ok t) = Ok t
+with_error error (Err it) = Err (error it)
+
+-- what a string means: as a name of the dialect, or, with none, as it is spelled
+abbrev pub dialect_reading : Option Dialect → List ℕ → Result Values TextError
+dialect_reading None text = with_error part_error (spelled_reading text)
+dialect_reading (Some d) name = with_error (name_error name) (name_meaning d name)
+
+-- the result has the numbers of the triple, or is the error
+abbrev pub GivesTriple : Result Values TextError → Result NumberedTriple TextError → Type 0
+GivesTriple (Ok t) (Ok triple) = AreNumbersOf t triple
+GivesTriple (Err error) (Err found) = found ≡ error
+GivesTriple (Ok t) (Err found) = ⊥
+GivesTriple (Err error) (Ok triple) = ⊥
+
+-- why a name that is known has no triple
+abbrev pub reason_of : Result Values Unread → Option (List ℕ)
+reason_of (Err (HasNoTriple why)) = Some why
+reason_of (Err IsUnknown) = None
+reason_of (Ok t) = None

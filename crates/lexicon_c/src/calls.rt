@@ -1,0 +1,120 @@
+//! The calls.
+ghost use Rattle.std.specs.Prelude.{◌≡◌, ◌↔◌, ⊤, IfErr, IsTrue};
+ghost use Rattle.target_lexicon.specs.FixedPoints.{settled_values};
+ghost use Rattle.target_lexicon.specs.Laws.{ComesBack};
+ghost use Rattle.target_lexicon.specs.Printing.{text_of};
+ghost use Rattle.target_lexicon.specs.Written.{IsWritten};
+ghost use Rattle.lexicon_c.specs.Facts.{AreFactsOf};
+ghost use Rattle.lexicon_c.specs.Parsing.{ExplainsTriple, IsErrorAfter, Parses, sources_numbers};
+ghost use Rattle.lexicon_c.specs.Triple.{Answers, AreNumbersOf, OnTriple};
+
+use crate::error::{TextError, error_of};
+use crate::sources::{FieldSources, sources_numbers};
+use crate::triple::{Fault, NumberedTriple, are_equal, numbers_of, triple_in};
+use crate::triple_facts::{TripleFacts, facts_of};
+use target_lexicon::laws::read_vendors_are_plain;
+use target_lexicon::parse_or_locate;
+
+/// The triple that a text parses as, or why it is refused.
+pub fn parse(text: &str) -> Result<NumberedTriple<'_>, TextError>
+    ensures { Parses text.entry.now AreNumbersOf (IsErrorAfter text.entry.now (λ _. ⊤)) result }
+{
+    read_vendors_are_plain();
+    match parse_or_locate(text) {
+        Ok(parsed) => Ok(numbers_of(&parsed)),
+        Err((refusal, part)) => Err(error_of(&refusal, &part)),
+    }
+}
+
+/// The triple that a text parses as, or why it is refused, and where each field comes from.
+pub fn explain(text: &str) -> (Result<NumberedTriple<'_>, TextError>, FieldSources)
+    ensures { Parses text.entry.now
+        (λ t numbers. AreNumbersOf t numbers × ExplainsTriple text.entry.now result.1)
+        (IsErrorAfter text.entry.now (λ s. result.1 ≡ sources_numbers s))
+        result.0 }
+{
+    read_vendors_are_plain();
+    match target_lexicon::explain(text) {
+        Ok(explanation) => (
+            Ok(numbers_of(&explanation.triple)),
+            sources_numbers(&explanation.sources),
+        ),
+        Err(refused) => (
+            Err(error_of(&refused.error, &refused.part)),
+            sources_numbers(&refused.sources),
+        ),
+    }
+}
+
+/// The length of the printed text, which is written if the buffer has room for it.
+pub fn print(triple: &NumberedTriple<'_>, out: &mut [u8]) -> Result<usize, Fault>
+    ensures written { OnTriple triple.now
+        (λ t. Answers (IsWritten (text_of t) out.old out.new)) result }
+    ensures unchanged { IfErr result (λ fault. out.new ≡ out.old) }
+{
+    match triple_in(triple) {
+        Ok(printed) => Ok(printed.write_to(out)),
+        Err(fault) => Err(fault),
+    }
+}
+
+/// The canonical form.
+pub fn settle<'a>(triple: &NumberedTriple<'a>) -> Result<NumberedTriple<'a>, Fault>
+    ensures { OnTriple triple.now (λ t. Answers (AreNumbersOf (settled_values t))) result }
+{
+    match triple_in(triple) {
+        Ok(settling) => Ok(numbers_of(&settling.settle())),
+        Err(fault) => Err(fault),
+    }
+}
+
+/// Whether the triple comes back: its printed text parses as it.
+pub fn comes_back(triple: &NumberedTriple<'_>) -> Result<bool, Fault>
+    ensures { OnTriple triple.now
+        (λ t. Answers (λ answer. IsTrue answer ↔ ComesBack t)) result }
+{
+    match triple_in(triple) {
+        Ok(printed) => Ok(printed.comes_back()),
+        Err(fault) => Err(fault),
+    }
+}
+
+/// Whether two triples are equal. Of two that are wrong, the fault is the first one's.
+pub fn equal(first: &NumberedTriple<'_>, second: &NumberedTriple<'_>) -> Result<bool, Fault>
+    ensures { OnTriple first.now (λ t. OnTriple second.now (λ u.
+        Answers (λ answer. IsTrue answer ↔ (t ≡ u)))) result }
+{
+    let first = match triple_in(first) {
+        Ok(first) => first,
+        Err(fault) => return Err(fault),
+    };
+    match triple_in(second) {
+        Ok(second) => Ok(are_equal(&first, &second)),
+        Err(fault) => Err(fault),
+    }
+}
+
+/// Whether two triples have the same canonical form.
+pub fn same_target(first: &NumberedTriple<'_>, second: &NumberedTriple<'_>) -> Result<bool, Fault>
+    ensures { OnTriple first.now (λ t. OnTriple second.now (λ u.
+        Answers (λ answer. IsTrue answer ↔ (settled_values t ≡ settled_values u)))) result }
+{
+    let first = match triple_in(first) {
+        Ok(first) => first,
+        Err(fault) => return Err(fault),
+    };
+    match triple_in(second) {
+        Ok(second) => Ok(first.settles_as(&second)),
+        Err(fault) => Err(fault),
+    }
+}
+
+/// What a compiler asks of a triple.
+pub fn facts(triple: &NumberedTriple<'_>) -> Result<TripleFacts, Fault>
+    ensures { OnTriple triple.now (λ t. Answers (AreFactsOf t)) result }
+{
+    match triple_in(triple) {
+        Ok(asked) => Ok(facts_of(&asked)),
+        Err(fault) => Err(fault),
+    }
+}

@@ -1,0 +1,94 @@
+//! Names of targets in other tools.
+ghost use Rattle.std.specs.Prelude.{◌≡◌, option_map, slice_get};
+ghost use Rattle.tool_names.specs.Spelling.{part_refusal, spelled_reading};
+ghost use Rattle.tool_names.specs.ToolNames.{name_meaning, triple_name, unread_of};
+ghost use Rattle.lexicon_c.specs.Dialects.{GivesTriple, dialect_reading, dialects_by_number, name_error, part_error, reason_of};
+ghost use Rattle.lexicon_c.specs.Triple.{Answers, OnTriple};
+
+use crate::error::{TextError, refusal_status};
+use crate::triple::{Fault, NumberedTriple, numbers_of, triple_in};
+use tool_names::laws::names_are_canonical;
+use tool_names::{Dialect, NameError, ReadError};
+
+/// The dialect with this number. 0 is no dialect: that of strings that are spelled like triples.
+pub fn dialect_at(number: u32) -> Option<Option<Dialect>>
+    ensures { result ≡ slice_get dialects_by_number number }
+{
+    match number {
+        0 => Some(None),
+        1 => Some(Some(Dialect::Debian)),
+        2 => Some(Some(Dialect::Go)),
+        3 => Some(Some(Dialect::Oci)),
+        4 => Some(Some(Dialect::Node)),
+        5 => Some(Some(Dialect::Gnu)),
+        _ => None,
+    }
+}
+
+/// The triple that a name of a dialect means, or a string that is spelled like a triple; or why there is none.
+pub fn read(dialect: Option<Dialect>, text: &str) -> Result<NumberedTriple<'_>, TextError>
+    ensures { GivesTriple (dialect_reading dialect text.entry.now) result }
+{
+    match dialect {
+        Some(dialect) => {
+            names_are_canonical();
+            match dialect.read(text) {
+                Ok(triple) => Ok(numbers_of(&triple)),
+                Err(error) => Err(name_error(error, text)),
+            }
+        }
+        None => match tool_names::read(text) {
+            Ok(triple) => Ok(numbers_of(&triple)),
+            Err(error) => Err(part_error(&error)),
+        },
+    }
+}
+
+/// The name of a triple in a dialect, if it has one.
+pub fn name_in(dialect: Dialect, triple: &NumberedTriple<'_>) -> Result<Option<&'static str>, Fault>
+    ensures { OnTriple triple.now (λ t.
+        Answers (λ name. option_map (λ text. text.now) name ≡ triple_name dialect t)) result }
+{
+    match triple_in(triple) {
+        Ok(named) => match dialect.write(&named) {
+            Some(name) => Ok(Some(name.as_str())),
+            None => Ok(None),
+        },
+        Err(fault) => Err(fault),
+    }
+}
+
+/// Why a name of a dialect has no triple, if it is a name and has none.
+pub fn reason(dialect: Dialect, name: &str) -> Option<&'static str>
+    ensures { option_map (λ why. why.now) result ≡ reason_of (name_meaning dialect name.now) }
+{
+    match dialect.read(name) {
+        Err(NameError::WithoutTriple(why)) => Some(why),
+        _ => None,
+    }
+}
+
+/// The refusal of a part of a string, as numbers.
+fn part_error(error: &ReadError<'_>) -> TextError
+    ensures { result ≡ part_error (part_refusal error.now) }
+{
+    TextError {
+        status: refusal_status(&error.error),
+        start: error.start,
+        end: error.end,
+    }
+}
+
+/// Why a name isn't read, as numbers. The range is the whole name.
+fn name_error(error: NameError, name: &str) -> TextError
+    ensures { result ≡ name_error name.now (unread_of error) }
+{
+    TextError {
+        status: match error {
+            NameError::Unknown => 12,
+            NameError::WithoutTriple(_) => 13,
+        },
+        start: 0,
+        end: name.len(),
+    }
+}

@@ -1,0 +1,64 @@
+//! Why a text is refused, as numbers.
+ghost use Rattle.std.specs.Prelude.{◌≡◌, ◌≢◌, Option, MatchOption};
+ghost use Rattle.target_lexicon.specs.Explanation.{part_value};
+ghost use Rattle.target_lexicon.specs.Field.{Field};
+ghost use Rattle.target_lexicon.specs.ValuesRef.{refusal_of_ref};
+ghost use Rattle.lexicon_c.specs.Parsing.{IsErrorAt, refusal_status};
+
+use target_lexicon::{Field, ParseErrorRef, TextPart};
+
+/// Why a text is refused, and the range of the refused part in bytes.
+#[repr(C)]
+#[derive(Clone, Copy)]
+pub struct TextError {
+    /// 1 to 5 where a value of the first to the fifth field was expected, 6 where nothing was.
+    pub status: u32,
+    pub start: usize,
+    pub end: usize,
+}
+
+/// A refusal and the refused part as numbers.
+#[inline(always)]
+pub(crate) fn error_of(refusal: &ParseErrorRef<'_>, part: &TextPart<'_>) -> TextError
+    ensures { IsErrorAt (refusal_of_ref refusal.now) (part_value part.now) result }
+{
+    TextError {
+        status: refusal_status(refusal),
+        start: part.start,
+        end: part.end,
+    }
+}
+
+/// The status of a refusal.
+#[inline(always)]
+pub(crate) fn refusal_status(refusal: &ParseErrorRef<'_>) -> u32
+    ensures { result ≡ refusal_status (refusal_of_ref refusal.now).expected }
+{
+    match refusal.expected() {
+        Some(Field::Architecture) => 1,
+        Some(Field::Vendor) => 2,
+        Some(Field::OperatingSystem) => 3,
+        Some(Field::Environment) => 4,
+        Some(Field::BinaryFormat) => 5,
+        None => 6,
+    }
+}
+
+/// The refusal of a part with this status, if there is one.
+pub fn refusal_with(status: u32, part: &str) -> Option<ParseErrorRef<'_>>
+    ensures { MatchOption result
+        ((expected : Option Field) → refusal_status expected ≢ status)
+        (λ refusal. (refusal_status (refusal_of_ref refusal).expected ≡ status)
+        × ((refusal_of_ref refusal).part ≡ part.entry.now)) }
+{
+    let expected = match status {
+        1 => Some(Field::Architecture),
+        2 => Some(Field::Vendor),
+        3 => Some(Field::OperatingSystem),
+        4 => Some(Field::Environment),
+        5 => Some(Field::BinaryFormat),
+        6 => None,
+        _ => return None,
+    };
+    Some(ParseErrorRef::new(expected, part))
+}

@@ -1,2 +1,0 @@
--- JsonLemmas: JSON objects have no floating-point number.
-pub mod JsonLemmas

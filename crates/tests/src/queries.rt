@@ -1,0 +1,92 @@
+//! The queries of triples.
+
+use crate::values::{convention_word, model_word, order_word, width_word, writes};
+use std::alloc::Global;
+use std::process::Abort;
+use target_lexicon::{Architecture, OperatingSystem, Triple};
+
+/// A text, and after `=` the byte order, pointer width, calling convention and data model of its triple; `-` for no
+/// answer.
+const ANSWERS: &str = "\
+wasm32-wasip1=little 32 - ILP32
+wasm32-wasi=little 32 WasmBasicCAbi ILP32
+aarch64-apple-ios-gnu_ilp32=little 32 AppleAarch64 -
+aarch64-apple-ios-macabi=little 64 AppleAarch64 LP64
+x86_64-unknown-linux-gnu=little 64 SystemV LP64
+x86_64-pc-windows-msvc=little 64 WindowsFastcall LLP64
+avr-unknown-unknown=little 16 - -
+wasm64-unknown-unknown=little 64 - LP64
+unknown-unknown-linux-gnux32=- 32 SystemV ILP32
+unknown=- - - -
+x86_64-unknown-linux-gnux32=little 32 SystemV ILP32
+i686-pc-windows-gnu=little 32 WindowsFastcall ILP32
+aarch64-apple-darwin=little 64 AppleAarch64 LP64
+aarch64-apple-ios=little 64 AppleAarch64 LP64
+aarch64-apple-tvos=little 64 AppleAarch64 LP64
+aarch64-apple-watchos=little 64 AppleAarch64 LP64
+aarch64-linux-android=little 64 SystemV LP64
+x86_64-apple-ios=little 64 SystemV LP64
+aarch64_be-unknown-linux-gnu_ilp32=big 32 SystemV ILP32
+aarch64-unknown-linux-gnu_ilp32=little 32 SystemV ILP32
+aarch64_be-unknown-linux-gnu=big 64 SystemV LP64
+aarch64-unknown-linux-gnu=little 64 SystemV LP64
+aarch64_be-apple-darwin=big 64 AppleAarch64 LP64
+wasm64-wasi=little 64 - LP64
+wasm64-unknown-linux=little 64 SystemV LP64
+x86_64-unknown-illumos=little 64 - -
+x86_64-pc-cygwin=little 64 - -
+x86_64-unknown-uefi=little 64 - -
+x86_64-pc-windows-gnux32=little 32 WindowsFastcall ILP32
+wasm64-pc-windows=little 64 WindowsFastcall LLP64
+wasm32-pc-windows=little 32 WindowsFastcall ILP32
+wasm32-unknown-none=little 32 - ILP32
+wasm32-unknown-linux=little 32 SystemV ILP32
+wasm64-unknown-unknown-gnux32=little 32 - -
+asmjs-unknown-emscripten=little 32 - -
+thumbv7m-none-eabi=little 32 - -
+armeb-unknown-linux-gnueabi=big 32 SystemV ILP32
+i386-apple-ios=little 32 SystemV ILP32
+avr-unknown-linux=little 16 SystemV -
+msp430-pc-windows=little 16 WindowsFastcall -
+z80-apple-darwin=little 16 SystemV -
+avr-unknown-linux-gnu_ilp32=little 32 SystemV ILP32
+unknown-unknown-linux=- - SystemV -
+unknown-pc-windows=- - WindowsFastcall -
+unknown-apple-darwin=- - SystemV -
+unknown-pc-windows-gnu_ilp32=- 32 WindowsFastcall ILP32
+x86_64-customvendor-linux=little 64 SystemV LP64";
+
+/// Whether the queries of the triple have these answers.
+fn has_answers(triple: &Triple, expected: &str) -> bool {
+    let order = order_word(triple.endianness());
+    let width = width_word(triple.pointer_width());
+    let convention = convention_word(triple.default_calling_convention());
+    let model = model_word(triple.data_model());
+    writes(
+        &format_args!("{order} {width} {convention} {model}"),
+        expected,
+    )
+}
+
+/// Whether the string parses as a triple with these answers.
+fn is_answered(alloc: Global, text: &str, expected: &str) -> bool {
+    match Triple::from_str(alloc, text) {
+        Ok(triple) => has_answers(&triple, expected),
+        Err(_) => false,
+    }
+}
+
+#[test]
+fn triples_answer(rt: HostRuntime) {
+    for row in ANSWERS.lines() {
+        let (text, expected) = row.split_once('=').unwrap_or((row, ""));
+        assert!(rt; is_answered(rt.alloc(), text, expected), "{row}");
+    }
+    assert!(rt; has_answers(&Triple::unknown(), "- - - -"));
+}
+
+#[test]
+fn hosts_are_fixed(rt: HostRuntime) {
+    assert!(rt; matches!(OperatingSystem::host(), OperatingSystem::Linux));
+    assert_eq!(rt; width_word(Architecture::host().pointer_width()), "64");
+}

@@ -1,0 +1,257 @@
+//! Strings that parse as a triple, and strings that are refused, misleading and very long ones too.
+
+use crate::values::{ROOM, has_values, is_answer, is_written, prints, reports_each_failure};
+use std::alloc::{AllocError, Global};
+use std::process::Abort;
+use target_lexicon::{JsonError, ListError, ParseError, Triple, TripleRef, triple};
+
+/// The triple that the string parses as without an allocator, and then owns.
+pub(crate) fn owned_parse(alloc: Global, text: &str) -> Result<Triple, ParseError> {
+    match TripleRef::from_str(text) {
+        Ok(triple) => Ok(triple.to_triple(alloc)?),
+        Err(error) => Err(error.to_error(alloc)?),
+    }
+}
+
+/// Whether the parsed triple has these values, and so has a clone.
+fn is_read(alloc: Global, parsed: Result<Triple, ParseError>, expected: &str) -> bool {
+    match parsed {
+        Ok(triple) => match triple.clone(alloc) {
+            Ok(copy) => copy == triple
+                && has_values(&triple, expected)
+                && has_values(&copy, expected),
+            Err(_) => false,
+        },
+        Err(_) => false,
+    }
+}
+
+/// A text, and after `=` the five values of the triple that it parses as.
+const READ: &str = "\
+unknown-unknown-unknown=Unknown Unknown Unknown Unknown Unknown
+unknown-unknown-unknown-unknown=Unknown Unknown Unknown Unknown Unknown
+unknown-unknown-unknown-unknown-unknown=Unknown Unknown Unknown Unknown Unknown
+riscv64=Riscv64(Riscv64) Unknown Unknown Unknown Elf
+aarch64-fuchsia=Aarch64(Aarch64) Unknown Fuchsia Unknown Elf
+aarch64-unknown-fuchsia=Aarch64(Aarch64) Unknown Fuchsia Unknown Elf
+x86_64-fuchsia=X86_64 Unknown Fuchsia Unknown Elf
+x86_64-unknown-fuchsia=X86_64 Unknown Fuchsia Unknown Elf
+thumbv7em-none-eabihf=Arm(Thumbv7em) Unknown None_ Eabihf Elf
+x86_64-unknown-linux-gnu=X86_64 Unknown Linux Gnu Elf
+x86_64-unknown-none=X86_64 Unknown None_ Unknown Unknown
+x86_64-none-none=X86_64 Unknown None_ None Unknown
+clever-unknown-unknown-none=Clever(Clever) Unknown Unknown None Elf
+clever-unknown-none-elf=Clever(Clever) Unknown None_ Unknown Elf
+clever-unknown-unknown-unknown-unknown=Clever(Clever) Unknown Unknown Unknown Unknown
+clever-unknown-unknown=Clever(Clever) Unknown Unknown Unknown Elf
+x86_64-unknown-linux-unknown-unknown=X86_64 Unknown Linux Unknown Unknown
+x86_64-unknown-linux-unknown=X86_64 Unknown Linux Unknown Elf
+arm64-apple-ios=Aarch64(Aarch64) Apple IOS(None) Unknown Macho
+aarch64-apple-macosx=Aarch64(Aarch64) Apple MacOSX(None) Unknown Macho
+aarch64-apple-macosx10.14.6=Aarch64(Aarch64) Apple MacOSX(Some(DeploymentTarget { major: 10, minor: 14, patch: 6 })) Unknown Macho
+x86_64-apple-darwin23=X86_64 Apple Darwin(Some(DeploymentTarget { major: 23, minor: 0, patch: 0 })) Unknown Macho
+x86_64-apple-darwin23.0=X86_64 Apple Darwin(Some(DeploymentTarget { major: 23, minor: 0, patch: 0 })) Unknown Macho
+x86_64-apple-darwin23.0.0=X86_64 Apple Darwin(Some(DeploymentTarget { major: 23, minor: 0, patch: 0 })) Unknown Macho
+x86_64-apple-darwin+023.6=X86_64 Apple Darwin(Some(DeploymentTarget { major: 23, minor: 6, patch: 0 })) Unknown Macho
+x86_64-apple-ios65535.255.255=X86_64 Apple IOS(Some(DeploymentTarget { major: 65535, minor: 255, patch: 255 })) Unknown Macho
+armv6k-nintendo-3ds=Arm(Armv6k) Nintendo Horizon Newlib Elf
+armv6k-nintendo-horizon-gnu-coff=Arm(Armv6k) Nintendo Horizon Gnu Coff
+aarch64-nintendo-horizon-newlib-unknown=Aarch64(Aarch64) Nintendo Horizon Newlib Unknown
+riscv32imc-esp-espidf=Riscv32(Riscv32imc) Espressif Espidf Newlib Elf
+riscv32imc-esp-espidf-unknown=Riscv32(Riscv32imc) Custom(Owned(\"esp\")) Espidf Unknown Elf
+riscv32imc-esp-espidf-unknown-unknown=Riscv32(Riscv32imc) Custom(Owned(\"esp\")) Espidf Unknown Unknown
+x86_64-customvendor-linux=X86_64 Custom(Owned(\"customvendor\")) Linux Unknown Elf
+x86_64-customvendor=X86_64 Custom(Owned(\"customvendor\")) Unknown Unknown Elf
+x86_64-ffi-linux=X86_64 Custom(Owned(\"ffi\")) Linux Unknown Elf
+x86_64-darwin23.0.0.0=X86_64 Custom(Owned(\"darwin23.0.0.0\")) Unknown Unknown Elf
+unknown-foo=Unknown Custom(Owned(\"foo\")) Unknown Unknown Unknown
+wasm32-wasip1=Wasm32 Unknown WasiP1 Unknown Elf
+wasm32-wasi=Wasm32 Unknown Wasi Unknown Wasm";
+
+#[test]
+fn strings_parse_as_triples(rt: HostRuntime) {
+    for row in READ.lines() {
+        let (text, expected) = row.split_once('=').unwrap_or((row, ""));
+        assert!(rt;
+            is_read(rt.alloc(), Triple::from_str(rt.alloc(), text), expected),
+            "{row}"
+        );
+        assert!(rt;
+            is_read(rt.alloc(), owned_parse(rt.alloc(), text), expected),
+            "{row}"
+        );
+    }
+}
+
+/// Whether the refusal prints this line, and so does a clone; and as the error of an element of a list it reports each
+/// failure of its target.
+fn is_error(alloc: Global, parsed: Result<Triple, ParseError>, line: &str) -> bool {
+    let Err(error) = parsed else {
+        return false;
+    };
+    match error.clone(alloc) {
+        Ok(copy) => copy == error
+            && prints(&copy, line)
+            && prints(&error, line)
+            && { reports_each_failure(&ListError::Element(190, JsonError::Parse(error))) },
+        Err(_) => false,
+    }
+}
+
+/// Whether the refusal that borrows its part prints this line, and writes it if it fits.
+fn is_borrowed_error(text: &str, line: &str) -> bool {
+    let mut out = [b'?'; ROOM];
+    let mut too_small = [b'?'; 1];
+    match TripleRef::from_str(text) {
+        Ok(_) => false,
+        Err(error) => prints(&error, line)
+            && is_written(error.write_to(&mut out), &out, line)
+            && is_written(error.write_to(&mut too_small), &too_small, line),
+    }
+}
+
+/// Each row is a string and the line of its refusal.
+fn check_refused(rt: &impl Abort, alloc: Global, rows: &str) {
+    for row in rows.lines() {
+        let (text, line) = row.split_once('=').unwrap_or((row, ""));
+        assert!(rt;
+            is_error(alloc, Triple::from_str(alloc, text), line),
+            "{row}"
+        );
+        assert!(rt; is_error(alloc, owned_parse(alloc, text), line), "{row}");
+        assert!(rt; is_borrowed_error(text, line), "{row}");
+    }
+}
+
+/// A text, and after `=` the line that says why it is refused. Some letters only look like those of a vendor.
+const REFUSED: &str = "\
+=Unrecognized architecture: 
+-=Unrecognized architecture: 
+foo=Unrecognized architecture: foo
+customvendor=Unrecognized architecture: customvendor
+customvendor-x86_64=Unrecognized architecture: customvendor
+linux-x86_64=Unrecognized architecture: linux
+x86_64-=Unrecognized vendor: 
+x86_64--=Unrecognized vendor: 
+x86_64--linux=Unrecognized vendor: 
+x86_64-42-linux=Unrecognized vendor: 42
+x86_64-__customvendor__-linux=Unrecognized vendor: __customvendor__
+x86_64-^-linux=Unrecognized vendor: ^
+x86_64-\u{20}-linux=Unrecognized vendor: \u{20}
+x86_64-CustomVendor-linux=Unrecognized vendor: CustomVendor
+x86_64-x86_64-linux=Unrecognized vendor: x86_64
+x86_64-é-linux=Unrecognized vendor: é
+x86_64-ćúśtőḿvéńdőŕ-linux=Unrecognized vendor: ćúśtőḿvéńdőŕ
+x86_64-𝓬𝓾𝓼𝓽𝓸𝓶𝓿𝓮𝓷𝓭𝓸𝓻-linux=Unrecognized vendor: 𝓬𝓾𝓼𝓽𝓸𝓶𝓿𝓮𝓷𝓭𝓸𝓻
+x86_64-customvend\u{3bf}r-linux=Unrecognized vendor: customvend\u{3bf}r
+x86_64-\u{fb03}-linux=Unrecognized vendor: \u{fb03}
+x86_64-custom\u{200b}vendor-linux=Unrecognized vendor: custom\u{200b}vendor
+x86_64-\u{feff}customvendor-linux=Unrecognized vendor: \u{feff}customvendor
+unknown-unknown-foo=Unrecognized operating system: foo
+armv6k-nintendo-3ds-elf=Unrecognized operating system: 3ds
+x86_64-a-b-linux=Unrecognized operating system: b
+x86_64-apple-darwin.=Unrecognized operating system: darwin.
+x86_64-apple-darwin23.0.0.0=Unrecognized operating system: darwin23.0.0.0
+x86_64-apple-ios65536=Unrecognized operating system: ios65536
+x86_64-apple-ios1.256=Unrecognized operating system: ios1.256
+unknown-unknown-unknown-foo=Unrecognized environment: foo
+x86_64-linux-linux=Unrecognized environment: linux
+x86_64-linux-customvendor=Unrecognized environment: customvendor
+x86_64-customvendor-linux-foo-bar=Unrecognized environment: foo
+unknown-unknown-unknown-unknown-foo=Unrecognized binary format: foo
+x86_64-gnu-linux=Unrecognized binary format: linux
+unknown-unknown-unknown-unknown-unknown-foo=Unrecognized field: foo
+x86_64-elf-linux=Unrecognized field: linux
+x86_64-unknown-linux-gnu-elf-=Unrecognized field: 
+x86_64-Foo=Unrecognized vendor: Foo
+x86_64-pc-foo=Unrecognized operating system: foo
+x86_64-pc-linux-foo=Unrecognized environment: foo
+x86_64-pc-linux-gnu-foo=Unrecognized binary format: foo
+x86_64-pc-linux-gnu-elf-foo=Unrecognized field: foo";
+
+/// The same of misleading strings.
+const MISLEADING: &str = "\
+x86_64-custom\u{200d}vendor-linux=Unrecognized vendor: custom\u{200d}vendor
+x86_64-customvendor\u{feff}-linux=Unrecognized vendor: customvendor\u{feff}
+x86_64-\u{202e}xunil=Unrecognized vendor: \u{202e}xunil
+x86_64\u{2010}unknown\u{2010}linux=Unrecognized architecture: x86_64\u{2010}unknown\u{2010}linux
+\u{feff}x86_64=Unrecognized architecture: \u{feff}x86_64
+x86_64\0=Unrecognized architecture: x86_64\0
+x86_64-\0-linux=Unrecognized vendor: \0
+x86_64-pc\0-linux=Unrecognized vendor: pc\0
+x86_64-pc-linux\0=Unrecognized operating system: linux\0
+x86_64-pc-linux-gnu\0=Unrecognized environment: gnu\0
+x86_64-pc-linux-gnu-\0elf=Unrecognized binary format: \0elf
+x86_64-pc-linux-gnu-elf-\0=Unrecognized field: \0
+x86_64-none-linux=Unrecognized environment: linux
+x86_64-apple-ios1.-2=Unrecognized operating system: ios1.
+x86_64-apple-ios\u{661}=Unrecognized operating system: ios\u{661}
+x86_64-apple-ios\u{ff11}=Unrecognized operating system: ios\u{ff11}
+x86_64-apple-ios1\u{2024}2=Unrecognized operating system: ios1\u{2024}2
+x86_64-apple-ios1\0=Unrecognized operating system: ios1\0
+armv6k-nintendo-3ds\0=Unrecognized operating system: 3ds\0";
+
+#[test]
+fn other_strings_are_refused(rt: HostRuntime) {
+    check_refused(&rt, rt.alloc(), REFUSED);
+    check_refused(&rt, rt.alloc(), MISLEADING);
+}
+
+/// Strings with a thousand of a character for each star, and the lines that say why they are refused.
+const LONG: &str = "\
+*****=Unrecognized architecture: 
+x86_64*****=Unrecognized vendor: 
+x86_64-unknown-linux-gnu-elf*****=Unrecognized field: ";
+
+/// Apple systems with a thousand nines for each star.
+const NINES: &str = "\
+x86_64-apple-ios*=Unrecognized operating system: ios*
+x86_64-apple-ios1.*=Unrecognized operating system: ios1.*
+x86_64-apple-ios1.0.*=Unrecognized operating system: ios1.0.*
+x86_64-apple-ios1.2.3.*=Unrecognized operating system: ios1.2.3.*";
+
+#[test]
+fn strings_may_be_long(rt: HostRuntime) -> Result<(), AllocError> {
+    let dashes = "-".repeat(rt.alloc(), 1000)?;
+    check_refused(
+        &rt,
+        rt.alloc(),
+        &LONG.replace(rt.alloc(), "*", dashes.as_str())?,
+    );
+    let nines = "9".repeat(rt.alloc(), 1000)?;
+    check_refused(
+        &rt,
+        rt.alloc(),
+        &NINES.replace(rt.alloc(), "*", nines.as_str())?,
+    );
+    let zeros = "0".repeat(rt.alloc(), 1000)?;
+    let text = "x86_64-apple-darwin*23.*".replace(rt.alloc(), "*", zeros.as_str())?;
+    let expected =
+        "X86_64 Apple Darwin(Some(DeploymentTarget { major: 23, minor: 0, patch: 0 })) Unknown Macho";
+    assert!(rt;
+        is_read(
+            rt.alloc(),
+            Triple::from_str(rt.alloc(), text.as_str()),
+            expected
+        )
+    );
+    Ok(())
+}
+
+#[test]
+fn the_macro_parses_its_string(rt: HostRuntime) {
+    let alloc = rt.alloc();
+    assert!(rt;
+        is_answer(
+            triple!(alloc, "x86_64-unknown-linux-gnu"),
+            "X86_64 Unknown Linux Gnu Elf"
+        )
+    );
+    assert!(rt; is_answer(triple!(alloc, "foo"), "Unrecognized architecture: foo"));
+    assert!(rt;
+        is_answer(
+            triple!(rt.alloc(), "foo\n",),
+            "Unrecognized architecture: foo\n"
+        )
+    );
+}

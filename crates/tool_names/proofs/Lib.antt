@@ -1,0 +1,17 @@
+-- LookUps, MacosNames: a table is searched, and `macosx` with a version is a system. JoinedNames: the names of a listed
+-- spelling. SpelledNames, SpelledReading, SpelledOnce: what parses is read as before, and once is enough. ReadAgain: what is
+-- read of what was read is the same. ObjectFormats: the object format of a triple. ShapeLemmas: what a shape keeps.
+-- NameTables, RowChecks, NameLaws: what each row passes, and the laws.
+pub mod JoinedNames
+pub mod LookUps
+pub mod MacosNames
+pub mod NameLaws
+pub mod NameTables
+pub mod NearestNames
+pub mod ObjectFormats
+pub mod ReadAgain
+pub mod RowChecks
+pub mod ShapeLemmas
+pub mod SpelledNames
+pub mod SpelledOnce
+pub mod SpelledReading

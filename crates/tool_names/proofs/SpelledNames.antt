@@ -1,0 +1,185 @@
+-- What parses stays: the names that the parts of a read string spell are the parts, unless its vendor is custom and
+-- spells other names.
+use Rattle.std.proofs.Common.{◌≡◌, ◌∙◌, ℕ, List, [], ◌∷◌, Option, Some, None, Result, Ok, Err, Bool, true, false, cond, refl, sym, ap, subst, inl, inr}
+use Rattle.std.specs.Prelude.{codes, is_some, option_map, ◌||◌, ◌&&◌}
+use Rattle.std.specs.Str.{bytes_eq}
+use Rattle.std.specs.Option.{option_or}
+use Rattle.std.proofs.lemmas.Bool.{and_parts, cases_Bool}
+use Rattle.std.proofs.lemmas.Slice.Eq.{bytes_eq-Decides}
+use Rattle.lexicon_fields.specs.{Architecture.architecture_of, BinaryFormat.binary_format_of, Environment.environment_of, FixedRow.has_row, OperatingSystem.fixed_operating_system_of, OperatingSystem.operating_system_of, Vendor.is_admitted, Vendor.known_vendor_of, Vendor.vendor_of, Version.version_of}
+use Rattle.lexicon_fields.specs.declared.known_vendor.KnownVendor.{KnownVendor}
+use Rattle.lexicon_fields.specs.declared.known_vendor.KnownVendor.TheVariants.{Unknown}
+use Rattle.target_lexicon.specs.GreedyReading.{field_reading_by, final_reading, reading_from_binary_format, reading_from_environment, reading_from_operating_system, reading_from_vendor, reading_after_architecture, reading_of_parts}
+use Rattle.target_lexicon.specs.{Field.Field, ImpliedFormat.implied_format, Reading.expected_after, Refusal.Refusal, Refusal.refusal_with}
+use Rattle.target_lexicon.specs.Values.{Architecture, OperatingSystem, Environment, BinaryFormat, VendorValue, Known, Custom, Values, values}
+use Rattle.target_lexicon.specs.Values.operating_system
+use Rattle.target_lexicon.specs.Values.environment
+use Rattle.target_lexicon.specs.Field as field
+use Rattle.tool_names.specs.Spelling.{ListedPartsAreUnknown, first_spellings, later_spellings, versioned_spellings, is_known_name, later_spelling, is_unstated, later_names, names_after_first, spelled_names, name_texts}
+
+-- a later part that spells itself
+abbrev pub Stays : List ℕ → Type 0
+Stays part = later_spelling part ≡ part ∷ []
+
+pub known-stays : (part : List ℕ) → is_known_name part ≡ true → Stays part
+unfolding later_spelling
+known-stays part known = rw known refl
+
+-- a value of some field is a known name
+
+or_true : (b : Bool) → (b || true) ≡ true
+or_true true = refl
+or_true false = refl
+
+or_left : (a b : Bool) → a ≡ true → (a || b) ≡ true
+or_left a b is = rw is refl
+
+pub system-known : (part : List ℕ) → is_some (operating_system_of part) ≡ true → is_known_name part ≡ true
+system-known part is = rw is (or_true (has_row part))
+
+pub format-known : (part : List ℕ) → is_some (binary_format_of part) ≡ true → is_known_name part ≡ true
+format-known part is = or_left (has_row part) (is_some (operating_system_of part)) (rw is (or_true _))
+
+pub environment-known : (part : List ℕ) → is_some (environment_of part) ≡ true → is_known_name part ≡ true
+environment-known part is =
+    or_left (has_row part) (is_some (operating_system_of part)) (or_left _ (is_some (binary_format_of part)) (rw is (or_true _)))
+
+pub vendor-known : (part : List ℕ) → is_some (known_vendor_of part) ≡ true → is_known_name part ≡ true
+vendor-known part is =
+    or_left (has_row part) (is_some (operating_system_of part))
+    (or_left _ (is_some (binary_format_of part)) (or_left _ (is_some (environment_of part)) (or_left _ (is_some (fixed_operating_system_of part)) (rw is (or_true _)))))
+
+-- a vendor that a part parses as: a known one, or the part
+module _ (part : List ℕ) where
+  custom_or : Bool → Option VendorValue
+  custom_or b = cond b (Some (Custom part)) None
+
+  by_known : (o : Option KnownVendor) (b : Bool) (k : KnownVendor) → option_or (option_map Known o) (cond b (Some (Custom part)) None) ≡ Some (Known k) → is_some o ≡ true
+  by_known (Some j) b k is = refl
+  by_known None true k is = absurd cc
+  by_known None false k is = absurd cc
+
+  by_custom : (o : Option KnownVendor) (b : Bool) (text : List ℕ) → option_or (option_map Known o) (cond b (Some (Custom part)) None) ≡ Some (Custom text) → text ≡ part
+  by_custom (Some j) b text is = absurd cc
+  by_custom None true text is = cc
+  by_custom None false text is = absurd cc
+
+  pub known_vendor-known : (k : KnownVendor) → vendor_of part ≡ Some (Known k) → is_known_name part ≡ true
+  unfolding vendor_of
+  known_vendor-known k is = vendor-known part (by_known (known_vendor_of part) (is_admitted part) k is)
+
+  pub custom_vendor-text : (text : List ℕ) → vendor_of part ≡ Some (Custom text) → text ≡ part
+  unfolding vendor_of
+  custom_vendor-text text is = by_custom (known_vendor_of part) (is_admitted part) text is
+
+-- all parts spell themselves
+abbrev pub AllStay : List (List ℕ) → Type 0
+AllStay [] = Unit {0}
+AllStay (part ∷ others) = Stays part × AllStay others
+
+pub later-stay : (parts : List (List ℕ)) → AllStay parts → name_texts (later_names parts) ≡ parts
+later-stay [] all = refl
+later-stay (part ∷ others) all = rw all.0 (ap (λ ps. part ∷ ps) (later-stay others all.1))
+
+-- if a triple is read, all parts after the architecture are known names, unless the first is a custom vendor
+
+module _ (a : Architecture) (v : VendorValue) (t : Values) where
+  final-stays : (u : Values) (last : Field) (ps : List (List ℕ)) → u.vendor ≡ v → final_reading u last ps ≡ Ok t → AllStay ps × (t.vendor ≡ v)
+  final-stays u last [] is h = let same : u ≡ t = cc in (tt, ap (λ w. w.vendor) (sym same) ∙ is)
+  final-stays u last (p ∷ ps) is h = absurd cc
+
+  format-stays : (s : OperatingSystem) (e : Environment) (last : Field) (ps : List (List ℕ)) → reading_from_binary_format a v s e last ps ≡ Ok t → AllStay ps × (t.vendor ≡ v)
+  format-stays s e last [] h = final-stays (values a v s e (implied_format a s e)) last [] refl h
+  format-stays s e last (p ∷ ps) h = by_found (binary_format_of p) refl h
+    where
+      by_found : (o : Option BinaryFormat) → binary_format_of p ≡ o
+          → (let f = field_reading_by field.BinaryFormat o (implied_format a s e) last p ps in final_reading (values a v s e f.0) f.1 f.2) ≡ Ok t
+          → AllStay (p ∷ ps) × (t.vendor ≡ v)
+      by_found (Some f) is h = let rest = final-stays (values a v s e f) field.BinaryFormat ps refl h in ((known-stays p (format-known p (ap is_some is)), rest.0), rest.1)
+      by_found None is h = final-stays (values a v s e (implied_format a s e)) last (p ∷ ps) refl h
+
+  environment-stays : (s : OperatingSystem) (last : Field) (ps : List (List ℕ)) → reading_from_environment a v s last ps ≡ Ok t → AllStay ps × (t.vendor ≡ v)
+  environment-stays s last [] h = format-stays s environment.Unknown last [] h
+  environment-stays s last (p ∷ ps) h = by_found (environment_of p) refl h
+    where
+      by_found : (o : Option Environment) → environment_of p ≡ o
+          → (let e = field_reading_by field.Environment o environment.Unknown last p ps in reading_from_binary_format a v s e.0 e.1 e.2) ≡ Ok t
+          → AllStay (p ∷ ps) × (t.vendor ≡ v)
+      by_found (Some e) is h = let rest = format-stays s e field.Environment ps h in ((known-stays p (environment-known p (ap is_some is)), rest.0), rest.1)
+      by_found None is h = format-stays s environment.Unknown last (p ∷ ps) h
+
+  system-stays : (last : Field) (ps : List (List ℕ)) → reading_from_operating_system a v last ps ≡ Ok t → AllStay ps × (t.vendor ≡ v)
+  system-stays last [] h = environment-stays operating_system.Unknown last [] h
+  system-stays last (p ∷ ps) h = by_found (operating_system_of p) refl h
+    where
+      by_found : (o : Option OperatingSystem) → operating_system_of p ≡ o
+          → (let s = field_reading_by field.OperatingSystem o operating_system.Unknown last p ps in reading_from_environment a v s.0 s.1 s.2) ≡ Ok t
+          → AllStay (p ∷ ps) × (t.vendor ≡ v)
+      by_found (Some s) is h = let rest = environment-stays s field.OperatingSystem ps h in ((known-stays p (system-known p (ap is_some is)), rest.0), rest.1)
+      by_found None is h = environment-stays operating_system.Unknown last (p ∷ ps) h
+
+-- a custom vendor of the triple spells itself
+abbrev pub CustomStays : Values → Type 0
+CustomStays t = (text : List ℕ) → t.vendor ≡ Custom text → Stays text
+
+pub vendor-stays : (a : Architecture) (t : Values) (ps : List (List ℕ)) → reading_from_vendor a ps ≡ Ok t → CustomStays t → AllStay ps
+vendor-stays a t [] h custom = tt
+vendor-stays a t (p ∷ ps) h custom = by_found (vendor_of p) refl h
+  where
+    by_vendor : (v : VendorValue) → vendor_of p ≡ Some v → t.vendor ≡ v → Stays p
+    by_vendor (Known k) is same = known-stays p (known_vendor-known p k is)
+    by_vendor (Custom text) is same = subst Stays (custom_vendor-text p text is) (custom text same)
+
+    by_found : (o : Option VendorValue) → vendor_of p ≡ o
+        → (let v = field_reading_by field.Vendor o (Known Unknown) field.Architecture p ps in reading_from_operating_system a v.0 v.1 v.2) ≡ Ok t
+        → AllStay (p ∷ ps)
+    by_found (Some v) is h = let rest = system-stays a v t field.Vendor ps h in (by_vendor v is rest.1, rest.0)
+    by_found None is h = (system-stays a (Known Unknown) t field.Architecture (p ∷ ps) h).0
+
+-- a second part that states no vendor is refused by itself
+
+empty-reading : (a : Architecture) (ps : List (List ℕ)) → reading_from_vendor a ([] ∷ ps) ≡ Err (refusal_with (expected_after field.Architecture) [])
+unfolding vendor_of known_vendor_of is_admitted architecture_of operating_system_of fixed_operating_system_of environment_of binary_format_of
+empty-reading a ps = refl
+
+none_linux-reading : (a : Architecture) (ps : List (List ℕ))
+    → reading_from_vendor a (codes "none" ∷ (codes "linux" ∷ ps)) ≡ Err (refusal_with (expected_after field.OperatingSystem) (codes "linux"))
+unfolding vendor_of known_vendor_of is_admitted architecture_of operating_system_of fixed_operating_system_of environment_of binary_format_of
+none_linux-reading a ps = refl
+
+err-apart : (x : Refusal) (t : Values) (r : Result Values Refusal) → r ≡ Err x → r ≡ Ok t → ⊥
+err-apart x t r err ok = let apart : Err x ≡ Ok t = sym err ∙ ok in cc
+
+pub read-stated : (a : Architecture) (t : Values) (p : List ℕ) (ps : List (List ℕ)) → reading_from_vendor a (p ∷ ps) ≡ Ok t → is_unstated p ps ≡ false
+read-stated a t [] ps h = absurd (err-apart _ t _ (empty-reading a ps) h)
+read-stated a t (c ∷ cs) [] h = refl
+read-stated a t (c ∷ cs) (q ∷ qs) h =
+    elim (cases_Bool (bytes_eq (c ∷ cs) (codes "none") && bytes_eq q (codes "linux"))) [
+      | inl both ↦
+          let parts = and_parts _ _ both in
+          let none : (c ∷ cs) ≡ codes "none" = (bytes_eq-Decides (c ∷ cs) (codes "none")).0 parts.0 in
+          let linux : q ≡ codes "linux" = (bytes_eq-Decides q (codes "linux")).0 parts.1 in
+          let same : (c ∷ cs) ∷ (q ∷ qs) ≡ codes "none" ∷ (codes "linux" ∷ qs) = cc in
+          absurd (err-apart _ t _ (none_linux-reading a qs) (subst (λ ps. reading_from_vendor a ps ≡ Ok t) same h))
+      | inr other ↦ other
+    ]
+
+after_first-stay : (a : Architecture) (t : Values) (ps : List (List ℕ)) → reading_from_vendor a ps ≡ Ok t → CustomStays t → name_texts (names_after_first ps) ≡ ps
+after_first-stay a t [] h custom = refl
+after_first-stay a t (p ∷ ps) h custom =
+    let stated = read-stated a t p ps h in
+    let all = vendor-stays a t (p ∷ ps) h custom in
+    rw (stated, all.0) (ap (λ qs. p ∷ qs) (later-stay ps all.1))
+
+-- so the names are the parts
+pub names-stay : (ps : List (List ℕ)) (t : Values) → reading_of_parts ps ≡ Ok t → CustomStays t → name_texts (spelled_names ps) ≡ ps
+names-stay [] t h custom = refl
+names-stay (p ∷ ps) t h custom = by_found (architecture_of p) refl h
+  where
+    by_found : (o : Option Architecture) → architecture_of p ≡ o → reading_after_architecture o p ps ≡ Ok t → name_texts (spelled_names (p ∷ ps)) ≡ p ∷ ps
+    by_found None is h = absurd cc
+    by_found (Some a) is h = rw is (ap (λ qs. p ∷ qs) (after_first-stay a t ps h custom))
+
+pub listed_unknown : ListedPartsAreUnknown
+unfolding first_spellings later_spellings versioned_spellings version_of architecture_of known_vendor_of operating_system_of fixed_operating_system_of environment_of binary_format_of
+listed_unknown = record { first = refl; later = refl; versioned = refl }

@@ -1,0 +1,52 @@
+-- Laws of the names in dialects.
+use Rattle.std.specs.Prelude.{◌≡◌, false, ℕ, List, Some, Ok, Err}
+use Rattle.lexicon_fields.specs.{Names.value_named, Vendor.is_custom, Vendor.VendorValue}
+use Rattle.target_lexicon.specs.{FixedPoints.settled_values, Laws.ComesBack, Printing.text_of, Queries.endianness, Queries.pointer_width, Values.Values}
+use Rattle.tool_names.specs.declared.dialect.Dialect.{Dialect}
+use Rattle.tool_names.specs.{ObjectFormat.object_format, Shape.shape}
+use Rattle.tool_names.specs.Tables.{both_ways, without_a_triple}
+use Rattle.tool_names.specs.ToolNames.{HasNoTriple, name_meaning, name_with, triple_name}
+
+-- what a name means is canonical, comes back, and has a known vendor
+pub record IsCanonical (t : Values) : Type 0 where
+  pub settled : settled_values t ≡ t
+  pub comes_back : ComesBack t
+  pub known : is_custom t.vendor ≡ false
+
+abbrev pub NamesAreCanonical : Type 0
+NamesAreCanonical = (d : Dialect) (name : List ℕ) (t : Values) → name_meaning d name ≡ Ok t → IsCanonical t
+
+-- a name that goes both ways is read, and is the name of the triple that it means
+pub record ReadsBack (d : Dialect) (name : List ℕ) (t : Values) : Type 0 where
+  pub read : name_meaning d name ≡ Ok t
+  pub written : triple_name d t ≡ Some name
+
+abbrev pub NamesReadBack : Type 0
+NamesReadBack = (d : Dialect) (name text : List ℕ) → value_named (both_ways d) name ≡ Some text → (t : Values) × ReadsBack d name t
+
+-- a name without a triple isn't read
+abbrev pub NamesWithoutTripleAreRefused : Type 0
+NamesWithoutTripleAreRefused = (d : Dialect) (name why : List ℕ) → value_named (without_a_triple d) name ≡ Some why → name_meaning d name ≡ Err (HasNoTriple why)
+
+-- the name of a triple means the shape of the triple, if it is read; and it is, if it goes both ways
+pub record MeansTheShape (d : Dialect) (t : Values) (name : List ℕ) : Type 0 where
+  pub if_read : (u : Values) → name_meaning d name ≡ Ok u → u ≡ shape d t
+  pub both_ways : name_with (both_ways d) (text_of (shape d t)) ≡ Some name → name_meaning d name ≡ Ok (shape d t)
+
+abbrev pub NamesMeanTheShape : Type 0
+NamesMeanTheShape = (d : Dialect) (t : Values) (name : List ℕ) → triple_name d t ≡ Some name → MeansTheShape d t name
+
+-- the shape of the shape is the shape, and the vendor doesn't matter
+pub record ShapesAreFixed : Type 0 where
+  pub again : (d : Dialect) (t : Values) → shape d (shape d t) ≡ shape d t
+  pub vendor : (d : Dialect) (t : Values) (v : VendorValue) → shape d (record t { vendor = v }) ≡ shape d t
+
+-- the shape has the byte order, the pointer width and the object format of the triple
+pub record KeepsAnswers (d : Dialect) (t : Values) : Type 0 where
+  pub endianness : endianness (shape d t) ≡ endianness t
+  pub pointer_width : pointer_width (shape d t) ≡ pointer_width t
+  pub object_format : object_format (shape d t) ≡ object_format t
+
+-- this holds for each triple that has a name
+abbrev pub NamesKeepAnswers : Type 0
+NamesKeepAnswers = (d : Dialect) (t : Values) (name : List ℕ) → triple_name d t ≡ Some name → KeepsAnswers d t

@@ -1,0 +1,9 @@
+pub mod Dialects
+pub mod ObjectFormat
+pub mod Laws
+pub mod Private
+pub mod Shape
+pub mod Spelling
+pub mod Suggestion
+pub mod Tables
+pub mod ToolNames

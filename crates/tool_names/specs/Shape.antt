@@ -1,0 +1,127 @@
+-- The shape of a triple in a dialect: the triple without what the dialect doesn't name. The architecture has no more of
+-- a version than the dialect states, the vendor is the usual one of the system, the system has no version, and Go, OCI
+-- and Node don't state every ABI. The binary format stays, so that a name never stands for another one.
+use Rattle.std.specs.Prelude.{Bool, true, false, None, if◌then◌else◌}
+use Rattle.lexicon_fields.specs.{declared.architecture.arm.ArmArchitecture.ArmArchitecture, declared.known_vendor.KnownVendor.KnownVendor}
+use Rattle.lexicon_fields.specs.declared.known_vendor.KnownVendor.TheVariants as vendor
+use Rattle.lexicon_fields.specs.declared.architecture.x86_32.X86_32Architecture.TheVariants.{I686}
+use Rattle.lexicon_fields.specs.declared.architecture.riscv.Riscv64Architecture.TheVariants.{Riscv64}
+use Rattle.target_lexicon.specs.Values.{Architecture, OperatingSystem, Environment, Known, Values, values}
+use Rattle.target_lexicon.specs.Values.architecture
+use Rattle.target_lexicon.specs.Values.arm
+use Rattle.target_lexicon.specs.Values.riscv32
+use Rattle.target_lexicon.specs.Values.operating_system
+use Rattle.target_lexicon.specs.Values.environment
+use Rattle.tool_names.specs.declared.dialect.Dialect.{Dialect}
+use Rattle.tool_names.specs.declared.dialect.Dialect.TheVariants.{Debian, Go, Oci, Node, Gnu}
+
+-- one Arm for each byte order
+abbrev pub arm_of_order : ArmArchitecture → ArmArchitecture
+arm_of_order arm.Armeb = arm.Armeb
+arm_of_order arm.Armebv7r = arm.Armeb
+arm_of_order arm.Thumbeb = arm.Armeb
+arm_of_order _ = arm.Arm
+
+-- the versions 5, 6, 7 and 8 of Arm for applications; every other Arm is itself
+abbrev pub arm_of_version : ArmArchitecture → ArmArchitecture
+arm_of_version arm.Armv5t = arm.Armv5te
+arm_of_version arm.Armv5tej = arm.Armv5te
+arm_of_version arm.Armv6j = arm.Armv6
+arm_of_version arm.Armv6k = arm.Armv6
+arm_of_version arm.Armv6z = arm.Armv6
+arm_of_version arm.Armv6kz = arm.Armv6
+arm_of_version arm.Armv6t2 = arm.Armv6
+arm_of_version arm.Armv7a = arm.Armv7
+arm_of_version arm.Armv7ve = arm.Armv7
+arm_of_version arm.Thumbv7a = arm.Armv7
+arm_of_version arm.Thumbv7neon = arm.Armv7
+arm_of_version arm.Armv8a = arm.Armv8
+arm_of_version a = a
+
+-- of Arm, OCI states the version
+abbrev pub arm_in : Dialect → ArmArchitecture → ArmArchitecture
+arm_in Oci a = arm_of_version a
+arm_in _ a = arm_of_order a
+
+-- the architecture without the rest of its version
+abbrev pub machine_in : Dialect → Architecture → Architecture
+machine_in d (architecture.Arm a) = architecture.Arm (arm_in d a)
+machine_in d (architecture.X86_32 _) = architecture.X86_32 I686
+machine_in d (architecture.Riscv32 _) = architecture.Riscv32 riscv32.Riscv32
+machine_in d (architecture.Riscv64 _) = architecture.Riscv64 Riscv64
+machine_in d architecture.X86_64h = architecture.X86_64
+machine_in d architecture.Sparcv9 = architecture.Sparc64
+machine_in d a = a
+
+-- the system without a version; macOS has one name
+abbrev pub unversioned : OperatingSystem → OperatingSystem
+unversioned (operating_system.Darwin _) = operating_system.Darwin None
+unversioned (operating_system.MacOSX _) = operating_system.Darwin None
+unversioned (operating_system.IOS _) = operating_system.IOS None
+unversioned (operating_system.TvOS _) = operating_system.TvOS None
+unversioned (operating_system.VisionOS _) = operating_system.VisionOS None
+unversioned (operating_system.WatchOS _) = operating_system.WatchOS None
+unversioned (operating_system.XROS _) = operating_system.XROS None
+unversioned s = s
+
+-- the vendor that triples on a system usually have
+abbrev pub usual_vendor : OperatingSystem → KnownVendor
+usual_vendor (operating_system.Darwin _) = vendor.Apple
+usual_vendor (operating_system.MacOSX _) = vendor.Apple
+usual_vendor (operating_system.IOS _) = vendor.Apple
+usual_vendor (operating_system.TvOS _) = vendor.Apple
+usual_vendor (operating_system.VisionOS _) = vendor.Apple
+usual_vendor (operating_system.WatchOS _) = vendor.Apple
+usual_vendor (operating_system.XROS _) = vendor.Apple
+usual_vendor operating_system.Windows = vendor.Pc
+usual_vendor operating_system.Cygwin = vendor.Pc
+usual_vendor operating_system.Solaris = vendor.Pc
+usual_vendor operating_system.Aix = vendor.Ibm
+usual_vendor _ = vendor.Unknown
+
+-- the environments that state only an embedded ABI, or none
+abbrev pub is_bare_abi : Environment → Bool
+is_bare_abi environment.Eabi = true
+is_bare_abi environment.Eabihf = true
+is_bare_abi environment.None = true
+is_bare_abi _ = false
+
+-- the environments that state a C library, or how floating-point numbers are passed
+abbrev pub is_library : Environment → Bool
+is_library environment.Gnu = true
+is_library environment.Gnueabi = true
+is_library environment.Gnueabihf = true
+is_library environment.Gnuabi64 = true
+is_library environment.Gnuspe = true
+is_library environment.GnuLlvm = true
+is_library environment.Musl = true
+is_library environment.Musleabi = true
+is_library environment.Musleabihf = true
+is_library environment.Muslabi64 = true
+is_library environment.Uclibc = true
+is_library environment.Uclibceabi = true
+is_library environment.Uclibceabihf = true
+is_library environment.Msvc = true
+is_library e = is_bare_abi e
+
+abbrev pub unknown_if : Bool → Environment → Environment
+unknown_if forgotten e = if forgotten then environment.Unknown else e
+
+-- Node's packages state the C library on Linux
+abbrev pub abi_in_node : OperatingSystem → Environment → Environment
+abi_in_node operating_system.Linux e = unknown_if (is_bare_abi e) e
+abi_in_node _ e = unknown_if (is_library e) e
+
+-- what a dialect states of the ABI
+abbrev pub abi_in : Dialect → OperatingSystem → Environment → Environment
+abi_in Debian s e = e
+abi_in Gnu s e = e
+abi_in Go s e = unknown_if (is_library e) e
+abi_in Oci s e = unknown_if (is_library e) e
+abi_in Node s e = abi_in_node s e
+
+-- the shape of a triple
+unfoldable pub shape : Dialect → Values → Values
+shape d t =
+    values (machine_in d t.architecture) (Known (usual_vendor t.operating_system)) (unversioned t.operating_system)
+    (abi_in d t.operating_system t.environment) t.binary_format

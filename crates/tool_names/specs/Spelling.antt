@@ -1,0 +1,243 @@
+-- Strings that are spelled like triples, as the tools of GNU and LLVM print them: some parts are other spellings of
+-- known names. Each such part gives way to these names, which are parsed as ever.
+use Rattle.std.specs.Prelude.{◌≡◌, ℕ, Bool, true, false, ◌||◌, ◌&&◌, ◌-◌, ◌+◌, List, [], ◌∷◌, ◌++◌, codes, length, map, Option, Some, None, is_none, is_some, not, option_map, option_and_then, unwrap_or, Result, Ok, Err, if◌then◌else◌, ◌==◌}
+use Rattle.std.specs.Char.{is_ascii_digit}
+use Rattle.std.specs.List.{list_all, join_with_byte}
+use Rattle.std.specs.Option.{option_or, option_map_or}
+use Rattle.std.specs.Str.{bytes_eq}
+use Rattle.lexicon_fields.specs.{Architecture.architecture_of, BinaryFormat.binary_format_of, Environment.environment_of, FixedRow.has_row, Names.Pair, Names.dash, Names.value_named, OperatingSystem.operating_system_of, OperatingSystem.text_after_prefix, Vendor.is_custom, Vendor.vendor_of, Version.dot, Version.version_of}
+use Rattle.target_lexicon.specs.{FixedPoints.canonical_text, FixedPoints.settled_values, GreedyReading.reading_of_parts, Placement.parts_of, Printing.text_of, Reading.ReadsAs, Refusal.Refusal, Refusal.refusal_with, SpecialTexts.special_values, Values.Values, ValuesRef.refusal_of_ref, ValuesRef.values_of_ref, declared.triple_ref.TripleRef.TripleRef}
+use Rattle.tool_names.specs.declared.reading.ReadError.{ReadError}
+
+-- other spellings of architectures, for the first part
+unfoldable pub first_spellings : List (Pair (List ℕ))
+-- written by tools/names/write: first_spellings
+first_spellings =
+    (codes "amd64", codes "x86_64") ∷
+    (codes "i486", codes "i386") ∷
+    (codes "i786", codes "i686") ∷
+    (codes "i886", codes "i686") ∷
+    (codes "i986", codes "i686") ∷
+    (codes "armv4l", codes "armv4") ∷
+    (codes "armv4tl", codes "armv4t") ∷
+    (codes "armv5tel", codes "armv5te") ∷
+    (codes "armv5tejl", codes "armv5tej") ∷
+    (codes "armv6l", codes "armv6") ∷
+    (codes "armv7l", codes "armv7") ∷
+    (codes "armv7hl", codes "armv7") ∷
+    (codes "armv8l", codes "armv8") ∷
+    (codes "ppc", codes "powerpc") ∷
+    (codes "ppc32", codes "powerpc") ∷
+    (codes "ppc64", codes "powerpc64") ∷
+    (codes "ppc64le", codes "powerpc64le") ∷
+    (codes "mipseb", codes "mips") ∷
+    (codes "mips64eb", codes "mips64") ∷
+    (codes "bpf_be", codes "bpfeb") ∷
+    (codes "bpf_le", codes "bpfel") ∷
+    (codes "systemz", codes "s390x") ∷
+    (codes "thumbv7", codes "thumbv7a") ∷
+    []
+
+-- end of what is written
+
+-- other spellings of later parts; each is one name or two
+unfoldable pub later_spellings : List (Pair (List (List ℕ)))
+-- written by tools/names/write: later_spellings
+later_spellings =
+    (codes "w64", codes "pc" ∷ []) ∷
+    (codes "mingw32", codes "windows" ∷ codes "gnu" ∷ []) ∷
+    (codes "mingw64", codes "windows" ∷ codes "gnu" ∷ []) ∷
+    (codes "win32", codes "windows" ∷ codes "msvc" ∷ []) ∷
+    (codes "macos", codes "macosx" ∷ []) ∷
+    (codes "netbsdelf", codes "netbsd" ∷ []) ∷
+    (codes "simulator", codes "sim" ∷ []) ∷
+    (codes "uclibcgnueabi", codes "uclibceabi" ∷ []) ∷
+    (codes "uclibcgnueabihf", codes "uclibceabihf" ∷ []) ∷
+    []
+
+-- end of what is written
+
+-- what comes before a version that is dropped, and the names without it
+unfoldable pub versioned_spellings : List (Pair (List (List ℕ)))
+-- written by tools/names/write: versioned_spellings
+versioned_spellings =
+    (codes "aix", codes "aix" ∷ []) ∷
+    (codes "bitrig", codes "bitrig" ∷ []) ∷
+    (codes "dragonfly", codes "dragonfly" ∷ []) ∷
+    (codes "freebsd", codes "freebsd" ∷ []) ∷
+    (codes "netbsd", codes "netbsd" ∷ []) ∷
+    (codes "openbsd", codes "openbsd" ∷ []) ∷
+    (codes "solaris", codes "solaris" ∷ []) ∷
+    (codes "netbsdelf", codes "netbsd" ∷ []) ∷
+    (codes "gnu", codes "hurd" ∷ codes "gnu" ∷ []) ∷
+    (codes "android", codes "android" ∷ []) ∷
+    (codes "androideabi", codes "androideabi" ∷ []) ∷
+    (codes "msvc", codes "msvc" ∷ []) ∷
+    []
+
+-- end of what is written
+
+-- a part that parses as a value of some field other than a custom vendor
+abbrev pub is_known_name : List ℕ → Bool
+is_known_name part = has_row part || is_some (operating_system_of part)
+
+-- how the first part is spelled in a triple; an architecture stays
+abbrev pub first_spelling : List ℕ → List ℕ
+first_spelling part = if is_some (architecture_of part) then part else unwrap_or (value_named first_spellings part) part
+
+-- digits and dots, at least one
+abbrev pub is_digit_or_dot : ℕ → Bool
+is_digit_or_dot c = is_ascii_digit c || (c == dot)
+
+abbrev pub is_dropped_version : List ℕ → Bool
+is_dropped_version [] = false
+is_dropped_version (c ∷ cs) = list_all is_digit_or_dot (c ∷ cs)
+
+-- whether a part is this prefix and such a version
+abbrev pub has_dropped_version : List ℕ → List ℕ → Bool
+has_dropped_version prefix part = option_map_or is_dropped_version (text_after_prefix prefix part) false
+
+-- the names of the first row whose text the part is, with a version after it
+abbrev pub versioned_spelling : List (Pair (List (List ℕ))) → List ℕ → Option (List (List ℕ))
+versioned_spelling [] part = None
+versioned_spelling (row ∷ rows) part = if has_dropped_version row.0 part then Some row.1 else versioned_spelling rows part
+
+-- the text, if it is a version of a system like Darwin
+abbrev pub checked_version : List ℕ → Option (List ℕ)
+checked_version text = option_map (λ _. text) (version_of text)
+
+-- `macos` with a version, which is kept
+abbrev pub macos_version : List ℕ → Option (List ℕ)
+macos_version part = option_and_then checked_version (text_after_prefix (codes "macos") part)
+
+abbrev pub macosx_name : List ℕ → List ℕ
+macosx_name version = codes "macosx" ++ version
+
+-- the names that a later part spells, if it is listed
+unfoldable pub listed_spelling : List ℕ → Option (List (List ℕ))
+listed_spelling part = option_or (value_named later_spellings part) (option_or (option_map (λ version. macosx_name version ∷ []) (macos_version part)) (versioned_spelling versioned_spellings part))
+
+-- the names that a later part is; a known name stays
+unfoldable pub later_spelling : List ℕ → List (List ℕ)
+later_spelling part = if is_known_name part then part ∷ [] else unwrap_or (listed_spelling part) (part ∷ [])
+
+-- whether a second part states no vendor: it is empty, or `none` before the system `linux`
+abbrev pub is_unstated : List ℕ → List (List ℕ) → Bool
+is_unstated [] others = true
+is_unstated part [] = false
+is_unstated part (next ∷ others) = bytes_eq part (codes "none") && bytes_eq next (codes "linux")
+
+-- the names that a second part is, with these after it
+abbrev pub second_spelling : List ℕ → List (List ℕ) → List (List ℕ)
+second_spelling part others = if is_unstated part others then codes "unknown" ∷ [] else later_spelling part
+
+-- a name to be read, and the parts of the string from the one on that spells it
+pub record SpelledName : Type 0 where
+  pub name : List ℕ
+  pub from : List (List ℕ)
+
+abbrev pub spelled_by : List (List ℕ) → List (List ℕ) → List SpelledName
+spelled_by from names = map (λ name. record { name = name; from = from }) names
+
+-- the names that these parts spell, none of which is the first or second part of the string
+abbrev pub later_names : List (List ℕ) → List SpelledName
+later_names [] = []
+later_names (part ∷ others) = spelled_by (part ∷ others) (later_spelling part) ++ later_names others
+
+-- the names that the parts after the first spell
+abbrev pub names_after_first : List (List ℕ) → List SpelledName
+names_after_first [] = []
+names_after_first (part ∷ others) = spelled_by (part ∷ others) (second_spelling part others) ++ later_names others
+
+-- the names that the parts of a string spell
+abbrev pub spelled_names : List (List ℕ) → List SpelledName
+spelled_names [] = []
+spelled_names (part ∷ others) = record { name = first_spelling part; from = part ∷ others } ∷ names_after_first others
+
+abbrev pub name_texts : List SpelledName → List (List ℕ)
+name_texts names = map (λ (it : SpelledName). it.name) names
+
+-- the names that a field leaves: all but the first, if that parses as a value of the field
+abbrev pub names_left : {A : Type 0} → (List ℕ → Option A) → List SpelledName → List SpelledName
+names_left find [] = []
+names_left find (it ∷ others) = if is_some (find it.name) then others else it ∷ others
+
+-- the names that no field takes
+abbrev pub unread_names : List SpelledName → List SpelledName
+unread_names [] = []
+unread_names (it ∷ others) =
+    if is_some (architecture_of it.name)
+    then names_left binary_format_of (names_left environment_of (names_left operating_system_of (names_left vendor_of others)))
+    else it ∷ others
+
+-- how a string is refused: what was expected, the part of the string that spells the refused name, and its range
+pub record PartRefusal : Type 0 where
+  pub refusal : Refusal
+  pub start : ℕ
+  pub end : ℕ
+
+-- the refusal of an error
+abbrev pub part_refusal : ReadError → PartRefusal
+part_refusal it = record { refusal = refusal_of_ref it.error; start = it.start; end = it.end }
+
+-- the triple or the refusal of a result
+abbrev pub read_outcome : Result TripleRef ReadError → Result Values PartRefusal
+read_outcome (Ok triple) = Ok (values_of_ref triple)
+read_outcome (Err error) = Err (part_refusal error)
+
+-- the refusal of the first of these parts, which end with the string
+abbrev pub refusal_at : List ℕ → Refusal → List (List ℕ) → PartRefusal
+refusal_at text refusal [] = record { refusal = refusal; start = length text; end = length text }
+refusal_at text refusal (part ∷ others) =
+    let start = length text - length (join_with_byte dash (part ∷ others)) in
+    record { refusal = refusal_with refusal.expected part; start = start; end = start + length part }
+
+abbrev pub refusal_of_first : List ℕ → Refusal → List SpelledName → PartRefusal
+refusal_of_first text refusal [] = refusal_at text refusal []
+refusal_of_first text refusal (it ∷ others) = refusal_at text refusal it.from
+
+-- a result with the refused part of the string instead of the refused name, which is the first that is left
+abbrev pub located : List ℕ → Result Values Refusal → List SpelledName → Result Values PartRefusal
+located text (Ok t) left = Ok t
+located text (Err refusal) left = Err (refusal_of_first text refusal left)
+
+-- what a string with these names reads as
+abbrev pub reading_of_names : List ℕ → List SpelledName → Result Values PartRefusal
+reading_of_names text names = located text (reading_of_parts (name_texts names)) (unread_names names)
+
+abbrev pub reading_unless_special : Option Values → List ℕ → Result Values PartRefusal
+reading_unless_special (Some t) text = Ok t
+reading_unless_special None text = reading_of_names text (spelled_names (parts_of text))
+
+-- what a string that is spelled like a triple reads as, or how it is refused
+unfoldable pub spelled_reading : List ℕ → Result Values PartRefusal
+spelled_reading text = reading_unless_special (special_values text) text
+
+-- a string that parses without a custom vendor is read as it parses
+abbrev pub KnownNamesAreReadAsBefore : Type 0
+KnownNamesAreReadAsBefore = (text : List ℕ) (t : Values) → ReadsAs text t → is_custom t.vendor ≡ false → spelled_reading text ≡ Ok t
+
+-- no part that is listed is a known name, also with a version after it
+pub record ListedPartsAreUnknown : Type 0 where
+  pub first : list_all (λ row. is_none (architecture_of row.0)) first_spellings ≡ true
+  pub later : list_all (λ row. not (is_known_name row.0)) later_spellings ≡ true
+  pub versioned : list_all (λ row. not (is_known_name (row.0 ++ codes "1"))) versioned_spellings ≡ true
+
+-- each of these names spells itself
+abbrev pub SpellThemselves : List (List ℕ) → Type 0
+SpellThemselves [] = Unit {0}
+SpellThemselves (name ∷ names) = (later_spelling name ≡ name ∷ []) × SpellThemselves names
+
+-- the names that a part spells spell themselves, so that to rewrite a string twice changes nothing more
+pub record OnceIsEnough : Type 0 where
+  pub first : (part : List ℕ) → first_spelling (first_spelling part) ≡ first_spelling part
+  pub later : (part : List ℕ) → SpellThemselves (later_spelling part)
+
+-- a triple that was read is read again from its printed text, as its canonical form; and that is read as it is
+pub record IsReadAgain (t : Values) : Type 0 where
+  pub printed : spelled_reading (text_of t) ≡ Ok (settled_values t)
+  pub canonical : spelled_reading (canonical_text t) ≡ Ok (settled_values t)
+
+-- this holds for what is read of each string
+abbrev pub ReadingAgainIsTheSame : Type 0
+ReadingAgainIsTheSame = (text : List ℕ) (t : Values) → spelled_reading text ≡ Ok t → IsReadAgain t

@@ -1,0 +1,75 @@
+//! The dialects: whose names are read and written.
+ghost use Rattle.std.specs.Prelude.{◌≡◌, Some};
+ghost use Rattle.lexicon_fields.specs.Names.{MatchesLookup};
+ghost use Rattle.tool_names.specs.Dialects.{dialect_name, dialect_of};
+
+use crate::spelling::look_up;
+use std::fmt;
+use std::str::FromStr;
+
+/// A tool, or a group of tools, that names targets in its own way.
+#[derive(Clone, Copy, Debug, PartialEq, Eq, Hash)]
+pub enum Dialect {
+    /// Debian's architectures, as `dpkg` names them: `amd64`, `armhf`, `musl-linux-arm64`.
+    Debian,
+    /// Go's ports, as `go tool dist list` prints them: `linux/amd64`.
+    Go,
+    /// Platforms of container images, as containerd writes them: `linux/arm/v7`.
+    Oci,
+    /// `process.platform` and `process.arch` of Node, as packages of npm join them: `linux-x64`. A C library follows in
+    /// npm's words: `linux-x64-musl`.
+    Node,
+    /// Prefixes of GNU's cross compilers: `x86_64-w64-mingw32`. They are only written; [`read`](crate::read) reads them.
+    Gnu,
+}
+
+impl Dialect {
+    /// The name of the dialect.
+    pub fn as_str(self) -> &'static str
+        ensures { result.now ≡ dialect_name self }
+    {
+        match self {
+            Dialect::Debian => "debian",
+            Dialect::Go => "go",
+            Dialect::Oci => "oci",
+            Dialect::Node => "node",
+            Dialect::Gnu => "gnu",
+        }
+    }
+
+    /// The dialect with this name. `Err` for every other text.
+    #[tactic(auto, unfolding(crate::specs::Dialects::dialect_of))]
+    pub fn from_str(name: &str) -> Result<Self, ()>
+        ensures { MatchesLookup (dialect_of name.now) result }
+    {
+        look_up(&DIALECTS, name).ok_or(())
+    }
+}
+
+static DIALECTS: [(&str, Dialect); 5] = [
+    ("debian", Dialect::Debian),
+    ("go", Dialect::Go),
+    ("oci", Dialect::Oci),
+    ("node", Dialect::Node),
+    ("gnu", Dialect::Gnu),
+];
+
+impl FromStr for Dialect {
+    type Err = ();
+
+    ghost from_str_gives = { λ name. MatchesLookup (dialect_of name) };
+
+    fn from_str(name: &str) -> Result<Dialect, ()> {
+        Dialect::from_str(name)
+    }
+}
+
+impl fmt::Display for Dialect {
+    ghost output = { λ it. Some (dialect_name it) };
+
+    ghost styled_output = { λ it _. Some (dialect_name it) };
+
+    fn fmt<W: fmt::Write>(&self, f: &mut fmt::Formatter<W>) -> fmt::Result {
+        f.write_str(self.as_str())
+    }
+}

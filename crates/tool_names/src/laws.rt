@@ -1,0 +1,82 @@
+//! Laws of the definitions. Each function's contract is a law; a call does nothing.
+ghost use Rattle.tool_names.specs.Laws.{NamesAreCanonical, NamesKeepAnswers, NamesMeanTheShape, NamesReadBack, NamesWithoutTripleAreRefused, ShapesAreFixed};
+ghost use Rattle.tool_names.specs.ObjectFormat.{GivenFormatsAreKept};
+ghost use Rattle.tool_names.specs.Spelling.{KnownNamesAreReadAsBefore, ListedPartsAreUnknown, OnceIsEnough, ReadingAgainIsTheSame};
+
+use target_lexicon::laws::{read_triples_are_plain, round_is_normal_step};
+
+/// A string that parses without a custom vendor is read as it parses.
+#[tactic(auto, using(crate::proofs::SpelledReading::known_read_as_before))]
+pub fn known_names_are_read_as_before()
+    ensures { KnownNamesAreReadAsBefore }
+{}
+
+/// No part that is listed as another spelling is a known name.
+#[tactic(auto, using(crate::proofs::SpelledNames::listed_unknown))]
+pub fn listed_parts_are_unknown()
+    ensures { ListedPartsAreUnknown }
+{}
+
+/// What a part spells spells itself: each name is a known one, or the part. So to rewrite a string twice changes nothing
+/// more.
+#[tactic(auto, using(crate::proofs::SpelledOnce::once_is_enough))]
+pub fn once_is_enough()
+    ensures { OnceIsEnough }
+{}
+
+/// What is read of what was read is the same: a triple that was read is read again from its printed string as its canonical
+/// form, and that from its own string as it is.
+pub fn reading_again_is_the_same()
+    ensures { ReadingAgainIsTheSame }
+{
+    round_is_normal_step();
+}
+
+/// The object format is the field `binary_format`, with two exceptions: that field is unknown, or it is the implied
+/// format on UEFI, Cygwin or WebAssembly.
+#[tactic(auto, using(crate::proofs::ObjectFormats::given_kept))]
+pub fn given_formats_are_kept()
+    ensures { GivenFormatsAreKept }
+{}
+
+/// What a name means is canonical, comes back, and has a known vendor.
+pub fn names_are_canonical()
+    ensures { NamesAreCanonical }
+{
+    round_is_normal_step();
+    read_triples_are_plain();
+}
+
+/// Each name that goes both ways is read, and is the name of the triple that it means. So no two such names mean one
+/// triple.
+#[tactic(auto, using(crate::proofs::NameLaws::names_read_back))]
+pub fn names_read_back()
+    ensures { NamesReadBack }
+{}
+
+/// A name without a triple isn't read, and the reason is given.
+#[tactic(auto, using(crate::proofs::NameLaws::without_triple_refused))]
+pub fn names_without_triple_are_refused()
+    ensures { NamesWithoutTripleAreRefused }
+{}
+
+/// The name of a triple means the shape of the triple: reading what was written gives the shape.
+#[tactic(auto, using(crate::proofs::NameLaws::names_mean_shape))]
+pub fn names_mean_the_shape()
+    ensures { NamesMeanTheShape }
+{
+    round_is_normal_step();
+}
+
+/// The shape of a shape is itself, and no vendor changes the shape.
+#[tactic(auto, using(crate::proofs::ShapeLemmas::shapes_fixed))]
+pub fn shapes_are_fixed()
+    ensures { ShapesAreFixed }
+{}
+
+/// A name keeps the byte order, the pointer width and the object format of the triple.
+pub fn names_keep_answers()
+    ensures { NamesKeepAnswers }
+{
+    round_is_normal_step();
+}

@@ -1,0 +1,21 @@
+//! Names of targets in other tools, the name that is suggested for an unknown part, and the object format that
+//! toolchains write.
+#![tactic(auto)]
+
+mod dialect;
+mod formats;
+pub mod laws;
+mod macos;
+mod names;
+mod names_left;
+mod reading;
+mod shape;
+mod spelling;
+mod suggestions;
+mod tables;
+
+pub use dialect::Dialect;
+pub use formats::object_format;
+pub use names::{Name, NameError};
+pub use reading::{ReadError, read};
+pub use suggestions::suggestion;

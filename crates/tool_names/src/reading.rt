@@ -1,0 +1,119 @@
+//! Reading a string that is spelled like a triple.
+ghost use Rattle.std.specs.Prelude.{◌≡◌, ℕ, List, None};
+ghost use Rattle.target_lexicon.specs.Placement.{parts_of};
+ghost use Rattle.target_lexicon.specs.Refusal.{refusal_with};
+ghost use Rattle.target_lexicon.specs.SpecialTexts.{special_values};
+ghost use Rattle.target_lexicon.specs.ValuesRef.{refusal_of_ref};
+ghost use Rattle.tool_names.specs.Private.{expected_next};
+ghost use Rattle.tool_names.specs.Spelling.{part_refusal, read_outcome, reading_of_names, refusal_at, spelled_names, spelled_reading};
+
+use crate::names_left::{Left, NameCursor};
+use crate::spelling::{first_part, first_spelling};
+use target_lexicon::{Architecture, BinaryFormat, Field, ParseErrorRef, TripleRef};
+
+/// Why a string that is spelled like a triple is refused, and where.
+#[derive(Clone, Copy, Debug, PartialEq, Eq)]
+pub struct ReadError<'a> {
+    /// The part of the string that is refused, or that spells a refused name, and what was expected there.
+    pub error: ParseErrorRef<'a>,
+    /// The index of the part's first byte.
+    pub start: usize,
+    /// The index of the byte after the part.
+    pub end: usize,
+}
+
+/// The triple that a string means which is spelled like a triple, as the tools of GNU and LLVM print them. Nothing is
+/// allocated.
+///
+/// Some parts are other spellings of known names, such as `amd64` of `x86_64`, `mingw32` of `windows-gnu`, `w64` of
+/// `pc` and `macos13` of `macosx13`. Versions of systems other than Apple's are dropped: `freebsd13.2` is `freebsd`.
+/// An empty second part is `unknown`, and so is `none` before `linux`. A known name is never another spelling, so what
+/// parses without a custom vendor means the same here.
+///
+/// # Errors
+///
+/// The first part that has no place, as it is in the string, and what was expected there.
+pub fn read(text: &str) -> Result<TripleRef<'_>, ReadError<'_>>
+    ensures { read_outcome result ≡ spelled_reading text.entry.now }
+{
+    match TripleRef::from_str(text) {
+        Ok(triple) => {
+            if triple.vendor.is_custom() {
+                read_names(text)
+            } else {
+                Ok(triple)
+            }
+        }
+        Err(_) => read_names(text),
+    }
+}
+
+/// What a string means by the names that its parts spell.
+fn read_names(text: &str) -> Result<TripleRef<'_>, ReadError<'_>>
+    ensures { read_outcome result
+        ≡ reading_of_names text.entry.now (spelled_names (parts_of text.entry.now)) }
+{
+    let (part, rest) = first_part(text);
+    let Ok(architecture) = Architecture::from_str(first_spelling(part)) else {
+        return Err(error_at(text, text, None));
+    };
+    let left = match rest {
+        Some(rest) => Some(Left::of_second(rest)),
+        None => None,
+    };
+    let mut cursor = NameCursor {
+        last: Field::Architecture,
+        left,
+    };
+    let vendor = cursor.take_vendor();
+    let operating_system = cursor.take_operating_system();
+    let environment = cursor.take_environment();
+    let binary_format = cursor.take_binary_format();
+    if let Some(left) = cursor.left {
+        return Err(error_at(text, left.from, Some(cursor.last)));
+    }
+    let triple = TripleRef {
+        architecture,
+        vendor,
+        operating_system,
+        environment,
+        binary_format: BinaryFormat::Unknown,
+    };
+    Ok(TripleRef {
+        binary_format: match binary_format {
+            Some(given) => given,
+            None => triple.default_binary_format(),
+        },
+        ..triple
+    })
+}
+
+/// The error at the part with which the end of the string begins, after a field.
+fn error_at<'a>(text: &'a str, from: &'a str, last: Option<Field>) -> ReadError<'a>
+    ensures { (name : List ℕ) →
+        part_refusal result
+        ≡ refusal_at text.entry.now (refusal_with (expected_next last) name)
+        (parts_of from.entry.now) }
+{
+    let part = first_part(from).0;
+    let start = text.len().saturating_sub(from.len());
+    ReadError {
+        error: refusal(part, last),
+        start,
+        end: start + part.len(),
+    }
+}
+
+/// The refusal of a part after a field.
+fn refusal(part: &str, last: Option<Field>) -> ParseErrorRef<'_>
+    ensures { refusal_of_ref result ≡ refusal_with (expected_next last) part.entry.now }
+{
+    match last {
+        None => ParseErrorRef::UnrecognizedArchitecture(part),
+        Some(Field::Architecture) => ParseErrorRef::UnrecognizedVendor(part),
+        Some(Field::Vendor) => ParseErrorRef::UnrecognizedOperatingSystem(part),
+        Some(Field::OperatingSystem) => ParseErrorRef::UnrecognizedEnvironment(part),
+        Some(Field::Environment) => ParseErrorRef::UnrecognizedBinaryFormat(part),
+        Some(Field::BinaryFormat) => ParseErrorRef::UnrecognizedField(part),
+    }
+}

@@ -1,0 +1,307 @@
+//! Other spellings of the parts of a triple.
+ghost use Rattle.std.specs.Prelude.{◌≡◌, ◌∷◌, [], Some, option_map};
+ghost use Rattle.std.specs.List.{list_all};
+ghost use Rattle.lexicon_fields.specs.BinaryFormat.{binary_format_of};
+ghost use Rattle.lexicon_fields.specs.Environment.{environment_of};
+ghost use Rattle.lexicon_fields.specs.Names.{value_named};
+ghost use Rattle.lexicon_fields.specs.OperatingSystem.{operating_system_of};
+ghost use Rattle.lexicon_fields.specs.Vendor.{vendor_of};
+ghost use Rattle.lexicon_fields.specs.VendorRef.{ref_value};
+ghost use Rattle.target_lexicon.specs.Placement.{parts_of};
+ghost use Rattle.tool_names.specs.Private.{name_text, parts_after, parts_table, spelling_names, table_of};
+ghost use Rattle.tool_names.specs.Spelling.{first_spelling, first_spellings, has_dropped_version, is_digit_or_dot, is_dropped_version, is_known_name, later_spelling, later_spellings, listed_spelling, versioned_spelling, versioned_spellings};
+
+use crate::macos::{MacOsVersion, macos_version};
+use target_lexicon::{
+    Architecture, BinaryFormat, Environment, OperatingSystem, Steps, VendorRef, fixed_row,
+};
+
+/// A part of a string, and what follows its dash, if it has one.
+pub(crate) fn first_part(text: &str) -> (&str, Option<&str>)
+    ensures { parts_of text.now ≡ result.0.now ∷ parts_after result.1 }
+{
+    match text.split_once('-') {
+        Some((part, rest)) => (part, Some(rest)),
+        None => (text, None),
+    }
+}
+
+/// Whether a part is a name of some field, other than a custom vendor.
+fn is_known_name(part: &str) -> bool
+    ensures { result ≡ is_known_name part.now }
+{
+    let row = fixed_row(part, &mut Steps::new());
+    row.is_some() || OperatingSystem::from_row(part, row).is_some()
+}
+
+/// The value of the first row with this text.
+#[tactic(auto, using(crate::proofs::LookUps::look_up_goes_on))]
+pub(crate) fn look_up<T: Copy>(rows: &[(&'static str, T)], text: &str) -> Option<T>
+    ensures { result ≡ value_named (table_of rows.now) text.now }
+{
+    for row in rows {
+        if text == row.0 {
+            return Some(row.1);
+        }
+    }
+    None
+}
+
+/// The name of the architecture in the table of first parts.
+#[tactic(auto, using(crate::proofs::LookUps::value_named_seen), unfolding(crate::specs::Spelling::first_spellings))]
+pub(crate) fn listed_architecture(part: &str) -> Option<&'static str>
+    ensures { option_map (λ name. name.now) result ≡ value_named first_spellings part.now }
+{
+    look_up(&FIRST_SPELLINGS, part)
+}
+
+/// The name of the architecture that the first part spells.
+pub(crate) fn first_spelling(part: &str) -> &str
+    ensures { result.now ≡ first_spelling part.entry.now }
+{
+    if Architecture::from_str(part).is_ok() {
+        return part;
+    }
+    match listed_architecture(part) {
+        Some(name) => name,
+        None => part,
+    }
+}
+
+/// A name that is read.
+#[derive(Clone, Copy)]
+pub(crate) enum Name<'a> {
+    /// A part of the string, or a name that a part spells.
+    Text(&'a str),
+    /// `macosx` with the version that follows `macos`.
+    MacOs(MacOsVersion<'a>),
+}
+
+/// The first name that a part spells, and the others, with dashes between them.
+#[derive(Clone, Copy)]
+pub(crate) struct Spelling<'a> {
+    pub first: Name<'a>,
+    pub others: Option<&'static str>,
+}
+
+impl<'a> Name<'a> {
+    /// What the name parses as in each field.
+    #[tactic(auto, using(crate::proofs::MacosNames::no_vendor))]
+    pub(crate) fn vendor(&self) -> Option<VendorRef<'a>>
+        ensures { option_map ref_value result ≡ vendor_of (name_text self.now) }
+    {
+        match *self {
+            Name::Text(text) => VendorRef::from_str(text).ok(),
+            Name::MacOs(_) => None,
+        }
+    }
+
+    #[tactic(auto, using(crate::proofs::MacosNames::is_macosx))]
+    pub(crate) fn operating_system(&self) -> Option<OperatingSystem>
+        ensures { result ≡ operating_system_of (name_text self.now) }
+    {
+        match *self {
+            Name::Text(text) => OperatingSystem::from_str(text).ok(),
+            Name::MacOs(it) => Some(OperatingSystem::MacOSX(Some(it.version))),
+        }
+    }
+
+    #[tactic(auto, using(crate::proofs::MacosNames::no_environment))]
+    pub(crate) fn environment(&self) -> Option<Environment>
+        ensures { result ≡ environment_of (name_text self.now) }
+    {
+        match *self {
+            Name::Text(text) => Environment::from_str(text).ok(),
+            Name::MacOs(_) => None,
+        }
+    }
+
+    #[tactic(auto, using(crate::proofs::MacosNames::no_binary_format))]
+    pub(crate) fn binary_format(&self) -> Option<BinaryFormat>
+        ensures { result ≡ binary_format_of (name_text self.now) }
+    {
+        match *self {
+            Name::Text(text) => BinaryFormat::from_str(text).ok(),
+            Name::MacOs(_) => None,
+        }
+    }
+}
+
+impl<'a> Spelling<'a> {
+    /// The spelling of one name.
+    pub(crate) fn of(name: &'a str) -> Spelling<'a>
+        ensures { spelling_names result ≡ name.entry.now ∷ [] }
+    {
+        Spelling {
+            first: Name::Text(name),
+            others: None,
+        }
+    }
+
+    /// The spelling of the names of a row.
+    fn of_row(names: &'static str) -> Spelling<'a>
+        ensures { spelling_names result ≡ parts_of names.now }
+    {
+        let (first, others) = first_part(names);
+        Spelling {
+            first: Name::Text(first),
+            others,
+        }
+    }
+
+    /// The names that a part spells that isn't the first. A known name stays.
+    #[tactic(auto, unfolding(crate::specs::Spelling::later_spelling))]
+    pub(crate) fn of_later(part: &'a str) -> Spelling<'a>
+        ensures { spelling_names result ≡ later_spelling part.entry.now }
+    {
+        if is_known_name(part) {
+            return Spelling::of(part);
+        }
+        match Spelling::of_listed(part) {
+            Some(spelling) => spelling,
+            None => Spelling::of(part),
+        }
+    }
+
+    /// The names that a later part spells, if it is listed.
+    #[tactic(auto, unfolding(crate::specs::Spelling::listed_spelling))]
+    fn of_listed(part: &'a str) -> Option<Spelling<'a>>
+        ensures { option_map spelling_names result ≡ listed_spelling part.entry.now }
+    {
+        if let Some(names) = later_spelling(part) {
+            return Some(Spelling::of_row(names));
+        }
+        if let Some(version) = macos_version(part) {
+            return Some(Spelling {
+                first: Name::MacOs(version),
+                others: None,
+            });
+        }
+        match versioned_spelling_of(part) {
+            Some(names) => Some(Spelling::of_row(names)),
+            None => None,
+        }
+    }
+}
+
+/// The names of the part in the table of later parts.
+#[tactic(auto, using(crate::proofs::LookUps::value_named_seen), unfolding(crate::specs::Spelling::later_spellings))]
+pub(crate) fn later_spelling(part: &str) -> Option<&'static str>
+    ensures { option_map (λ names. parts_of names.now) result
+        ≡ value_named later_spellings part.now }
+{
+    look_up(&LATER_SPELLINGS, part)
+}
+
+/// The names of the part in the table of texts that a version follows.
+#[tactic(auto, unfolding(crate::specs::Spelling::versioned_spellings))]
+pub(crate) fn versioned_spelling_of(part: &str) -> Option<&'static str>
+    ensures { option_map (λ names. parts_of names.now) result
+        ≡ versioned_spelling versioned_spellings part.now }
+{
+    versioned_spelling(&VERSIONED_SPELLINGS, part)
+}
+
+/// The names of the first row whose text the part is, with a version after it.
+fn versioned_spelling(rows: &[(&'static str, &'static str)], part: &str) -> Option<&'static str>
+    ensures { option_map (λ names. parts_of names.now) result
+        ≡ versioned_spelling (parts_table rows.now) part.now }
+{
+    for row in rows {
+        if has_dropped_version(row.0, part) {
+            return Some(row.1);
+        }
+    }
+    None
+}
+
+/// Whether a part is this prefix and a version that is dropped.
+fn has_dropped_version(prefix: &str, part: &str) -> bool
+    ensures { result ≡ has_dropped_version prefix.now part.now }
+{
+    match part.strip_prefix(prefix) {
+        Some(version) => is_dropped_version(version),
+        None => false,
+    }
+}
+
+/// Whether a text is digits and dots, at least one.
+fn is_dropped_version(text: &str) -> bool
+    ensures { result ≡ is_dropped_version text.now }
+{
+    !text.is_empty() && are_digits_or_dots(text.as_bytes())
+}
+
+fn are_digits_or_dots(bytes: &[u8]) -> bool
+    ensures { result ≡ list_all is_digit_or_dot bytes.now }
+{
+    bytes.iter().all(|byte| is_digit_or_dot(*byte))
+}
+
+fn is_digit_or_dot(byte: u8) -> bool
+    ensures { result ≡ is_digit_or_dot byte }
+{
+    byte.is_ascii_digit() || byte == b'.'
+}
+
+#[rattlefmt::skip]
+// written by tools/names/write: the other spellings of first parts
+static FIRST_SPELLINGS: [(&str, &str); 23] = [
+    ("amd64", "x86_64"),
+    ("i486", "i386"),
+    ("i786", "i686"),
+    ("i886", "i686"),
+    ("i986", "i686"),
+    ("armv4l", "armv4"),
+    ("armv4tl", "armv4t"),
+    ("armv5tel", "armv5te"),
+    ("armv5tejl", "armv5tej"),
+    ("armv6l", "armv6"),
+    ("armv7l", "armv7"),
+    ("armv7hl", "armv7"),
+    ("armv8l", "armv8"),
+    ("ppc", "powerpc"),
+    ("ppc32", "powerpc"),
+    ("ppc64", "powerpc64"),
+    ("ppc64le", "powerpc64le"),
+    ("mipseb", "mips"),
+    ("mips64eb", "mips64"),
+    ("bpf_be", "bpfeb"),
+    ("bpf_le", "bpfel"),
+    ("systemz", "s390x"),
+    ("thumbv7", "thumbv7a"),
+];
+// end of what is written
+
+#[rattlefmt::skip]
+// written by tools/names/write: the other spellings of later parts
+static LATER_SPELLINGS: [(&str, &str); 9] = [
+    ("w64", "pc"),
+    ("mingw32", "windows-gnu"),
+    ("mingw64", "windows-gnu"),
+    ("win32", "windows-msvc"),
+    ("macos", "macosx"),
+    ("netbsdelf", "netbsd"),
+    ("simulator", "sim"),
+    ("uclibcgnueabi", "uclibceabi"),
+    ("uclibcgnueabihf", "uclibceabihf"),
+];
+// end of what is written
+
+#[rattlefmt::skip]
+// written by tools/names/write: the other spellings of parts before a version
+static VERSIONED_SPELLINGS: [(&str, &str); 12] = [
+    ("aix", "aix"),
+    ("bitrig", "bitrig"),
+    ("dragonfly", "dragonfly"),
+    ("freebsd", "freebsd"),
+    ("netbsd", "netbsd"),
+    ("openbsd", "openbsd"),
+    ("solaris", "solaris"),
+    ("netbsdelf", "netbsd"),
+    ("gnu", "hurd-gnu"),
+    ("android", "android"),
+    ("androideabi", "androideabi"),
+    ("msvc", "msvc"),
+];
+// end of what is written

@@ -1,0 +1,91 @@
+//! Why a text is refused, in words.
+use crate::proved::{refusal_with, TextError};
+use crate::text::Text;
+use crate::{Status, NAME_WITHOUT_TRIPLE, NOT_UTF8, NO_SUCH_VALUE, UNKNOWN_NAME};
+use core::str;
+
+/// What stands for a character that could change what a terminal or a log shows, and for bytes that are no character.
+const REPLACEMENT: char = '\u{fffd}';
+
+/// The refused part, if the error is one of this text.
+fn part<'a>(bytes: &'a [u8], error: &TextError) -> Result<&'a [u8], Status> {
+    bytes.get(error.start..error.end).ok_or(NO_SUCH_VALUE)
+}
+
+/// Writes the first words of a refusal's line, and returns the refused part. `None` is that of a text that isn't UTF-8.
+fn start_of_line<'a>(bytes: &'a [u8], error: &TextError, out: &mut Text) -> Result<Option<&'a str>, Status> {
+    let part = part(bytes, error)?;
+    if error.status == NOT_UTF8 {
+        out.push("Not UTF-8");
+        return Ok(None);
+    }
+    let part = str::from_utf8(part).map_err(|_| NO_SUCH_VALUE)?;
+    match error.status {
+        UNKNOWN_NAME => out.push("Unknown name: "),
+        NAME_WITHOUT_TRIPLE => out.push("No triple has this name: "),
+        status => {
+            let mut words = [0; 64];
+            let size = refusal_with(status, "").ok_or(NO_SUCH_VALUE)?.write_to(&mut words);
+            out.push(words.get(..size).and_then(|words| str::from_utf8(words).ok()).unwrap_or(""));
+        }
+    }
+    Ok(Some(part))
+}
+
+/// Writes the line of a refusal, with the part as it is.
+pub(crate) fn line(bytes: &[u8], error: &TextError, out: &mut Text) -> Result<(), Status> {
+    if let Some(part) = start_of_line(bytes, error, out)? {
+        out.push(part);
+    }
+    Ok(())
+}
+
+/// Writes the line of a refusal, the text, and carets under the part with what may have been meant.
+pub(crate) fn line_and_caret(bytes: &[u8], error: &TextError, out: &mut Text) -> Result<(), Status> {
+    if let Some(part) = start_of_line(bytes, error, out)? {
+        push_visible(part.as_bytes(), out);
+    }
+    out.push("\n  ");
+    push_visible(bytes, out);
+    out.push("\n  ");
+    let (before, part) = (&bytes[..error.start], part(bytes, error)?);
+    (0..characters(before).count()).for_each(|_| out.push(" "));
+    (0..characters(part).count().max(1)).for_each(|_| out.push("^"));
+    if let Some(name) = suggestion(bytes, error) {
+        out.push(" did you mean `");
+        out.push(name);
+        out.push("`?");
+    }
+    Ok(())
+}
+
+/// The name that may have been meant.
+pub(crate) fn suggestion(bytes: &[u8], error: &TextError) -> Option<&'static str> {
+    let part = str::from_utf8(part(bytes, error).ok()?).ok()?;
+    refusal_with(error.status, part)?.suggestion()
+}
+
+/// The characters of some bytes. Each run of bytes that is none is a replacement character.
+fn characters(mut bytes: &[u8]) -> impl Iterator<Item = char> + '_ {
+    core::iter::from_fn(move || {
+        let end = bytes.len().min(4);
+        let valid = match str::from_utf8(&bytes[..end]) {
+            Ok(text) => text,
+            Err(error) => str::from_utf8(&bytes[..error.valid_up_to()]).unwrap_or(""),
+        };
+        let first = valid.chars().next();
+        let size = first.map_or_else(|| end.min(1), char::len_utf8);
+        bytes = &bytes[size..];
+        (size > 0).then_some(first.unwrap_or(REPLACEMENT))
+    })
+}
+
+fn push_visible(bytes: &[u8], out: &mut Text) {
+    let mut encoded = [0; 4];
+    characters(bytes).for_each(|it| out.push(if is_visible(it) { it } else { REPLACEMENT }.encode_utf8(&mut encoded)));
+}
+
+/// Whether a character is shown as itself: it neither controls a terminal nor turns the direction of text.
+fn is_visible(it: char) -> bool {
+    !it.is_control() && !matches!(it, '\u{61c}' | '\u{200b}'..='\u{200f}' | '\u{2028}'..='\u{202e}' | '\u{2066}'..='\u{2069}' | '\u{feff}')
+}

@@ -1,0 +1,86 @@
+// Erased from crates/lexicon_c/src/calls.rt by tools/erase. Don't edit it here.
+//! The calls.
+
+use crate::error::{error_of, TextError};
+use crate::sources::{sources_numbers, FieldSources};
+use crate::triple::{are_equal, numbers_of, triple_in, Fault, NumberedTriple};
+use crate::triple_facts::{facts_of, TripleFacts};
+use target_lexicon::internals::parse_or_locate;
+
+/// The triple that a text parses as, or why it is refused.
+pub fn parse(text: &str) -> Result<NumberedTriple<'_>, TextError> {
+    match parse_or_locate(text) {
+        Ok(parsed) => Ok(numbers_of(&parsed)),
+        Err((refusal, part)) => Err(error_of(&refusal, &part)),
+    }
+}
+
+/// The triple that a text parses as, or why it is refused, and where each field comes from.
+pub fn explain(text: &str) -> (Result<NumberedTriple<'_>, TextError>, FieldSources) {
+    match target_lexicon::internals::explain(text) {
+        Ok(explanation) => (
+            Ok(numbers_of(&explanation.triple)),
+            sources_numbers(&explanation.sources),
+        ),
+        Err(refused) => (
+            Err(error_of(&refused.error, &refused.part)),
+            sources_numbers(&refused.sources),
+        ),
+    }
+}
+
+/// The length of the printed text, which is written if the buffer has room for it.
+pub fn print(triple: &NumberedTriple<'_>, out: &mut [u8]) -> Result<usize, Fault> {
+    match triple_in(triple) {
+        Ok(printed) => Ok(printed.write_to(out)),
+        Err(fault) => Err(fault),
+    }
+}
+
+/// The canonical form.
+pub fn settle<'a>(triple: &NumberedTriple<'a>) -> Result<NumberedTriple<'a>, Fault> {
+    match triple_in(triple) {
+        Ok(settling) => Ok(numbers_of(&settling.settle().ok_or(Fault::NoSuchVendor)?)),
+        Err(fault) => Err(fault),
+    }
+}
+
+/// Whether the triple comes back: its printed text parses as it.
+pub fn comes_back(triple: &NumberedTriple<'_>) -> Result<bool, Fault> {
+    match triple_in(triple) {
+        Ok(printed) => Ok(printed.comes_back()),
+        Err(fault) => Err(fault),
+    }
+}
+
+/// Whether two triples are equal. Of two that are wrong, the fault is the first one's.
+pub fn equal(first: &NumberedTriple<'_>, second: &NumberedTriple<'_>) -> Result<bool, Fault> {
+    let first = match triple_in(first) {
+        Ok(first) => first,
+        Err(fault) => return Err(fault),
+    };
+    match triple_in(second) {
+        Ok(second) => Ok(are_equal(&first, &second)),
+        Err(fault) => Err(fault),
+    }
+}
+
+/// Whether two triples have the same canonical form.
+pub fn same_target(first: &NumberedTriple<'_>, second: &NumberedTriple<'_>) -> Result<bool, Fault> {
+    let first = match triple_in(first) {
+        Ok(first) => first,
+        Err(fault) => return Err(fault),
+    };
+    match triple_in(second) {
+        Ok(second) => Ok(first.settles_as(&second)),
+        Err(fault) => Err(fault),
+    }
+}
+
+/// What a compiler asks of a triple.
+pub fn facts(triple: &NumberedTriple<'_>) -> Result<TripleFacts, Fault> {
+    match triple_in(triple) {
+        Ok(asked) => Ok(facts_of(&asked)),
+        Err(fault) => Err(fault),
+    }
+}

@@ -1,0 +1,18 @@
+// Erased from crates/lexicon_c/src/lib.rt by tools/erase. Don't edit it here.
+//! What the calls for C answer: a triple is a struct of numbers beside the text of a custom vendor.
+
+pub(crate) mod calls;
+pub(crate) mod dialects;
+pub(crate) mod error;
+pub(crate) mod numbers;
+pub(crate) mod sources;
+pub(crate) mod triple;
+pub(crate) mod triple_facts;
+
+pub use calls::{comes_back, equal, explain, facts, parse, print, same_target, settle};
+pub use dialects::{dialect_at, name_in, read, reason};
+pub use error::{refusal_with, TextError};
+pub use numbers::{name_at, number_in};
+pub use sources::{FieldSource, FieldSources};
+pub use triple::{Fault, NumberedTriple, TripleNumbers};
+pub use triple_facts::{TripleFacts, TypeSizes};

@@ -1,0 +1,57 @@
+// Erased from crates/lexicon_c/src/sources.rt by tools/erase. Don't edit it here.
+//! Where the fields of a triple come from in its text, as numbers.
+
+use target_lexicon::internals::{Source, Sources};
+
+/// Where the value of a field comes from: 0 is no part of the text, 1 the part in this range of bytes, 2 the other
+/// fields.
+#[repr(C)]
+#[derive(Clone, Copy)]
+pub struct FieldSource {
+    pub origin: u32,
+    pub start: usize,
+    pub end: usize,
+}
+
+/// Where the value of each field comes from.
+#[repr(C)]
+#[derive(Clone, Copy)]
+pub struct FieldSources {
+    pub architecture: FieldSource,
+    pub vendor: FieldSource,
+    pub operating_system: FieldSource,
+    pub environment: FieldSource,
+    pub binary_format: FieldSource,
+}
+
+/// A source as numbers.
+fn source_numbers(source: Source<'_>) -> FieldSource {
+    match source {
+        Source::NotGiven => FieldSource {
+            origin: 0,
+            start: 0,
+            end: 0,
+        },
+        Source::Part(part) => FieldSource {
+            origin: 1,
+            start: part.start,
+            end: part.end,
+        },
+        Source::Implied => FieldSource {
+            origin: 2,
+            start: 0,
+            end: 0,
+        },
+    }
+}
+
+/// The sources of a triple as numbers.
+pub(crate) fn sources_numbers(sources: &Sources<'_>) -> FieldSources {
+    FieldSources {
+        architecture: source_numbers(sources.architecture),
+        vendor: source_numbers(sources.vendor),
+        operating_system: source_numbers(sources.operating_system),
+        environment: source_numbers(sources.environment),
+        binary_format: source_numbers(sources.binary_format),
+    }
+}

@@ -1,0 +1,152 @@
+// Erased from crates/lexicon_c/src/triple_facts.rt by tools/erase. Don't edit it here.
+//! The facts of a triple, as numbers.
+
+use target_lexicon::internals::names::{binary_format_number, family_number};
+use target_lexicon::internals::tool_names::object_format;
+use target_lexicon::internals::{
+    Architecture, CDataModel, CallingConvention, Endianness, TripleRef,
+};
+
+/// The sizes of C's types in bytes, by the data model; all 0 if there is none.
+#[repr(C)]
+#[derive(Clone, Copy)]
+pub struct TypeSizes {
+    pub short: u8,
+    pub int: u8,
+    pub long: u8,
+    pub long_long: u8,
+    pub float: u8,
+    pub double: u8,
+}
+
+/// What C asks of a triple. Each number is 0 where there is no answer.
+#[repr(C)]
+#[derive(Clone, Copy)]
+pub struct TripleFacts {
+    /// The byte order: 1 is little, 2 big.
+    pub endianness: u8,
+    /// The width of a pointer in bits: 16, 32 or 64.
+    pub pointer_width: u8,
+    /// The calling convention: 1 is System V, 2 the C ABI of WebAssembly, 3 Windows Fastcall, 4 Apple's on 64-bit Arm.
+    pub default_calling_convention: u8,
+    /// The data model of C: 1 is LP32, 2 ILP32, 3 LLP64, 4 LP64, 5 ILP64.
+    pub data_model: u8,
+    /// The sizes of C's types.
+    pub sizes: TypeSizes,
+    /// The number of the binary format that the other fields imply.
+    pub implied_format: u8,
+    /// The number of the binary format that toolchains write.
+    pub object_format: u8,
+    /// The number of the architecture's family.
+    pub family: u8,
+    /// Whether the architecture is an Arm one that is Thumb.
+    pub is_thumb: bool,
+    /// Whether the operating system is like Darwin.
+    pub is_like_darwin: bool,
+    /// Whether the vendor is a custom one.
+    pub has_custom_vendor: bool,
+}
+
+/// The facts of a triple.
+#[inline(always)]
+pub(crate) fn facts_of(triple: &TripleRef<'_>) -> TripleFacts {
+    let (data_model, sizes) = model_facts(model_of(triple));
+    TripleFacts {
+        endianness: endianness_number(triple),
+        pointer_width: pointer_width(triple),
+        default_calling_convention: convention_number(triple),
+        data_model,
+        sizes,
+        implied_format: binary_format_number(triple.default_binary_format()),
+        object_format: binary_format_number(object_format(triple)),
+        family: family_number(triple.architecture),
+        is_thumb: is_thumb(triple.architecture),
+        is_like_darwin: triple.operating_system.is_like_darwin(),
+        has_custom_vendor: triple.vendor.is_custom(),
+    }
+}
+
+/// 1 if the triple is little-endian, 2 if it is big-endian, and 0 if the query has no answer.
+#[inline(always)]
+fn endianness_number(triple: &TripleRef<'_>) -> u8 {
+    match triple.endianness() {
+        Ok(Endianness::Little) => 1,
+        Ok(Endianness::Big) => 2,
+        Err(()) => 0,
+    }
+}
+
+/// The width of a pointer in bits, or 0 if the query has no answer.
+#[inline(always)]
+fn pointer_width(triple: &TripleRef<'_>) -> u8 {
+    match triple.pointer_width() {
+        Ok(width) => width.bits(),
+        Err(()) => 0,
+    }
+}
+
+/// The number of the calling convention, or 0 if the query has no answer.
+#[inline(always)]
+fn convention_number(triple: &TripleRef<'_>) -> u8 {
+    match triple.default_calling_convention() {
+        Ok(CallingConvention::SystemV) => 1,
+        Ok(CallingConvention::WasmBasicCAbi) => 2,
+        Ok(CallingConvention::WindowsFastcall) => 3,
+        Ok(CallingConvention::AppleAarch64) => 4,
+        _ => 0,
+    }
+}
+
+/// The data model of C, if there is one.
+#[inline(always)]
+fn model_of(triple: &TripleRef<'_>) -> Option<CDataModel> {
+    match triple.data_model() {
+        Ok(model) => Some(model),
+        Err(()) => None,
+    }
+}
+
+/// The number of the data model of C, or 0 if there is none.
+#[inline(always)]
+fn model_number(model: Option<CDataModel>) -> u8 {
+    match model {
+        Some(CDataModel::LP32) => 1,
+        Some(CDataModel::ILP32) => 2,
+        Some(CDataModel::LLP64) => 3,
+        Some(CDataModel::LP64) => 4,
+        Some(CDataModel::ILP64) => 5,
+        _ => 0,
+    }
+}
+
+/// The number of a data model of C, and the sizes of C's types in it; 0 without one.
+#[inline(always)]
+fn model_facts(model: Option<CDataModel>) -> (u8, TypeSizes) {
+    let number = model_number(model);
+    (number, all_type_sizes()[usize::from(number)])
+}
+
+/// The sizes of C's types without a data model, and then in each model, in the order of their numbers.
+#[inline(always)]
+fn all_type_sizes() -> &'static [TypeSizes] {
+    &TYPE_SIZES
+}
+
+#[rustfmt::skip]
+static TYPE_SIZES: [TypeSizes; 6] = [
+    TypeSizes { short: 0, int: 0, long: 0, long_long: 0, float: 0, double: 0 },
+    TypeSizes { short: 2, int: 2, long: 4, long_long: 8, float: 4, double: 8 },
+    TypeSizes { short: 2, int: 4, long: 4, long_long: 8, float: 4, double: 8 },
+    TypeSizes { short: 2, int: 4, long: 4, long_long: 8, float: 4, double: 8 },
+    TypeSizes { short: 2, int: 4, long: 8, long_long: 8, float: 4, double: 8 },
+    TypeSizes { short: 2, int: 8, long: 8, long_long: 8, float: 4, double: 8 },
+];
+
+/// Whether an architecture is an Arm one that is Thumb.
+#[inline(always)]
+fn is_thumb(architecture: Architecture) -> bool {
+    match architecture {
+        Architecture::Arm(sub) => sub.is_thumb(),
+        _ => false,
+    }
+}

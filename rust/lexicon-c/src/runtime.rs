@@ -1,0 +1,46 @@
+//! What rustc asks of a library without its own standard library.
+use core::alloc::{GlobalAlloc, Layout};
+
+/// The crate below has calls that allocate. None of those is reached from here: this allocator has no memory, and the linker
+/// drops it.
+struct NoHeap;
+
+// SAFETY: an allocation that fails returns null.
+unsafe impl GlobalAlloc for NoHeap {
+    unsafe fn alloc(&self, _: Layout) -> *mut u8 {
+        core::ptr::null_mut()
+    }
+
+    unsafe fn dealloc(&self, _: *mut u8, _: Layout) {}
+}
+
+#[global_allocator]
+static NO_HEAP: NoHeap = NoHeap;
+
+// The C library has `memcpy` and `memcmp`.
+#[cfg(unix)]
+#[link(name = "c")]
+extern "C" {}
+
+/// What the calls answer is proved not to panic. A fault in what is around it stops the program.
+#[panic_handler]
+fn panic(_: &core::panic::PanicInfo<'_>) -> ! {
+    // SAFETY: the processor's own trap; elsewhere the C library's.
+    #[cfg(any(target_arch = "x86", target_arch = "x86_64"))]
+    unsafe {
+        core::arch::asm!("ud2", options(noreturn))
+    }
+    #[cfg(any(target_arch = "aarch64"))]
+    unsafe {
+        core::arch::asm!("brk #1", options(noreturn))
+    }
+    #[cfg(target_arch = "wasm32")]
+    core::arch::wasm32::unreachable();
+    #[cfg(not(any(target_arch = "x86", target_arch = "x86_64", target_arch = "aarch64", target_arch = "wasm32")))]
+    {
+        extern "C" {
+            fn abort() -> !;
+        }
+        unsafe { abort() }
+    }
+}

@@ -1,0 +1,132 @@
+// Makes each call of lexicon.hpp, and compares what it gives with what is expected.
+#include <iostream>
+#include <map>
+#include <sstream>
+#include <unordered_set>
+
+#include "lexicon.hpp"
+
+using namespace lexicon;
+
+static int failures = 0;
+
+#define EXPECT(right) \
+  do { \
+    if (!(right)) std::cerr << "wrong: line " << __LINE__ << ": " #right "\n", failures++; \
+  } while (0)
+
+template <class Value> static std::string shown(const Value& value) {
+  std::ostringstream out;
+  out << value;
+  return out.str();
+}
+
+static Triple parsed(std::string_view text) {
+  auto triple = Triple::parse(text);
+  EXPECT(triple.has_value());
+  return triple.value_or(Triple());
+}
+
+static void try_triple() {
+  Triple ios = parsed("arm64-apple-ios17.2");
+  EXPECT(ios.architecture() == Architecture::Aarch64 && ios.vendor() == Vendor::Apple && ios.operating_system() == OperatingSystem::IOS);
+  EXPECT(ios.environment() == Environment::Unknown && ios.binary_format() == BinaryFormat::Macho);
+  EXPECT((ios.version() == Version{17, 2, 0}) && shown(*ios.version()) == "17.2.0" && (Version{17, 1, 9} < *ios.version()));
+  EXPECT(ios.endianness() == Endianness::Little && ios.pointer_width() == 64u && ios.data_model() == DataModel::LP64);
+  EXPECT(ios.default_calling_convention() == CallingConvention::AppleAarch64 && ios.implied_format() == BinaryFormat::Macho);
+  EXPECT(ios.short_size() == 2u && ios.int_size() == 4u && ios.long_size() == 8u && ios.long_long_size() == 8u);
+  EXPECT(ios.float_size() == 4u && ios.double_size() == 8u && ios.family() == Family::Aarch64);
+  EXPECT(ios.is_like_darwin() && !ios.is_thumb() && !ios.has_custom_vendor() && ios.vendor_name() == "apple");
+  EXPECT(ios.printed() == "aarch64-apple-ios17.2.0" && shown(ios) == ios.printed() && ios.comes_back());
+  Triple none = parsed("thumbv7m-none-eabi");
+  EXPECT(none.is_thumb() && none.pointer_width() == 32u && !none.data_model() && !none.int_size() && !none.version());
+  EXPECT(!Triple().endianness() && Triple().printed() == "unknown-unknown-unknown");
+  EXPECT(parsed("x86_64-unknown-uefi").object_format() == BinaryFormat::Coff);
+  EXPECT(parsed("x86_64-unknown-uefi").implied_format() == BinaryFormat::Elf);
+  Triple esp = parsed("riscv32imc-esp-espidf-elf");
+  EXPECT(!esp.comes_back() && esp.settle() != esp && esp.same_target(esp.settle()) && esp.canonical() == "riscv32imc-esp-espidf");
+  EXPECT(Triple(Architecture::Aarch64, Vendor::Unknown, OperatingSystem::Linux) == parsed("aarch64-linux"));
+  EXPECT(Triple(Architecture::Avr, Vendor::Pc, OperatingSystem::Linux, Environment::Gnu, BinaryFormat::Coff) == parsed("avr-pc-linux-gnu-coff"));
+}
+
+// The sample of the repository's README.
+static void try_sample() {
+  std::ostringstream out;
+  auto triple = lexicon::Triple::parse("arm64-apple-ios17");
+  if (triple) out << triple->settle() << ' ' << triple->object_format() << ' ' << *triple->pointer_width();
+  EXPECT(out.str() == "aarch64-apple-ios17.0.0 macho 64");
+}
+
+// A custom vendor is owned: neither the string that was parsed nor the triple that was copied is needed.
+static void try_ownership() {
+  std::string text = "x86_64-acme-linux";
+  Triple copy, moved;
+  {
+    Triple triple = parsed(text);
+    text.assign(text.size(), '?');
+    copy = triple;
+    moved = std::move(triple);
+  }
+  EXPECT(copy == moved && copy.has_custom_vendor() && copy.vendor() == Vendor::Custom && copy.vendor_name() == "acme");
+  EXPECT(copy.printed() == "x86_64-acme-linux" && moved.settle().vendor_name() == "acme" && copy != parsed("x86_64-acmf-linux"));
+  std::string vendor(300, 'v');
+  EXPECT(parsed("avr-" + vendor + "-linux").printed() == "avr-" + vendor + "-linux");
+}
+
+static void try_containers() {
+  std::unordered_set<Triple> set{parsed("x86_64-linux"), parsed("x86_64-unknown-linux"), parsed("x86_64-acme-linux"), parsed("arm64-apple-ios17")};
+  EXPECT(set.size() == 3 && set.count(parsed("x86_64-acme-linux")) == 1 && set.count(parsed("x86_64-acmf-linux")) == 0);
+  std::map<Triple, int> map{{parsed("x86_64-linux"), 1}, {parsed("arm64-linux"), 2}};
+  EXPECT(map.at(parsed("aarch64-unknown-linux")) == 2);
+}
+
+static void try_errors() {
+  ParseError error;
+  EXPECT(!Triple::parse("x86_64-pc-linx", &error) && error.status == LEXICON_UNRECOGNIZED_OPERATING_SYSTEM);
+  EXPECT(error.field() == Field::OperatingSystem && shown(*error.field()) == "operating system");
+  EXPECT(error.part == "linx" && error.start == 10 && error.end == 14 && error.suggestion == "linux");
+  EXPECT(error.line == "Unrecognized operating system: linx");
+  EXPECT(shown(error) == "Unrecognized operating system: linx\n  x86_64-pc-linx\n            ^^^^ did you mean `linux`?");
+  EXPECT(!Triple::parse("x86_64-elf-linux", &error) && !error.field() && error.suggestion.empty());
+  EXPECT(!Triple::parse("avr-\xff", &error) && error.status == LEXICON_NOT_UTF8 && !error.field() && error.line == "Not UTF-8");
+  EXPECT(!Triple::parse("") && !Triple::parse({}));
+  std::string part(3000, 'x');
+  EXPECT(!Triple::parse("avr-pc-linux-" + part, &error) && error.line == "Unrecognized environment: " + part);
+}
+
+static void try_names() {
+  EXPECT(name(Architecture::X86_64) == "x86_64" && name(Vendor::Custom).empty() && shown(OperatingSystem::None_) == "none");
+  EXPECT(shown(Environment::Gnu) == "gnu" && shown(BinaryFormat::Macho) == "macho" && shown(Vendor::Pc) == "pc");
+  EXPECT(shown(Endianness::Big) == "big" && shown(CallingConvention::SystemV) == "SystemV" && shown(DataModel::LLP64) == "LLP64");
+  EXPECT(value_of<Architecture>("arm64") == Architecture::Aarch64 && !value_of<Environment>("linux"));
+  EXPECT(value_of<Vendor>("acme") == Vendor::Custom && value_of<OperatingSystem>("ios17") == OperatingSystem::IOS);
+  EXPECT(version().substr(0, 5) == LEXICON_VERSION);
+}
+
+static void try_dialects() {
+  ParseError error;
+  auto mingw = Triple::read("x86_64-w64-mingw32");
+  EXPECT(mingw && mingw->printed() == "x86_64-pc-windows-gnu" && mingw->name_in(Dialect::Node) == "win32-x64");
+  auto arm = Triple::read("linux/arm64", Dialect::Oci);
+  EXPECT(arm && *arm == parsed("aarch64-linux") && arm->name_in(Dialect::Oci) == "linux/arm64" && arm->name_in(Dialect::Debian) == std::nullopt);
+  EXPECT(Triple::read("x86_64-acme-linux")->vendor_name() == "acme" && !Triple::read("linux/arm64"));
+  EXPECT(!Triple::read("amd64", Dialect::Go, &error) && error.status == LEXICON_UNKNOWN_NAME && error.part == "amd64" && !error.field());
+  EXPECT(shown(error) == "Unknown name: amd64\n  amd64\n  ^^^^^" && error.reason.empty());
+  EXPECT(!Triple::read("plan9/386", Dialect::Go, &error) && error.status == LEXICON_NAME_WITHOUT_TRIPLE);
+  EXPECT(error.reason == "Plan 9 is no known name");
+  EXPECT(shown(error) == "No triple has this name: plan9/386\n  plan9/386\n  ^^^^^^^^^ Plan 9 is no known name");
+  EXPECT(!Triple::read("amd64-pc-linx", &error) && error.suggestion == "linux" && error.start == 9 && error.reason.empty());
+  EXPECT(shown(Dialect::Gnu) == "gnu" && name(Dialect::Debian) == "debian");
+}
+
+int main() {
+  try_triple();
+  try_sample();
+  try_ownership();
+  try_containers();
+  try_errors();
+  try_names();
+  try_dialects();
+  std::cerr << "cpp: " << failures << " wrong\n";
+  return failures != 0;
+}

@@ -1,0 +1,315 @@
+//! The command `lexicon`. What it says of a target it asks the crate `target-lexicon`; here is how targets are read, and how
+//! answers are laid out.
+#![forbid(unsafe_code)]
+
+mod answers;
+mod arguments;
+mod input;
+mod json;
+mod matrix;
+mod output;
+mod refusal;
+
+use arguments::{DIALECTS, FIELDS};
+use clap::error::{ContextKind, ContextValue, ErrorKind};
+use clap::ArgMatches;
+use clap_complete::Shell;
+use input::{each_target, Answers, Place, Target};
+use json::Object;
+use matrix::Matrix;
+use output::Outputs;
+use refusal::Refusal;
+use std::io::{self, Write};
+use std::path::Path;
+use std::process;
+use target_lexicon::tool_names::Dialect;
+use target_lexicon::{Explanation, TripleRef};
+
+/// What ends a run early.
+pub enum Fault {
+    /// A stream can't be read or written.
+    Stream {
+        name: String,
+        why: io::Error,
+    },
+    NotUtf8 {
+        place: String,
+    },
+    /// Nobody reads the output any more.
+    Closed,
+}
+
+/// The status of what a closed pipe ended, as the shell shows it for other tools.
+const CLOSED: i32 = 141;
+
+#[derive(Clone, Copy, PartialEq, Eq)]
+enum Call {
+    Explain,
+    Facts,
+    Settle,
+    Check,
+    Matrix,
+    Read(Option<Dialect>),
+    Write(Dialect),
+    Elsewhere,
+}
+
+/// What was found out about a target.
+enum Found<'a> {
+    Parsed(Explanation<'a>),
+    Read(TripleRef<'a>),
+    Name(&'static str),
+}
+
+/// A call that answers for targets.
+struct Run {
+    call: Call,
+    is_strict: bool,
+    skips_comments: bool,
+    ignores_vendor: bool,
+    has_json: bool,
+    matrix: Matrix,
+    outputs: Outputs,
+    is_refused: bool,
+}
+
+impl Answers for Run {
+    fn answer(&mut self, target: Target<'_>) -> Result<(), Fault> {
+        match self.find(target.text) {
+            Ok(Found::Parsed(explanation)) if self.call == Call::Matrix => {
+                self.matrix
+                    .add(target, explanation.triple, self.ignores_vendor);
+                Ok(())
+            }
+            Ok(_) if self.call == Call::Check => Ok(()),
+            Ok(found) if self.has_json => {
+                let members = self.members(&found);
+                self.outputs
+                    .object([answers::head(target), members].concat())
+            }
+            Ok(found) => {
+                let call = self.call;
+                self.outputs.write(|out| match found {
+                    Found::Parsed(explanation) => match call {
+                        Call::Explain => answers::write_explained(out, target, &explanation),
+                        Call::Facts => answers::write_facts(
+                            out,
+                            target.text,
+                            answers::facts(&explanation.triple),
+                        ),
+                        Call::Elsewhere => answers::write_facts(
+                            out,
+                            target.text,
+                            answers::elsewhere(&explanation.triple),
+                        ),
+                        _ => writeln!(out, "{}", answers::canonical(explanation.triple)),
+                    },
+                    Found::Read(triple) => writeln!(out, "{}", answers::canonical(triple)),
+                    Found::Name(name) => writeln!(out, "{name}"),
+                })
+            }
+            Err(refusal) => {
+                self.is_refused = true;
+                if self.has_json && self.call != Call::Matrix {
+                    return self
+                        .outputs
+                        .object([answers::head(target), refusal.members()].concat());
+                }
+                let note = self.note(target);
+                self.outputs
+                    .refuse(|out, has_color| refusal.write(out, target, has_color, note.as_deref()))
+            }
+        }
+    }
+
+    fn pause(&mut self) -> Result<(), Fault> {
+        self.outputs.flush()
+    }
+}
+
+impl Run {
+    fn find<'a>(&self, text: &'a str) -> Result<Found<'a>, Refusal<'a>> {
+        if let Call::Read(dialect) = self.call {
+            return refusal::read(text, dialect).map(Found::Read);
+        }
+        let explanation = refusal::explanation(text, self.is_strict)?;
+        match self.call {
+            Call::Write(dialect) => {
+                refusal::name_in(dialect, text, &explanation.triple).map(Found::Name)
+            }
+            _ => Ok(Found::Parsed(explanation)),
+        }
+    }
+
+    /// The members of the object for what was found.
+    fn members(&self, found: &Found<'_>) -> Object {
+        let canonical = |triple| vec![("canonical", answers::canonical(triple).to_string().into())];
+        match found {
+            Found::Parsed(explanation) => match self.call {
+                Call::Explain => answers::explained(explanation),
+                Call::Facts => answers::facts(&explanation.triple),
+                Call::Elsewhere => answers::elsewhere(&explanation.triple),
+                _ => canonical(explanation.triple),
+            },
+            Found::Read(triple) => canonical(*triple),
+            Found::Name(name) => vec![("name", (*name).into())],
+        }
+    }
+
+    fn new(call: Call, arguments: &ArgMatches) -> Self {
+        Run {
+            call,
+            is_strict: arguments.get_flag("strict"),
+            skips_comments: arguments.get_flag("comments"),
+            ignores_vendor: call == Call::Matrix && arguments.get_flag("ignore-vendor"),
+            has_json: arguments.get_flag("json") || arguments.get_flag("json-lines"),
+            matrix: Matrix::default(),
+            outputs: Outputs::new(arguments),
+            is_refused: false,
+        }
+    }
+
+    /// What the user may have meant by a target that is refused.
+    fn note(&self, target: Target<'_>) -> Option<String> {
+        let text = target.text.trim();
+        if let (false, Some(meant)) = (
+            matches!(self.call, Call::Read(_)),
+            answers::meaning_elsewhere(text),
+        ) {
+            return Some(format!(
+                "other tools mean `{meant}`, which `lexicon read` gives"
+            ));
+        }
+        match target.place {
+            Place::Argument(_) => (!text.is_empty() && Path::new(text).is_file()).then(|| {
+                format!(
+                    "there is a file of that name: `-f {}` answers for its lines",
+                    refusal::visible(text)
+                )
+            }),
+            Place::Line { .. } => (!self.skips_comments && (text.is_empty() || text.contains('#')))
+                .then(|| "with `--comments` blank lines and comments are skipped".to_string()),
+        }
+    }
+
+    /// Answers for all targets. Returns the status.
+    fn finish(mut self, arguments: &ArgMatches) -> Result<i32, Fault> {
+        each_target(arguments, &mut self)?;
+        if self.call == Call::Matrix && !self.is_refused {
+            let matrix = std::mem::take(&mut self.matrix);
+            if self.has_json {
+                matrix
+                    .into_objects()
+                    .try_for_each(|object| self.outputs.object(object))?;
+            } else {
+                self.outputs.write(|out| matrix.write(out))?;
+            }
+        }
+        // A matrix that isn't whole is none, so that nobody takes it for one.
+        self.outputs
+            .end(self.call != Call::Matrix || !self.is_refused)?;
+        Ok(i32::from(self.is_refused))
+    }
+}
+
+/// The names of the requested field, or of each field below its own name.
+fn write_names(out: &mut dyn Write, arguments: &ArgMatches) -> io::Result<()> {
+    let requested = arguments.get_one::<String>("field");
+    for (key, field) in FIELDS {
+        let indent = match requested {
+            None => {
+                writeln!(out, "{key}")?;
+                "  "
+            }
+            Some(requested) if requested == key => "",
+            Some(_) => continue,
+        };
+        field
+            .names()
+            .iter()
+            .try_for_each(|name| writeln!(out, "{indent}{name}"))?;
+    }
+    Ok(())
+}
+
+fn completion_script(arguments: &ArgMatches) -> String {
+    let shell = *arguments
+        .get_one::<Shell>("shell")
+        .expect("a shell is required");
+    let mut script = Vec::new();
+    clap_complete::generate(shell, &mut arguments::command(), "lexicon", &mut script);
+    // For bash the names of arguments are among the words that it offers.
+    String::from_utf8_lossy(&script).replace(" [TARGET]...", "")
+}
+
+fn manual_page(arguments: &ArgMatches) -> &'static str {
+    match arguments.get_one::<String>("command").map(String::as_str) {
+        Some("triples") => include_str!("../man/triples.1"),
+        _ => include_str!("../man/lexicon.1"),
+    }
+}
+
+fn dialect(arguments: &ArgMatches, option: &str) -> Option<Dialect> {
+    let requested = arguments.get_one::<String>(option)?;
+    DIALECTS
+        .into_iter()
+        .find(|dialect| dialect.as_str() == requested)
+}
+
+fn run(arguments: &ArgMatches) -> Result<i32, Fault> {
+    let (name, arguments) = arguments.subcommand().expect("a subcommand is required");
+    let call = match name {
+        "explain" => Call::Explain,
+        "facts" => Call::Facts,
+        "settle" => Call::Settle,
+        "check" => Call::Check,
+        "matrix" => Call::Matrix,
+        "read" => Call::Read(dialect(arguments, "from")),
+        "write" => Call::Write(dialect(arguments, "to").expect("a dialect is required")),
+        "elsewhere" => Call::Elsewhere,
+        _ => {
+            let mut outputs = Outputs::plain();
+            outputs.write(|out| match name {
+                "names" => write_names(out, arguments),
+                "completions" => out.write_all(completion_script(arguments).as_bytes()),
+                "manual" => out.write_all(manual_page(arguments).as_bytes()),
+                other => unreachable!("{other} is no subcommand"),
+            })?;
+            outputs.end(false)?;
+            return Ok(0);
+        }
+    };
+    Run::new(call, arguments).finish(arguments)
+}
+
+/// Help, the version, or what is wrong with the arguments. Returns the status.
+fn usage(error: &clap::Error) -> Result<i32, Fault> {
+    error
+        .print()
+        .map_err(|why| Fault::of_output("standard output", why))?;
+    if let (ErrorKind::InvalidSubcommand, Some(ContextValue::String(word))) =
+        (error.kind(), error.get(ContextKind::InvalidSubcommand))
+    {
+        if TripleRef::from_str(word).is_ok() {
+            eprintln!("\nA target follows a command: lexicon explain {word}");
+        }
+    }
+    Ok(if error.use_stderr() { 2 } else { 0 })
+}
+
+fn main() {
+    let ended = match arguments::command().try_get_matches() {
+        Ok(arguments) => run(&arguments),
+        Err(error) => usage(&error),
+    };
+    let status = ended.unwrap_or_else(|fault| {
+        let why = match fault {
+            Fault::Closed => process::exit(CLOSED),
+            Fault::Stream { name, why } => format!("{}: {why}", refusal::visible(&name)),
+            Fault::NotUtf8 { place } => format!("{}: not UTF-8", refusal::visible(&place)),
+        };
+        let _ = io::stderr().write_all(format!("lexicon: {why}\n").as_bytes());
+        3
+    });
+    process::exit(status);
+}

@@ -1,0 +1,133 @@
+//! The two outputs. What is written to one appears before what is written to the other later.
+use crate::json::{Json, Object};
+use crate::Fault;
+use clap::ArgMatches;
+use std::env;
+use std::io::{self, BufWriter, ErrorKind, Write};
+
+impl Fault {
+    pub fn of_output(name: &str, why: io::Error) -> Self {
+        match why.kind() {
+            ErrorKind::BrokenPipe => Fault::Closed,
+            _ => Fault::Stream {
+                name: name.into(),
+                why,
+            },
+        }
+    }
+}
+
+/// How objects are written.
+#[derive(Clone, Copy, PartialEq, Eq)]
+enum Layout {
+    Array,
+    Lines,
+}
+
+pub struct Outputs {
+    out: BufWriter<io::Stdout>,
+    errors: BufWriter<io::Stderr>,
+    layout: Option<Layout>,
+    has_object: bool,
+    has_color: bool,
+}
+
+/// Whether a terminal would show what goes to standard error, and wants colours.
+fn is_colorful_terminal() -> bool {
+    #[cfg(is_terminal)]
+    let is_terminal = io::IsTerminal::is_terminal(&io::stderr());
+    #[cfg(not(is_terminal))]
+    let is_terminal = false;
+    let is_unset = |name| env::var_os(name).map_or(true, |it| it.is_empty());
+    is_terminal
+        && is_unset("NO_COLOR")
+        && env::var_os("TERM").map_or(cfg!(windows), |it| it != "dumb")
+}
+
+impl Outputs {
+    pub fn plain() -> Self {
+        Outputs {
+            out: BufWriter::with_capacity(1 << 16, io::stdout()),
+            errors: BufWriter::with_capacity(1 << 16, io::stderr()),
+            layout: None,
+            has_object: false,
+            has_color: false,
+        }
+    }
+
+    pub fn new(arguments: &ArgMatches) -> Self {
+        let layout = match (arguments.get_flag("json"), arguments.get_flag("json-lines")) {
+            (true, _) => Some(Layout::Array),
+            (_, true) => Some(Layout::Lines),
+            _ => None,
+        };
+        let has_color = match arguments.get_one::<String>("color").map(String::as_str) {
+            Some("always") => true,
+            Some("never") => false,
+            _ => is_colorful_terminal(),
+        };
+        Outputs {
+            layout,
+            has_color,
+            ..Outputs::plain()
+        }
+    }
+
+    fn flush_out(&mut self) -> Result<(), Fault> {
+        self.out
+            .flush()
+            .map_err(|why| Fault::of_output("standard output", why))
+    }
+
+    fn flush_errors(&mut self) -> Result<(), Fault> {
+        self.errors
+            .flush()
+            .map_err(|why| Fault::of_output("standard error", why))
+    }
+
+    pub fn flush(&mut self) -> Result<(), Fault> {
+        self.flush_out()?;
+        self.flush_errors()
+    }
+
+    pub fn write(
+        &mut self,
+        text: impl FnOnce(&mut dyn Write) -> io::Result<()>,
+    ) -> Result<(), Fault> {
+        self.flush_errors()?;
+        text(&mut self.out).map_err(|why| Fault::of_output("standard output", why))
+    }
+
+    /// Writes a refusal to standard error. `text` gets whether it has colours.
+    pub fn refuse(
+        &mut self,
+        text: impl FnOnce(&mut dyn Write, bool) -> io::Result<()>,
+    ) -> Result<(), Fault> {
+        self.flush_out()?;
+        text(&mut self.errors, self.has_color)
+            .map_err(|why| Fault::of_output("standard error", why))
+    }
+
+    pub fn object(&mut self, object: Object) -> Result<(), Fault> {
+        let (begin, end) = match (self.layout, self.has_object) {
+            (Some(Layout::Lines), _) => ("", "\n"),
+            (_, false) => ("[", ""),
+            (_, true) => (",", ""),
+        };
+        self.has_object = true;
+        self.write(|out| {
+            out.write_all(begin.as_bytes())?;
+            Json::Object(object).write(out)?;
+            out.write_all(end.as_bytes())
+        })
+    }
+
+    /// Ends what was written; an array, if there is to be one.
+    pub fn end(&mut self, has_array: bool) -> Result<(), Fault> {
+        if has_array && self.layout == Some(Layout::Array) {
+            let end = if self.has_object { "]\n" } else { "[]\n" };
+            self.write(|out| out.write_all(end.as_bytes()))?;
+        }
+        self.flush()
+    }
+}

@@ -1,0 +1,194 @@
+//! Why a target is refused.
+use crate::arguments::FIELDS;
+use crate::input::{Place, Target};
+use crate::json::{Json, Object};
+use std::io::{self, Write};
+use target_lexicon::tool_names::{self, Dialect, NameError};
+use target_lexicon::{Explanation, Field, ParseErrorRef, Source, TextPart, TripleRef, VendorRef};
+
+pub struct Refusal<'a> {
+    error: String,
+    /// The field that the part isn't a name of.
+    field: Option<Field>,
+    part: TextPart<'a>,
+    suggestion: Option<&'static str>,
+}
+
+/// What a target parses as, and from where; or why it is refused.
+pub fn explanation(text: &str, is_strict: bool) -> Result<Explanation<'_>, Refusal<'_>> {
+    let explanation = TripleRef::explain(text)
+        .map_err(|refusal| Refusal::of_part(refusal.error, refusal.part))?;
+    match (explanation.triple.vendor, explanation.sources.vendor) {
+        (VendorRef::Custom(vendor), Source::Part(part)) if is_strict => Err(Refusal {
+            error: "custom vendor".into(),
+            field: Some(Field::Vendor),
+            part,
+            suggestion: tool_names::suggestion(Field::Vendor, vendor),
+        }),
+        _ => Ok(explanation),
+    }
+}
+
+/// The triple that a name of another tool means; without a dialect, that of a string spelled like a triple.
+pub fn read(text: &str, dialect: Option<Dialect>) -> Result<TripleRef<'_>, Refusal<'_>> {
+    match dialect {
+        None => tool_names::read(text).map_err(|refusal| {
+            let (start, end) = (refusal.start, refusal.end);
+            Refusal::of_part(
+                refusal.error,
+                TextPart {
+                    text: &text[start..end],
+                    start,
+                    end,
+                },
+            )
+        }),
+        Some(dialect) => dialect.read(text).map_err(|refusal| match refusal {
+            NameError::Unknown => Refusal {
+                suggestion: dialect.suggestion(text),
+                ..Refusal::of_all(format!("unknown name of {dialect}"), text)
+            },
+            NameError::WithoutTriple(why) => {
+                Refusal::of_all(format!("no triple means the same ({why}):"), text)
+            }
+        }),
+    }
+}
+
+/// The name that another tool has for the triple of a target.
+pub fn name_in<'a>(
+    dialect: Dialect,
+    text: &'a str,
+    triple: &TripleRef<'_>,
+) -> Result<&'static str, Refusal<'a>> {
+    match dialect.write(triple) {
+        Some(name) => Ok(name.as_str()),
+        None => Err(Refusal::of_all(format!("no name of {dialect} for"), text)),
+    }
+}
+
+impl<'a> Refusal<'a> {
+    fn of_part(error: ParseErrorRef<'a>, part: TextPart<'a>) -> Self {
+        let field = error.expected();
+        let name = field.and_then(key_of).unwrap_or("field");
+        Refusal {
+            error: format!("unrecognized {}", name.replace('_', " ")),
+            field,
+            part,
+            suggestion: error.suggestion(),
+        }
+    }
+
+    fn of_all(error: String, text: &'a str) -> Self {
+        let (start, end) = (0, text.len());
+        Refusal {
+            error,
+            field: None,
+            part: TextPart { text, start, end },
+            suggestion: None,
+        }
+    }
+}
+
+fn key_of(field: Field) -> Option<&'static str> {
+    FIELDS
+        .iter()
+        .find(|(_, it)| *it == field)
+        .map(|(key, _)| *key)
+}
+
+impl Refusal<'_> {
+    /// The place, what is wrong, the target, and carets below the part.
+    pub fn write(
+        &self,
+        out: &mut dyn Write,
+        target: Target<'_>,
+        has_color: bool,
+        note: Option<&str>,
+    ) -> io::Result<()> {
+        let color = |code: &str, text: &str| match has_color {
+            true => format!("\x1b[{code}m{text}\x1b[0m"),
+            false => text.to_string(),
+        };
+        let (before, after) = (
+            &target.text[..self.part.start],
+            &target.text[self.part.end..],
+        );
+        let (before, part, after) = (
+            last(&visible(before)),
+            first(&visible(self.part.text)),
+            first(&visible(after)),
+        );
+        if let Place::Line {
+            file,
+            number,
+            indent,
+        } = target.place
+        {
+            let column = indent + target.text[..self.part.start].chars().count() + 1;
+            write!(
+                out,
+                "{}",
+                color("1", &format!("{}:{number}:{column}: ", visible(file)))
+            )?;
+        }
+        writeln!(out, "{} {} `{part}`", color("1;31", "error:"), self.error)?;
+        writeln!(out, "  {before}{part}{after}")?;
+        let carets = "^".repeat(part.chars().count().max(1));
+        write!(
+            out,
+            "  {}{}",
+            " ".repeat(before.chars().count()),
+            color("1;31", &carets)
+        )?;
+        if let Some(name) = self.suggestion {
+            write!(out, " did you mean `{}`?", color("1;32", name))?;
+        }
+        writeln!(out)?;
+        match note {
+            Some(note) => writeln!(out, "  {} {note}", color("1", "note:")),
+            None => Ok(()),
+        }
+    }
+
+    /// What is wrong, as the members of an object.
+    pub fn members(&self) -> Object {
+        vec![
+            ("error", self.error.as_str().into()),
+            ("part", self.part.text.into()),
+            ("start", self.part.start.into()),
+            ("end", self.part.end.into()),
+            ("field", Json::from(self.field.and_then(key_of))),
+            ("suggestion", self.suggestion.into()),
+        ]
+    }
+}
+
+/// The text with what is no printable character escaped: what steers a terminal, turns the direction of text, or can't be seen.
+pub fn visible(text: &str) -> String {
+    let mut shown = String::new();
+    for c in text.chars() {
+        match c {
+            '"' | '\'' | '\\' => shown.push(c),
+            c => shown.extend(c.escape_debug()),
+        }
+    }
+    shown
+}
+
+/// As many characters as are shown of a long text.
+const SHOWN: usize = 200;
+
+fn first(text: &str) -> String {
+    match text.char_indices().nth(SHOWN) {
+        Some((at, _)) => format!("{}...", &text[..at]),
+        None => text.to_string(),
+    }
+}
+
+fn last(text: &str) -> String {
+    match text.char_indices().nth_back(SHOWN) {
+        Some((at, c)) => format!("...{}", &text[at + c.len_utf8()..]),
+        None => text.to_string(),
+    }
+}

@@ -1,0 +1,38 @@
+// Erased from crates/target_lexicon/src/defaults.rt by tools/erase. Don't edit it here.
+//! Triples with a default.
+
+use crate::triple::Triple;
+
+/// A triple whose default is the host.
+///
+/// # Examples
+///
+/// ```
+/// assert_eq!(target_lexicon::DefaultToHost::default().0, target_lexicon::HOST);
+/// ```
+#[derive(Debug, PartialEq, Eq, Hash, Clone)]
+pub struct DefaultToHost(pub Triple);
+
+impl Default for DefaultToHost {
+    fn default() -> Self {
+        DefaultToHost(Triple::host())
+    }
+}
+
+/// A triple whose default is `unknown-unknown-unknown`.
+///
+/// # Examples
+///
+/// ```
+/// use target_lexicon::{DefaultToUnknown, Triple};
+///
+/// assert_eq!(DefaultToUnknown::default().0, Triple::unknown());
+/// ```
+#[derive(Debug, PartialEq, Eq, Hash, Clone)]
+pub struct DefaultToUnknown(pub Triple);
+
+impl Default for DefaultToUnknown {
+    fn default() -> Self {
+        DefaultToUnknown(Triple::unknown())
+    }
+}

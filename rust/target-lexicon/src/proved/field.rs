@@ -1,0 +1,26 @@
+// Erased from crates/lexicon_fields/src/field.rt by tools/erase. Don't edit it here.
+//! The fields themselves.
+
+/// A field of a target triple. The variants are in the order in which a triple has them.
+///
+/// # Examples
+///
+/// ```
+/// use target_lexicon::{Field, TripleRef};
+///
+/// let error = TripleRef::from_str("x86_64-unknown-foo").unwrap_err();
+/// assert_eq!(error.expected(), Some(Field::OperatingSystem));
+/// ```
+#[derive(Clone, Copy, Debug, PartialEq, Eq)]
+pub enum Field {
+    /// The instruction set.
+    Architecture,
+    /// The maker of the platform.
+    Vendor,
+    /// The operating system.
+    OperatingSystem,
+    /// The ABI or C library.
+    Environment,
+    /// The format of object files.
+    BinaryFormat,
+}

@@ -1,0 +1,79 @@
+// Erased from crates/tool_names/src/dialect.rt by tools/erase. Don't edit it here.
+//! The dialects: whose names are read and written.
+
+use crate::tool_names::spelling::look_up;
+use core::fmt;
+use core::str::FromStr;
+
+/// A tool, or a group of tools, that names targets in its own way.
+///
+/// # Examples
+///
+/// ```
+/// use target_lexicon::{tool_names::Dialect, TripleRef};
+///
+/// let triple = TripleRef::from_str("x86_64-unknown-linux-gnu").unwrap();
+/// assert_eq!(Dialect::Debian.write(&triple).map(|name| name.as_str()), Some("amd64"));
+/// assert_eq!("go".parse(), Ok(Dialect::Go));
+/// ```
+#[non_exhaustive]
+#[derive(Clone, Copy, Debug, PartialEq, Eq, Hash)]
+pub enum Dialect {
+    /// Debian's architectures, as `dpkg` names them: `amd64`, `armhf`, `musl-linux-arm64`.
+    Debian,
+    /// Go's ports, as `go tool dist list` prints them: `linux/amd64`.
+    Go,
+    /// Platforms of container images, as containerd writes them: `linux/arm/v7`.
+    Oci,
+    /// `process.platform` and `process.arch` of Node, as packages of npm join them: `linux-x64`. A C library follows in
+    /// npm's words: `linux-x64-musl`.
+    Node,
+    /// Prefixes of GNU's cross compilers: `x86_64-w64-mingw32`. They are only written; [`read`](crate::tool_names::read) reads them.
+    Gnu,
+}
+
+impl Dialect {
+    /// The name of the dialect.
+    ///
+    /// # Examples
+    ///
+    /// ```
+    /// assert_eq!(target_lexicon::tool_names::Dialect::Go.as_str(), "go");
+    /// ```
+    pub fn as_str(self) -> &'static str {
+        match self {
+            Dialect::Debian => "debian",
+            Dialect::Go => "go",
+            Dialect::Oci => "oci",
+            Dialect::Node => "node",
+            Dialect::Gnu => "gnu",
+        }
+    }
+
+    /// The dialect with this name. `Err` for every other text.
+    pub(crate) fn from_str(name: &str) -> Result<Self, ()> {
+        look_up(&DIALECTS, name).ok_or(())
+    }
+}
+
+static DIALECTS: [(&str, Dialect); 5] = [
+    ("debian", Dialect::Debian),
+    ("go", Dialect::Go),
+    ("oci", Dialect::Oci),
+    ("node", Dialect::Node),
+    ("gnu", Dialect::Gnu),
+];
+
+impl FromStr for Dialect {
+    type Err = ();
+
+    fn from_str(name: &str) -> Result<Dialect, ()> {
+        Dialect::from_str(name)
+    }
+}
+
+impl fmt::Display for Dialect {
+    fn fmt(&self, f: &mut fmt::Formatter<'_>) -> fmt::Result {
+        f.write_str(self.as_str())
+    }
+}

@@ -1,0 +1,31 @@
+// Erased from crates/tool_names/src/lib.rt by tools/erase. Don't edit it here.
+//! Names of targets in other tools, the name that is suggested for an unknown part, and the object format that
+//! toolchains write.
+
+#[cfg(feature = "tool_names")]
+pub(crate) mod dialect;
+#[cfg(feature = "tool_names")]
+pub(crate) mod formats;
+pub(crate) mod macos;
+#[cfg(feature = "tool_names")]
+pub(crate) mod names;
+#[cfg(feature = "tool_names")]
+pub(crate) mod names_left;
+#[cfg(feature = "tool_names")]
+pub(crate) mod reading;
+#[cfg(feature = "tool_names")]
+pub(crate) mod shape;
+pub(crate) mod spelling;
+pub(crate) mod suggestions;
+#[cfg(feature = "tool_names")]
+pub(crate) mod tables;
+
+#[cfg(feature = "tool_names")]
+pub use dialect::Dialect;
+#[cfg(feature = "tool_names")]
+pub use formats::object_format;
+#[cfg(feature = "tool_names")]
+pub use names::{Name, NameError};
+#[cfg(feature = "tool_names")]
+pub use reading::{read, ReadError};
+pub use suggestions::suggestion;

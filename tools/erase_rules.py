@@ -1,0 +1,66 @@
+"""What tools/erase changes besides ghost parts. Each rule must change something."""
+
+# The crates of each package of rust/, and the module below src/proved that each becomes. The files of a crate without a
+# module are in src/proved itself.
+PACKAGES = {
+    "rust/target-lexicon": {
+        "lexicon_fields": "",
+        "target_lexicon": "",
+        "lexicon_names": "names",
+        "tool_names": "tool_names",
+    },
+    "rust/lexicon-c": {"lexicon_c": ""},
+}
+# What is compiled only with the feature of a module's name: these modules of it. Suggestions need the others.
+FEATURES = {"tool_names": {"dialect", "formats", "names", "names_left", "reading", "shape", "tables"}}
+# Where one package finds the crates of another.
+OUTSIDE = "target_lexicon::internals::"
+
+# Modules that are left out: laws, the counter of steps, JSON, the host, and the error that has an allocation's failure.
+MODULES = {"laws", "steps", "decimal", "json", "json_error", "list_error", "macros", "host", "parse_error"}
+# Types and functions that are left out. The proved host is fixed; the layer has the others in Rust's form.
+ITEMS = {
+    "host", "VendorError", "ParseError::as_parse_error_ref", "versions_are_in_range",
+    "Triple::normal", "Triple::settle", "TripleRef::normal", "TripleRef::settle",
+}
+
+# The enums to which upstream, or a later version, may add variants.
+NON_EXHAUSTIVE = set(
+    """Architecture ArmArchitecture Aarch64Architecture CleverArchitecture Riscv32Architecture Riscv64Architecture
+    X86_32Architecture Mips32Architecture Mips64Architecture Z80Architecture Vendor OperatingSystem Environment BinaryFormat
+    CallingConvention CDataModel Dialect""".split())
+
+# Methods that only the crates above need, of which documentation doesn't speak.
+HIDDEN = {
+    "DeploymentTarget::from_text", "OperatingSystem::parse_darwin_like", "ParseErrorRef::new", "ParseErrorRef::prefix",
+    "ParseErrorRef::write_to", "TripleRef::write_upstream_to",
+}
+
+# Long functions that few programs call: rustc compiles them only where they are called, which saves a fifth of a build.
+INLINE = {
+    "parse_or_locate", "suggestion", "Triple::settles_as", "Triple::write_to", "TripleRef::settles_as",
+    "TripleRef::upstream_pieces", "TripleRef::write_to", "TripleRef::write_upstream_to",
+}
+
+# The start of the names of files, what is there, and what it becomes.
+REPLACEMENTS = [
+    # Rust's formatter isn't generic, and its `Cow` names the type.
+    ("", "fmt<W: fmt::Write>(&self, f: &mut fmt::Formatter<W>)", "fmt(&self, f: &mut fmt::Formatter<'_>)"),
+    ("lexicon_fields/", "std::borrow::CowStr", "alloc::borrow::Cow"),
+    ("lexicon_fields/", "CowStr<'static>", "Cow<'static, str>"),
+    ("lexicon_fields/", "CowStr::", "Cow::"),
+    ("lexicon_fields/src/vendor.rt", "use std::fmt;", "use alloc::boxed::Box;\nuse alloc::string::String;\nuse std::fmt;"),
+    # Before Rust 1.77 slices have no `first_chunk`.
+    ("lexicon_fields/src/table/prefix_key", "use std::cmp", "#[allow(unused_imports)]\nuse crate::compat::Chunks as _;\nuse std::cmp"),
+    # The counter of comparisons.
+    ("lexicon_fields/src/table.rt", ", steps: &mut Steps", ""),
+    ("lexicon_fields/src/table.rt", ", steps)", ")"),
+    ("lexicon_fields/src/table.rt", "steps.tick();", ""),
+    ("", ", &mut Steps::new()", ""),
+    # `FromStr` has it, and the layer's own tests the vendor.
+    ("lexicon_c/src/numbers.rt", "use target_lexicon::{", "use std::str::FromStr as _;\nuse target_lexicon::{"),
+    ("lexicon_c/src/calls.rt", "settling.settle()", "settling.settle().ok_or(Fault::NoSuchVendor)?"),
+    # With the feature, printing follows upstream's rule.
+    ("target_lexicon/src/display.rt", "self.pieces_with(self.shows_unknowns()",
+     'self.pieces_with(!cfg!(feature = "upstream_printing") && self.shows_unknowns()'),
+]
