@@ -403,9 +403,9 @@ struct lexicon_triple {
    LEXICON_BINARY_FORMAT_UNKNOWN is a format of its own, which parsing gives only if no other is implied. If you fill in a
    struct yourself, call lexicon_facts and set binary_format to facts.implied_format. */
 
-/* Why a string is refused: the status from 1 to 7, and where the refused part is. Here and below, start and end are byte
-   indices: of the part's first byte, and of the byte after its last. They are equal for an empty part, which may be at the end
-   of the string. In a string that isn't UTF-8, the part is the first bytes that are no character. */
+/* Why a string is refused: the status, from 1 to 7 or one that lexicon_read names, and where the refused part is. Here and
+   below, start and end are byte indices: of the part's first byte, and of the byte after its last. They are equal for an empty
+   part, which may be at the end of the string. In a string that isn't UTF-8, the part is the first bytes that are no character. */
 struct lexicon_error {
   uint32_t status; /* enum lexicon_status */
   size_t start, end;

@@ -47,7 +47,7 @@ fn of_targets(name: &'static str, about: &'static str, example: &'static str) ->
             .value_name("TARGET")
             .action(ArgAction::Append)
             .value_hint(ValueHint::Other)
-            .help("Targets; `-` is standard input, one target a line. Without a TARGET or FILE it is read"),
+            .help("Targets; `-` is standard input, with one target per line. Without a TARGET or FILE it is read"),
         Arg::new("file")
             .short('f')
             .long("file")
@@ -59,7 +59,7 @@ fn of_targets(name: &'static str, about: &'static str, example: &'static str) ->
         flag("comments", "Skip blank lines, and what follows `#` in a line"),
         flag("strict", "Refuse custom vendors, which may be any lower-case word").hide(name == "read"),
         flag("json", "Write one JSON array on one line").conflicts_with("json-lines"),
-        flag("json-lines", "Write a JSON object a line"),
+        flag("json-lines", "Write one JSON object per line"),
         Arg::new("color")
             .long("color")
             .value_name("WHEN")
@@ -72,7 +72,7 @@ fn of_targets(name: &'static str, about: &'static str, example: &'static str) ->
 pub fn command() -> Command {
     Command::new("lexicon")
         .version(env!("CARGO_PKG_VERSION"))
-        .about("Answers about target triples such as x86_64-unknown-linux-gnu")
+        .about("Answers questions about target triples such as x86_64-unknown-linux-gnu")
         .after_help(
             "Status: 0 if all targets were parsed, 1 if one was refused, 2 for wrong arguments,\n\
              3 if something couldn't be read or written. `lexicon manual` writes the manual page.",
@@ -93,12 +93,12 @@ pub fn command() -> Command {
             ),
             of_targets(
                 "settle",
-                "Write the canonical form of each target: one text for all its spellings",
+                "Write the canonical form of each target: one string for all its spellings",
                 "Example:\n  $ lexicon settle x86_64-linux arm64-linux-gnu",
             ),
             of_targets(
                 "check",
-                "Write only what is refused: nothing, if all targets are well-formed",
+                "Write only what is refused: nothing, if all targets parse",
                 "Example:\n  $ lexicon check --strict --comments -f targets.txt",
             ),
             of_targets(
@@ -108,7 +108,7 @@ pub fn command() -> Command {
                  If a target is refused, there is no matrix.\n\n\
                  Example:\n  $ lexicon matrix --json -f targets.txt | jq -c 'map(.canonical)'",
             )
-            .arg(flag("ignore-vendor", "Take targets that differ only in their vendors for one")),
+            .arg(flag("ignore-vendor", "Merge targets that differ only in their vendors")),
             of_targets(
                 "read",
                 "Write the canonical form of the target that another tool's name means",
