@@ -6,9 +6,10 @@ usage: .ci/run
 While `rt ci` proves, what needs no proof is built with cargo and tested; what the two built is tested after both. Each step
 runs by itself too, as it is printed, with BUILT as the folder that is said there. As root, Debian's packages of missing
 tools are installed; otherwise a step without its tools is left out. The last lines say how long each step took, what was
-left out and for which missing tool, and which step failed.
+left out and for which missing tool, what a step says that it left out, and which step failed.
 """
 import os
+import re
 import shutil
 import signal
 import subprocess
@@ -28,7 +29,7 @@ FIRST = [
     ("the table of names is well-formed, and each list of names is what it gives", "tools/names/write --check", ""),
     ("the committed Rust source is the proved one without its proofs", "tools/erase --check", "rustfmt"),
     ("what the eraser left out and changed is what was reviewed, by another method than the eraser's", "checks/erased", ""),
-    ("what SPEC names is defined, and public contracts cite public definitions", "checks/statement", ""),
+    ("what SPEC names is defined, public contracts cite public definitions, and must-fail edits apply", "checks/statement", ""),
     ("no script of bash has a warning", "checks/scripts shell", "shellcheck"),
     ("no script of Python has a warning", "checks/scripts python", "pyflakes3"),
 ]
@@ -68,7 +69,7 @@ PACKAGES = {
 DEBIAN_MODULES, MODULES = ("hypothesis", "selenium", "pandas", "distributed"), ("pip", "venv", "ensurepip")
 GIGABYTES_FOR_A_PROOF = 5
 
-running, passed, left_out, failed = set(), [], [], []
+running, passed, left_out, left_out_within, failed = set(), [], [], [], []
 lock = threading.Lock()
 
 
@@ -90,10 +91,10 @@ def say(*lines):
         print(*lines, sep="\n", flush=True)
 
 
-def start(command, environment, log=None):
+def start(command, environment):
     """Starts a command in a group of processes of its own, which `stop` ends."""
-    process = subprocess.Popen(command, shell=True, cwd=TOP, env=environment, stdin=subprocess.DEVNULL, stdout=log,
-                               stderr=log and subprocess.STDOUT, start_new_session=True)
+    process = subprocess.Popen(command, shell=True, cwd=TOP, env=environment, stdin=subprocess.DEVNULL, stdout=subprocess.PIPE,
+                               stderr=subprocess.STDOUT, text=True, errors="replace", start_new_session=True)
     running.add(process)
     return process
 
@@ -109,18 +110,27 @@ def run(step, environment, is_beside=False):
         return False
     begun = time.monotonic()
     say(f"step: {command}{' (beside the proofs)' if is_beside else ''}   # {purpose}")
-    log = tempfile.TemporaryFile(dir=WORK) if is_beside else None
-    process = start(command, environment, log)
+    process, lines = start(command, environment), []
+
+    def read_lines():
+        for line in process.stdout:
+            lines.append(line.rstrip("\n"))
+            if not is_beside:
+                say(lines[-1])
+
+    reader = threading.Thread(target=read_lines, daemon=True)
+    reader.start()
     while True:
         try:
             status = process.wait(timeout=60)
             break
         except subprocess.TimeoutExpired:
             say(f"-- {command}: for {(time.monotonic() - begun) / 60:.0f} min")
+    reader.join(timeout=10)  # what the step left running may keep its output open
     running.discard(process)
-    if log:
-        log.seek(0)
-        say(f"beside the proofs, {command}:", log.read().decode(errors="replace").rstrip("\n"))
+    if is_beside:
+        say(f"beside the proofs, {command}:", *lines)
+    left_out_within.extend(f"{command}: {line}" for line in lines if re.search("left out[:,] ", line))
     if status == 0:
         passed.append((command, time.monotonic() - begun))
     elif not failed:
@@ -148,12 +158,11 @@ def install(environment):
     commands = [f"apt-get update && apt-get install -y --no-install-recommends {' '.join(missing)}"] if missing and can else []
     commands += [f"bindings/web/debian_rust {WASM}"] if has("apt-get") and not has("wasm32") else []
     for command in commands:
-        with open(f"{WORK}/log", "w+", encoding="utf-8") as log:
-            process = start(command, {**environment, "DEBIAN_FRONTEND": "noninteractive"}, log)
-            if process.wait():
-                log.seek(0)
-                say(f"failed: {command}", *log.read().splitlines()[-5:])
-            running.discard(process)
+        process = start(command, {**environment, "DEBIAN_FRONTEND": "noninteractive"})
+        lines = process.communicate()[0].splitlines()
+        if process.returncode:
+            say(f"failed: {command}", *lines[-5:])
+        running.discard(process)
 
 
 def settings():
@@ -226,6 +235,8 @@ finally:
         print(f"{seconds:6.0f} s  {command}")
     for command, missing in left_out:
         print(f"left out: {command} (missing: {' '.join(missing)})")
+    for line in left_out_within:
+        print(f"left out within {line}")
     if left_out:
         tools = dict.fromkeys(tool for _, missing in left_out for tool in missing)
         print(f"{len(left_out)} steps were left out; missing: {', '.join(tools)}")

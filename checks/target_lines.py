@@ -1,10 +1,9 @@
 #!/usr/bin/env python3
 """The words of the comparisons, and lines that are made of them from a seed.
 
-usage: checks/target_lines.py COUNT [--table]
+usage: checks/target_lines.py COUNT
 
-It writes COUNT lines of the names of tools/names/names.tsv. With `--table` each architecture with each system and each
-environment follows.
+It writes COUNT lines of the names of tools/names/names.tsv.
 """
 import collections
 import itertools
@@ -189,11 +188,7 @@ def lines(names, n, seed):
 
 
 def main():
-    names, wanted = table_names(), sys.argv[1:]
-    found = lines(names, int(wanted[0]), 1)
-    if wanted[1:] == ["--table"]:
-        found += table_lines(random.Random("table"), names, sys.maxsize)
-    sys.stdout.buffer.write("".join(f"{line}\n" for line in found).encode())
+    sys.stdout.buffer.write("".join(f"{line}\n" for line in lines(table_names(), int(sys.argv[1]), 1)).encode())
 
 
 if __name__ == "__main__":

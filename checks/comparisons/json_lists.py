@@ -120,16 +120,13 @@ class WrongAnswer(Exception):
 
 class Program:
     def __init__(self, path):
-        self.path, self.printed, self.kinds = path, {}, collections.Counter()
+        self.path, self.kinds = path, collections.Counter()
 
-    def print_texts(self, texts):
-        """Asks what is printed for texts. A line feed, which no name has, is asked as a character that the text hasn't."""
-        texts = [text for text in texts if text not in self.printed]
+    def printed(self, texts):
+        """What is printed for texts. A line feed, which no name has, is asked as a character that the text hasn't."""
         others = [next(other for other in map(chr, PRIVATE_USE) if other not in text) for text in texts]
-        lines = "".join(text.replace("\n", other) + "\n" for text, other in zip(texts, others))
-        ran = subprocess.run([self.path, "print"], input=lines.encode(), capture_output=True, check=True) if texts else None
-        answers = ran.stdout.decode().split("\n")[:-1] if texts else []
-        self.printed.update((text, answer.replace(other, "\n")) for text, other, answer in zip(texts, others, answers))
+        answers = upstream.ask([self.path, "print"], [text.replace("\n", other) for text, other in zip(texts, others)])
+        return {text: answer.replace(other, "\n") for text, other, answer in zip(texts, others, answers)}
 
     def right_answer(self, given):
         value, error = parse_json(given)
@@ -137,8 +134,7 @@ class Program:
         self.kinds[f"JSON {reason}" if reason else "no JSON" if error else "lists" if type(value) is list else "other JSON"] += 1
         if reason or error:
             return NOT_JSON if reason else error
-        self.print_texts({text for text in value if isinstance(text, str)} if type(value) is list else ())
-        return answer_to(value, self.printed)
+        return answer_to(value, self.printed([text for text in value if isinstance(text, str)]) if type(value) is list else {})
 
     def compare(self, given):
         ran = subprocess.run([self.path, "json"], input=given, capture_output=True)
@@ -152,8 +148,8 @@ def add_arguments(parser):
     parser.add_argument("--seed", type=int, default=1)
 
 
-def main(options, _folder):
-    commands = [program for program in upstream.programs(options, _folder) if "json" in program.modes]
+def main(options, folder):
+    commands = [program for program in upstream.programs(options, folder) if "json" in program.modes]
     how = hypothesis.settings(max_examples=options.inputs, deadline=None, database=None, suppress_health_check=list(hypothesis.HealthCheck))
     hypothesis.configuration.set_hypothesis_home_dir(f"{tempfile.gettempdir()}/hypothesis")
     for command, _, name in commands:

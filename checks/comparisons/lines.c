@@ -57,36 +57,19 @@ size_t answer(const char *line, size_t size, int mode, char *out, size_t room) {
 }
 
 #ifndef NO_MAIN
-/* The input, and its size. */
-static char *input(size_t *size) {
-  size_t room = 1 << 20;
-  char *text = (char *)malloc(room);
-  *size = 0;
-  for (;;) {
-    size_t got = fread(text + *size, 1, room - *size, stdin);
-    if (got == 0) return text;
-    *size += got;
-    if (*size == room) text = (char *)realloc(text, room *= 2);
-    if (text == NULL) stop("no memory");
-  }
-}
-
 int main(int count, char **words) {
-  size_t size;
-  const char *text, *end;
-  static char line[1 << 16];
+  static char out[1 << 16];
+  char *line = NULL;
+  size_t room = 0;
   int mode = PRINT;
   while (mode < MODES && (count != 2 || strcmp(words[1], modes[mode]) != 0)) mode++;
   if (mode == MODES) stop("usage: lines_c print | show | settle");
-  text = input(&size);
-  for (; size > 0; text = end + 1) {
-    end = (const char *)memchr(text, '\n', size);
-    if (end == NULL) stop("the last line has no line feed");
+  for (ssize_t size; (size = getline(&line, &room, stdin)) > 0;) {
+    if (line[size - 1] != '\n') stop("the last line has no line feed");
     /* (one byte is for the line feed) */
-    size_t length = answer(text, (size_t)(end - text), mode, line, sizeof line - 1);
-    line[length] = '\n';
-    fwrite(line, 1, length + 1, stdout);
-    size -= (size_t)(end - text) + 1;
+    size_t length = answer(line, (size_t)size - 1, mode, out, sizeof out - 1);
+    out[length] = '\n';
+    fwrite(out, 1, length + 1, stdout);
   }
   return fflush(stdout) == 0 ? 0 : 2;
 }

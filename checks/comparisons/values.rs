@@ -1,31 +1,34 @@
 //! This crate and upstream's, in one process: for every architecture, vendor, system, environment and format that the names in
-//! a file parse as, the printed text and the four queries; and the same with custom vendors that no text parses as, of which no
-//! triple comes back.
+//! a file parse as, and for custom vendors too, the printed string, the queries, and whether the triple comes back; and for each
+//! value its hash and what it shows.
 //!
-//! usage: values NAMES [unread]
+//! usage: values NAMES
+mod rule;
 mod same;
 
-use same::{compare_queries, differ_by_the_rule};
-use std::fmt::Write;
+use std::fmt::{Debug, Display, Write};
+use std::hash::Hash;
 use std::str::FromStr;
 
 /// Systems like Darwin with versions.
 const VERSIONED: [&str; 4] = ["darwin23.6.0", "ios1", "macosx10.7", "xros65535.255.255"];
-const CUSTOM_VENDORS: [&str; 6] = ["esp", "foo", "", "a-b", "X", "linux"];
 
-/// Custom vendors that no text parses as: empty, with a dash, a capital, another character or at the beginning a digit; and
-/// names of each field, with versions too.
-const UNREAD_VENDORS: [&str; 20] = [
-    "", "-", "a-b", "esp-", "-esp", "X", "acMe", "7up", "_esp", "\u{e9}", "a b", "esp\n", "gnu!", "pc", "x86_64", "arm64",
+/// Custom vendors: two that a string parses as, and such that none does. These are empty, with a dash, a capital, another character
+/// or at the beginning a digit; and names of each field, with versions too.
+const CUSTOM_VENDORS: [&str; 22] = [
+    "esp", "foo", "", "-", "a-b", "esp-", "-esp", "X", "acMe", "7up", "_esp", "\u{e9}", "a b", "esp\n", "gnu!", "pc", "x86_64", "arm64",
     "linux", "ios17.1", "gnueabihf", "elf",
 ];
 
 /// The values of a field in both crates.
-fn values<O: FromStr, U: FromStr>(names: &[&str]) -> Vec<(O, U)> {
+fn values<O: FromStr + Debug + Display + Hash, U: FromStr + Debug + Display + Hash>(names: &[&str]) -> Vec<(O, U)> {
     let mut found = Vec::new();
     for name in names {
         match (name.parse::<O>(), name.parse::<U>()) {
-            (Ok(ours), Ok(theirs)) => found.push((ours, theirs)),
+            (Ok(ours), Ok(theirs)) => {
+                same::compare_values(&ours, &theirs);
+                found.push((ours, theirs));
+            }
             (Err(_), Err(_)) => {}
             _ => panic!("{name} parses in one of the crates only"),
         }
@@ -38,23 +41,15 @@ fn custom_vendor(text: &'static str) -> (ours::Vendor, upstream::Vendor) {
     (ours, upstream::Vendor::Custom(upstream::CustomVendor::Static(text)))
 }
 
-/// No triple with such a vendor comes back, by this crate's answer and by parsing what upstream prints.
-fn comes_not_back(ours: &ours::Triple, theirs: &upstream::Triple, their_text: &str) {
-    assert!(!ours.comes_back(), "{ours:?}");
-    assert!(their_text.parse::<upstream::Triple>().as_ref() != Ok(theirs), "{theirs:?}");
-}
-
-fn compare_tables(names: &str, unread: bool) {
+fn main() {
+    let path = std::env::args().nth(1).expect("a file of names");
+    let names = std::fs::read_to_string(path).expect("a file of names");
     let mut names: Vec<&str> = names.split_whitespace().collect();
     names.extend(VERSIONED);
     let architectures = values::<ours::Architecture, upstream::Architecture>(&names);
     let mut vendors = values::<ours::Vendor, upstream::Vendor>(&names);
-    if unread {
-        vendors = UNREAD_VENDORS.map(custom_vendor).to_vec();
-    } else {
-        vendors.retain(|(vendor, _)| !matches!(vendor, ours::Vendor::Custom(_)));
-        vendors.extend(CUSTOM_VENDORS.map(custom_vendor));
-    }
+    vendors.retain(|(vendor, _)| !matches!(vendor, ours::Vendor::Custom(_)));
+    vendors.extend(CUSTOM_VENDORS.map(custom_vendor));
     let systems = values::<ours::OperatingSystem, upstream::OperatingSystem>(&names);
     let environments = values::<ours::Environment, upstream::Environment>(&names);
     let formats = values::<ours::BinaryFormat, upstream::BinaryFormat>(&names);
@@ -64,7 +59,7 @@ fn compare_tables(names: &str, unread: bool) {
     let mut theirs = upstream::Triple::unknown();
     for architecture in &architectures {
         (ours.architecture, theirs.architecture) = *architecture;
-        for (i, vendor) in vendors.iter().enumerate() {
+        for vendor in &vendors {
             (ours.vendor, theirs.vendor) = vendor.clone();
             for system in &systems {
                 (ours.operating_system, theirs.operating_system) = *system;
@@ -75,25 +70,19 @@ fn compare_tables(names: &str, unread: bool) {
                         our_text.clear();
                         their_text.clear();
                         write!(our_text, "{ours}").expect("memory");
-                        write!(their_text, "{theirs}").expect("memory");
-                        by_the_rule += u64::from(differ_by_the_rule(&ours, &our_text, &their_text));
-                        if unread {
-                            comes_not_back(&ours, &theirs, &their_text);
+                        if same::print(&mut their_text, &theirs) {
+                            by_the_rule += 1;
+                        } else {
+                            // Upstream prints the same, and its parser says whether that is this triple again.
+                            assert_eq!(ours.comes_back(), their_text.parse().as_ref() == Ok(&theirs), "{theirs:?}");
                         }
+                        assert_eq!(our_text, their_text, "{theirs:?}");
                         count += 1;
                     }
-                    if i == 0 || unread {
-                        compare_queries(&ours, &theirs);
-                    }
+                    same::compare_queries(&ours, &theirs);
                 }
             }
         }
     }
-    println!("{count} constructed triples: {by_the_rule} print otherwise than upstream's by the rule, and no other");
-}
-
-fn main() {
-    let words: Vec<String> = std::env::args().skip(1).collect();
-    let names = std::fs::read_to_string(&words[0]).expect("a file of names");
-    compare_tables(&names, words.len() > 1);
+    println!("{count} triples made in code: {by_the_rule} print otherwise than upstream's by the rule, and no other");
 }

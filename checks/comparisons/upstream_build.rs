@@ -1,5 +1,5 @@
 //! A build script for upstream's sources, which does what upstream's own does: it parses TARGET with the crate's parser, and
-//! writes the host.
+//! writes the host. It also writes a call for the comparisons, which rustdoc doesn't show.
 #![allow(dead_code, unused_imports)]
 
 extern crate alloc;
@@ -39,6 +39,8 @@ fn main() {
     for (kind, _, value) in &fields {
         text += &format!("impl {kind} {{\n    /// That of the host.\n    pub const fn host() -> Self {{ {kind}::{value} }}\n}}\n");
     }
+    text += "impl Triple {\n    /// The format that the other fields imply.\n    #[doc(hidden)]\n    pub fn implied_format(&self) -> BinaryFormat {\n";
+    text += "        crate::targets::default_binary_format(self)\n    }\n}\n";
     fs::write(env::var("OUT_DIR").expect("cargo sets OUT_DIR") + "/host.rs", text).expect("a file in OUT_DIR");
     println!("cargo:rustc-cfg=feature=\"rust_1_40\"");
 }
