@@ -17,7 +17,7 @@ FEATURES = {"tool_names": {"dialect", "formats", "names", "names_left", "reading
 OUTSIDE = "target_lexicon::internals::"
 
 # Modules that are left out: laws, the counter of steps, JSON, the host, and the error that has an allocation's failure.
-MODULES = {"laws", "steps", "decimal", "json", "json_error", "list_error", "macros", "host", "parse_error"}
+MODULES = {"laws", "steps", "json", "json_error", "list_error", "macros", "host", "parse_error"}
 # Types and functions that are left out. The proved host is fixed; the layer has the others in Rust's form.
 ITEMS = {
     "host", "VendorError", "ParseError::as_parse_error_ref", "versions_are_in_range",
@@ -51,7 +51,7 @@ REPLACEMENTS = [
     ("lexicon_fields/", "CowStr::", "Cow::"),
     ("lexicon_fields/src/vendor.rt", "use std::fmt;", "use alloc::boxed::Box;\nuse alloc::string::String;\nuse std::fmt;"),
     # Before Rust 1.77 slices have no `first_chunk`.
-    ("lexicon_fields/src/table/prefix_key", "use std::cmp", "#[allow(unused_imports)]\nuse crate::compat::Chunks as _;\nuse std::cmp"),
+    ("lexicon_fields/src/table.rt", "use std::cmp", "#[allow(unused_imports)]\nuse crate::compat::Chunks as _;\nuse std::cmp"),
     # The counter of comparisons.
     ("lexicon_fields/src/table.rt", ", steps: &mut Steps", ""),
     ("lexicon_fields/src/table.rt", ", steps)", ")"),

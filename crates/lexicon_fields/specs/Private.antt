@@ -20,13 +20,6 @@ abbrev pub first_system : List (Pair (Option DeploymentTarget → OperatingSyste
 first_system [] text = None
 first_system (row ∷ rows) text = option_or (option_map row.1 (version_after row.0 text)) (first_system rows text)
 
-abbrev pub zero_digit : ℕ
-zero_digit = 48
-
--- the ASCII digit for a number below 10
-abbrev pub digit_byte : ℕ → ℕ
-digit_byte n = zero_digit + n
-
 -- the first bytes of a text as a big-endian number; a missing byte is zero
 abbrev pub prefix_key_of : ℕ → List ℕ → ℕ
 prefix_key_of zero text = 0

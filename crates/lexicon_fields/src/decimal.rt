@@ -1,24 +1,43 @@
 //! Numbers in decimal.
-ghost use Rattle.std.specs.Prelude.{◌≡◌, ◌<◌, [], ◌∷◌};
-ghost use Rattle.std.specs.Fmt.{WritesStyledOnOk, decimal};
-ghost use Rattle.lexicon_fields.specs.Private.{digit_byte};
+ghost use Rattle.std.specs.Prelude.{◌≡◌, ◌+◌, ◌≤◌, ◌∷◌, [], length};
+ghost use Rattle.std.specs.Fmt.{decimal};
+ghost use Rattle.lexicon_fields.specs.Put.{Puts};
 
-use std::fmt;
+use std::str::from_utf8;
 
-/// Writes a number in decimal and ignores the formatter's options.
-pub fn write_decimal<W: fmt::Write>(f: &mut fmt::Formatter<W>, n: usize) -> fmt::Result
-    ensures { WritesStyledOnOk W.write_str_gives f.old result (decimal n) f.new }
+/// The number of digits of the longest number.
+pub const MAX_DECIMAL_LENGTH: usize = 20;
+
+/// A number in decimal, written into a buffer that has room for the longest.
+pub fn decimal_text(n: usize, buffer: &mut [u8; MAX_DECIMAL_LENGTH]) -> &str
+    ensures { result.now ≡ decimal n }
 {
-    if n < 10 {
-        return write_digit(f, n);
+    let end = put_decimal(buffer, 0, n);
+    let text = &buffer[..end];
+    match from_utf8(text) {
+        Ok(text) => text,
+        // Digits are UTF-8.
+        Err(_) => "",
     }
-    write_decimal(f, n / 10)?;
-    write_digit(f, n % 10)
 }
 
-fn write_digit<W: fmt::Write>(f: &mut fmt::Formatter<W>, digit: usize) -> fmt::Result
-    requires { digit < 10 }
-    ensures { WritesStyledOnOk W.write_str_gives f.old result (digit_byte digit ∷ []) f.new }
+/// Writes a number in decimal, as [`put_byte`] writes a byte.
+pub(crate) fn put_decimal(out: &mut [u8], at: usize, n: usize) -> usize
+    requires { at + length (decimal n) ≤ length out.old }
+    ensures { Puts (decimal n) out.old at out.new result }
 {
-    f.write_char(char::from(b'0' + digit as u8))
+    if n < 10 {
+        return put_byte(out, at, b'0' + n as u8);
+    }
+    let at = put_decimal(out, at, n / 10);
+    put_byte(out, at, b'0' + (n % 10) as u8)
+}
+
+/// Writes a byte after what ends at `at`. Returns the end of both.
+pub(crate) fn put_byte(out: &mut [u8], at: usize, byte: u8) -> usize
+    requires { at + 1 ≤ length out.old }
+    ensures { Puts (byte ∷ []) out.old at out.new result }
+{
+    out[at] = byte;
+    at + 1
 }

@@ -1,13 +1,14 @@
 //! The versions of deployment targets.
-ghost use Rattle.std.specs.Prelude.{◌≡◌, ◌+◌, ◌≤◌, ◌∷◌, [], length};
+ghost use Rattle.std.specs.Prelude.{◌≡◌, ◌+◌, ◌≤◌, ◌∷◌, length};
 ghost use Rattle.std.specs.Fmt.{decimal};
 ghost use Rattle.lexicon_fields.specs.Put.{Puts};
 ghost use Rattle.lexicon_fields.specs.Version.{dot, version_of, version_name, pieces_of};
 ghost use Rattle.lexicon_fields.specs.Private.{remaining_pieces};
 
+use crate::decimal::{put_byte, put_decimal};
 use std::str::from_utf8;
 
-/// The length of the longest text of a version.
+/// The length of the longest version in decimal.
 pub const MAX_VERSION_LENGTH: usize = 13;
 
 /// The oldest version of a system like Darwin on which a target runs, within the limits of a Mach-O file.
@@ -22,7 +23,7 @@ pub struct DeploymentTarget {
 }
 
 impl DeploymentTarget {
-    /// The version that the text parses as, if any: one to three pieces between dots, each an optional plus and digits.
+    /// The version that the string parses as, if any: one to three pieces between dots, each an optional plus and digits.
     pub fn from_text(text: &str) -> Option<DeploymentTarget>
         ensures { result ≡ version_of text.now }
     {
@@ -63,7 +64,7 @@ impl DeploymentTarget {
     }
 }
 
-/// The text up to the first dot, and the text after it.
+/// The string up to the first dot, and the string after it.
 fn first_piece(text: &str) -> (&str, Option<&str>)
     ensures { pieces_of text.now ≡ result.0.now ∷ remaining_pieces result.1 }
 {
@@ -73,7 +74,7 @@ fn first_piece(text: &str) -> (&str, Option<&str>)
     }
 }
 
-/// The text of a version, `major.minor.patch`, written into a buffer that has room for the longest.
+/// A version in decimal, `major.minor.patch`, written into a buffer that has room for the longest.
 pub fn version_text(version: DeploymentTarget, buffer: &mut [u8; MAX_VERSION_LENGTH]) -> &str
     ensures text { result.now ≡ version_name version }
     ensures bound { length result.now ≤ 13 }
@@ -104,25 +105,4 @@ fn put_dotted(out: &mut [u8], at: usize, n: u8) -> usize
 {
     let at = put_byte(out, at, b'.');
     put_decimal(out, at, usize::from(n))
-}
-
-/// Writes a number in decimal, as [`put_byte`] writes a byte.
-fn put_decimal(out: &mut [u8], at: usize, n: usize) -> usize
-    requires { at + length (decimal n) ≤ length out.old }
-    ensures { Puts (decimal n) out.old at out.new result }
-{
-    if n < 10 {
-        return put_byte(out, at, b'0' + n as u8);
-    }
-    let at = put_decimal(out, at, n / 10);
-    put_byte(out, at, b'0' + (n % 10) as u8)
-}
-
-/// Writes a byte after what ends at `at`. Returns the end of both.
-fn put_byte(out: &mut [u8], at: usize, byte: u8) -> usize
-    requires { at + 1 ≤ length out.old }
-    ensures { Puts (byte ∷ []) out.old at out.new result }
-{
-    out[at] = byte;
-    at + 1
 }

@@ -23,7 +23,7 @@ pub use architecture::{
     Z80Architecture,
 };
 pub use binary_format::BinaryFormat;
-pub use decimal::write_decimal;
+pub use decimal::{MAX_DECIMAL_LENGTH, decimal_text};
 pub use deployment_target::{DeploymentTarget, MAX_VERSION_LENGTH, version_text};
 pub use endianness::Endianness;
 pub use environment::Environment;

@@ -1,5 +1,6 @@
 //! The operating systems.
-// Hints of inlining: `from_row` takes a row, which is wide; the other two save 2 % of mode `print`'s instructions.
+// Hints of inlining: `from_row` takes a row, which is wide; those of `parse_by_prefix` and `version_after` save 2 % of mode
+// `print`'s instructions.
 ghost use Rattle.std.specs.Prelude.{◌≡◌, ◌++◌, false, Some, None, IfOk, MatchOption, IsNone, IsOkAnd};
 ghost use Rattle.std.specs.Cow.{cow_str_bytes, IsBorrowedStr};
 ghost use Rattle.lexicon_fields.specs.FixedRow.{IsRowOf, has_row};
@@ -111,9 +112,9 @@ impl OperatingSystem {
         Self::Linux
     }
 
-    /// The system that the text parses as. `Err` for every other text.
+    /// The system that the string parses as. `Err` for every other string.
     ///
-    /// A text is a fixed name, or the prefix of a system like Darwin with nothing or a version after it: one to three
+    /// A string is a fixed name, or the prefix of a system like Darwin with nothing or a version after it: one to three
     /// pieces between dots, each an optional plus and digits, the first at most 65535, the others at most 255.
     pub fn from_str(s: &str) -> Result<Self, ()>
         ensures { MatchesLookup (operating_system_of s.now) result }
@@ -121,8 +122,8 @@ impl OperatingSystem {
         OperatingSystem::from_row(s, fixed_row(s, &mut Steps::new())).ok_or(())
     }
 
-    /// The system that a text parses as, given its row in the table of names. A text without a row may be a system like
-    /// Darwin with a version.
+    /// The system that a string parses as, given its row in the table of names. A string without a row may be a system
+    /// like Darwin with a version.
     #[inline(always)]
     pub fn from_row(text: &str, row: Option<FixedRow>) -> Option<Self>
         requires { MatchOption row (has_row text.now ≡ false) (IsRowOf text.now) }
@@ -134,7 +135,7 @@ impl OperatingSystem {
         }
     }
 
-    /// The system like Darwin that the text parses as, if any: one with an optional version. Most other texts are
+    /// The system like Darwin that the string parses as, if any: one with an optional version. Most other strings are
     /// refused by their first letter.
     #[tactic(auto, using(crate::proofs::RowLemmas::without_row_is_darwin_like))]
     pub fn parse_darwin_like(s: &str) -> Option<Self>
@@ -150,7 +151,7 @@ impl OperatingSystem {
         }
     }
 
-    /// The Darwin-like system with whose prefix the text begins. The rest of the text must be empty or a version.
+    /// The system like Darwin with whose prefix the string begins. The rest of the string must be empty or a version.
     #[inline(never)]
     fn parse_by_prefix(s: &str) -> Option<Self>
         ensures { result ≡ first_system darwin_prefixes s.now }
@@ -280,8 +281,8 @@ impl OperatingSystem {
     }
 }
 
-/// The version after this prefix: `Some(None)` if nothing follows, `None` if the text doesn't begin with the prefix, or
-/// if what follows is no version.
+/// The version after this prefix: `Some(None)` if nothing follows, `None` if the string doesn't begin with the prefix,
+/// or if what follows is no version.
 #[inline(always)]
 fn version_after(prefix: &str, text: &str) -> Option<Option<DeploymentTarget>>
     ensures { result ≡ version_after prefix.now text.now }

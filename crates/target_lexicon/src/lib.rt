@@ -45,9 +45,10 @@ pub use json_error::JsonError;
 pub use lexicon_fields::{
     Aarch64Architecture, Architecture, ArmArchitecture, BinaryFormat, CleverArchitecture,
     CustomVendor, DeploymentTarget, Endianness, Environment, Field, FixedRow, KnownVendor,
-    MAX_VERSION_LENGTH, Mips32Architecture, Mips64Architecture, OperatingSystem, PointerWidth,
-    ROW_COUNT, Riscv32Architecture, Riscv64Architecture, Steps, Vendor, VendorError, VendorRef,
-    X86_32Architecture, Z80Architecture, fixed_row, row_order, version_text, write_decimal,
+    MAX_DECIMAL_LENGTH, MAX_VERSION_LENGTH, Mips32Architecture, Mips64Architecture,
+    OperatingSystem, PointerWidth, ROW_COUNT, Riscv32Architecture, Riscv64Architecture, Steps,
+    Vendor, VendorError, VendorRef, X86_32Architecture, Z80Architecture, decimal_text, fixed_row,
+    row_order, version_text,
 };
 pub use list_error::ListError;
 pub use parse_error::ParseError;

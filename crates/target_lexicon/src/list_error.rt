@@ -4,7 +4,7 @@ ghost use Rattle.std.specs.Fmt.{WritesStyledOnOk, decimal};
 ghost use Rattle.target_lexicon.specs.Json.{json_error_value, json_error_line};
 
 use crate::json_error::JsonError;
-use lexicon_fields::write_decimal;
+use lexicon_fields::{MAX_DECIMAL_LENGTH, decimal_text};
 use std::fmt;
 
 /// Why a JSON value doesn't parse as a list of triples.
@@ -46,7 +46,7 @@ fn write_element<W: fmt::Write>(
         ++ (decimal i ++ (codes ": " ++ json_error_line (json_error_value error.now)))) f.new }
 {
     f.write_str("Element ")?;
-    write_decimal(f, i)?;
+    f.write_str(decimal_text(i, &mut [0; MAX_DECIMAL_LENGTH]))?;
     f.write_str(": ")?;
     fmt::Display::fmt(error, f)
 }

@@ -1,9 +1,10 @@
 // Erased from crates/lexicon_fields/src/deployment_target.rt by tools/erase. Don't edit it here.
 //! The versions of deployment targets.
 
+use crate::decimal::{put_byte, put_decimal};
 use core::str::from_utf8;
 
-/// The length of the longest text of a version.
+/// The length of the longest version in decimal.
 pub const MAX_VERSION_LENGTH: usize = 13;
 
 /// The oldest version of a system like Darwin on which a target runs, within the limits of a Mach-O file.
@@ -28,7 +29,7 @@ pub struct DeploymentTarget {
 }
 
 impl DeploymentTarget {
-    /// The version that the text parses as, if any: one to three pieces between dots, each an optional plus and digits.
+    /// The version that the string parses as, if any: one to three pieces between dots, each an optional plus and digits.
     #[doc(hidden)]
     pub fn from_text(text: &str) -> Option<DeploymentTarget> {
         let (major, rest) = first_piece(text);
@@ -68,7 +69,7 @@ impl DeploymentTarget {
     }
 }
 
-/// The text up to the first dot, and the text after it.
+/// The string up to the first dot, and the string after it.
 fn first_piece(text: &str) -> (&str, Option<&str>) {
     match text.split_once('.') {
         Some((piece, rest)) => (piece, Some(rest)),
@@ -76,7 +77,7 @@ fn first_piece(text: &str) -> (&str, Option<&str>) {
     }
 }
 
-/// The text of a version, `major.minor.patch`, written into a buffer that has room for the longest.
+/// A version in decimal, `major.minor.patch`, written into a buffer that has room for the longest.
 pub fn version_text(version: DeploymentTarget, buffer: &mut [u8; MAX_VERSION_LENGTH]) -> &str {
     let end = put_version(buffer, 0, version);
     let text = &buffer[..end];
@@ -98,19 +99,4 @@ fn put_version(out: &mut [u8], at: usize, version: DeploymentTarget) -> usize {
 fn put_dotted(out: &mut [u8], at: usize, n: u8) -> usize {
     let at = put_byte(out, at, b'.');
     put_decimal(out, at, usize::from(n))
-}
-
-/// Writes a number in decimal, as [`put_byte`] writes a byte.
-fn put_decimal(out: &mut [u8], at: usize, n: usize) -> usize {
-    if n < 10 {
-        return put_byte(out, at, b'0' + n as u8);
-    }
-    let at = put_decimal(out, at, n / 10);
-    put_byte(out, at, b'0' + (n % 10) as u8)
-}
-
-/// Writes a byte after what ends at `at`. Returns the end of both.
-fn put_byte(out: &mut [u8], at: usize, byte: u8) -> usize {
-    out[at] = byte;
-    at + 1
 }

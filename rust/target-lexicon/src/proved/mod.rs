@@ -4,6 +4,7 @@ pub(crate) mod architecture;
 pub(crate) mod binary_format;
 pub(crate) mod calling_convention;
 pub(crate) mod data_model;
+pub(crate) mod decimal;
 pub(crate) mod default_format;
 pub(crate) mod defaults;
 pub(crate) mod deployment_target;
@@ -40,6 +41,7 @@ pub use architecture::{
 pub use binary_format::BinaryFormat;
 pub use calling_convention::CallingConvention;
 pub use data_model::{CDataModel, Size};
+pub use decimal::{decimal_text, MAX_DECIMAL_LENGTH};
 pub use default_format::default_binary_format;
 pub use defaults::{DefaultToHost, DefaultToUnknown};
 pub use deployment_target::{version_text, DeploymentTarget, MAX_VERSION_LENGTH};

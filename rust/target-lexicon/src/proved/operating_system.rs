@@ -1,6 +1,7 @@
 // Erased from crates/lexicon_fields/src/operating_system.rt by tools/erase. Don't edit it here.
 //! The operating systems.
-// Hints of inlining: `from_row` takes a row, which is wide; the other two save 2 % of mode `print`'s instructions.
+// Hints of inlining: `from_row` takes a row, which is wide; those of `parse_by_prefix` and `version_after` save 2 % of mode
+// `print`'s instructions.
 
 use crate::deployment_target::{version_text, DeploymentTarget, MAX_VERSION_LENGTH};
 use crate::table::{fixed_row, FixedRow};
@@ -106,16 +107,16 @@ pub enum OperatingSystem {
 }
 
 impl OperatingSystem {
-    /// The system that the text parses as. `Err` for every other text.
+    /// The system that the string parses as. `Err` for every other string.
     ///
-    /// A text is a fixed name, or the prefix of a system like Darwin with nothing or a version after it: one to three
+    /// A string is a fixed name, or the prefix of a system like Darwin with nothing or a version after it: one to three
     /// pieces between dots, each an optional plus and digits, the first at most 65535, the others at most 255.
     pub(crate) fn from_str(s: &str) -> Result<Self, ()> {
         OperatingSystem::from_row(s, fixed_row(s)).ok_or(())
     }
 
-    /// The system that a text parses as, given its row in the table of names. A text without a row may be a system like
-    /// Darwin with a version.
+    /// The system that a string parses as, given its row in the table of names. A string without a row may be a system
+    /// like Darwin with a version.
     #[inline(always)]
     pub(crate) fn from_row(text: &str, row: Option<FixedRow>) -> Option<Self> {
         match row {
@@ -124,7 +125,7 @@ impl OperatingSystem {
         }
     }
 
-    /// The system like Darwin that the text parses as, if any: one with an optional version. Most other texts are
+    /// The system like Darwin that the string parses as, if any: one with an optional version. Most other strings are
     /// refused by their first letter.
     #[doc(hidden)]
     pub fn parse_darwin_like(s: &str) -> Option<Self> {
@@ -136,7 +137,7 @@ impl OperatingSystem {
         }
     }
 
-    /// The Darwin-like system with whose prefix the text begins. The rest of the text must be empty or a version.
+    /// The system like Darwin with whose prefix the string begins. The rest of the string must be empty or a version.
     #[inline(never)]
     fn parse_by_prefix(s: &str) -> Option<Self> {
         if let Some(version) = version_after("darwin", s) {
@@ -263,8 +264,8 @@ impl OperatingSystem {
     }
 }
 
-/// The version after this prefix: `Some(None)` if nothing follows, `None` if the text doesn't begin with the prefix, or
-/// if what follows is no version.
+/// The version after this prefix: `Some(None)` if nothing follows, `None` if the string doesn't begin with the prefix,
+/// or if what follows is no version.
 #[inline(always)]
 fn version_after(prefix: &str, text: &str) -> Option<Option<DeploymentTarget>> {
     optional_version_of(text.strip_prefix(prefix)?)

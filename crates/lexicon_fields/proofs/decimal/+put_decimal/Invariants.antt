@@ -1,4 +1,4 @@
-use Rattle.lexicon_fields.proofs.deployment_target.+put_decimal.Given as goal
+use Rattle.lexicon_fields.proofs.decimal.+put_decimal.Given as goal
 
 abbrev pub decreases-put_decimal : goal.decreases-put_decimal
 decreases-put_decimal l = l.n

@@ -1,7 +1,7 @@
 use Rattle.std.proofs.Common.{◌∙◌, arith, ap, sym, option_map}
 use Rattle.lexicon_fields.specs.{Architecture.architecture_of, Vendor.Known, Vendor.known_vendor_of, OperatingSystem.fixed_operating_system_of, Environment.environment_of, BinaryFormat.binary_format_of, Private.prefix_key_of}
 use Rattle.lexicon_fields.proofs.{RowLemmas.row-exists, RowLemmas.row-parses_by_name, RowReads.rows-length, RowReads.text-is, RowReads.column-is, VendorsReadBack.row_read}
-use Rattle.lexicon_fields.proofs.table.rows.row_at.Goals as goal
+use Rattle.lexicon_fields.proofs.table.row_at.Goals as goal
 
 pub bounds-rows-i : goal.bounds-rows-i
 bounds-rows-i c = omega (arith, rows-length _ _ c.rows.ensures.texts)

@@ -2,7 +2,7 @@ use Rattle.std.specs.Cmp.{nat_cmp_is}
 use Rattle.std.proofs.Common.{Equal, ◌≡◌, ◌<◌, ◌≤◌, ◌⊎◌, ◌∙◌, length, drop, ℕ, Iter, ap, arith, sym, refl, nat_cmp, inl, inr}
 use Rattle.std.proofs.{lemmas.List.take_rest, lemmas.Iterator.YieldsList-from_slice, lemmas.Iterator.Search.cmp_from_yields_List}
 use Rattle.lexicon_fields.proofs.PrefixKeyLemmas.{less_by_key, greater_by_key, order_of_rests, order_of_same_key}
-use Rattle.lexicon_fields.proofs.table.prefix_key.order.Goals as goal
+use Rattle.lexicon_fields.proofs.table.order.Goals as goal
 
 pub returns-then-own_key-key : goal.returns-then-own_key-key
 returns-then-own_key-key c = sym (less_by_key 8 c.args.own.now c.args.text.now (λ i. omega (arith, c.type_inv.own i)) (λ i. omega (arith, c.type_inv.text i)) (omega (arith, c.requires)))

@@ -1,7 +1,7 @@
 use Rattle.std.proofs.Common.{refl}
 use Rattle.lexicon_fields.specs.{Architecture.architecture_of, Vendor.known_vendor_of, OperatingSystem.fixed_operating_system_of, Environment.environment_of, BinaryFormat.binary_format_of}
 use Rattle.lexicon_fields.specs.FixedRow.{row_texts}
-use Rattle.lexicon_fields.proofs.table.rows.rows.Goals as goal
+use Rattle.lexicon_fields.proofs.table.rows.Goals as goal
 
 pub returns-clause-texts : goal.returns-clause-texts
 unfolding row_texts

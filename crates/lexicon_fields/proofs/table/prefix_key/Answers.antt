@@ -1,7 +1,7 @@
 use Rattle.std.proofs.Common.{arith, ap, ◌∙◌}
 use Rattle.lexicon_fields.specs.Private.{prefix_key_of}
 use Rattle.lexicon_fields.proofs.PrefixKeyLemmas.{prefix_key_of_ends}
-use Rattle.lexicon_fields.proofs.table.prefix_key.prefix_key.Goals as goal
+use Rattle.lexicon_fields.proofs.table.prefix_key.Goals as goal
 
 pub returns-in-Some-Some : goal.returns-in-Some-Some
 returns-in-Some-Some c =

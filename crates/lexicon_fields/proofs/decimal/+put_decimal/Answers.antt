@@ -4,7 +4,7 @@ use Rattle.std.proofs.lemmas.Fmt.{decimal_step, decimal_digit}
 use Rattle.std.proofs.lemmas.List.{length-append}
 use Rattle.lexicon_fields.specs.Put.{Puts}
 use Rattle.lexicon_fields.proofs.Puts.{puts_then}
-use Rattle.lexicon_fields.proofs.deployment_target.+put_decimal.Goals as goal
+use Rattle.lexicon_fields.proofs.decimal.+put_decimal.Goals as goal
 
 one_more : (n : ℕ) → 10 ≤ n → n < 2 ^ 64 → length (decimal n) ≡ length (decimal (n / 10)) + 1
 one_more n is fits = ap length (decimal_step n is fits) ∙ length-append (decimal (n / 10)) _

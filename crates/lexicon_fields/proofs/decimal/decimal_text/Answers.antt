@@ -1,0 +1,24 @@
+use Rattle.std.proofs.Common.{ℕ, ◌<◌, ◌≤◌, ◌^◌, ◌∙◌, length, arith}
+use Rattle.std.specs.{Fmt.decimal, Str.IsUtf8}
+use Rattle.std.proofs.lemmas.{Fmt.IsAscii-decimal, Fmt.length-decimal-le, Str.IsUtf8-from_ascii}
+use Rattle.lexicon_fields.proofs.Puts.{put_taken}
+use Rattle.lexicon_fields.proofs.decimal.decimal_text.Goals as goal
+
+decimal-short : (n : ℕ) → n < 2 ^ 64 → length (decimal n) ≤ 20
+decimal-short n fits = length-decimal-le 20 n (omega arith) (omega (arith, fits)) fits
+
+-- digits are UTF-8
+decimal-utf8 : (n : ℕ) → n < 2 ^ 64 → IsUtf8 (decimal n)
+decimal-utf8 n fits = IsUtf8-from_ascii (decimal n) (IsAscii-decimal n fits)
+
+pub put_decimal-end-requires : goal.put_decimal-end-requires
+put_decimal-end-requires c = omega (arith, decimal-short c.args.n (omega arith))
+
+pub shared_ref_as_front-text : goal.shared_ref_as_front-text
+shared_ref_as_front-text c = omega (arith, c.put_decimal-end.ensures.end_is, decimal-short c.args.n (omega arith))
+
+pub returns-in-Ok : goal.returns-in-Ok
+returns-in-Ok c = c.in-Ok.ensures.cases.0 ∙ put_taken c.put_decimal-end.ensures
+
+pub returns-in-Err : goal.returns-in-Err
+returns-in-Err c = absurd (c.in-Err.ensures.cases.0 (rw (put_taken c.put_decimal-end.ensures) (decimal-utf8 c.args.n (omega arith))))
