@@ -33,7 +33,7 @@ METADATA = """\
 Metadata-Version: 2.1
 Name: target-lexicon
 Version: {version}
-Summary: Target triples such as x86_64-unknown-linux-gnu, by a verified library
+Summary: Target triples such as x86_64-unknown-linux-gnu, with a verified library
 License: Apache-2.0 WITH LLVM-exception
 Requires-Python: >=3.9
 {needs}Classifier: Operating System :: POSIX :: Linux

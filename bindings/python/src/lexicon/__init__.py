@@ -1,4 +1,4 @@
-"""Target triples such as `x86_64-unknown-linux-gnu`, by a verified library.
+"""Target triples such as `x86_64-unknown-linux-gnu`, with a verified library.
 
 >>> triple = Triple("wasm32-unknown-wasi")
 >>> print(triple, triple.pointer_width, triple.binary_format)

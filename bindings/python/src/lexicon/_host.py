@@ -1,4 +1,4 @@
-"""The triple that this Python runs as, by what `platform` and `sysconfig` say."""
+"""The triple that this Python runs as, according to `platform` and `sysconfig`."""
 from __future__ import annotations
 
 import platform
