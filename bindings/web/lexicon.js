@@ -473,34 +473,39 @@ export function numberOf(field, text) {
   return status === OK ? it.number(ANSWER) : null;
 }
 
-// ---- the host, by Node's names of it
+// ---- the host
 
-const HOST_ARCHITECTURES = {
-  arm: "armv7", arm64: "aarch64", ia32: "i686", loong64: "loongarch64", mips: "mips", mipsel: "mipsel", ppc: "powerpc", ppc64: "powerpc64",
-  riscv64: "riscv64gc", s390x: "s390x", x64: "x86_64",
-};
-const HOST_SYSTEMS = {
-  aix: { vendor: "ibm", operatingSystem: "aix" },
-  android: { operatingSystem: "linux", environment: "android" },
-  cygwin: { vendor: "pc", operatingSystem: "cygwin" },
-  darwin: { vendor: "apple", operatingSystem: "darwin" },
-  freebsd: { operatingSystem: "freebsd" },
-  haiku: { operatingSystem: "haiku" },
-  linux: { operatingSystem: "linux", environment: "gnu" },
-  netbsd: { operatingSystem: "netbsd" },
-  openbsd: { operatingSystem: "openbsd" },
-  sunos: { vendor: "pc", operatingSystem: "solaris" },
-  win32: { vendor: "pc", operatingSystem: "windows", environment: "msvc" },
-};
+/** The triple of a name of Node, or null. */
+function namedByNode(name) {
+  try {
+    return Triple.read(name, "node");
+  } catch (error) {
+    if (error instanceof ParseError) return null;
+    throw error;
+  }
+}
 
-/** The triple that Node runs as, by `process.arch` and `process.platform`. What these don't say is unknown. */
+/** The triple of a platform and an architecture of which Node has no builds, so that the dialect has no name for both: what each means. */
+function ofTwoWords(platform, arch) {
+  const { vendor, operatingSystem, environment } = namedByNode(`${platform}-x64`) ?? {};
+  return Triple.of({ architecture: namedByNode(`linux-${arch}`)?.architecture, vendor, operatingSystem, environment });
+}
+
+/** What is known of the host that its name doesn't say: how Node was built. */
+function* builtWith({ arch, config, platform }) {
+  const { arm_version: version, node_byteorder: order } = config?.variables ?? {};
+  if (arch === "arm") yield { architecture: version === "6" ? "armv6" : "armv7" };
+  if (arch === "ppc64" && order === "big") yield { architecture: "powerpc64" };
+  if (arch === "riscv64") yield { architecture: "riscv64gc" };
+  if (platform === "win32") yield { environment: "msvc" };
+}
+
+/** The triple that Node runs as, by its own names `process.arch` and `process.platform`. What these don't say is unknown. */
 export function host() {
-  const { arch, config, platform, report } = globalThis.process ?? {};
+  const { arch, platform, report } = globalThis.process ?? {};
   if (!arch || !platform) throw new Error("only Node and its like say what they run on");
-  const values = { architecture: HOST_ARCHITECTURES[arch], ...HOST_SYSTEMS[platform] };
-  if (arch === "ppc64" && config?.variables?.node_byteorder === "little") values.architecture = "powerpc64le";
-  if (arch === "arm" && config?.variables?.arm_version === "6") values.architecture = "armv6";
-  if (platform === "linux" && report?.getReport && !report.getReport().header.glibcVersionRuntime) values.environment = "musl";
-  if (arch === "arm" && values.environment) values.environment += platform === "android" ? "eabi" : "eabihf";
-  return Triple.of(values);
+  const hasLibrary = platform === "linux" && report?.getReport;
+  const library = !hasLibrary ? "" : report.getReport().header.glibcVersionRuntime ? "-glibc" : "-musl";
+  const named = namedByNode(`${platform}-${arch}${library}`) ?? ofTwoWords(platform, arch);
+  return named.with(Object.assign({}, ...builtWith(globalThis.process)));
 }

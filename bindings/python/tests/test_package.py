@@ -217,7 +217,7 @@ class Samples(Folder):
 
     @unittest.skipUnless(sys.version_info >= (3, 10), "the page's programs are for Python 3.10 or later")
     def test_programs_of_the_page(self):
-        self.assertEqual(self.commands_run(sys.executable, False), 5)
+        self.assertEqual(self.commands_run(sys.executable, False), 6)
 
     @unittest.skipUnless(HAS_DASK, "no pandas and Dask")
     def test_columns_of_the_page(self):
@@ -235,22 +235,36 @@ class Samples(Folder):
         self.assertEqual(answer("settle", "-", given="arm64-linux\nx86_64-pc-linx\navr\n"), (
             "aarch64-unknown-linux\navr-unknown-unknown\n", f"{self.refusal('x86_64-pc-linx')}\n", 1))
         self.assertEqual(answer("explain", "arm64-linux"), (f"{lexicon.explain('arm64-linux')}\n", "", 0))
-        objects, _, status = answer("facts", "--json", "avr", "arm64-apple-ios17")
-        expected = [{"target": it, **lexicon.Triple(it).to_dict()} for it in ("avr", "arm64-apple-ios17")]
+        self.assertEqual(answer("read", "--from", "oci", "linux/arm64", "windows/386")[0], "aarch64-unknown-linux\ni686-pc-windows\n")
+        self.assertEqual(answer("read", "x86_64-w64-mingw32")[0], "x86_64-pc-windows-gnu\n")
+        self.assertEqual(answer("write", "--to", "go", "arm64-linux", "avr-none"), ("linux/arm64\n", "no name of go for avr-none\n", 1))
+        self.assertIn("\n  go      linux/arm64\n", answer("elsewhere", "arm64-linux-gnu")[0])
+        self.assertEqual(answer("read", "--from", "go", "js/wasm", "--json")[0].count('"error":"no triple means the same (Go'), 1)
+        objects, _, status = answer("facts", "--json", "avr", "-", given="arm64-apple-ios17\r\n")
+        places = {"avr": (None, None), "arm64-apple-ios17": ("<stdin>", 1)}
+        expected = [{"target": it, "file": file, "line": line, **lexicon.Triple(it).to_dict()} for it, (file, line) in places.items()]
         self.assertEqual((json.loads(objects), status), (expected, 0))
         self.assertIn("  pointer_width               16\n  default_calling_convention  -\n", answer("facts", "avr")[0])
         self.assertEqual(answer("--version"), (f"lexicon {lexicon.LIBRARY_VERSION}\n", "", 0))
-        self.assertEqual([answer(*it)[2] for it in ([], ["facts"], ["read", "x"], ["settle", "--json", "x"])], [2, 2, 2, 2])
+        self.assertEqual(answer("check", "x")[2], 2)
+        for words in [], ["write", "x"], ["write", "--to", "docker", "x"], ["read", "--from", "gnu", "x"], ["facts", "--yaml", "x"]:
+            self.assertEqual((answer(*words)[0], answer(*words)[2]), ("", 2), words)
 
     @unittest.skipUnless(COMMAND, "no command lexicon beside the program")
     def test_command_writes_what_the_command_lexicon_writes(self):
-        targets = ["arm64-apple-ios17.1", "avr", "x86_64-aple-linux", "x86_64-unknown-uefi", "armv6k-nintendo-3ds", "thumbv7m-none-eabi"]
-        for words in (["facts"], ["explain"], ["settle"]):
-            here, there = run(sys.executable, "-I", "-m", "lexicon", *words, *targets), run(COMMAND, *words, *targets)
-            self.assertEqual((here.stdout, here.returncode), (there.stdout, there.returncode))
-        objects = [json.loads(run(*it, "facts", "--json", *targets).stdout) for it in ([sys.executable, "-I", "-m", "lexicon"], [COMMAND])]
-        for here, there in zip(*objects):
-            self.assertEqual(list(here.items()), [it for it in there.items() if it[0] not in ("file", "line")])
+        """The same bytes on standard output, and the same status."""
+        targets = ["arm64-apple-ios17.1", "avr", "x86_64-aple-linux", "x86_64-unknown-uefi", "armv6k-nintendo-3ds", "thumbv7m-none-eabi",
+                   "x86_64-w64-windows-gnu", "x86_64-pc-linx", "x86_64-\u00e9\U0001f600-x", "", "x86_64-linux-elf-gnu", "x86_64-w64-mingw32"]
+        names = ["linux/arm64", "amd64", "linux-x64-musl", "js/wasm", "x86_64-linux-gnu", "", "x86_64-w64-mingw32", "gnu-\u00e9"]
+        calls = [["facts"], ["explain"], ["settle"], ["elsewhere"], *(["write", "--to", str(it)] for it in lexicon.Dialect)]
+        calls = [(words, targets) for words in calls] + [(["read"], targets + names)]
+        calls += [(["read", "--from", str(it)], names) for it in lexicon.Dialect if it is not lexicon.Dialect.GNU]
+        for words, given in calls:
+            lines = "".join(f"{it}\r\n" for it in given).encode()
+            for arguments, line in (given, b""), (["--json", "-", "avr"], lines):
+                ran = [subprocess.run([*command, *words, *arguments], input=line, capture_output=True, check=False)
+                       for command in ([sys.executable, "-I", "-m", "lexicon"], [COMMAND])]
+                self.assertEqual(*((it.stdout.decode().splitlines(), it.returncode) for it in ran), (words, arguments))
 
     def refusal(self, text):
         with self.assertRaises(lexicon.ParseError) as caught:

@@ -120,9 +120,11 @@ class Fields(unittest.TestCase):
         self.assertEqual(triple.replace(operating_system=OperatingSystem.IOS, version=(17, 1, 2)).version, (17, 1, 2))
         self.assertEqual(triple.replace(architecture=Architecture.X86_64).version, (13, 2, 0))
         self.assertEqual(str(triple.replace(vendor=CustomVendor("acme"))), "aarch64-acme-macosx13.2.0")
-        linux = triple.replace(operating_system=OperatingSystem.LINUX, vendor=Vendor.UNKNOWN)
-        self.assertEqual((linux.binary_format, linux.implied_format), (BinaryFormat.MACHO, BinaryFormat.ELF))
-        self.assertEqual(str(linux.replace(binary_format=None)), "aarch64-unknown-linux")
+        self.assertEqual(str(triple.replace(operating_system=OperatingSystem.LINUX, vendor=Vendor.UNKNOWN)), "aarch64-unknown-linux")
+        other = Triple("aarch64-unknown-linux-macho").replace(operating_system=OperatingSystem.WINDOWS)
+        self.assertEqual((other.binary_format, other.implied_format), (BinaryFormat.MACHO, BinaryFormat.COFF))
+        self.assertIs(other.replace(binary_format=None).binary_format, BinaryFormat.COFF)
+        self.assertIs(triple.replace(binary_format=BinaryFormat.MACHO, operating_system=OperatingSystem.LINUX).binary_format, BinaryFormat.MACHO)
 
     def test_all_unknown(self):
         unknown = Triple.from_fields()
@@ -178,9 +180,19 @@ class Fields(unittest.TestCase):
             self.assertRaisesRegex(TypeError, "not one str", call, "x86_64-linux")
         self.assertEqual(lexicon.settle_all([]), [])
         vendor = "a" * 500
-        targets = ["x86_64-\udcff-linux", "x86_64-\u00e9", f"arm64-{vendor}-linux", "arm64-acme-linux"] * 2
-        self.assertEqual(lexicon.settle_all(targets), [None, None, f"aarch64-{vendor}-linux", "aarch64-acme-linux"] * 2)
-        self.assertEqual([it.vendor for it in lexicon.facts_all(targets)], [None, None, vendor, "acme"] * 2)
+        targets = ["x86_64-\udcff-linux", "x86_64-\u00e9", f"arm64-{vendor}-linux", "arm64-acme-linux", "", "arm64-linux\n", "\n", "arm\r\n-linux",
+                   "arm64-linux\0"] * 2
+        self.assertEqual(lexicon.settle_all(targets), [None, None, f"aarch64-{vendor}-linux", "aarch64-acme-linux", *[None] * 5] * 2)
+        self.assertEqual([it.vendor for it in lexicon.facts_all(targets)], [None, None, vendor, "acme", *[None] * 5] * 2)
+        for target in targets:
+            self.assertEqual(lexicon.settle_all([target]), lexicon.settle_all(["avr", target])[1:])
+
+    def test_long_columns(self):
+        """More different targets than are answered at once, and than are remembered."""
+        targets = [f"arm64-apple-ios{number % 250}.{number // 250 % 250}.{number // 62500}" for number in range(70000)]
+        expected = [f"aarch64{it[5:]}" for it in targets]
+        self.assertEqual(lexicon.settle_all(targets + targets[::-1] + ["avr-\n"]), expected + expected[::-1] + [None])
+        self.assertEqual([it.canonical for it in lexicon.facts_all(targets[:5000])], expected[:5000])
 
 
 class Texts(unittest.TestCase):

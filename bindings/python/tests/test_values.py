@@ -40,6 +40,10 @@ class Values(unittest.TestCase):
                 ("DIALECT", lexicon.Dialect):
             self.assertEqual({"NONE": 0, **{it.name: it.number + 1 for it in of}}, lists.header_numbers(prefix))
 
+    def test_growth_is_that_of_the_header(self):
+        header = lists.read("rust/lexicon-c/include/lexicon.h")
+        self.assertIn(f"#define LEXICON_MAX_GROWTH {_library.MAX_GROWTH}\n", header)
+
     def test_names_in_triples(self):
         """A value in a triple, by its name and by a field, is the member."""
         for member in lexicon.Architecture:

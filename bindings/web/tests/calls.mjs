@@ -18,6 +18,8 @@ const refusal = (text, call = Triple.parse) => {
   assert.fail(`${text} was not refused`);
 };
 
+const elsewhere = readFileSync(new URL("../../../tools/names/elsewhere.tsv", import.meta.url), "utf8").split("\n").map((row) => row.split("\t"));
+
 const tests = {
   "nothing works before the module is loaded": async () => {
     assert.throws(() => Triple.parse("x86_64"), /load/);
@@ -76,8 +78,8 @@ const tests = {
   },
   "names in dialects are those of the table": () => {
     const counts = { read: 0, written: 0, withoutTriple: 0 };
-    for (const line of readFileSync(new URL("../../../tools/names/elsewhere.tsv", import.meta.url), "utf8").split("\n")) {
-      const [dialect, name, means, ways, note] = line.split("\t");
+    for (const line of elsewhere) {
+      const [dialect, name, means, ways, note] = line;
       if (!DIALECTS.includes(dialect)) continue;
       if (ways.includes("r")) assert.equal(`${Triple.read(name, dialect)}`, means, line), counts.read++;
       if (ways.includes("w")) assert.equal(Triple.parse(means).nameIn(dialect), name, line), counts.written++;
@@ -193,9 +195,8 @@ const tests = {
   "the host": () => {
     const process = Object.getOwnPropertyDescriptor(globalThis, "process");
     const hostOf = (arch, platform, variables = {}, header = {}) => {
-      Object.defineProperty(globalThis, "process", {
-        value: { arch, platform, config: { variables }, report: { getReport: () => ({ header }) } }, configurable: true,
-      });
+      const report = header && { getReport: () => ({ header }) };
+      Object.defineProperty(globalThis, "process", { value: { arch, platform, config: { variables }, report }, configurable: true });
       try {
         return `${host()}`;
       } finally {
@@ -207,8 +208,16 @@ const tests = {
       ["x86_64-unknown-linux-gnu", "x64", "linux", {}, glibc], ["x86_64-unknown-linux-musl", "x64", "linux"],
       ["armv6-unknown-linux-gnueabihf", "arm", "linux", { arm_version: "6" }, glibc], ["armv7-linux-androideabi", "arm", "android"],
       ["powerpc64le-unknown-linux-gnu", "ppc64", "linux", { node_byteorder: "little" }, glibc], ["powerpc64-ibm-aix", "ppc64", "aix"],
+      ["powerpc64-unknown-linux-gnu", "ppc64", "linux", { node_byteorder: "big" }, glibc], ["x86_64-unknown-linux", "x64", "linux", {}, null],
       ["aarch64-apple-darwin", "arm64", "darwin"], ["i686-pc-windows-msvc", "ia32", "win32"], ["x86_64-unknown-unknown-elf", "x64", "beos"],
+      ["x86_64-unknown-unknown-elf", "x64", "sunos"], ["riscv64gc-unknown-freebsd", "riscv64", "freebsd"], ["unknown-unknown-linux", "vax", "linux"],
     ]) assert.equal(hostOf(...given), wanted);
+    for (const [, name] of elsewhere.filter(([dialect, , , ways]) => dialect === "node" && ways.includes("r"))) {
+      const [platform, arch, library] = name.split("-"), named = Triple.read(name, "node");
+      const found = Triple.parse(hostOf(arch, platform, {}, { glibc, musl: {} }[library] ?? null));
+      assert.deepEqual([found.facts().family, found.vendor, found.operatingSystem, found.environment],
+        [named.facts().family, named.vendor, named.operatingSystem, platform === "win32" ? "msvc" : named.environment], name);
+    }
     assert.throws(() => hostOf(undefined, undefined), /Node/);
     assert.equal(host().facts().endianness, "little");
   },

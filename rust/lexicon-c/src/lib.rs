@@ -14,6 +14,7 @@
 mod error_text;
 #[cfg(test)]
 mod header_tests;
+mod lines;
 mod names;
 #[allow(unused_imports)] // the proved files find each other here
 mod proved;
@@ -24,12 +25,13 @@ mod text;
 use core::ptr::{addr_of, null};
 use core::{slice, str};
 use error_text::{line, line_and_caret, suggestion};
+use lines::settle_lines;
 use names::{c_name, c_reason};
 use proved::triple::CUSTOM_VENDOR;
 use proved::*;
 use target_lexicon::internals::names::field_at;
 use target_lexicon::ParseErrorRef;
-use text::{write_text, Text};
+use text::{write_all, write_text, Text};
 
 /// `enum lexicon_status`. From 1 to 6 a text is refused, where a value of the first to the fifth field was expected, or none.
 pub type Status = u32;
@@ -215,6 +217,18 @@ pub unsafe extern "C" fn lexicon_print(triple: *const Triple, out: *mut u8, out_
 pub unsafe extern "C" fn lexicon_settle(triple: *mut Triple) -> Status {
     let settled = settle(&unsafe { Triple::read(triple) });
     unsafe { answer(triple, settled.map(|it| Triple::new(&it))) }
+}
+
+#[no_mangle]
+pub unsafe extern "C" fn lexicon_settle_lines(
+    text: *const u8,
+    text_size: usize,
+    out: *mut u8,
+    out_size: usize,
+    length: *mut usize,
+) -> Status {
+    let text = unsafe { bytes_at(text, text_size) };
+    unsafe { write_all(out, out_size, length, |out| settle_lines(text, out)) }
 }
 
 #[no_mangle]

@@ -44,6 +44,27 @@ pub(crate) unsafe fn write_text(
     OK
 }
 
+/// Writes a text of any length into the caller's buffer, and its length. `write` writes what fits, and returns the length.
+pub(crate) unsafe fn write_all(
+    out: *mut u8,
+    out_size: usize,
+    length: *mut usize,
+    write: impl FnOnce(&mut [u8]) -> usize,
+) -> Status {
+    let mut room: &mut [u8] = &mut [];
+    if out_size > 0 {
+        // SAFETY: the caller's buffer, whose bytes have values then, and the last of which stays zero.
+        room = unsafe {
+            out.write_bytes(0, out_size);
+            slice::from_raw_parts_mut(out, out_size - 1)
+        };
+    }
+    let size = write(room);
+    // SAFETY: the caller's variable.
+    unsafe { write_length(length, size) }
+    if size < out_size { OK } else { TOO_SMALL }
+}
+
 /// A text that is written piece by piece, of which only the first characters are kept if the buffer is too small.
 pub(crate) struct Text {
     out: *mut u8,

@@ -284,6 +284,42 @@ static void try_struct(void) {
   expect(lexicon_print(&triple, out, strlen(text) + 1, NULL) == LEXICON_OK && strcmp(out, text) == 0, "print", "a long vendor");
 }
 
+/* All strings above as lines, with and without a line feed after the last one, into buffers of each size. */
+static void try_lines(void) {
+  static const char *const more[] = {"x86_64-\xf0\x9f\x98\x80", "x86_64-linux\r", "arm64-acme-linux"};
+  static const char *const settled[] = {"", "", "aarch64-acme-linux"};
+  char text[4000] = "", expected[4000] = "", out[4000];
+  size_t lines = 0, length = 77;
+  for (size_t i = 0; i < sizeof parsed / sizeof *parsed; i++, lines++) {
+    strcat(strcat(text, parsed[i].text), "\n");
+    strcat(strcat(expected, parsed[i].settled), "\n");
+  }
+  for (size_t i = 0; i < sizeof refused / sizeof *refused; i++, lines++) {
+    strcat(strcat(text, refused[i].text), "\n");
+    strcat(expected, "\n");
+  }
+  for (size_t i = 0; i < sizeof more / sizeof *more; i++, lines++) {
+    strcat(strcat(text, more[i]), "\n");
+    strcat(strcat(expected, settled[i]), "\n");
+  }
+  for (size_t cut = 0; cut < 2; cut++) {
+    size_t size = strlen(text) - cut, whole = strlen(expected);
+    expect(lexicon_settle_lines(text, size, out, size + lines * LEXICON_MAX_GROWTH + 2, &length) == LEXICON_OK, "the buffer for", "lines");
+    expect(length == whole && strcmp(out, expected) == 0, "lines", out);
+    for (size_t room = 0; room <= whole; room++) {
+      fill(out, sizeof out);
+      expect(lexicon_settle_lines(text, size, room ? out : NULL, room, &length) == LEXICON_TOO_SMALL && length == whole, "a small buffer for", "lines");
+      if (room == 0) continue;
+      size_t kept = strlen(out);
+      expect(kept < room && strncmp(out, expected, kept) == 0 && is_filled(out + room, sizeof out - room), "the first lines", out);
+      expect(kept == room - 1 || strchr(expected + kept, '\n') > expected + room - 1, "each line that fits", out);
+    }
+    expect(lexicon_settle_lines(text, size, out, whole + 1, NULL) == LEXICON_OK && strcmp(out, expected) == 0, "no length for", "lines");
+  }
+  expect(lexicon_settle_lines(NULL, 0, out, 1, &length) == LEXICON_OK && length == 0 && *out == 0, "no lines", "");
+  expect(lexicon_settle_lines("\n", 1, out, 2, &length) == LEXICON_OK && strcmp(out, "\n") == 0, "an empty line", "");
+}
+
 static void try_sources(void) {
   static const char text[] = "x86_64-linux-gnu";
   struct lexicon_triple triple;
@@ -413,6 +449,7 @@ int main(void) {
   try_pairs();
   try_all_facts();
   try_struct();
+  try_lines();
   try_sources();
   try_names();
   try_dialects();

@@ -290,6 +290,31 @@ static void try_read(const char *text, size_t size, uint32_t parsed, const struc
   }
 }
 
+/* Each line of a text is settled as it is by itself. */
+static void try_lines(const char *text, size_t size) {
+  size_t lines = 1, length = 0;
+  for (size_t i = 0; i < size; i++) lines += text[i] == '\n';
+  size_t room = size + lines * LEXICON_MAX_GROWTH + 2;
+  if (room > ROOM) return;
+  char *out = (char *)before_guard(1, room), *settled;
+  CHECK(lexicon_settle_lines(text, size, out, room, &length) == LEXICON_OK && length < room && out[length] == 0);
+  const char *line = out;
+  for (size_t start = 0, end; start < size; start = end + 1) {
+    struct lexicon_triple triple;
+    struct lexicon_error error;
+    size_t wanted = 0;
+    for (end = start; end < size && text[end] != '\n'; end++) {}
+    if (lexicon_parse(text + start, end - start, &triple, &error) == LEXICON_OK) {
+      CHECK(lexicon_settle(&triple) == LEXICON_OK);
+      wanted = printed(&triple, 3, &settled);
+      CHECK(memcmp(line, settled, wanted) == 0);
+    }
+    CHECK(line[wanted] == '\n');
+    line += wanted + 1;
+  }
+  CHECK(line == out + length);
+}
+
 static void try_text(const char *text, size_t size) {
   struct lexicon_triple triple, explained;
   struct lexicon_error error, other;
@@ -324,6 +349,7 @@ int LLVMFuzzerTestOneInput(const uint8_t *data, size_t data_size) {
   size_t size;
   const char *text = take_text(&input, 0, ROOM - 64, &size);
   try_text(text, size);
+  try_lines(text, size);
   uint32_t number = 12345, status = lexicon_number(word % 7, text, size, &number);
   CHECK(status == LEXICON_OK || number == 12345);
   CHECK((status == LEXICON_NO_SUCH_FIELD) == (word % 7 > 4));

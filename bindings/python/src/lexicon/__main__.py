@@ -1,62 +1,153 @@
-"""A small command: `python -m lexicon facts | explain | settle TARGET..`, or `-` for the lines of standard input.
+"""A small command, with answers of the command `lexicon` of the same repository: `python -m lexicon COMMAND TARGET..`.
 
-The command `lexicon` of the same repository does more, in less time: `cargo install --path rust/lexicon-cli --locked`.
+A target `-` stands for the lines of standard input, which is also read if there is no target. The command `lexicon` does
+more, in less time: `cargo install --path rust/lexicon-cli --locked`.
 """
 from __future__ import annotations
 
 import argparse
+import io
 import json
 import sys
-from typing import Dict, Iterable, List, Optional
+from contextlib import suppress
+from typing import Any, Dict, Iterator, List, Optional, Tuple
 
-from . import LIBRARY_VERSION, ParseError, Triple, explain
+from . import LIBRARY_VERSION, Dialect, ParseError, Triple, explain
+from ._triple import _version_text
 
-_LAYOUT = argparse.RawDescriptionHelpFormatter
+# What is answered for a target, with the keys of JSON. Of one that is refused there is an `error`.
+Answer = Dict[str, Any]
+
+_COMMANDS = {
+    "explain": "each field, and where its value comes from",
+    "facts": "the fields, and what a compiler asks",
+    "settle": "the canonical form",
+    "read": "the canonical form of the target that another tool's name means",
+    "write": "the name that another tool has for it",
+    "elsewhere": "the names that other tools have for it",
+}
+_DIALECTS = [str(it) for it in Dialect]
 
 
-def _facts(target: str) -> str:
-    answers = Triple(target).to_dict()
-    width = max(map(len, answers))
+def _places(targets: List[str]) -> Iterator[Answer]:
+    """Each target and its place, with which each object begins."""
+    for target in targets or ["-"]:
+        if target != "-":
+            yield {"target": target, "file": None, "line": None}
+            continue
+        lines = io.TextIOWrapper(sys.stdin.buffer, "utf-8", "surrogateescape", newline="\n")
+        for number, line in enumerate(lines, 1):
+            yield {"target": line.removesuffix("\n").removesuffix("\r"), "file": "<stdin>", "line": number}
+
+
+def _explained(target: str) -> Answer:
+    explanation = explain(target)
+    answer: Answer = {}
+    for name, source in explanation.sources:
+        answer[name] = {"value": source.value, "origin": str(source.origin), "part": source.part}
+        if name == "operating_system":
+            answer["version"] = _version_text(explanation.triple.version)
+    return {**answer, "has_custom_vendor": explanation.triple.has_custom_vendor, "suggestion": explanation.suggestion}
+
+
+def _answer(command: str, dialect: Optional[str], target: str) -> Answer:
+    if command == "explain":
+        return _explained(target)
+    if command == "read":
+        return {"canonical": Triple.read(target, dialect).canonical}
+    triple = Triple(target)
+    if command == "facts":
+        return dict(triple.to_dict())
+    if command == "elsewhere":
+        return {name: triple.name_in(name) for name in _DIALECTS}
+    if dialect is None:
+        return {"canonical": triple.canonical}
+    name = triple.name_in(dialect)
+    return _refused(f"no name of {dialect} for", target) if name is None else {"name": name}
+
+
+def _refused(error: str, part: str, start: int = 0, field: Optional[str] = None, suggestion: Optional[str] = None) -> Answer:
+    end = start + len(part.encode("utf-8", "replace"))
+    return {"error": error, "part": part, "start": start, "end": end, "field": field, "suggestion": suggestion}
+
+
+def _refusal(error: ParseError, dialect: Optional[str]) -> Answer:
+    """What is wrong with a target, or with a name in a dialect."""
+    if error.reason is not None:
+        word = f"no triple means the same ({error.reason}):"
+    elif dialect is not None:
+        word = f"unknown name of {dialect}"
+    else:
+        word = f"unrecognized {(error.field or 'field').replace('_', ' ')}"
+    start = len(error.text[: error.start].encode("utf-8", "replace"))
+    return _refused(word, error.part, start, error.field, error.suggestion)
+
+
+def _explanation(target: str) -> str:
+    """The explanation, and what other tools mean by a target whose vendor isn't known here."""
+    explanation = explain(target)
+    lines = [str(explanation)]
+    if explanation.triple.has_custom_vendor:
+        with suppress(ParseError):
+            meant = Triple.read(target)
+            if not meant.has_custom_vendor:
+                lines.append(f"  {'note':16}  other tools mean `{meant.canonical}`, which `lexicon read` gives")
+    return "\n".join(lines)
+
+
+def _lines(command: str, target: str, answer: Answer) -> str:
+    if command == "explain":
+        return _explanation(target)
+    if "error" in answer:
+        return f"{answer['error']} {target}"
+    if command not in ("facts", "elsewhere"):
+        return "".join(answer.values())
+    width = max(map(len, answer))
     words = {True: "yes", False: "no", None: "-"}
-    lines = [f"  {name:{width}}  {words[it] if it is None or isinstance(it, bool) else it}" for name, it in answers.items()]
+    lines = [f"  {name:{width}}  {words[it] if it is None or isinstance(it, bool) else it}" for name, it in answer.items()]
     return "\n".join([target, *lines])
 
 
-def _settle(target: str) -> str:
-    return Triple(target).canonical
+def _answered(options: argparse.Namespace, target: str) -> Tuple[Answer, str]:
+    """The answer for a target, and how it is shown."""
+    try:
+        answer = _answer(options.command, options.dialect, target)
+        return answer, "" if options.json else _lines(options.command, target, answer)
+    except ParseError as error:
+        return _refusal(error, options.dialect if options.command == "read" else None), str(error)
 
 
-def _explain(target: str) -> str:
-    return str(explain(target))
+def _parser() -> argparse.ArgumentParser:
+    parser = argparse.ArgumentParser("python -m lexicon", description=__doc__, formatter_class=argparse.RawDescriptionHelpFormatter)
+    parser.add_argument("--version", action="version", version=f"lexicon {LIBRARY_VERSION}")
+    commands = parser.add_subparsers(dest="command", required=True, metavar="COMMAND")
+    for name, about in _COMMANDS.items():
+        command = commands.add_parser(name, help=about, description=f"Writes for each target {about}.")
+        command.add_argument("targets", nargs="*", metavar="TARGET", help="`-` is standard input, one target a line")
+        command.add_argument("--json", action="store_true", help="write one JSON array on one line")
+        command.set_defaults(dialect=None)
+        if name == "read":
+            command.add_argument("--from", dest="dialect", choices=[it for it in _DIALECTS if it != str(Dialect.GNU)])
+        elif name == "write":
+            command.add_argument("--to", dest="dialect", choices=_DIALECTS, required=True)
+    return parser
 
 
 def main(arguments: Optional[List[str]] = None) -> int:
     """Runs the command. Returns 1 if a target is refused."""
-    parser = argparse.ArgumentParser("python -m lexicon", description=__doc__, formatter_class=_LAYOUT)
-    parser.add_argument("--version", action="version", version=f"lexicon {LIBRARY_VERSION}")
-    parser.add_argument("--json", action="store_true", help="of facts: a list of objects")
-    parser.add_argument("command", choices=["facts", "explain", "settle"])
-    parser.add_argument("targets", nargs="+", metavar="TARGET")
-    options = parser.parse_args(arguments)
-    if options.json and options.command != "facts":
-        parser.error("only facts writes JSON")
-    targets: Iterable[str] = options.targets
-    if options.targets == ["-"]:
-        targets = (line.rstrip("\n") for line in sys.stdin)
-    answer = {"facts": _facts, "explain": _explain, "settle": _settle}[options.command]
-    objects: List[Dict[str, object]] = []
+    options = _parser().parse_args(arguments)
+    objects: List[Answer] = []
     status = 0
-    for target in targets:
-        try:
-            if options.json:
-                objects.append({"target": target, **Triple(target).to_dict()})
-            else:
-                print(answer(target))
-        except ParseError as error:
-            print(error, file=sys.stderr)
+    for place in _places(options.targets):
+        answer, lines = _answered(options, place["target"])
+        if "error" in answer:
             status = 1
+        if options.json:
+            objects.append({**place, **answer})
+        else:
+            print(lines, file=sys.stderr if "error" in answer else sys.stdout)
     if options.json:
-        print(json.dumps(objects))
+        print(json.dumps(objects, separators=(",", ":")))
     return status
 
 
@@ -65,4 +156,4 @@ if __name__ == "__main__":
         sys.exit(main())
     except BrokenPipeError:
         sys.stderr.close()
-        sys.exit(3)
+        sys.exit(141)

@@ -2,20 +2,22 @@
 from __future__ import annotations
 
 import ctypes
-from ctypes import byref, c_char_p, c_size_t, c_void_p
-from typing import Callable, Dict, Iterable, List, NamedTuple, Optional, TypeVar
+import struct
+from ctypes import byref, c_size_t, c_void_p
+from itertools import islice
+from typing import Any, Callable, Dict, Iterable, List, NamedTuple, Optional, Sequence, Tuple, TypeVar
 
 from . import _library
-from ._errors import ParseError, encoded
+from ._errors import encoded
 from ._facts import CallingConvention, DataModel, Endianness
 from ._fields import members
-from ._triple import Triple, _version_text
+from ._triple import Triple
 from ._values import Architecture, BinaryFormat, Environment, Family, OperatingSystem, Vendor
 
 Answer = TypeVar("Answer")
 
-# How many different targets are remembered within a call.
-_REMEMBERED = 1 << 16
+# How many targets are answered at once, and how many different ones are remembered within a call.
+_AT_ONCE, _REMEMBERED = 1 << 12, 1 << 16
 
 # The names of values by number; those of facts begin with None, for no answer.
 _ARCHITECTURES, _VENDORS, _SYSTEMS, _ENVIRONMENTS, _FORMATS, _FAMILIES = (
@@ -63,7 +65,7 @@ def settle_all(targets: Iterable[str]) -> List[Optional[str]]:
 
     A single `str` raises a TypeError, and so does anything but a `str` among the targets.
     """
-    return list(map(_Remembered(_canonical_texts()).__getitem__, _column(targets)))
+    return _each(targets, _canonical_texts)
 
 
 def facts_all(targets: Iterable[str]) -> List[Facts]:
@@ -74,68 +76,93 @@ def facts_all(targets: Iterable[str]) -> List[Facts]:
 
     A single `str` raises a TypeError, and so does anything but a `str` among the targets.
     """
-    return list(map(_Remembered(_facts_of_text).__getitem__, _column(targets)))
+    return _each(targets, _facts_of_texts)
 
 
-def _column(targets: Iterable[str]) -> Iterable[str]:
+def _each(targets: Iterable[str], answers_of: Callable[[Sequence[str]], List[Answer]]) -> List[Answer]:
+    """The answer for each target, by a function that answers for many. It isn't asked again for what is remembered."""
     if isinstance(targets, str):
         raise TypeError("the targets must be an iterable of str, not one str")
-    return targets
+    answers: List[Answer] = []
+    remembered: Dict[str, Answer] = {}
+    rest = iter(targets)
+    while some := list(islice(rest, _AT_ONCE)):
+        if len(remembered) > _REMEMBERED:
+            remembered.clear()
+        new = tuple(set(some).difference(remembered))
+        remembered.update(zip(new, answers_of(new)))
+        answers += map(remembered.__getitem__, some)
+    return answers
 
 
-class _Remembered(Dict[str, Answer]):
-    """The answers of a function for the strings that were asked for, up to a number of them."""
+def _canonical_texts(targets: Sequence[str]) -> List[Optional[str]]:
+    """The canonical string of each target, by one call for all of them."""
+    try:
+        lines = "\n".join(targets)
+    except TypeError:
+        for target in targets:
+            encoded(target, "a target")
+        raise
+    if lines.count("\n") >= len(targets) > 0:
+        # A target that has a line feed is refused, as an empty one is.
+        lines = "\n".join("" if "\n" in it else it for it in targets)
+    # A lone surrogate isn't UTF-8, so its line is refused.
+    utf8 = f"{lines}\n".encode("utf-8", "surrogatepass")
+    out = ctypes.create_string_buffer(len(utf8) + _library.MAX_GROWTH * len(targets) + 1)
+    _library.check(_library.settle_lines(utf8, len(utf8), out, len(out), None))
+    return [line or None for line in out.value.decode().split("\n")[:-1]]
 
-    def __init__(self, answer: Callable[[str], Answer]) -> None:
-        self._answer = answer
 
-    def __missing__(self, text: str) -> Answer:
-        if len(self) >= _REMEMBERED:
-            self.clear()
-        self[text] = answer = self._answer(text)
-        return answer
+class _Answered(ctypes.Structure):
+    """A triple and its facts, in one piece of memory."""
 
+    triple: _library.TripleStruct
+    facts: _library.FactsStruct
+    _fields_ = [("triple", _library.TripleStruct), ("facts", _library.FactsStruct)]
+
+
+# The numbers that are in it: those of the triple, its custom vendor's pointer and size, and those of the facts.
+_NUMBERS = struct.Struct("@HBBBBBBBHPN13B3?")
 
 # Calls whose arguments are values of `ctypes`, which takes half the time.
-_parse, _settle, _print = map(_library.undeclared, ("lexicon_parse", "lexicon_settle", "lexicon_print"))
+_parse, _facts, _print = map(_library.undeclared, ("lexicon_parse", "lexicon_facts", "lexicon_print"))
 
 
-def _canonical_texts() -> Callable[[str], Optional[str]]:
-    """A function that gives the canonical string of a target. It has the memory that its calls write into."""
-    struct, error, out, size = _library.TripleStruct(), _library.ErrorStruct(), _library.TextBuffer(), c_size_t()
-    to_struct, to_error, to_out, room = byref(struct), byref(error), c_void_p(ctypes.addressof(out)), c_size_t(_library.FIRST_SIZE)
-
-    def canonical_text(text: str) -> Optional[str]:
-        try:
-            utf8 = encoded(text, "a target")
-        except ParseError:
-            return None
+def _facts_of_texts(targets: Sequence[str]) -> List[Facts]:
+    """All answers about each target. All calls write into the same memory."""
+    answered, error, out, size = _Answered(), _library.ErrorStruct(), _library.TextBuffer(), c_size_t()
+    triple, to_facts, to_error = answered.triple, byref(answered.facts), byref(error)
+    to_triple, to_out, room = byref(triple), c_void_p(ctypes.addressof(out)), c_size_t(_library.FIRST_SIZE)
+    answers: List[Facts] = []
+    for text, canonical in zip(targets, _canonical_texts(targets)):
+        if canonical is None:
+            answers.append(Facts())
+            continue
+        utf8 = str.encode(text)
         size.value = len(utf8)
-        if _parse(c_char_p(utf8), size, to_struct, to_error):
-            return None
-        if struct.custom_vendor is not None:
-            return Triple(text).canonical
-        _library.check(_settle(to_struct) or _print(to_struct, to_out, room, None))
-        return out.value.decode()
-
-    return canonical_text
-
-
-def _facts_of_text(text: str) -> Facts:
-    try:
-        return facts_of(Triple(text))
-    except ParseError:
-        return Facts()
+        status = _parse(utf8, size, to_triple, to_error) or _facts(to_triple, to_facts) or _print(to_triple, to_out, room, None)
+        if triple.custom_vendor is not None:
+            answers.append(facts_of(Triple(text)))
+            continue
+        _library.check(status)
+        answers.append(_facts_from(_NUMBERS.unpack_from(answered), None, out.value.decode(), canonical))
+    return answers
 
 
 def facts_of(it: Triple) -> Facts:
     """All answers about a triple."""
-    struct = it._struct
-    order, width, convention, model, *sizes, implied, written, family, is_thumb, is_like_darwin, is_custom = bytes(it._facts or it._ask())
-    short, int_, long, long_long, float_, double = (size or None for size in sizes)
-    return Facts(
-        _ARCHITECTURES[struct.architecture], str(it.vendor) if is_custom else _VENDORS[struct.vendor], _SYSTEMS[struct.operating_system],
-        _version_text(it.version), _ENVIRONMENTS[struct.environment], _FORMATS[struct.binary_format], _ORDERS[order], width or None,
-        _CONVENTIONS[convention], _MODELS[model], short, int_, long, long_long, float_, double, _FORMATS[implied], _FORMATS[written],
-        _FAMILIES[family], bool(is_thumb), bool(is_like_darwin), bool(is_custom), str(it), it.canonical,
-    )
+    numbers = _NUMBERS.unpack(bytes(it._struct) + bytes(it._facts or it._ask()))
+    return _facts_from(numbers, str(it.vendor), str(it), it.canonical)
+
+
+def _facts_from(numbers: Tuple[Any, ...], vendor: Optional[str], printed: str, canonical: str) -> Facts:
+    """All answers, from the numbers and the strings. Only a custom vendor must be given."""
+    (architecture, known, system, environment, form, has_version, minor, patch, major, _, _, order, width, convention, model, short,
+     int_, long, long_long, float_, double, implied, written, family, is_thumb, is_like_darwin, is_custom) = numbers
+    return Facts._make((
+        _ARCHITECTURES[architecture], vendor or _VENDORS[known], _SYSTEMS[system],
+        f"{major}.{minor}.{patch}" if has_version else None, _ENVIRONMENTS[environment], _FORMATS[form], _ORDERS[order],
+        width or None, _CONVENTIONS[convention], _MODELS[model], short or None, int_ or None, long or None, long_long or None,
+        float_ or None, double or None, _FORMATS[implied], _FORMATS[written], _FAMILIES[family], is_thumb, is_like_darwin,
+        is_custom, printed, canonical,
+    ))

@@ -157,6 +157,7 @@ _version: Callable[[], bytes] = _declare("lexicon_version", result=c_char_p)
 parse = _declare("lexicon_parse", c_char_p, c_size_t, _TRIPLE, _ERROR)
 explain = _declare("lexicon_explain", c_char_p, c_size_t, _TRIPLE, POINTER(SourcesStruct), _ERROR)
 settle = _declare("lexicon_settle", _TRIPLE)
+settle_lines = _declare("lexicon_settle_lines", c_char_p, c_size_t, c_void_p, c_size_t, _SIZE)
 comes_back = _declare("lexicon_comes_back", _TRIPLE, POINTER(c_bool))
 equal = _declare("lexicon_equal", _TRIPLE, _TRIPLE, POINTER(c_bool))
 same_target = _declare("lexicon_same_target", _TRIPLE, _TRIPLE, POINTER(c_bool))
@@ -175,6 +176,9 @@ _name = _declare("lexicon_name", c_uint32, c_uint32, result=c_char_p)
 LIBRARY_VERSION = _version().decode()
 if not LIBRARY_VERSION.startswith(f"{_CALLS_VERSION}."):
     raise ImportError(f"{LIBRARY_PATH} isn't liblexicon {_CALLS_VERSION}: its version is {LIBRARY_VERSION}")
+
+#: `LEXICON_MAX_GROWTH`: no canonical string is longer by more than its target.
+MAX_GROWTH = 22
 
 #: The size of the first buffer for a string, which has room for every printed triple without a long custom vendor.
 FIRST_SIZE = 128

@@ -352,16 +352,18 @@ class Triple:
     ) -> "Triple":
         """The triple with other values in the fields that are given.
 
-        The binary format stays, unless it is given; None is the one that the other fields imply. A new operating system
-        has no version, unless that is given. An environment is one value, so `MUSL` instead of `GNUEABIHF` loses the
-        hard floats; `MUSLEABIHF` keeps them.
+        A binary format that the fields imply becomes the one that the new ones imply; another one stays, unless it is
+        given. None is the implied one. A new operating system has no version, unless that is given. An environment is one
+        value, so `MUSL` instead of `GNUEABIHF` loses the hard floats; `MUSLEABIHF` keeps them.
 
         >>> linux = Triple("x86_64-unknown-linux-gnu")
         >>> linux.replace(environment=Environment.MUSL)
         Triple('x86_64-unknown-linux-musl')
-        >>> linux.replace(operating_system=OperatingSystem.WINDOWS, binary_format=None)
+        >>> linux.replace(operating_system=OperatingSystem.WINDOWS)
         Triple('x86_64-unknown-windows-gnu')
         """
+        if binary_format is _KEEP:
+            binary_format = None if self.binary_format is self.implied_format else self.binary_format
         if version is _KEEP:
             version = self.version if operating_system is _KEEP else None
         return Triple.from_fields(
@@ -369,7 +371,7 @@ class Triple:
             self.vendor if vendor is _KEEP else vendor,
             self.operating_system if operating_system is _KEEP else operating_system,
             self.environment if environment is _KEEP else environment,
-            self.binary_format if binary_format is _KEEP else binary_format,
+            binary_format,
             version,
         )
 
