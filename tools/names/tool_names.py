@@ -29,6 +29,10 @@ def constant(key):
     return "_".join(key).upper().replace(" ", "_")
 
 
+def names_that_are_read(tables):
+    return {name for (dialect, ways), rows in tables.items() if dialect in DIALECTS and ways in ("both ways", "only read") for name, _ in rows}
+
+
 def later(tables):
     """The rows of later parts, without a version after them and with one."""
     rows = tables["later", "only read"]

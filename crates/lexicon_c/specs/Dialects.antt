@@ -1,7 +1,8 @@
 -- Names of targets in other tools, where a dialect is a number.
 use Rattle.std.specs.Prelude.{◌≡◌, ℕ, List, [], ◌∷◌, length, Option, Some, None, Result, Ok, Err}
+use Rattle.lexicon_names.specs.Nearest.{IsNearestOf}
 use Rattle.target_lexicon.specs.Values.{Values}
-use Rattle.tool_names.specs.{Spelling.PartRefusal, Spelling.spelled_reading, ToolNames.Unread, ToolNames.IsUnknown, ToolNames.HasNoTriple, ToolNames.name_meaning}
+use Rattle.tool_names.specs.{Spelling.PartRefusal, Spelling.spelled_reading, ToolNames.Unread, ToolNames.IsUnknown, ToolNames.HasNoTriple, ToolNames.name_meaning, ToolNames.names_that_are_read}
 use Rattle.tool_names.specs.declared.dialect.Dialect.{Dialect}
 use Rattle.tool_names.specs.declared.dialect.Dialect.TheVariants.{Debian, Go, Oci, Node, Gnu}
 use Rattle.lexicon_c.specs.{Parsing.refusal_status, Triple.AreNumbersOf, declared.error.TextError.TextError, declared.triple.NumberedTriple.NumberedTriple}
@@ -45,3 +46,13 @@ abbrev pub reason_of : Result Values Unread → Option (List ℕ)
 reason_of (Err (HasNoTriple why)) = Some why
 reason_of (Err IsUnknown) = None
 reason_of (Ok t) = None
+
+-- the name is suggested if the meaning is that the dialect doesn't have the name; otherwise none is
+abbrev pub IsSuggestedFor : Result Values Unread → (Option (List ℕ) → Type 0) → Option (List ℕ) → Type 0
+IsSuggestedFor (Err IsUnknown) is_suggested found = is_suggested found
+IsSuggestedFor (Err (HasNoTriple why)) is_suggested found = found ≡ None
+IsSuggestedFor (Ok t) is_suggested found = found ≡ None
+
+-- what is suggested for a name: for an unknown one the nearest of the names that are read, if it may be a misspelling of that
+abbrev pub IsNameSuggestion : Dialect → List ℕ → Option (List ℕ) → Type 0
+IsNameSuggestion d name found = IsSuggestedFor (name_meaning d name) (IsNearestOf name (names_that_are_read d)) found

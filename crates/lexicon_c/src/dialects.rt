@@ -2,7 +2,7 @@
 ghost use Rattle.std.specs.Prelude.{◌≡◌, option_map, slice_get};
 ghost use Rattle.tool_names.specs.Spelling.{part_refusal, spelled_reading};
 ghost use Rattle.tool_names.specs.ToolNames.{name_meaning, triple_name, unread_of};
-ghost use Rattle.lexicon_c.specs.Dialects.{GivesTriple, dialect_reading, dialects_by_number, name_error, part_error, reason_of};
+ghost use Rattle.lexicon_c.specs.Dialects.{GivesTriple, IsNameSuggestion, dialect_reading, dialects_by_number, name_error, part_error, reason_of};
 ghost use Rattle.lexicon_c.specs.Triple.{Answers, OnTriple};
 
 use crate::error::{TextError, refusal_status};
@@ -64,6 +64,16 @@ pub fn reason(dialect: Dialect, name: &str) -> Option<&'static str>
 {
     match dialect.read(name) {
         Err(NameError::WithoutTriple(why)) => Some(why),
+        _ => None,
+    }
+}
+
+/// The name of a dialect that is suggested for an unknown one, if there is one.
+pub fn name_suggestion(dialect: Dialect, name: &str) -> Option<&'static str>
+    ensures { IsNameSuggestion dialect name.now (option_map (λ found. found.now) result) }
+{
+    match dialect.read(name) {
+        Err(NameError::Unknown) => dialect.suggestion(name),
         _ => None,
     }
 }

@@ -10,7 +10,7 @@ mod triple;
 mod triple_facts;
 
 pub use calls::{comes_back, equal, explain, facts, parse, print, same_target, settle};
-pub use dialects::{dialect_at, name_in, read, reason};
+pub use dialects::{dialect_at, name_in, name_suggestion, read, reason};
 pub use error::{TextError, refusal_with};
 pub use numbers::{name_at, number_in};
 pub use sources::{FieldSource, FieldSources};

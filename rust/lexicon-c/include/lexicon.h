@@ -506,6 +506,10 @@ enum lexicon_status lexicon_write(uint32_t dialect, const struct lexicon_triple 
 /* Why a name of a dialect has no triple, where lexicon_read gives LEXICON_NAME_WITHOUT_TRIPLE. Otherwise null. */
 const char *lexicon_reason(uint32_t dialect, const char *name, size_t name_size);
 
+/* The name of the dialect that may have been meant, where lexicon_read gives LEXICON_UNKNOWN_NAME: linux/amd64 for linux/amd46 in
+   LEXICON_DIALECT_GO. Null if there is none, and otherwise. Only names that are read are suggested. */
+const char *lexicon_name_suggestion(uint32_t dialect, const char *name, size_t name_size);
+
 /* Why a string is refused, from the string and the error that parsing or reading it gave, in one line:
 
        Unrecognized operating system: linx

@@ -373,6 +373,10 @@ class Triple {
       error->reason = reason;
       error->text += " " + error->reason;
     }
+    if (const char* name = lexicon_name_suggestion(dialect, text.data(), text.size())) {
+      error->suggestion = name;
+      error->text += " did you mean `" + error->suggestion + "`?";
+    }
     return std::nullopt;
   }
 

@@ -300,6 +300,13 @@ pub unsafe extern "C" fn lexicon_reason(dialect: u32, name: *const u8, name_size
 }
 
 #[no_mangle]
+pub unsafe extern "C" fn lexicon_name_suggestion(dialect: u32, name: *const u8, name_size: usize) -> *const u8 {
+    let dialect = dialect_at(dialect).flatten();
+    let name = unsafe { text_at(name, name_size) }.ok();
+    dialect.zip(name).and_then(|(dialect, name)| name_suggestion(dialect, name)).map_or(null(), c_name)
+}
+
+#[no_mangle]
 pub unsafe extern "C" fn lexicon_error_line(
     text: *const u8,
     text_size: usize,

@@ -358,7 +358,7 @@ static void try_names(void) {
   expect(strncmp(lexicon_version(), LEXICON_VERSION, strlen(LEXICON_VERSION)) == 0, "version", lexicon_version());
 }
 
-/* A dialect and a name; what the triple prints and its name there, or the status, the range, the line and the reason. */
+/* A dialect and a name; what the triple prints and its name there, or the status, the range, the line, the reason and the suggestion. */
 static const struct { uint32_t dialect; const char *name, *printed, *written; } read[] = {
     {LEXICON_DIALECT_NONE, "x86_64-w64-mingw32", "x86_64-pc-windows-gnu", NULL},
     {LEXICON_DIALECT_NONE, "amd64-unknown-freebsd13.2", "x86_64-unknown-freebsd", NULL},
@@ -371,17 +371,21 @@ static const struct { uint32_t dialect; const char *name, *printed, *written; } 
     {LEXICON_DIALECT_NODE, "darwin-arm64", "aarch64-apple-darwin", "darwin-arm64"},
 };
 
-static const struct { uint32_t dialect; const char *name; enum lexicon_status status; size_t start, end; const char *line, *reason; } unread[] = {
-    {LEXICON_DIALECT_NONE, "amd64-pc-linx", LEXICON_UNRECOGNIZED_OPERATING_SYSTEM, 9, 13, "Unrecognized operating system: linx", NULL},
-    {LEXICON_DIALECT_NONE, "linux/arm64", LEXICON_UNRECOGNIZED_ARCHITECTURE, 0, 11, "Unrecognized architecture: linux/arm64", NULL},
-    {LEXICON_DIALECT_NONE, "x86_64-\xff", LEXICON_NOT_UTF8, 7, 8, "Not UTF-8", NULL},
-    {LEXICON_DIALECT_GO, "\xff", LEXICON_NOT_UTF8, 0, 1, "Not UTF-8", NULL},
-    {LEXICON_DIALECT_GO, "", LEXICON_UNKNOWN_NAME, 0, 0, "Unknown name: ", NULL},
-    {LEXICON_DIALECT_GO, "amd64", LEXICON_UNKNOWN_NAME, 0, 5, "Unknown name: amd64", NULL},
+static const struct { uint32_t dialect; const char *name; enum lexicon_status status; size_t start, end; const char *line, *reason, *meant; } unread[] = {
+    {LEXICON_DIALECT_NONE, "amd64-pc-linx", LEXICON_UNRECOGNIZED_OPERATING_SYSTEM, 9, 13, "Unrecognized operating system: linx", NULL, NULL},
+    {LEXICON_DIALECT_NONE, "linux/arm64", LEXICON_UNRECOGNIZED_ARCHITECTURE, 0, 11, "Unrecognized architecture: linux/arm64", NULL, NULL},
+    {LEXICON_DIALECT_NONE, "x86_64-\xff", LEXICON_NOT_UTF8, 7, 8, "Not UTF-8", NULL, NULL},
+    {LEXICON_DIALECT_GO, "\xff", LEXICON_NOT_UTF8, 0, 1, "Not UTF-8", NULL, NULL},
+    {LEXICON_DIALECT_GO, "", LEXICON_UNKNOWN_NAME, 0, 0, "Unknown name: ", NULL, NULL},
+    {LEXICON_DIALECT_GO, "amd64", LEXICON_UNKNOWN_NAME, 0, 5, "Unknown name: amd64", NULL, NULL},
+    {LEXICON_DIALECT_GO, "linux/amd46", LEXICON_UNKNOWN_NAME, 0, 11, "Unknown name: linux/amd46", NULL, "linux/amd64"},
+    {LEXICON_DIALECT_DEBIAN, "amd46", LEXICON_UNKNOWN_NAME, 0, 5, "Unknown name: amd46", NULL, "amd64"},
+    {LEXICON_DIALECT_OCI, "linux/arm/v77", LEXICON_UNKNOWN_NAME, 0, 13, "Unknown name: linux/arm/v77", NULL, "linux/arm/v7"},
+    {LEXICON_DIALECT_GNU, "x86_64-linux-gnuu", LEXICON_UNKNOWN_NAME, 0, 17, "Unknown name: x86_64-linux-gnuu", NULL, NULL},
     {LEXICON_DIALECT_GO, "js/wasm", LEXICON_NAME_WITHOUT_TRIPLE, 0, 7, "No triple has this name: js/wasm",
-     "Go's pointers have 64 bits there, those of wasm32 32"},
+     "Go's pointers have 64 bits there, those of wasm32 32", NULL},
     {LEXICON_DIALECT_GNU, "x86_64-w64-mingw32", LEXICON_NAME_WITHOUT_TRIPLE, 0, 18, "No triple has this name: x86_64-w64-mingw32",
-     "names of cross compilers are only written"},
+     "names of cross compilers are only written", NULL},
 };
 
 static uint32_t dialect_of;
@@ -401,9 +405,10 @@ static void try_dialects(void) {
     dialect_of = read[i].dialect;
     if (read[i].written) try_text(write_name, &triple, read[i].written, false);
     expect(lexicon_reason(read[i].dialect, name, strlen(name)) == NULL, "no reason", name);
+    expect(lexicon_name_suggestion(read[i].dialect, name, strlen(name)) == NULL, "no suggestion", name);
   }
   for (size_t i = 0; i < sizeof unread / sizeof *unread; i++) {
-    const char *name = *unread[i].name ? unread[i].name : NULL, *reason;
+    const char *name = *unread[i].name ? unread[i].name : NULL, *reason, *meant;
     size_t size = strlen(unread[i].name);
     char whole[256];
     fill(&triple, sizeof triple);
@@ -416,6 +421,8 @@ static void try_dialects(void) {
     expect(strncmp(whole, unread[i].line, strlen(unread[i].line)) == 0 && strstr(whole, "\n  ") != NULL, "error text", whole);
     reason = lexicon_reason(unread[i].dialect, name, size);
     expect(unread[i].reason ? reason && strcmp(reason, unread[i].reason) == 0 : reason == NULL, "the reason", unread[i].name);
+    meant = lexicon_name_suggestion(unread[i].dialect, name, size);
+    expect(unread[i].meant ? meant && strcmp(meant, unread[i].meant) == 0 : meant == NULL, "the suggestion", unread[i].name);
   }
   char out[64];
   size_t length = 77;
@@ -423,6 +430,7 @@ static void try_dialects(void) {
   fill(out, sizeof out);
   expect(lexicon_read(6, "avr", 3, &triple, &error) == LEXICON_NO_SUCH_DIALECT && is_filled(&triple, sizeof triple), "no dialect", "6");
   expect(error.status == LEXICON_NO_SUCH_DIALECT && error.start == 0 && error.end == 0 && lexicon_reason(~0u, "avr", 3) == NULL, "no dialect", "6");
+  expect(lexicon_name_suggestion(6, "linux/amd46", 11) == NULL && lexicon_name_suggestion(~0u, "amd46", 5) == NULL, "no dialect", "6");
   expect(lexicon_error_line("avr", 3, &error, out, sizeof out, NULL) == LEXICON_NO_SUCH_VALUE, "no line", "6");
   triple = triple_of("x86_64-acme-linux-gnu"); /* the vendor doesn't matter */
   dialect_of = LEXICON_DIALECT_DEBIAN;

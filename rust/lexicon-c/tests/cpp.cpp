@@ -111,7 +111,9 @@ static void try_dialects() {
   EXPECT(arm && *arm == parsed("aarch64-linux") && arm->name_in(Dialect::Oci) == "linux/arm64" && arm->name_in(Dialect::Debian) == std::nullopt);
   EXPECT(Triple::read("x86_64-acme-linux")->vendor_name() == "acme" && !Triple::read("linux/arm64"));
   EXPECT(!Triple::read("amd64", Dialect::Go, &error) && error.status == LEXICON_UNKNOWN_NAME && error.part == "amd64" && !error.field());
-  EXPECT(shown(error) == "Unknown name: amd64\n  amd64\n  ^^^^^" && error.reason.empty());
+  EXPECT(shown(error) == "Unknown name: amd64\n  amd64\n  ^^^^^" && error.reason.empty() && error.suggestion.empty());
+  EXPECT(!Triple::read("linux/amd46", Dialect::Go, &error) && error.suggestion == "linux/amd64" && error.reason.empty());
+  EXPECT(shown(error) == "Unknown name: linux/amd46\n  linux/amd46\n  ^^^^^^^^^^^ did you mean `linux/amd64`?");
   EXPECT(!Triple::read("plan9/386", Dialect::Go, &error) && error.status == LEXICON_NAME_WITHOUT_TRIPLE);
   EXPECT(error.reason == "Plan 9 is no known name");
   EXPECT(shown(error) == "No triple has this name: plan9/386\n  plan9/386\n  ^^^^^^^^^ Plan 9 is no known name");

@@ -270,6 +270,12 @@ static void try_read(const char *text, size_t size, uint32_t parsed, const struc
     uint32_t status = lexicon_read(dialect, text, size, &triple, &error);
     CHECK((status == LEXICON_NO_SUCH_DIALECT) == (dialect > LEXICON_DIALECT_GNU));
     CHECK((lexicon_reason(dialect, text, size) != NULL) == (status == LEXICON_NAME_WITHOUT_TRIPLE));
+    const char *meant = lexicon_name_suggestion(dialect, text, size);
+    if (meant != NULL) {
+      struct lexicon_triple suggested;
+      struct lexicon_error none;
+      CHECK(status == LEXICON_UNKNOWN_NAME && lexicon_read(dialect, meant, strlen(meant), &suggested, &none) == LEXICON_OK);
+    }
     if (status == LEXICON_OK) {
       CHECK(is_unchanged(&error, sizeof error) && expected_status(&triple) == LEXICON_OK && has_zeros(&triple));
       bool is_custom = triple.vendor == LEXICON_VENDOR_CUSTOM;

@@ -54,6 +54,14 @@ pub fn reason(dialect: Dialect, name: &str) -> Option<&'static str> {
     }
 }
 
+/// The name of a dialect that is suggested for an unknown one, if there is one.
+pub fn name_suggestion(dialect: Dialect, name: &str) -> Option<&'static str> {
+    match dialect.read(name) {
+        Err(NameError::Unknown) => dialect.suggestion(name),
+        _ => None,
+    }
+}
+
 /// The refusal of a part of a string, as numbers.
 fn part_error(error: &ReadError<'_>) -> TextError {
     TextError {
