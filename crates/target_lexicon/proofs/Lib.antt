@@ -1,3 +1,4 @@
+-- Parsing: PartLemmas, RowLookUps, Vendors (the parts of a string and their values); NamesAcross (the names
 -- of one field, parsed as an earlier field); GreedyPlacement, RefusalLemmas, UniqueReading, ComputedReading (from
 -- parsing as a function to the least placement); SourceLemmas (the source of each field); ReadValues (facts about
 -- all parsed triples). Printing: PrintingLemmas, Upstream, Lengths (how much longer than the text). Round trips:

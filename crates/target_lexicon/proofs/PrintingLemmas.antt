@@ -45,15 +45,15 @@ system_part true prefix name s is = ap (λ (n : List ℕ). dash ∷ n) is
 system_part false prefix name s is = refl
 
 -- without a special text these pieces are the text
-pub text_of_pieces : (unknowns : Bool) (t : Values) (first vendor system version environment format v s e f : List ℕ) (w x y z : Bool) → None ≡ special_text t
+pub text_of_pieces : (last_three : Bool) (t : Values) (first vendor system version environment format v s e f : List ℕ) (w x y z : Bool) → None ≡ special_text t
     → first ≡ architecture_name t.architecture
     → vendor ≡ part_text w v → w ≡ shows_vendor t → v ≡ vendor_name t.vendor
-    → system ≡ part_text x s → version ≡ shown_version x t.operating_system → s ++ version_suffix (system_version t.operating_system) ≡ operating_system_name t.operating_system → x ≡ (unknowns || shows_operating_system t)
-    → environment ≡ part_text y e → y ≡ (unknowns || shows_environment t) → e ≡ environment_name t.environment
-    → format ≡ part_text z f → z ≡ (unknowns || shows_binary_format t) → f ≡ binary_format_name t.binary_format
-    → ((((first ++ vendor) ++ system) ++ version) ++ environment) ++ format ≡ text_with unknowns t
+    → system ≡ part_text x s → version ≡ shown_version x t.operating_system → s ++ version_suffix (system_version t.operating_system) ≡ operating_system_name t.operating_system → x ≡ (last_three || shows_operating_system t)
+    → environment ≡ part_text y e → y ≡ (last_three || shows_environment t) → e ≡ environment_name t.environment
+    → format ≡ part_text z f → z ≡ (last_three || shows_binary_format t) → f ≡ binary_format_name t.binary_format
+    → ((((first ++ vendor) ++ system) ++ version) ++ environment) ++ format ≡ text_with last_three t
 unfolding shown_names
-text_of_pieces unknowns t first vendor system version environment format v s e f w x y z none first_is vendor_is w_is v_is system_is version_is s_is x_is environment_is y_is e_is format_is z_is f_is =
+text_of_pieces last_three t first vendor system version environment format v s e f w x y z none first_is vendor_is w_is v_is system_is version_is s_is x_is environment_is y_is e_is format_is z_is f_is =
     rw (
       first_is,
       vendor_is,
@@ -73,8 +73,8 @@ text_of_pieces unknowns t first vendor system version environment format v s e f
       sym none,
     ) (five_parts _ _ _ _ _ _ _ _ _)
 
-pub special_pieces : (unknowns : Bool) (t : Values) (text : List ℕ) → Some text ≡ special_text t → text ≡ text_with unknowns t
-special_pieces unknowns t text special = rw (sym special) refl
+pub special_pieces : (last_three : Bool) (t : Values) (text : List ℕ) → Some text ≡ special_text t → text ≡ text_with last_three t
+special_pieces last_three t text special = rw (sym special) refl
 
 -- an environment other than these two is always shown
 

@@ -1,19 +1,19 @@
 -- The sources that fields take one after the other are the parts that the least placement assigns, and all are in the
 -- string.
-use Rattle.std.proofs.Common.{◌≡◌, ℕ, zero, suc, ◌+◌, ◌-◌, ◌<◌, ◌≤◌, List, [], ◌∷◌, ◌++◌, All, take, drop, length, map, true, false, nat_eq, Option, Some, None, Result, Ok, Err, refl, sym, ◌∙◌, ap, subst, append_assoc, arith, inl, inr}
+use Rattle.std.proofs.Common.{◌≡◌, ℕ, zero, suc, ◌+◌, ◌-◌, ◌<◌, ◌≤◌, List, [], ◌∷◌, ◌++◌, take, drop, length, true, false, nat_eq, Option, Some, None, refl, sym, ◌∙◌, ap, subst, append_assoc, arith, inl, inr}
 use Rattle.std.specs.Prelude.{is_some, slice_get, MatchOption}
 use Rattle.std.specs.List.{join_with_byte}
 use Rattle.std.proofs.{Math.Seq.take-append_seam, Math.Seq.drop-append_seam, Math.Seq.take-length, lemmas.Bool.cases_Bool, lemmas.List.append-nil, lemmas.List.length-append}
 use Rattle.lexicon_fields.specs.{declared.architecture.Architecture.Architecture as AnyArchitecture, Architecture.architecture_of, Vendor.vendor_of, OperatingSystem.operating_system_of, Environment.environment_of, BinaryFormat.binary_format_of}
 use Rattle.lexicon_fields.specs.Names.{dash}
 use Rattle.target_lexicon.specs.Field.{Field, Architecture, Vendor, OperatingSystem, Environment, BinaryFormat, field_number, parses_as}
-use Rattle.target_lexicon.specs.Explanation.{PlacedPart, part_from, placed_from, SourceValue, FromPart, NotGiven, Implied, SourceValues, source_values, same_sources, source_at, sources_at, whole_text_sources, AreSourcesOf, AreFieldsOf, IsRefusalAfter, IsRefusedAfter, IsInText, IsSourceInText, AreInText}
-use Rattle.target_lexicon.specs.RemainingParts.{texts_of, taken_source, parts_left, left_by_vendor, left_by_system, left_by_environment, sources_after_architecture, taken_sources, left_after_architecture, left_by_fields}
+use Rattle.target_lexicon.specs.Explanation.{PlacedPart, part_from, placed_from, SourceValue, FromPart, NotGiven, Implied, SourceValues, source_values, source_at, sources_at, whole_text_sources, AreSourcesOf, IsRefusalAfter, IsRefusedAfter, IsInText, IsSourceInText, AreInText}
+use Rattle.target_lexicon.specs.RemainingParts.{texts_of, taken_source, format_source, parts_left, left_by_vendor, left_by_system, left_by_environment, sources_after_architecture, taken_sources, left_after_architecture, left_by_fields}
 use Rattle.target_lexicon.specs.{Placement.ArePartsOf, Placement.IsLeastPlacement, Placement.HasPlacement, Placement.parts_of, SpecialTexts.special_values, Values.Values}
 use Rattle.target_lexicon.specs.Reading.{part_at, IsRefusal, IsRefusedAs, PartsReadAs, ReadsAs, expected_after, last_field}
 use Rattle.target_lexicon.specs.Refusal.{Refusal, refusal_with}
 use Rattle.target_lexicon.proofs.GreedyPlacement.{Follows, filled, unread, after_architecture, greedy-finds, greedy-least, placement_prefix}
-use Rattle.target_lexicon.proofs.{PartLemmas.parts_of-are, PartLemmas.parts_of-some, PartLemmas.parts-only, RefusalLemmas.stop, RefusalLemmas.get-at, RefusalLemmas.refused_first, RefusalLemmas.refused-at, UniqueReading.refusal_at, UniqueReading.refusal_unique}
+use Rattle.target_lexicon.proofs.{PartLemmas.parts_of-are, PartLemmas.parts_of-some, PartLemmas.parts-only, RefusalLemmas.stop, RefusalLemmas.refused_first, RefusalLemmas.refused-at, UniqueReading.refusal_at, UniqueReading.refusal_unique}
 
 -- a field has no part in a greedy placement of later fields
 absent : (f l : Field) (fs : List Field) (ps : List PlacedPart) → field_number f ≤ field_number l → Follows l fs → part_at f ps (filled fs (texts_of ps)) ≡ None
@@ -59,6 +59,20 @@ module _ {A : Type 0} (f : Field) (find : List ℕ → Option A) (is_read : (p :
         | inl takes ↦ let found : is_some (find p.text) ≡ true = sym (is_read p.text) ∙ takes in rw (takes, found) refl
         | inr skips ↦ let found : is_some (find p.text) ≡ false = sym (is_read p.text) ∙ skips in rw (skips, found) refl
       ]
+
+-- the source of the binary format, if no part is left after it, and if one is
+pub format_source-read : (ps : List PlacedPart) → parts_left binary_format_of ps ≡ [] → format_source ps ≡ taken_source Implied binary_format_of ps
+format_source-read [] none = refl
+format_source-read (p ∷ ps) none =
+    elim (cases_Bool (is_some (binary_format_of p.text))) [
+      | inl takes ↦ rw takes refl
+      | inr skips ↦ absurd (let left = rw skips at none in cc)
+    ]
+
+pub format_source-refused : (ps : List PlacedPart) (q : PlacedPart) (qs : List PlacedPart) → parts_left binary_format_of ps ≡ q ∷ qs
+    → format_source ps ≡ taken_source NotGiven binary_format_of ps
+format_source-refused [] q qs left = absurd cc
+format_source-refused (p ∷ ps) q qs left = refl
 
 unread-none : (ps : List (List ℕ)) → unread [] ps ≡ ps
 unread-none [] = refl

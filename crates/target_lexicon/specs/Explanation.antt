@@ -1,5 +1,5 @@
 -- Where the value of each field comes from: a part of the string, and its range there.
-use Rattle.std.specs.Prelude.{◌≡◌, ℕ, ◌+◌, ◌≤◌, List, [], ◌∷◌, length, take, Option, Some, None, MatchOption, slice_get}
+use Rattle.std.specs.Prelude.{◌≡◌, ℕ, ◌+◌, ◌≤◌, List, [], ◌∷◌, length, take, Some, MatchOption, slice_get}
 use Rattle.std.specs.{List.slice_range, Option.option_map_or}
 use Rattle.target_lexicon.specs.declared.explanation.{Source.Source, Sources.Sources, TextPart.TextPart}
 use Rattle.target_lexicon.specs.{Field.Field, Placement.ArePartsOf, Placement.IsLeastPlacement, Reading.part_at, Reading.IsRefusal, Refusal.Refusal, SpecialTexts.special_values}

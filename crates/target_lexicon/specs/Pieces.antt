@@ -1,7 +1,7 @@
 -- The text of pieces.
 use Rattle.std.specs.Prelude.{ℕ, List, ◌++◌}
 use Rattle.lexicon_fields.specs.OperatingSystem.{version_suffix}
-use Rattle.target_lexicon.specs.{declared.pieces.Pieces.Pieces, Private.piece_text}
+use Rattle.target_lexicon.specs.{declared.display.Pieces.Pieces, Private.piece_text}
 
 -- the first name and the other pieces, the version right after the system's name
 abbrev pub pieces_text : Pieces → List ℕ

@@ -97,11 +97,11 @@ cons_if false part parts = parts
 
 -- the names of the fields that are shown: by upstream's rules, or with the last three fields shown whatever these say
 unfoldable pub shown_names : Bool → Values → List (List ℕ)
-shown_names unknowns t =
+shown_names shows_last_three t =
     architecture_name t.architecture ∷ cons_if (shows_vendor t) (vendor_name t.vendor)
-    (cons_if (unknowns || shows_operating_system t) (operating_system_name t.operating_system)
-    (cons_if (unknowns || shows_environment t) (environment_name t.environment)
-    (cons_if (unknowns || shows_binary_format t) (binary_format_name t.binary_format) [])))
+    (cons_if (shows_last_three || shows_operating_system t) (operating_system_name t.operating_system)
+    (cons_if (shows_last_three || shows_environment t) (environment_name t.environment)
+    (cons_if (shows_last_three || shows_binary_format t) (binary_format_name t.binary_format) [])))
 
 -- the one addition to upstream's rules: an unknown environment and an unknown format are both shown if another format
 -- is implied, and the operating system with them, so that each of the last three names parses as its own field
@@ -110,7 +110,7 @@ shows_unknowns t = is_unknown_environment t.environment && is_same_format t.bina
 
 -- the special text of a triple, or else these names joined by dashes
 abbrev pub text_with : Bool → Values → List ℕ
-text_with unknowns t = unwrap_or (special_text t) (join_with_byte dash (shown_names unknowns t))
+text_with shows_last_three t = unwrap_or (special_text t) (join_with_byte dash (shown_names shows_last_three t))
 
 -- the printed text of a triple
 unfoldable pub text_of : Values → List ℕ

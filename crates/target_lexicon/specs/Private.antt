@@ -1,10 +1,9 @@
 -- Definitions for the contracts of private functions; no public contract cites them.
 use Rattle.std.specs.Prelude.{◌≡◌, ℕ, ◌∷◌, List, [], Bool, not, ◌&&◌, Option, Some, None, if◌then◌else◌}
-use Rattle.std.specs.Borrow.{Bor}
 use Rattle.lexicon_fields.specs.Names.{dash}
 use Rattle.lexicon_fields.specs.{Vendor.is_plain, OperatingSystem.version_suffix, OperatingSystem.system_version}
-use Rattle.target_lexicon.specs.{declared.explanation.TextPart.TextPart, Explanation.PlacedPart, Explanation.part_value, Explanation.part_from, Explanation.placed_from, declared.pieces.Piece.Piece, Values.OperatingSystem, Values.Values, Placement.parts_of}
-use Rattle.target_lexicon.specs.declared.pieces.Piece.TheVariants.{Hidden, Name}
+use Rattle.target_lexicon.specs.{declared.explanation.TextPart.TextPart, Explanation.PlacedPart, Explanation.part_value, Explanation.part_from, Explanation.placed_from, declared.display.Piece.Piece, Values.OperatingSystem, Values.Values, Placement.parts_of}
+use Rattle.target_lexicon.specs.declared.display.Piece.TheVariants.{Hidden, Name}
 use Rattle.target_lexicon.specs.NormalStep.{prints_as_special, hides_newlib, prints_the_esp_idf_text, shows_only_none}
 
 -- the part ends after its text

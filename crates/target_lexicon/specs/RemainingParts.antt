@@ -1,7 +1,7 @@
 -- What is left of a string while it is parsed, for the contracts of private functions, which no public contract cites.
 use Rattle.std.specs.Prelude.{ℕ, List, [], ◌∷◌, Option, Some, None, Result, Ok, Err, is_some, map, if◌then◌else◌}
 use Rattle.lexicon_fields.specs.{Architecture.architecture_of, Vendor.vendor_of, OperatingSystem.operating_system_of, Environment.environment_of, BinaryFormat.binary_format_of}
-use Rattle.target_lexicon.specs.{declared.part.Part.Part, declared.read.PartCursor.PartCursor, Private.parts_of_rest, GreedyReading.FieldReading, Values.Architecture}
+use Rattle.target_lexicon.specs.{declared.read.Part.Part, declared.read.PartCursor.PartCursor, Private.parts_of_rest, GreedyReading.FieldReading, Values.Architecture}
 use Rattle.target_lexicon.specs.{declared.explanation.Explanation.Explanation, declared.explanation.ExplainedError.ExplainedError, Refusal.Refusal, Values.Values, ValuesRef.refusal_of_ref, ValuesRef.values_of_ref}
 use Rattle.target_lexicon.specs.Explanation.{PlacedPart, part_value, SourceValue, FromPart, NotGiven, Implied, SourceValues, source_values, same_sources}
 
@@ -22,10 +22,10 @@ abbrev pub taken_source : {A : Type 0} → SourceValue → (List ℕ → Option 
 taken_source unfilled find [] = unfilled
 taken_source unfilled find (p ∷ ps) = if is_some (find p.text) then FromPart p else unfilled
 
--- the source of a binary format that is implied if no part gives it
-abbrev pub implied_if_not_given : SourceValue → SourceValue
-implied_if_not_given (FromPart p) = FromPart p
-implied_if_not_given _ = Implied
+-- the source of the binary format: it is implied if no part is left, and a part that isn't one will be refused
+abbrev pub format_source : List PlacedPart → SourceValue
+format_source [] = Implied
+format_source (p ∷ ps) = if is_some (binary_format_of p.text) then FromPart p else NotGiven
 
 -- the parts that the field leaves
 abbrev pub parts_left : {A : Type 0} → (List ℕ → Option A) → List PlacedPart → List PlacedPart

@@ -1,6 +1,6 @@
 //! The binary format that the other fields imply.
 ghost use Rattle.std.specs.Prelude.{◌≡◌};
-ghost use Rattle.target_lexicon.specs.ImpliedFormat.{default_binary_format, implied_format};
+ghost use Rattle.target_lexicon.specs.ImpliedFormat.{default_binary_format};
 ghost use Rattle.target_lexicon.specs.Values.{values_of};
 ghost use Rattle.target_lexicon.specs.ValuesRef.{values_of_ref};
 
@@ -18,69 +18,58 @@ pub fn default_binary_format(triple: &Triple) -> BinaryFormat
 
 impl TripleRef<'_> {
     /// The implied binary format, as [`default_binary_format`] says.
+    #[tactic(auto, unfolding(crate::specs::ImpliedFormat::implied_format))]
     pub fn default_binary_format(&self) -> BinaryFormat
         ensures { result ≡ default_binary_format (values_of_ref self.now) }
     {
-        implied_format(self.architecture, self.operating_system, self.environment)
-    }
-}
-
-/// The binary format that three fields imply.
-#[tactic(auto, unfolding(crate::specs::ImpliedFormat::implied_format))]
-pub(crate) fn implied_format(
-    architecture: Architecture,
-    operating_system: OperatingSystem,
-    environment: Environment,
-) -> BinaryFormat
-    ensures { result ≡ implied_format architecture operating_system environment }
-{
-    match operating_system {
-        OperatingSystem::None_ => match environment {
-            Environment::Eabi | Environment::Eabihf => BinaryFormat::Elf,
-            _ => BinaryFormat::Unknown,
-        },
-        OperatingSystem::Aix => BinaryFormat::Xcoff,
-        OperatingSystem::Darwin(_)
-        | OperatingSystem::IOS(_)
-        | OperatingSystem::MacOSX(_)
-        | OperatingSystem::TvOS(_)
-        | OperatingSystem::VisionOS(_)
-        | OperatingSystem::WatchOS(_)
-        | OperatingSystem::XROS(_) => BinaryFormat::Macho,
-        OperatingSystem::Windows => BinaryFormat::Coff,
-        OperatingSystem::Nebulet
-        | OperatingSystem::Emscripten
-        | OperatingSystem::VxWorks
-        | OperatingSystem::Wasi
-        | OperatingSystem::Unknown => match architecture {
-            Architecture::Wasm32 | Architecture::Wasm64 => BinaryFormat::Wasm,
-            Architecture::Unknown => BinaryFormat::Unknown,
-            _ => BinaryFormat::Elf,
-        },
-        OperatingSystem::AmdHsa
-        | OperatingSystem::Bitrig
-        | OperatingSystem::Cloudabi
-        | OperatingSystem::Cuda
-        | OperatingSystem::Cygwin
-        | OperatingSystem::Dragonfly
-        | OperatingSystem::Espidf
-        | OperatingSystem::Freebsd
-        | OperatingSystem::Fuchsia
-        | OperatingSystem::Haiku
-        | OperatingSystem::Hermit
-        | OperatingSystem::Horizon
-        | OperatingSystem::Hurd
-        | OperatingSystem::Illumos
-        | OperatingSystem::L4re
-        | OperatingSystem::Linux
-        | OperatingSystem::Netbsd
-        | OperatingSystem::Openbsd
-        | OperatingSystem::Psp
-        | OperatingSystem::Redox
-        | OperatingSystem::Solaris
-        | OperatingSystem::SolidAsp3
-        | OperatingSystem::Uefi
-        | OperatingSystem::WasiP1
-        | OperatingSystem::WasiP2 => BinaryFormat::Elf,
+        match self.operating_system {
+            OperatingSystem::None_ => match self.environment {
+                Environment::Eabi | Environment::Eabihf => BinaryFormat::Elf,
+                _ => BinaryFormat::Unknown,
+            },
+            OperatingSystem::Aix => BinaryFormat::Xcoff,
+            OperatingSystem::Darwin(_)
+            | OperatingSystem::IOS(_)
+            | OperatingSystem::MacOSX(_)
+            | OperatingSystem::TvOS(_)
+            | OperatingSystem::VisionOS(_)
+            | OperatingSystem::WatchOS(_)
+            | OperatingSystem::XROS(_) => BinaryFormat::Macho,
+            OperatingSystem::Windows => BinaryFormat::Coff,
+            OperatingSystem::Nebulet
+            | OperatingSystem::Emscripten
+            | OperatingSystem::VxWorks
+            | OperatingSystem::Wasi
+            | OperatingSystem::Unknown => match self.architecture {
+                Architecture::Wasm32 | Architecture::Wasm64 => BinaryFormat::Wasm,
+                Architecture::Unknown => BinaryFormat::Unknown,
+                _ => BinaryFormat::Elf,
+            },
+            OperatingSystem::AmdHsa
+            | OperatingSystem::Bitrig
+            | OperatingSystem::Cloudabi
+            | OperatingSystem::Cuda
+            | OperatingSystem::Cygwin
+            | OperatingSystem::Dragonfly
+            | OperatingSystem::Espidf
+            | OperatingSystem::Freebsd
+            | OperatingSystem::Fuchsia
+            | OperatingSystem::Haiku
+            | OperatingSystem::Hermit
+            | OperatingSystem::Horizon
+            | OperatingSystem::Hurd
+            | OperatingSystem::Illumos
+            | OperatingSystem::L4re
+            | OperatingSystem::Linux
+            | OperatingSystem::Netbsd
+            | OperatingSystem::Openbsd
+            | OperatingSystem::Psp
+            | OperatingSystem::Redox
+            | OperatingSystem::Solaris
+            | OperatingSystem::SolidAsp3
+            | OperatingSystem::Uefi
+            | OperatingSystem::WasiP1
+            | OperatingSystem::WasiP2 => BinaryFormat::Elf,
+        }
     }
 }

@@ -60,38 +60,6 @@ pub struct ExplainedError<'a> {
     pub sources: Sources<'a>,
 }
 
-impl<'a> TextPart<'a> {
-    ghost use Rattle.std.specs.Prelude.{◌≡◌};
-    ghost use Rattle.target_lexicon.specs.Explanation.{part_from, part_value};
-
-    /// The whole of a string.
-    pub(crate) fn whole(text: &'a str) -> TextPart<'a>
-        ensures { part_value result ≡ part_from 0 text.entry.now }
-    {
-        TextPart {
-            text,
-            start: 0,
-            end: text.len(),
-        }
-    }
-}
-
-impl<'a> Source<'a> {
-    ghost use Rattle.std.specs.Prelude.{◌≡◌};
-    ghost use Rattle.target_lexicon.specs.Explanation.{source_value};
-    ghost use Rattle.target_lexicon.specs.RemainingParts.{implied_if_not_given};
-
-    /// The source of the binary format of a string that parses.
-    pub(crate) fn or_implied(self) -> Source<'a>
-        ensures { source_value result ≡ implied_if_not_given (source_value self.entry) }
-    {
-        match self {
-            Source::NotGiven => Source::Implied,
-            given => given,
-        }
-    }
-}
-
 impl<'a> Sources<'a> {
     ghost use Rattle.std.specs.Prelude.{◌≡◌};
     ghost use Rattle.target_lexicon.specs.Explanation.{sources_of, same_sources};

@@ -1,13 +1,12 @@
 //! Target triples: parsing, printing, queries and canonical forms.
 //!
 //! The calls of [`Triple`] are in files by topic: `triple` (the type, `unknown`, `clone`), `host`, `read`
-//! (`from_str`), `display` (`Display`, `to_text`, and which fields are shown), `special` (the two special texts),
+//! (`from_str`), `display` (`Display`, `to_text`, and which fields are shown), `special` (the two special strings),
 //! `queries` (byte order, pointer width, calling convention, data model), `settle` (`comes_back`, `normal`,
 //! `settle`), `settles_as`, `json`. Most of them call the same of [`TripleRef`], a borrowed triple (`triple_ref`).
 //!
-//! To parse, `part` finds a part of a string and looks it up, `explanation` says which part gave each field,
-//! `default_format` has the implied format, and `parse_error_ref` the borrowed error. To print, `display` says what is
-//! shown, `pieces` holds it, and `put` writes it into a buffer.
+//! To parse, `read` finds each part of a string, looks it up, and gives it to a field. `explanation` has the types of what
+//! was found, `default_format` the implied format, and `parse_error_ref` the borrowed error.
 #![tactic(auto)]
 
 mod calling_convention;
@@ -24,9 +23,6 @@ mod list_error;
 mod macros;
 mod parse_error;
 mod parse_error_ref;
-mod part;
-mod pieces;
-mod put;
 mod queries;
 mod read;
 mod settle;

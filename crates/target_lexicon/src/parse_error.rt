@@ -1,11 +1,11 @@
-//! Why a text doesn't parse as a triple.
+//! Why a string doesn't parse as a triple.
 ghost use Rattle.std.specs.Prelude.{◌≡◌, Some, None, IfOk, IsOk};
 
 use std::alloc::{AllocError, Global};
 use std::error::Error;
 use std::fmt;
 
-/// Why a text doesn't parse as a triple: the first part that has no place, and the field that was expected there.
+/// Why a string doesn't parse as a triple: the first part that has no place, and the field that was expected there.
 #[derive(Debug, PartialEq, Eq, Drop)]
 pub enum ParseError {
     /// The first part is not an architecture.

@@ -1,17 +1,17 @@
-//! Why a text doesn't parse as a triple, with the refused part borrowed.
+//! Why a string doesn't parse as a triple, with the refused part borrowed.
 ghost use Rattle.std.specs.Prelude.{◌≡◌, ◌<◌, Some, IfOk, length, option_map};
 ghost use Rattle.target_lexicon.specs.Refusal.{refusal_of, refusal_line, refusal_prefix, refusal_with};
 ghost use Rattle.target_lexicon.specs.ValuesRef.{refusal_of_ref};
 ghost use Rattle.target_lexicon.specs.Written.{IsWritten};
 
+use crate::display::put;
 use crate::parse_error::ParseError;
-use crate::put::put;
 use lexicon_fields::Field;
 use std::alloc::{AllocError, Global};
 use std::fmt;
 
-/// Why a text doesn't parse as a triple: the first part that has no place, and the field that was expected there. The
-/// part is borrowed from the text, so that nothing is allocated; the kinds are those of [`ParseError`].
+/// Why a string doesn't parse as a triple: the first part that has no place, and the field that was expected there. The
+/// part is borrowed from the string, so that nothing is allocated; the kinds are those of [`ParseError`].
 #[derive(Clone, Copy, Debug, PartialEq, Eq, Hash)]
 pub enum ParseErrorRef<'a> {
     /// The first part is not an architecture.

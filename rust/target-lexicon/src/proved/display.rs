@@ -1,12 +1,12 @@
 // Erased from crates/target_lexicon/src/display.rt by tools/erase. Don't edit it here.
-//! The text of a triple. Functions are inlined if they return a wide value, or if that saves a hundredth of printing.
+//! Printing: what is shown of a triple, as pieces, and how these are written. Functions are inlined if they return a wide
+//! value, or if that saves a hundredth of printing.
 
-use crate::pieces::{version_if, Piece, Pieces};
 use crate::triple::Triple;
 use crate::triple_ref::TripleRef;
 use crate::{
-    Architecture, ArmArchitecture, BinaryFormat, Environment, KnownVendor, OperatingSystem,
-    VendorRef,
+    version_text, Architecture, ArmArchitecture, BinaryFormat, DeploymentTarget, Environment,
+    KnownVendor, OperatingSystem, VendorRef, MAX_VERSION_LENGTH,
 };
 use core::fmt;
 
@@ -81,13 +81,13 @@ impl<'a> TripleRef<'a> {
 
     /// The pieces by upstream's rules, or with the last three fields shown whatever these say.
     #[inline(always)]
-    fn pieces_with(&self, unknowns: bool) -> Pieces<'a> {
+    fn pieces_with(&self, shows_last_three: bool) -> Pieces<'a> {
         if let Some(text) = self.special_text() {
             return Pieces::of_special_text(text);
         }
-        let system = unknowns | self.shows_operating_system();
-        let environment = unknowns | self.shows_environment();
-        let binary_format = unknowns | self.shows_binary_format();
+        let system = shows_last_three | self.shows_operating_system();
+        let environment = shows_last_three | self.shows_environment();
+        let binary_format = shows_last_three | self.shows_binary_format();
         Pieces {
             first: self.architecture.name(),
             vendor: Piece::name_if(self.shows_vendor(), self.vendor.as_str()),
@@ -167,10 +167,13 @@ impl<'a> TripleRef<'a> {
         self.shows_implied_format() || self.binary_format != self.default_binary_format()
     }
 
-    /// Whether the binary format is shown even if it is the implied one.
+    /// Whether the binary format is shown even if it is the implied one: without a system a known one is, except on some
+    /// architectures and in some environments.
     fn shows_implied_format(&self) -> bool {
-        names_no_system(self.operating_system)
-            && !architecture_implies_format(self.architecture)
+        matches!(
+            self.operating_system,
+            OperatingSystem::None_ | OperatingSystem::Unknown
+        ) && !architecture_implies_format(self.architecture)
             && !matches!(
                 self.environment,
                 Environment::Eabi | Environment::Eabihf | Environment::Sgx
@@ -185,14 +188,6 @@ impl<'a> TripleRef<'a> {
             (Environment::Unknown, BinaryFormat::Unknown)
         ) && self.binary_format != self.default_binary_format()
     }
-}
-
-/// Whether the system is that of no operating system, or an unknown one.
-fn names_no_system(operating_system: OperatingSystem) -> bool {
-    matches!(
-        operating_system,
-        OperatingSystem::None_ | OperatingSystem::Unknown
-    )
 }
 
 /// Whether a triple of this architecture omits an implied format even without a system.
@@ -221,4 +216,161 @@ fn is_bare_arm(architecture: ArmArchitecture) -> bool {
             | ArmArchitecture::Thumbv8mBase
             | ArmArchitecture::Thumbv8mMain
     )
+}
+
+/// A dash and a name, or nothing.
+#[derive(Clone, Copy)]
+enum Piece<'a> {
+    Hidden,
+    Name(&'a str),
+}
+
+impl<'a> Piece<'a> {
+    /// The piece of a name, if it is shown.
+    fn name_if(is_shown: bool, name: &'a str) -> Piece<'a> {
+        if is_shown {
+            Piece::Name(name)
+        } else {
+            Piece::Hidden
+        }
+    }
+
+    /// The length of the text.
+    fn text_length(self) -> usize {
+        match self {
+            Piece::Hidden => 0,
+            Piece::Name(name) => 1 + name.len(),
+        }
+    }
+
+    /// Writes the text, as [`put`] writes a text.
+    fn put(self, out: &mut [u8], at: usize) -> usize {
+        match self {
+            Piece::Hidden => at,
+            Piece::Name(name) => {
+                let at = put(out, at, b"-");
+                put(out, at, name.as_bytes())
+            }
+        }
+    }
+}
+
+impl fmt::Display for Piece<'_> {
+    #[inline(always)]
+    fn fmt(&self, f: &mut fmt::Formatter<'_>) -> fmt::Result {
+        match *self {
+            Piece::Hidden => Ok(()),
+            Piece::Name(name) => {
+                f.write_str("-")?;
+                f.write_str(name)
+            }
+        }
+    }
+}
+
+/// What is shown of a triple: the name of the architecture, or the special text, and a piece for each of the other
+/// fields. The version of the operating system follows its name without a dash.
+#[derive(Clone, Copy)]
+struct Pieces<'a> {
+    first: &'static str,
+    vendor: Piece<'a>,
+    operating_system: Piece<'a>,
+    version: Option<DeploymentTarget>,
+    environment: Piece<'a>,
+    binary_format: Piece<'a>,
+}
+
+impl Pieces<'_> {
+    /// The pieces of a special text, of which it is the only one.
+    fn of_special_text(text: &'static str) -> Self {
+        Pieces {
+            first: text,
+            vendor: Piece::Hidden,
+            operating_system: Piece::Hidden,
+            version: None,
+            environment: Piece::Hidden,
+            binary_format: Piece::Hidden,
+        }
+    }
+
+    /// Writes the text at the front of the buffer if it fits there, and returns its length. If it doesn't fit, the
+    /// buffer is unchanged.
+    fn write_to(&self, out: &mut [u8]) -> usize {
+        let length = self.text_length();
+        if length <= out.len() {
+            self.put(out);
+        }
+        length
+    }
+
+    /// The length of the text.
+    fn text_length(&self) -> usize {
+        self.first.len()
+            + self.vendor.text_length()
+            + self.operating_system.text_length()
+            + self.version_length()
+            + self.environment.text_length()
+            + self.binary_format.text_length()
+    }
+
+    /// The length of the version's text.
+    fn version_length(&self) -> usize {
+        match self.version {
+            Some(version) => version_text(version, &mut [0; MAX_VERSION_LENGTH]).len(),
+            None => 0,
+        }
+    }
+
+    /// Writes the version's text, as [`put`] writes a text.
+    fn put_version(&self, out: &mut [u8], at: usize) -> usize {
+        match self.version {
+            Some(version) => put(
+                out,
+                at,
+                version_text(version, &mut [0; MAX_VERSION_LENGTH]).as_bytes(),
+            ),
+            None => at,
+        }
+    }
+
+    /// Writes the text at the front of a buffer that has room for it, and returns its end.
+    fn put(&self, out: &mut [u8]) -> usize {
+        let at = put(out, 0, self.first.as_bytes());
+        let at = self.vendor.put(out, at);
+        let at = self.operating_system.put(out, at);
+        let at = self.put_version(out, at);
+        let at = self.environment.put(out, at);
+        self.binary_format.put(out, at)
+    }
+}
+
+impl fmt::Display for Pieces<'_> {
+    #[inline(always)]
+    fn fmt(&self, f: &mut fmt::Formatter<'_>) -> fmt::Result {
+        f.write_str(self.first)?;
+        self.vendor.fmt(f)?;
+        self.operating_system.fmt(f)?;
+        if let Some(version) = self.version {
+            f.write_str(version_text(version, &mut [0; MAX_VERSION_LENGTH]))?;
+        }
+        self.environment.fmt(f)?;
+        self.binary_format.fmt(f)
+    }
+}
+
+/// The version of a system, if the system is shown and has one. By its type it is in range.
+#[inline(always)]
+fn version_if(is_shown: bool, system: OperatingSystem) -> Option<DeploymentTarget> {
+    if is_shown {
+        system.version()
+    } else {
+        None
+    }
+}
+
+/// Writes a text after what ends at `at`, into a buffer that has room for it. Returns the end of both.
+pub(crate) fn put(out: &mut [u8], at: usize, text: &[u8]) -> usize {
+    let end = at + text.len();
+    out[at..end].copy_from_slice(text);
+    end
 }

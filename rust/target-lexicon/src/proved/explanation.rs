@@ -110,27 +110,6 @@ pub struct ExplainedError<'a> {
     pub sources: Sources<'a>,
 }
 
-impl<'a> TextPart<'a> {
-    /// The whole of a string.
-    pub(crate) fn whole(text: &'a str) -> TextPart<'a> {
-        TextPart {
-            text,
-            start: 0,
-            end: text.len(),
-        }
-    }
-}
-
-impl<'a> Source<'a> {
-    /// The source of the binary format of a string that parses.
-    pub(crate) fn or_implied(self) -> Source<'a> {
-        match self {
-            Source::NotGiven => Source::Implied,
-            given => given,
-        }
-    }
-}
-
 impl<'a> Sources<'a> {
     /// The same source for each field.
     pub(crate) fn all(source: Source<'a>) -> Sources<'a> {

@@ -1,13 +1,13 @@
 // Erased from crates/target_lexicon/src/parse_error_ref.rt by tools/erase. Don't edit it here.
-//! Why a text doesn't parse as a triple, with the refused part borrowed.
+//! Why a string doesn't parse as a triple, with the refused part borrowed.
 
+use crate::display::put;
 use crate::parse_error::ParseError;
-use crate::put::put;
 use crate::Field;
 use core::fmt;
 
-/// Why a text doesn't parse as a triple: the first part that has no place, and the field that was expected there. The
-/// part is borrowed from the text, so that nothing is allocated; the kinds are those of [`ParseError`].
+/// Why a string doesn't parse as a triple: the first part that has no place, and the field that was expected there. The
+/// part is borrowed from the string, so that nothing is allocated; the kinds are those of [`ParseError`].
 ///
 /// # Examples
 ///

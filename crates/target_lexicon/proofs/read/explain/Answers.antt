@@ -38,8 +38,8 @@ ordinary-explained text (Err it) ordinary given =
 
 pub returns : goal.returns
 returns c =
-    let parts = c.explanation_of_parts.ensures in
-    let given = subst (λ parts. IsGivenBy parts c.explanation_of_parts.result) (c.first_of.ensures ∙ ap (λ (whole : PlacedPart). placed_from whole.start (parts_of whole.text)) c.whole-2.ensures)
+    let parts = c.explanation.ensures in
+    let given = subst (λ parts. IsGivenBy parts c.explanation.result) c.first_of.ensures
     (record { outcome = parts.outcome; sources = parts.sources; refused_sources = parts.refused_sources; part = parts.part }) in
-    let is = ordinary-explained c.args.text.now c.explanation_of_parts.result (sym c.in_default.ensures) given in
+    let is = ordinary-explained c.args.text.now c.explanation.result (sym c.in_default.ensures) given in
     record { triple = is.triple; sources = is.sources; ranges = is.ranges; error = is.error; refused = is.refused; refused_ranges = is.refused_ranges }

@@ -1,6 +1,7 @@
 use Rattle.std.proofs.Common.{◌||◌, ap, length, arith}
 use Rattle.std.proofs.lemmas.List.{length-append}
 use Rattle.lexicon_fields.specs.OperatingSystem.{version_suffix, system_version}
+use Rattle.lexicon_fields.proofs.NameLengths.{architectures_are_short, operating_systems_are_short, environments_are_short, binary_formats_are_short}
 use Rattle.target_lexicon.specs.ValuesRef.{values_of_ref}
 use Rattle.target_lexicon.proofs.PrintingLemmas.{text_of_pieces}
 use Rattle.target_lexicon.proofs.triple_ref.TripleRef.pieces_with.Goals as goal
@@ -8,7 +9,6 @@ use Rattle.target_lexicon.proofs.triple_ref.TripleRef.pieces_with.Goals as goal
 pub invariant_of-result : goal.invariant_of-result
 invariant_of-result c =
     let triple = c.args.self.now in
-    let short = c.names_are_short.ensures in
     record {
       fits = omega (
         arith,
@@ -17,17 +17,17 @@ invariant_of-result c =
         length-append c.prefix.result.now (version_suffix (system_version triple.operating_system)),
         ap length c.name-2.ensures,
         ap length c.name-3.ensures,
-        short.architecture triple.architecture,
-        short.operating_system triple.operating_system c.versions_are_in_range.ensures,
-        short.environment triple.environment,
-        short.binary_format triple.binary_format,
+        architectures_are_short triple.architecture,
+        operating_systems_are_short triple.operating_system c.version_if.ensures.range,
+        environments_are_short triple.environment,
+        binary_formats_are_short triple.binary_format,
       );
     }
 
 pub returns : goal.returns
 returns c =
-    text_of_pieces c.args.unknowns (values_of_ref c.args.self.now) _ _ _ _ _ _ _ _ _ _ _ _ _ _ c.in_default.ensures.text c.name.ensures
+    text_of_pieces c.args.shows_last_three (values_of_ref c.args.self.now) _ _ _ _ _ _ _ _ _ _ _ _ _ _ c.in_default.ensures.text c.name.ensures
     c.name_if.ensures.text c.shows_vendor.ensures c.as_str.ensures
-    c.name_if-2.ensures.text c.version_if.ensures.text c.prefix.ensures (ap (λ b. c.args.unknowns || b) c.shows_operating_system.ensures)
-    c.name_if-3.ensures.text (ap (λ b. c.args.unknowns || b) c.shows_environment.ensures) c.name-2.ensures
-    c.name_if-4.ensures.text (ap (λ b. c.args.unknowns || b) c.shows_binary_format.ensures) c.name-3.ensures
+    c.name_if-2.ensures.text c.version_if.ensures.text c.prefix.ensures (ap (λ b. c.args.shows_last_three || b) c.shows_operating_system.ensures)
+    c.name_if-3.ensures.text (ap (λ b. c.args.shows_last_three || b) c.shows_environment.ensures) c.name-2.ensures
+    c.name_if-4.ensures.text (ap (λ b. c.args.shows_last_three || b) c.shows_binary_format.ensures) c.name-3.ensures

@@ -4,7 +4,7 @@ use Rattle.std.proofs.lemmas.Str.{IsCharBoundary-after_ascii}
 use Rattle.target_lexicon.specs.Explanation.{placed_from}
 use Rattle.target_lexicon.specs.Placement.{parts_of}
 use Rattle.target_lexicon.proofs.PartLemmas.{parts_of-cut-at, parts_of-whole}
-use Rattle.target_lexicon.proofs.part.split_at_dash.Goals as goal
+use Rattle.target_lexicon.proofs.read.split_at_dash.Goals as goal
 
 pub range_from-requires : goal.range_from-requires
 range_from-requires c _ =

@@ -2,8 +2,8 @@ use Rattle.std.proofs.Common.{rules}
 use Rattle.std.proofs.Output.{has_written_styled_append, has_written_styled_nil, has_written_styled_of_eq}
 use Rattle.std.specs.Fmt.{HasWrittenStyled}
 use Rattle.lexicon_fields.specs.OperatingSystem.{version_suffix}
-use Rattle.target_lexicon.proofs.pieces.PiecesDisplay.fmt.Goals as goal
-use Rattle.target_lexicon.proofs.pieces.PiecesDisplay.fmt.Goals.{in-Some+in_ok-write_str-2, in_default}
+use Rattle.target_lexicon.proofs.display.PiecesDisplay.fmt.Goals as goal
+use Rattle.target_lexicon.proofs.display.PiecesDisplay.fmt.Goals.{in-Some+in_ok-write_str-2, in_default}
 
 pub returns-clause-styled : goal.returns-clause-styled
 returns-clause-styled g c = λ flush ok.

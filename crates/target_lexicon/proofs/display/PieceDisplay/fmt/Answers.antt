@@ -1,6 +1,6 @@
 use Rattle.std.proofs.Common.{rules}
 use Rattle.std.proofs.Output.{has_written_styled_append}
-use Rattle.target_lexicon.proofs.pieces.PieceDisplay.fmt.Goals as goal
+use Rattle.target_lexicon.proofs.display.PieceDisplay.fmt.Goals as goal
 
 pub returns-in_ok-write_str-in-Name-clause-styled : goal.returns-in_ok-write_str-in-Name-clause-styled
 returns-in_ok-write_str-in-Name-clause-styled g c = λ flush ok.

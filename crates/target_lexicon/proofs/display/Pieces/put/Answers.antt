@@ -1,5 +1,5 @@
 use Rattle.lexicon_fields.proofs.Puts.{puts_first, puts_then}
-use Rattle.target_lexicon.proofs.pieces.Pieces.put.Goals as goal
+use Rattle.target_lexicon.proofs.display.Pieces.put.Goals as goal
 
 pub returns : goal.returns
 returns c =
