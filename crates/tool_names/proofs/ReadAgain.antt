@@ -129,6 +129,10 @@ read-sound text t h = by_special (special_values text) (special-holds IsSound te
     by_special (Some u) sound h = let same : u ≡ t = cc in subst IsSound same sound
     by_special None sound h = by_result (reading_of_parts (name_texts (spelled_names (parts_of text)))) refl h
 
+-- its vendor is plain
+pub read-plain : (text : List ℕ) (t : Values) → spelled_reading text ≡ Ok t → is_plain t.vendor ≡ true
+read-plain text t h = (read-sound text t h).plain.vendor
+
 -- the normal step keeps this
 step-custom : (t : Values) → CustomStays t → CustomStays (normal_step t)
 step-custom t custom = step_cases CustomStays t (λ _. custom) (λ _. custom) (λ _ text is. absurd cc) (λ _. custom) (λ _. custom)

@@ -5,9 +5,9 @@ use Rattle.std.specs.List.{join_with_byte}
 use Rattle.lexicon_fields.specs.{Architecture.architecture_of, Names.dash, Vendor.is_custom}
 use Rattle.lexicon_fields.proofs.LookUpLemmas.{value_named-all}
 use Rattle.target_lexicon.proofs.{ComputedReading.reading_computed, PartLemmas.parts_of-are}
-use Rattle.target_lexicon.specs.{Field.Architecture, GreedyReading.reading, GreedyReading.reading_of_parts, GreedyReading.reading_unless_special as port_reading, Placement.ArePartsOf, Placement.parts_of, Reading.PartsReadAs, Reading.ReadsAs, Refusal.Refusal, Refusal.refusal_with, SpecialTexts.esp_idf, SpecialTexts.esp_idf_text, SpecialTexts.nintendo_3ds, SpecialTexts.nintendo_3ds_text, SpecialTexts.special_values}
+use Rattle.target_lexicon.specs.{Explanation.PlacedPart, Field.Architecture, GreedyReading.reading, GreedyReading.reading_of_parts, GreedyReading.reading_unless_special as port_reading, Placement.ArePartsOf, Placement.parts_of, Reading.PartsReadAs, Reading.ReadsAs, Refusal.refusal_with, SpecialTexts.esp_idf, SpecialTexts.esp_idf_text, SpecialTexts.nintendo_3ds, SpecialTexts.nintendo_3ds_text, SpecialTexts.special_values}
 use Rattle.target_lexicon.specs.Values.{Values}
-use Rattle.tool_names.specs.Spelling.{KnownNamesAreReadAsBefore, SpelledName, PartRefusal, located, reading_of_names, reading_unless_special, refusal_at, spelled_names, spelled_reading, unread_names}
+use Rattle.tool_names.specs.Spelling.{KnownNamesAreReadAsBefore, SpelledName, first_at_end, located, reading_of_names, reading_unless_special, refusal_at, spelled_names, spelled_reading, unread_names}
 use Rattle.tool_names.proofs.SpelledNames.{CustomStays, names-stay}
 
 -- a special text has a known vendor
@@ -46,13 +46,13 @@ pub no_architecture : (text name : List ℕ) (from : List (List ℕ)) (names : L
     → reading_of_names text (record { name = name; from = from } ∷ names) ≡ Err (refusal_at text (refusal_with (Some Architecture) name) from)
 no_architecture text name from names none = rw none refl
 
--- a refusal at the part with which the end of a text begins
-pub refusal_at-is : (text from part : List ℕ) (others : List (List ℕ)) (r x : Refusal) (start end : ℕ) → parts_of from ≡ part ∷ others
-    → x ≡ refusal_with r.expected part → start ≡ length text - length from → end ≡ start + length part
-    → (let found : PartRefusal = record { refusal = x; start = start; end = end } in found ≡ refusal_at text r (parts_of from))
-refusal_at-is text from part others r x start end are is starts ends =
+-- the part with which the end of a text begins
+pub first_at_end-is : (text from part : List ℕ) (others : List (List ℕ)) (start end : ℕ) → parts_of from ≡ part ∷ others
+    → start ≡ length text - length from → end ≡ start + length part
+    → (let found : PlacedPart = record { text = part; start = start; end = end } in found ≡ first_at_end text (parts_of from))
+first_at_end-is text from part others start end are starts ends =
     let joined : join_with_byte dash (part ∷ others) ≡ from = ap (join_with_byte dash) (sym are) ∙ (parts_of-are from).joined in
-    rw (are, joined, is, ends, starts) refl
+    rw (are, joined, ends, starts) refl
 
 -- a text that isn't special is read by its names
 pub ordinary-is : (text : List ℕ) → special_values text ≡ None → spelled_reading text ≡ reading_of_names text (spelled_names (parts_of text))

@@ -1,3 +1,4 @@
+pub mod Changes
 pub mod Dialects
 pub mod ObjectFormat
 pub mod Laws

@@ -1,12 +1,12 @@
 -- Strings that are spelled like triples, as the tools of GNU and LLVM print them: some parts are other spellings of
 -- known names. Each such part gives way to these names, which are parsed as ever.
-use Rattle.std.specs.Prelude.{◌≡◌, ℕ, Bool, true, false, ◌||◌, ◌&&◌, ◌-◌, ◌+◌, List, [], ◌∷◌, ◌++◌, codes, length, map, Option, Some, None, is_none, is_some, not, option_map, option_and_then, unwrap_or, Result, Ok, Err, if◌then◌else◌, ◌==◌}
+use Rattle.std.specs.Prelude.{◌≡◌, ℕ, Bool, true, false, ◌||◌, ◌&&◌, ◌-◌, List, [], ◌∷◌, ◌++◌, codes, length, map, Option, Some, None, is_none, is_some, not, option_map, option_and_then, unwrap_or, Result, Ok, Err, if◌then◌else◌, ◌==◌}
 use Rattle.std.specs.Char.{is_ascii_digit}
 use Rattle.std.specs.List.{list_all, join_with_byte}
 use Rattle.std.specs.Option.{option_or, option_map_or}
 use Rattle.std.specs.Str.{bytes_eq}
 use Rattle.lexicon_fields.specs.{Architecture.architecture_of, BinaryFormat.binary_format_of, Environment.environment_of, FixedRow.has_row, Names.Pair, Names.dash, Names.value_named, OperatingSystem.operating_system_of, OperatingSystem.text_after_prefix, Vendor.is_custom, Vendor.vendor_of, Version.dot, Version.version_of}
-use Rattle.target_lexicon.specs.{FixedPoints.canonical_text, FixedPoints.settled_values, GreedyReading.reading_of_parts, Placement.parts_of, Printing.text_of, Reading.ReadsAs, Refusal.Refusal, Refusal.refusal_with, SpecialTexts.special_values, Values.Values, ValuesRef.refusal_of_ref, ValuesRef.values_of_ref, declared.triple_ref.TripleRef.TripleRef}
+use Rattle.target_lexicon.specs.{Explanation.IsInText, Explanation.PlacedPart, Explanation.part_from, Field.Field, FixedPoints.canonical_text, FixedPoints.settled_values, GreedyReading.reading_of_parts, Placement.parts_of, Printing.text_of, Reading.ReadsAs, Refusal.Refusal, Refusal.refusal_with, SpecialTexts.special_values, Values.Values, ValuesRef.refusal_of_ref, ValuesRef.values_of_ref, declared.triple_ref.TripleRef.TripleRef}
 use Rattle.tool_names.specs.declared.reading.ReadError.{ReadError}
 
 -- other spellings of architectures, for the first part
@@ -131,6 +131,26 @@ is_unstated part (next ∷ others) = bytes_eq part (codes "none") && bytes_eq ne
 abbrev pub second_spelling : List ℕ → List (List ℕ) → List (List ℕ)
 second_spelling part others = if is_unstated part others then codes "unknown" ∷ [] else later_spelling part
 
+-- the names that a part of a string spells, and the parts of the string from that one on
+pub record SpelledPart : Type 0 where
+  pub names : List (List ℕ)
+  pub from : List (List ℕ)
+
+-- what these parts spell, none of which is the first or second part of the string
+abbrev pub later_parts : List (List ℕ) → List SpelledPart
+later_parts [] = []
+later_parts (part ∷ others) = record { names = later_spelling part; from = part ∷ others } ∷ later_parts others
+
+-- what the parts after the first spell
+abbrev pub other_parts : List (List ℕ) → List SpelledPart
+other_parts [] = []
+other_parts (part ∷ others) = record { names = second_spelling part others; from = part ∷ others } ∷ later_parts others
+
+-- what the parts of a string spell
+abbrev pub spelled_parts : List (List ℕ) → List SpelledPart
+spelled_parts [] = []
+spelled_parts (part ∷ others) = record { names = first_spelling part ∷ []; from = part ∷ others } ∷ other_parts others
+
 -- a name to be read, and the parts of the string from the one on that spells it
 pub record SpelledName : Type 0 where
   pub name : List ℕ
@@ -139,20 +159,19 @@ pub record SpelledName : Type 0 where
 abbrev pub spelled_by : List (List ℕ) → List (List ℕ) → List SpelledName
 spelled_by from names = map (λ name. record { name = name; from = from }) names
 
--- the names that these parts spell, none of which is the first or second part of the string
+-- the names of these parts, one after the other
+abbrev pub names_of : List SpelledPart → List SpelledName
+names_of [] = []
+names_of (it ∷ others) = spelled_by it.from it.names ++ names_of others
+
 abbrev pub later_names : List (List ℕ) → List SpelledName
-later_names [] = []
-later_names (part ∷ others) = spelled_by (part ∷ others) (later_spelling part) ++ later_names others
+later_names parts = names_of (later_parts parts)
 
--- the names that the parts after the first spell
 abbrev pub names_after_first : List (List ℕ) → List SpelledName
-names_after_first [] = []
-names_after_first (part ∷ others) = spelled_by (part ∷ others) (second_spelling part others) ++ later_names others
+names_after_first parts = names_of (other_parts parts)
 
--- the names that the parts of a string spell
 abbrev pub spelled_names : List (List ℕ) → List SpelledName
-spelled_names [] = []
-spelled_names (part ∷ others) = record { name = first_spelling part; from = part ∷ others } ∷ names_after_first others
+spelled_names parts = names_of (spelled_parts parts)
 
 abbrev pub name_texts : List SpelledName → List (List ℕ)
 name_texts names = map (λ (it : SpelledName). it.name) names
@@ -185,12 +204,22 @@ abbrev pub read_outcome : Result TripleRef ReadError → Result Values PartRefus
 read_outcome (Ok triple) = Ok (values_of_ref triple)
 read_outcome (Err error) = Err (part_refusal error)
 
--- the refusal of the first of these parts, which end with the string
+-- the first of these parts, which end the string, and its range there
+abbrev pub first_at_end : List ℕ → List (List ℕ) → PlacedPart
+first_at_end text [] = part_from (length text) []
+first_at_end text (part ∷ others) = part_from (length text - length (join_with_byte dash (part ∷ others))) part
+
+-- the refusal of a part
+abbrev pub refusal_of_part : Option Field → PlacedPart → PartRefusal
+refusal_of_part expected part = record { refusal = refusal_with expected part.text; start = part.start; end = part.end }
+
+-- the refused part and its range
+abbrev pub refused_part : PartRefusal → PlacedPart
+refused_part it = record { text = it.refusal.part; start = it.start; end = it.end }
+
+-- the refusal of the first of these parts, which end the string
 abbrev pub refusal_at : List ℕ → Refusal → List (List ℕ) → PartRefusal
-refusal_at text refusal [] = record { refusal = refusal; start = length text; end = length text }
-refusal_at text refusal (part ∷ others) =
-    let start = length text - length (join_with_byte dash (part ∷ others)) in
-    record { refusal = refusal_with refusal.expected part; start = start; end = start + length part }
+refusal_at text refusal from = refusal_of_part refusal.expected (first_at_end text from)
 
 abbrev pub refusal_of_first : List ℕ → Refusal → List SpelledName → PartRefusal
 refusal_of_first text refusal [] = refusal_at text refusal []
@@ -216,6 +245,10 @@ spelled_reading text = reading_unless_special (special_values text) text
 -- a string that parses without a custom vendor is read as it parses
 abbrev pub KnownNamesAreReadAsBefore : Type 0
 KnownNamesAreReadAsBefore = (text : List ℕ) (t : Values) → ReadsAs text t → is_custom t.vendor ≡ false → spelled_reading text ≡ Ok t
+
+-- the range of a refusal holds the refused part
+abbrev pub RefusedPartsAreInTheString : Type 0
+RefusedPartsAreInTheString = (text : List ℕ) (it : PartRefusal) → spelled_reading text ≡ Err it → IsInText text (refused_part it)
 
 -- no part that is listed is a known name, also with a version after it
 pub record ListedPartsAreUnknown : Type 0 where

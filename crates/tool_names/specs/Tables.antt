@@ -266,9 +266,9 @@ oci_only_read =
 unfoldable pub oci_without_a_triple : List (Pair (List ℕ))
 -- written by tools/names/write: oci_without_a_triple
 oci_without_a_triple =
-    (codes "linux/amd64/v2", codes "a level of x86-64 is no known name") ∷
-    (codes "linux/amd64/v3", codes "a level of x86-64 is no known name") ∷
-    (codes "linux/amd64/v4", codes "a level of x86-64 is no known name") ∷
+    (codes "linux/amd64/v2", codes "a triple can't state a level of x86-64") ∷
+    (codes "linux/amd64/v3", codes "a triple can't state a level of x86-64") ∷
+    (codes "linux/amd64/v4", codes "a triple can't state a level of x86-64") ∷
     (codes "linux/arm64/v9", codes "a version of the 64-bit Arm is no known name") ∷
     (codes "unknown/unknown", codes "no machine") ∷
     (codes "wasi/wasm", codes "the width is not stated") ∷

@@ -1,7 +1,8 @@
 //! Laws of the definitions. Each function's contract is a law; a call does nothing.
+ghost use Rattle.tool_names.specs.Changes.{ChangedPartsAreInTheString, KnownNamesStay, UnchangedStringsAreReadAsTheyParse};
 ghost use Rattle.tool_names.specs.Laws.{NamesAreCanonical, NamesKeepAnswers, NamesMeanTheShape, NamesReadBack, NamesWithoutTripleAreRefused, ShapesAreFixed};
 ghost use Rattle.tool_names.specs.ObjectFormat.{GivenFormatsAreKept};
-ghost use Rattle.tool_names.specs.Spelling.{KnownNamesAreReadAsBefore, ListedPartsAreUnknown, OnceIsEnough, ReadingAgainIsTheSame};
+ghost use Rattle.tool_names.specs.Spelling.{KnownNamesAreReadAsBefore, ListedPartsAreUnknown, OnceIsEnough, ReadingAgainIsTheSame, RefusedPartsAreInTheString};
 
 use target_lexicon::laws::{read_triples_are_plain, round_is_normal_step};
 
@@ -9,6 +10,30 @@ use target_lexicon::laws::{read_triples_are_plain, round_is_normal_step};
 #[tactic(auto, using(crate::proofs::SpelledReading::known_read_as_before))]
 pub fn known_names_are_read_as_before()
     ensures { KnownNamesAreReadAsBefore }
+{}
+
+/// The bytes of a string in the range of its refusal are the refused part.
+#[tactic(auto, using(crate::proofs::PlacedParts::refused_in_string))]
+pub fn refused_parts_are_in_the_string()
+    ensures { RefusedPartsAreInTheString }
+{}
+
+/// The bytes of a string in the range of a change are the changed part.
+#[tactic(auto, using(crate::proofs::PlacedParts::changed_in_string))]
+pub fn changed_parts_are_in_the_string()
+    ensures { ChangedPartsAreInTheString }
+{}
+
+/// A string that parses without a custom vendor has no changes.
+#[tactic(auto, using(crate::proofs::ChangeLemmas::known_names_stay))]
+pub fn known_names_stay()
+    ensures { KnownNamesStay }
+{}
+
+/// A string without changes is read as it parses.
+#[tactic(auto, using(crate::proofs::ChangeLemmas::unchanged_read))]
+pub fn unchanged_strings_are_read_as_they_parse()
+    ensures { UnchangedStringsAreReadAsTheyParse }
 {}
 
 /// No part that is listed as another spelling is a known name.

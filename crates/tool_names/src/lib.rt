@@ -2,6 +2,7 @@
 //! toolchains write.
 #![tactic(auto)]
 
+mod change;
 mod dialect;
 mod formats;
 pub mod laws;
@@ -14,8 +15,10 @@ mod spelling;
 mod suggestions;
 mod tables;
 
+pub use change::{Change, ChangedParts, changes};
 pub use dialect::Dialect;
 pub use formats::object_format;
 pub use names::{Name, NameError};
 pub use reading::{ReadError, read};
+pub use spelling::Spelling;
 pub use suggestions::suggestion;

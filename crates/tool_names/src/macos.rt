@@ -6,7 +6,7 @@ ghost use Rattle.tool_names.specs.Spelling.{macos_version};
 use target_lexicon::DeploymentTarget;
 
 /// A version of macOS.
-#[derive(Clone, Copy)]
+#[derive(Clone, Copy, Debug, PartialEq, Eq)]
 pub(crate) struct MacOsVersion<'a> {
     pub text: &'a str,
     pub version: DeploymentTarget,

@@ -11,8 +11,9 @@ ghost use Rattle.target_lexicon.specs.Field as field;
 ghost use Rattle.target_lexicon.specs.Placement.{parts_of};
 ghost use Rattle.target_lexicon.specs.Values.operating_system;
 ghost use Rattle.target_lexicon.specs.Values.environment;
-ghost use Rattle.tool_names.specs.Private.{field_reading_of, left_names, parts_after};
-ghost use Rattle.tool_names.specs.Spelling.{is_unstated, later_names, name_texts, names_after_first, names_left, spelled_by};
+ghost use Rattle.tool_names.specs.Changes.{parts_after};
+ghost use Rattle.tool_names.specs.Private.{field_reading_of, left_names};
+ghost use Rattle.tool_names.specs.Spelling.{later_names, name_texts, names_after_first, names_left, spelled_by};
 
 use crate::spelling::{Name, Spelling, first_part};
 use target_lexicon::{BinaryFormat, Environment, Field, KnownVendor, OperatingSystem, VendorRef};
@@ -54,11 +55,7 @@ impl<'a> Left<'a> {
         ensures { left_names (Some result) ≡ names_after_first (parts_of text.entry.now) }
     {
         let (part, rest) = first_part(text);
-        let spelling = if is_unstated(part, rest) {
-            Spelling::of("unknown")
-        } else {
-            Spelling::of_later(part)
-        };
+        let spelling = Spelling::of_second(part, rest);
         Left {
             from: text,
             name: spelling.first,
@@ -88,19 +85,6 @@ impl<'a> Left<'a> {
                 None => None,
             },
         }
-    }
-}
-
-/// Whether a second part states no vendor: it is empty, or `none` before the system `linux`.
-fn is_unstated(part: &str, rest: Option<&str>) -> bool
-    ensures { result ≡ is_unstated part.now (parts_after rest.entry) }
-{
-    if part.is_empty() {
-        return true;
-    }
-    match rest {
-        Some(rest) => part == "none" && first_part(rest).0 == "linux",
-        None => false,
     }
 }
 

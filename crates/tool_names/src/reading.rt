@@ -1,14 +1,12 @@
 //! Reading a string that is spelled like a triple.
-ghost use Rattle.std.specs.Prelude.{◌≡◌, ℕ, List, None};
+ghost use Rattle.std.specs.Prelude.{◌≡◌};
 ghost use Rattle.target_lexicon.specs.Placement.{parts_of};
-ghost use Rattle.target_lexicon.specs.Refusal.{refusal_with};
+ghost use Rattle.target_lexicon.specs.Reading.{expected_after};
 ghost use Rattle.target_lexicon.specs.SpecialTexts.{special_values};
-ghost use Rattle.target_lexicon.specs.ValuesRef.{refusal_of_ref};
-ghost use Rattle.tool_names.specs.Private.{expected_next};
-ghost use Rattle.tool_names.specs.Spelling.{part_refusal, read_outcome, reading_of_names, refusal_at, spelled_names, spelled_reading};
+ghost use Rattle.tool_names.specs.Spelling.{part_refusal, read_outcome, first_at_end, reading_of_names, refusal_of_part, spelled_names, spelled_reading};
 
 use crate::names_left::{Left, NameCursor};
-use crate::spelling::{first_part, first_spelling};
+use crate::spelling::{first_at_end, first_part, first_spelling};
 use target_lexicon::{Architecture, BinaryFormat, Field, ParseErrorRef, TripleRef};
 
 /// Why a string that is spelled like a triple is refused, and where.
@@ -55,7 +53,7 @@ fn read_names(text: &str) -> Result<TripleRef<'_>, ReadError<'_>>
 {
     let (part, rest) = first_part(text);
     let Ok(architecture) = Architecture::from_str(first_spelling(part)) else {
-        return Err(error_at(text, text, None));
+        return Err(error_at(text, text, Some(Field::Architecture)));
     };
     let left = match rest {
         Some(rest) => Some(Left::of_second(rest)),
@@ -70,7 +68,7 @@ fn read_names(text: &str) -> Result<TripleRef<'_>, ReadError<'_>>
     let environment = cursor.take_environment();
     let binary_format = cursor.take_binary_format();
     if let Some(left) = cursor.left {
-        return Err(error_at(text, left.from, Some(cursor.last)));
+        return Err(error_at(text, left.from, expected_after(cursor.last)));
     }
     let triple = TripleRef {
         architecture,
@@ -88,32 +86,28 @@ fn read_names(text: &str) -> Result<TripleRef<'_>, ReadError<'_>>
     })
 }
 
-/// The error at the part with which the end of the string begins, after a field.
-fn error_at<'a>(text: &'a str, from: &'a str, last: Option<Field>) -> ReadError<'a>
-    ensures { (name : List ℕ) →
-        part_refusal result
-        ≡ refusal_at text.entry.now (refusal_with (expected_next last) name)
-        (parts_of from.entry.now) }
+/// The field that is expected after this one is filled, if any is left.
+fn expected_after(last: Field) -> Option<Field>
+    ensures { result ≡ expected_after last }
 {
-    let part = first_part(from).0;
-    let start = text.len().saturating_sub(from.len());
-    ReadError {
-        error: refusal(part, last),
-        start,
-        end: start + part.len(),
+    match last {
+        Field::Architecture => Some(Field::Vendor),
+        Field::Vendor => Some(Field::OperatingSystem),
+        Field::OperatingSystem => Some(Field::Environment),
+        Field::Environment => Some(Field::BinaryFormat),
+        Field::BinaryFormat => None,
     }
 }
 
-/// The refusal of a part after a field.
-fn refusal(part: &str, last: Option<Field>) -> ParseErrorRef<'_>
-    ensures { refusal_of_ref result ≡ refusal_with (expected_next last) part.entry.now }
+/// The error at the first part of the end of a string, where this field was expected.
+fn error_at<'a>(text: &str, end: &'a str, expected: Option<Field>) -> ReadError<'a>
+    ensures { part_refusal result
+        ≡ refusal_of_part expected (first_at_end text.now (parts_of end.entry.now)) }
 {
-    match last {
-        None => ParseErrorRef::UnrecognizedArchitecture(part),
-        Some(Field::Architecture) => ParseErrorRef::UnrecognizedVendor(part),
-        Some(Field::Vendor) => ParseErrorRef::UnrecognizedOperatingSystem(part),
-        Some(Field::OperatingSystem) => ParseErrorRef::UnrecognizedEnvironment(part),
-        Some(Field::Environment) => ParseErrorRef::UnrecognizedBinaryFormat(part),
-        Some(Field::BinaryFormat) => ParseErrorRef::UnrecognizedField(part),
+    let part = first_at_end(text, end);
+    ReadError {
+        error: ParseErrorRef::new(expected, part.text),
+        start: part.start,
+        end: part.end,
     }
 }

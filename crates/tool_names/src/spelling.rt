@@ -7,13 +7,17 @@ ghost use Rattle.lexicon_fields.specs.Names.{value_named};
 ghost use Rattle.lexicon_fields.specs.OperatingSystem.{operating_system_of};
 ghost use Rattle.lexicon_fields.specs.Vendor.{vendor_of};
 ghost use Rattle.lexicon_fields.specs.VendorRef.{ref_value};
+ghost use Rattle.std.specs.Str.{bytes_eq};
+ghost use Rattle.target_lexicon.specs.Explanation.{part_value};
 ghost use Rattle.target_lexicon.specs.Placement.{parts_of};
-ghost use Rattle.tool_names.specs.Private.{name_text, parts_after, parts_table, spelling_names, table_of};
-ghost use Rattle.tool_names.specs.Spelling.{first_spelling, first_spellings, has_dropped_version, is_digit_or_dot, is_dropped_version, is_known_name, later_spelling, later_spellings, listed_spelling, versioned_spelling, versioned_spellings};
+ghost use Rattle.tool_names.specs.Changes.{is_only, name_text, parts_after, spelling_names, spelling_text};
+ghost use Rattle.tool_names.specs.Private.{parts_table, table_of};
+ghost use Rattle.tool_names.specs.Spelling.{first_at_end, first_spelling, first_spellings, has_dropped_version, is_digit_or_dot, is_dropped_version, is_known_name, is_unstated, later_spelling, later_spellings, listed_spelling, second_spelling, versioned_spelling, versioned_spellings};
 
 use crate::macos::{MacOsVersion, macos_version};
+use std::fmt;
 use target_lexicon::{
-    Architecture, BinaryFormat, Environment, OperatingSystem, Steps, VendorRef, fixed_row,
+    Architecture, BinaryFormat, Environment, OperatingSystem, Steps, TextPart, VendorRef, fixed_row,
 };
 
 /// A part of a string, and what follows its dash, if it has one.
@@ -23,6 +27,19 @@ pub(crate) fn first_part(text: &str) -> (&str, Option<&str>)
     match text.split_once('-') {
         Some((part, rest)) => (part, Some(rest)),
         None => (text, None),
+    }
+}
+
+/// The first part of the end of a string, and its range in the string.
+pub(crate) fn first_at_end<'a>(text: &str, end: &'a str) -> TextPart<'a>
+    ensures { part_value result ≡ first_at_end text.now (parts_of end.entry.now) }
+{
+    let part = first_part(end).0;
+    let start = text.len().saturating_sub(end.len());
+    TextPart {
+        text: part,
+        start,
+        end: start + part.len(),
     }
 }
 
@@ -69,7 +86,7 @@ pub(crate) fn first_spelling(part: &str) -> &str
 }
 
 /// A name that is read.
-#[derive(Clone, Copy)]
+#[derive(Clone, Copy, Debug, PartialEq, Eq)]
 pub(crate) enum Name<'a> {
     /// A part of the string, or a name that a part spells.
     Text(&'a str),
@@ -77,11 +94,12 @@ pub(crate) enum Name<'a> {
     MacOs(MacOsVersion<'a>),
 }
 
-/// The first name that a part spells, and the others, with dashes between them.
-#[derive(Clone, Copy)]
-pub(crate) struct Spelling<'a> {
-    pub first: Name<'a>,
-    pub others: Option<&'static str>,
+/// The names that a part of a string spells: one or two, written with a dash between them.
+#[derive(Clone, Copy, Debug, PartialEq, Eq)]
+pub struct Spelling<'a> {
+    pub(crate) first: Name<'a>,
+    /// The others, with dashes between them.
+    pub(crate) others: Option<&'static str>,
 }
 
 impl<'a> Name<'a> {
@@ -125,6 +143,52 @@ impl<'a> Name<'a> {
             Name::MacOs(_) => None,
         }
     }
+
+    /// Whether the name is this part.
+    fn is(&self, part: &str) -> bool
+        ensures { result ≡ bytes_eq (name_text self.now) part.now }
+    {
+        match *self {
+            Name::Text(name) => name == part,
+            Name::MacOs(version) => match part.strip_prefix("macosx") {
+                Some(rest) => version.text == rest,
+                None => false,
+            },
+        }
+    }
+}
+
+impl fmt::Display for Name<'_> {
+    ghost output = { λ it. Some (name_text it) };
+
+    ghost styled_output = { λ it _. Some (name_text it) };
+
+    fn fmt<W: fmt::Write>(&self, f: &mut fmt::Formatter<W>) -> fmt::Result {
+        match *self {
+            Name::Text(name) => f.write_str(name),
+            Name::MacOs(version) => {
+                f.write_str("macosx")?;
+                f.write_str(version.text)
+            }
+        }
+    }
+}
+
+impl fmt::Display for Spelling<'_> {
+    ghost output = { λ it. Some (spelling_text it) };
+
+    ghost styled_output = { λ it _. Some (spelling_text it) };
+
+    fn fmt<W: fmt::Write>(&self, f: &mut fmt::Formatter<W>) -> fmt::Result {
+        self.first.fmt(f)?;
+        match self.others {
+            Some(names) => {
+                f.write_str("-")?;
+                f.write_str(names)
+            }
+            None => Ok(()),
+        }
+    }
 }
 
 impl<'a> Spelling<'a> {
@@ -146,6 +210,27 @@ impl<'a> Spelling<'a> {
         Spelling {
             first: Name::Text(first),
             others,
+        }
+    }
+
+    /// The names that a second part spells, with this after its dash.
+    pub(crate) fn of_second(part: &'a str, rest: Option<&str>) -> Spelling<'a>
+        ensures { spelling_names result ≡ second_spelling part.entry.now (parts_after rest.entry) }
+    {
+        if is_unstated(part, rest) {
+            Spelling::of("unknown")
+        } else {
+            Spelling::of_later(part)
+        }
+    }
+
+    /// Whether a part spells only itself.
+    pub(crate) fn is_only(&self, part: &str) -> bool
+        ensures { result ≡ is_only part.now (spelling_names self.now) }
+    {
+        match self.others {
+            Some(_) => false,
+            None => self.first.is(part),
         }
     }
 
@@ -181,6 +266,19 @@ impl<'a> Spelling<'a> {
             Some(names) => Some(Spelling::of_row(names)),
             None => None,
         }
+    }
+}
+
+/// Whether a second part states no vendor: it is empty, or `none` before the system `linux`.
+fn is_unstated(part: &str, rest: Option<&str>) -> bool
+    ensures { result ≡ is_unstated part.now (parts_after rest.entry) }
+{
+    if part.is_empty() {
+        return true;
+    }
+    match rest {
+        Some(rest) => part == "none" && first_part(rest).0 == "linux",
+        None => false,
     }
 }
 

@@ -68,7 +68,7 @@ static REASONS: &[&str] = &[
     "Go's pointers have 64 bits there, those of wasm32 32\0",
     "Node builds none any more\0",
     "Plan 9 is no known name\0",
-    "a level of x86-64 is no known name\0",
+    "a triple can't state a level of x86-64\0",
     "a version of the 64-bit Arm is no known name\0",
     "its ABI n32, with 32-bit pointers, is no known name\0",
     "its architecture is no known name\0",

@@ -3,7 +3,7 @@ use crate::arguments::{DIALECTS, FIELDS};
 use crate::input::{Place, Target};
 use crate::json::{Json, Object};
 use std::io::{self, Write};
-use target_lexicon::tool_names::{self, object_format, read, Dialect};
+use target_lexicon::tool_names::{self, changes, object_format, read, Change, Dialect};
 use target_lexicon::{
     default_binary_format, Architecture, CDataModel, Explanation, Field, Size, Source, TripleRef,
     VendorRef,
@@ -129,6 +129,31 @@ pub fn write_explained(
 pub fn meaning_elsewhere(text: &str) -> Option<String> {
     let triple = read(text).ok()?;
     (!triple.vendor.is_custom()).then(|| canonical(triple).to_string())
+}
+
+/// A line for each part of a string that is read as other names.
+pub fn write_changes(out: &mut dyn Write, text: &str) -> io::Result<()> {
+    for change in changes(text) {
+        match change.part.text {
+            "" => write!(out, "  the empty part")?,
+            part => write!(out, "  `{part}`")?,
+        }
+        writeln!(out, " is read as `{}`", change.names)?;
+    }
+    Ok(())
+}
+
+/// The parts of a string that are read as other names.
+pub fn changed_parts(text: &str) -> Json {
+    let members = |change: Change<'_>| {
+        vec![
+            ("part", change.part.text.into()),
+            ("start", change.part.start.into()),
+            ("end", change.part.end.into()),
+            ("read_as", change.names.to_string().into()),
+        ]
+    };
+    Json::List(changes(text).map(members).map(Json::Object).collect())
 }
 
 pub fn explained(explanation: &Explanation<'_>) -> Object {

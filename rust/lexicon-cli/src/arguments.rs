@@ -116,7 +116,11 @@ pub fn command() -> Command {
                  Examples:\n  $ lexicon read --from oci linux/arm/v7\n  $ lexicon read \"$(cc -dumpmachine)\"",
             )
             .mut_arg("target", |names| names.value_name("NAME"))
-            .arg(dialect("from", &DIALECTS[..4], "The tool whose names are read")),
+            .arg(dialect("from", &DIALECTS[..4], "The tool whose names are read"))
+            .arg(
+                flag("changes", "Show which parts of a name are read as others, such as amd64 as x86_64")
+                    .conflicts_with("from"),
+            ),
             of_targets(
                 "write",
                 "Write the name that another tool has for each target",

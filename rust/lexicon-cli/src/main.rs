@@ -15,7 +15,7 @@ use clap::error::{ContextKind, ContextValue, ErrorKind};
 use clap::ArgMatches;
 use clap_complete::Shell;
 use input::{each_target, Answers, Place, Target};
-use json::Object;
+use json::{Json, Object};
 use matrix::Matrix;
 use output::Outputs;
 use refusal::Refusal;
@@ -67,6 +67,7 @@ struct Run {
     is_strict: bool,
     skips_comments: bool,
     ignores_vendor: bool,
+    shows_changes: bool,
     has_json: bool,
     matrix: Matrix,
     outputs: Outputs,
@@ -83,12 +84,12 @@ impl Answers for Run {
             }
             Ok(_) if self.call == Call::Check => Ok(()),
             Ok(found) if self.has_json => {
-                let members = self.members(&found);
+                let members = self.members(target.text, &found);
                 self.outputs
                     .object([answers::head(target), members].concat())
             }
             Ok(found) => {
-                let call = self.call;
+                let (call, shows_changes) = (self.call, self.shows_changes);
                 self.outputs.write(|out| match found {
                     Found::Parsed(explanation) => match call {
                         Call::Explain => answers::write_explained(out, target, &explanation),
@@ -104,7 +105,13 @@ impl Answers for Run {
                         ),
                         _ => writeln!(out, "{}", answers::canonical(explanation.triple)),
                     },
-                    Found::Read(triple) => writeln!(out, "{}", answers::canonical(triple)),
+                    Found::Read(triple) => {
+                        writeln!(out, "{}", answers::canonical(triple))?;
+                        match shows_changes {
+                            true => answers::write_changes(out, target.text),
+                            false => Ok(()),
+                        }
+                    }
                     Found::Name(name) => writeln!(out, "{name}"),
                 })
             }
@@ -142,7 +149,7 @@ impl Run {
     }
 
     /// The members of the object for what was found.
-    fn members(&self, found: &Found<'_>) -> Object {
+    fn members(&self, text: &str, found: &Found<'_>) -> Object {
         let canonical = |triple| vec![("canonical", answers::canonical(triple).to_string().into())];
         match found {
             Found::Parsed(explanation) => match self.call {
@@ -151,7 +158,13 @@ impl Run {
                 Call::Elsewhere => answers::elsewhere(&explanation.triple),
                 _ => canonical(explanation.triple),
             },
-            Found::Read(triple) => canonical(*triple),
+            Found::Read(triple) => {
+                let changes = match self.call {
+                    Call::Read(None) => answers::changed_parts(text),
+                    _ => Json::Null,
+                };
+                [canonical(*triple), vec![("changes", changes)]].concat()
+            }
             Found::Name(name) => vec![("name", (*name).into())],
         }
     }
@@ -162,6 +175,7 @@ impl Run {
             is_strict: arguments.get_flag("strict"),
             skips_comments: arguments.get_flag("comments"),
             ignores_vendor: call == Call::Matrix && arguments.get_flag("ignore-vendor"),
+            shows_changes: matches!(call, Call::Read(_)) && arguments.get_flag("changes"),
             has_json: arguments.get_flag("json") || arguments.get_flag("json-lines"),
             matrix: Matrix::default(),
             outputs: Outputs::new(arguments),
@@ -179,6 +193,9 @@ impl Run {
             return Some(format!(
                 "other tools mean `{meant}`, which `lexicon read` gives"
             ));
+        }
+        if let (Call::Read(None), Some(note)) = (self.call, refusal::dialects_note(text)) {
+            return Some(note);
         }
         match target.place {
             Place::Argument(_) => (!text.is_empty() && Path::new(text).is_file()).then(|| {

@@ -1,5 +1,5 @@
 //! Why a target is refused.
-use crate::arguments::FIELDS;
+use crate::arguments::{DIALECTS, FIELDS};
 use crate::input::{Place, Target};
 use crate::json::{Json, Object};
 use std::io::{self, Write};
@@ -52,6 +52,23 @@ pub fn read(text: &str, dialect: Option<Dialect>) -> Result<TripleRef<'_>, Refus
                 Refusal::of_all(format!("no triple means the same ({why}):"), text)
             }
         }),
+    }
+}
+
+/// How a name is read that isn't spelled like a triple, if it is one of another tool.
+pub fn dialects_note(name: &str) -> Option<String> {
+    let options: Vec<_> = DIALECTS
+        .into_iter()
+        .filter(|dialect| !matches!(dialect.read(name), Err(NameError::Unknown)))
+        .map(|dialect| format!("`--from {dialect}`"))
+        .collect();
+    match (options.is_empty(), name.contains('/')) {
+        (false, _) => Some(format!(
+            "it is a name of another tool: use {}",
+            options.join(" or ")
+        )),
+        (true, true) => Some("a name of another tool needs `--from`".into()),
+        (true, false) => None,
     }
 }
 

@@ -305,6 +305,44 @@ fn names_of_other_tools_are_read_and_written() {
     assert!(answers(&["check", "amd64-linux"])
         .1
         .contains("\n  ^^^^^ did you mean `x86_64`?\n"));
+    // What was changed is shown on request, and always in JSON.
+    assert_eq!(
+        read(&["--changes", "amd64--freebsd13.2", "x86_64-linux-gnu"]).0,
+        "x86_64-unknown-freebsd\n  `amd64` is read as `x86_64`\n  the empty part is read as `unknown`\n  \
+         `freebsd13.2` is read as `freebsd`\nx86_64-unknown-linux-gnu\n"
+    );
+    assert_eq!(
+        json_of(&["read", "--json", "x86_64-mingw32", "x86_64-linux"])
+            .as_array()
+            .unwrap()
+            .iter()
+            .map(|it| it["changes"].clone())
+            .collect::<Vec<_>>(),
+        [
+            json!([{"part": "mingw32", "start": 7, "end": 14, "read_as": "windows-gnu"}]),
+            json!([])
+        ]
+    );
+    assert_eq!(
+        json_of(&["read", "--from", "oci", "--json", "linux/arm"])[0]["changes"],
+        json!(null)
+    );
+    assert_eq!(read(&["--from", "oci", "--changes", "linux/arm"]).2, 2);
+    // A name of a tool that wasn't named is refused, with the dialects that have it.
+    for (name, expected) in [
+        (
+            "linux/arm64",
+            "note: it is a name of another tool: use `--from go` or `--from oci`",
+        ),
+        (
+            "linux/foo",
+            "note: a name of another tool needs `--from`",
+        ),
+        ("armhf", "note: it is a name of another tool: use `--from debian`"),
+        ("foo", "^^^"),
+    ] {
+        assert_eq!(note(&["read", name]), expected);
+    }
     // The part that is shown is the user's.
     let refused = json_of(&["read", "--json", "amd64-pc-foo"]);
     assert_eq!(

@@ -4,7 +4,7 @@
 use crate::DeploymentTarget;
 
 /// A version of macOS.
-#[derive(Clone, Copy)]
+#[derive(Clone, Copy, Debug, PartialEq, Eq)]
 pub(crate) struct MacOsVersion<'a> {
     pub text: &'a str,
     pub version: DeploymentTarget,

@@ -3,6 +3,8 @@
 //! toolchains write.
 
 #[cfg(feature = "tool_names")]
+pub(crate) mod change;
+#[cfg(feature = "tool_names")]
 pub(crate) mod dialect;
 #[cfg(feature = "tool_names")]
 pub(crate) mod formats;
@@ -21,6 +23,8 @@ pub(crate) mod suggestions;
 pub(crate) mod tables;
 
 #[cfg(feature = "tool_names")]
+pub use change::{changes, Change, ChangedParts};
+#[cfg(feature = "tool_names")]
 pub use dialect::Dialect;
 #[cfg(feature = "tool_names")]
 pub use formats::object_format;
@@ -28,4 +32,5 @@ pub use formats::object_format;
 pub use names::{Name, NameError};
 #[cfg(feature = "tool_names")]
 pub use reading::{read, ReadError};
+pub use spelling::Spelling;
 pub use suggestions::suggestion;

@@ -37,11 +37,7 @@ impl<'a> Left<'a> {
     /// The names from the second part on.
     pub(crate) fn of_second(text: &'a str) -> Left<'a> {
         let (part, rest) = first_part(text);
-        let spelling = if is_unstated(part, rest) {
-            Spelling::of("unknown")
-        } else {
-            Spelling::of_later(part)
-        };
+        let spelling = Spelling::of_second(part, rest);
         Left {
             from: text,
             name: spelling.first,
@@ -67,17 +63,6 @@ impl<'a> Left<'a> {
                 None => None,
             },
         }
-    }
-}
-
-/// Whether a second part states no vendor: it is empty, or `none` before the system `linux`.
-fn is_unstated(part: &str, rest: Option<&str>) -> bool {
-    if part.is_empty() {
-        return true;
-    }
-    match rest {
-        Some(rest) => part == "none" && first_part(rest).0 == "linux",
-        None => false,
     }
 }
 

@@ -2,7 +2,7 @@
 //! Reading a string that is spelled like a triple.
 
 use crate::tool_names::names_left::{Left, NameCursor};
-use crate::tool_names::spelling::{first_part, first_spelling};
+use crate::tool_names::spelling::{first_at_end, first_part, first_spelling};
 use crate::{Architecture, BinaryFormat, Field, ParseErrorRef, TripleRef};
 
 /// Why a string that is spelled like a triple is refused, and where.
@@ -63,7 +63,7 @@ pub fn read(text: &str) -> Result<TripleRef<'_>, ReadError<'_>> {
 fn read_names(text: &str) -> Result<TripleRef<'_>, ReadError<'_>> {
     let (part, rest) = first_part(text);
     let Ok(architecture) = Architecture::from_str(first_spelling(part)) else {
-        return Err(error_at(text, text, None));
+        return Err(error_at(text, text, Some(Field::Architecture)));
     };
     let left = match rest {
         Some(rest) => Some(Left::of_second(rest)),
@@ -78,7 +78,7 @@ fn read_names(text: &str) -> Result<TripleRef<'_>, ReadError<'_>> {
     let environment = cursor.take_environment();
     let binary_format = cursor.take_binary_format();
     if let Some(left) = cursor.left {
-        return Err(error_at(text, left.from, Some(cursor.last)));
+        return Err(error_at(text, left.from, expected_after(cursor.last)));
     }
     let triple = TripleRef {
         architecture,
@@ -96,25 +96,23 @@ fn read_names(text: &str) -> Result<TripleRef<'_>, ReadError<'_>> {
     })
 }
 
-/// The error at the part with which the end of the string begins, after a field.
-fn error_at<'a>(text: &'a str, from: &'a str, last: Option<Field>) -> ReadError<'a> {
-    let part = first_part(from).0;
-    let start = text.len().saturating_sub(from.len());
-    ReadError {
-        error: refusal(part, last),
-        start,
-        end: start + part.len(),
+/// The field that is expected after this one is filled, if any is left.
+fn expected_after(last: Field) -> Option<Field> {
+    match last {
+        Field::Architecture => Some(Field::Vendor),
+        Field::Vendor => Some(Field::OperatingSystem),
+        Field::OperatingSystem => Some(Field::Environment),
+        Field::Environment => Some(Field::BinaryFormat),
+        Field::BinaryFormat => None,
     }
 }
 
-/// The refusal of a part after a field.
-fn refusal(part: &str, last: Option<Field>) -> ParseErrorRef<'_> {
-    match last {
-        None => ParseErrorRef::UnrecognizedArchitecture(part),
-        Some(Field::Architecture) => ParseErrorRef::UnrecognizedVendor(part),
-        Some(Field::Vendor) => ParseErrorRef::UnrecognizedOperatingSystem(part),
-        Some(Field::OperatingSystem) => ParseErrorRef::UnrecognizedEnvironment(part),
-        Some(Field::Environment) => ParseErrorRef::UnrecognizedBinaryFormat(part),
-        Some(Field::BinaryFormat) => ParseErrorRef::UnrecognizedField(part),
+/// The error at the first part of the end of a string, where this field was expected.
+fn error_at<'a>(text: &str, end: &'a str, expected: Option<Field>) -> ReadError<'a> {
+    let part = first_at_end(text, end);
+    ReadError {
+        error: ParseErrorRef::new(expected, part.text),
+        start: part.start,
+        end: part.end,
     }
 }

@@ -2,13 +2,27 @@
 //! Other spellings of the parts of a triple.
 
 use crate::tool_names::macos::{macos_version, MacOsVersion};
-use crate::{fixed_row, Architecture, BinaryFormat, Environment, OperatingSystem, VendorRef};
+use crate::{
+    fixed_row, Architecture, BinaryFormat, Environment, OperatingSystem, TextPart, VendorRef,
+};
+use core::fmt;
 
 /// A part of a string, and what follows its dash, if it has one.
 pub(crate) fn first_part(text: &str) -> (&str, Option<&str>) {
     match text.split_once('-') {
         Some((part, rest)) => (part, Some(rest)),
         None => (text, None),
+    }
+}
+
+/// The first part of the end of a string, and its range in the string.
+pub(crate) fn first_at_end<'a>(text: &str, end: &'a str) -> TextPart<'a> {
+    let part = first_part(end).0;
+    let start = text.len().saturating_sub(end.len());
+    TextPart {
+        text: part,
+        start,
+        end: start + part.len(),
     }
 }
 
@@ -45,7 +59,7 @@ pub(crate) fn first_spelling(part: &str) -> &str {
 }
 
 /// A name that is read.
-#[derive(Clone, Copy)]
+#[derive(Clone, Copy, Debug, PartialEq, Eq)]
 pub(crate) enum Name<'a> {
     /// A part of the string, or a name that a part spells.
     Text(&'a str),
@@ -53,11 +67,21 @@ pub(crate) enum Name<'a> {
     MacOs(MacOsVersion<'a>),
 }
 
-/// The first name that a part spells, and the others, with dashes between them.
-#[derive(Clone, Copy)]
-pub(crate) struct Spelling<'a> {
-    pub first: Name<'a>,
-    pub others: Option<&'static str>,
+/// The names that a part of a string spells: one or two, written with a dash between them.
+///
+/// # Examples
+///
+/// ```
+/// use target_lexicon::tool_names::changes;
+///
+/// let spelled = |text| changes(text).map(|it| it.names.to_string()).collect::<Vec<_>>();
+/// assert_eq!(spelled("aarch64-apple-macos13"), ["macosx13"]);
+/// ```
+#[derive(Clone, Copy, Debug, PartialEq, Eq)]
+pub struct Spelling<'a> {
+    pub(crate) first: Name<'a>,
+    /// The others, with dashes between them.
+    pub(crate) others: Option<&'static str>,
 }
 
 impl<'a> Name<'a> {
@@ -89,6 +113,42 @@ impl<'a> Name<'a> {
             Name::MacOs(_) => None,
         }
     }
+
+    /// Whether the name is this part.
+    fn is(&self, part: &str) -> bool {
+        match *self {
+            Name::Text(name) => name == part,
+            Name::MacOs(version) => match part.strip_prefix("macosx") {
+                Some(rest) => version.text == rest,
+                None => false,
+            },
+        }
+    }
+}
+
+impl fmt::Display for Name<'_> {
+    fn fmt(&self, f: &mut fmt::Formatter<'_>) -> fmt::Result {
+        match *self {
+            Name::Text(name) => f.write_str(name),
+            Name::MacOs(version) => {
+                f.write_str("macosx")?;
+                f.write_str(version.text)
+            }
+        }
+    }
+}
+
+impl fmt::Display for Spelling<'_> {
+    fn fmt(&self, f: &mut fmt::Formatter<'_>) -> fmt::Result {
+        self.first.fmt(f)?;
+        match self.others {
+            Some(names) => {
+                f.write_str("-")?;
+                f.write_str(names)
+            }
+            None => Ok(()),
+        }
+    }
 }
 
 impl<'a> Spelling<'a> {
@@ -106,6 +166,23 @@ impl<'a> Spelling<'a> {
         Spelling {
             first: Name::Text(first),
             others,
+        }
+    }
+
+    /// The names that a second part spells, with this after its dash.
+    pub(crate) fn of_second(part: &'a str, rest: Option<&str>) -> Spelling<'a> {
+        if is_unstated(part, rest) {
+            Spelling::of("unknown")
+        } else {
+            Spelling::of_later(part)
+        }
+    }
+
+    /// Whether a part spells only itself.
+    pub(crate) fn is_only(&self, part: &str) -> bool {
+        match self.others {
+            Some(_) => false,
+            None => self.first.is(part),
         }
     }
 
@@ -135,6 +212,17 @@ impl<'a> Spelling<'a> {
             Some(names) => Some(Spelling::of_row(names)),
             None => None,
         }
+    }
+}
+
+/// Whether a second part states no vendor: it is empty, or `none` before the system `linux`.
+fn is_unstated(part: &str, rest: Option<&str>) -> bool {
+    if part.is_empty() {
+        return true;
+    }
+    match rest {
+        Some(rest) => part == "none" && first_part(rest).0 == "linux",
+        None => false,
     }
 }
 

@@ -295,9 +295,9 @@ static OCI_ONLY_READ: [(&str, &str); 18] = [
 
 #[rustfmt::skip]
 static OCI_WITHOUT_A_TRIPLE: [(&str, &str); 7] = [
-    ("linux/amd64/v2", "a level of x86-64 is no known name"),
-    ("linux/amd64/v3", "a level of x86-64 is no known name"),
-    ("linux/amd64/v4", "a level of x86-64 is no known name"),
+    ("linux/amd64/v2", "a triple can't state a level of x86-64"),
+    ("linux/amd64/v3", "a triple can't state a level of x86-64"),
+    ("linux/amd64/v4", "a triple can't state a level of x86-64"),
     ("linux/arm64/v9", "a version of the 64-bit Arm is no known name"),
     ("unknown/unknown", "no machine"),
     ("wasi/wasm", "the width is not stated"),

@@ -1,0 +1,178 @@
+-- A string that parses without a custom vendor has no changes, and how the changes of a string are found one by one.
+use Rattle.std.proofs.Common.{◌≡◌, ◌∙◌, ℕ, List, [], ◌∷◌, ◌++◌, Option, Some, None, Result, Ok, Err, Bool, true, false, cond, refl, sym, ap, subst, inl, inr, ◌↔◌}
+use Rattle.std.specs.List.{join_with_byte}
+use Rattle.std.specs.Str.{bytes_eq}
+use Rattle.std.proofs.lemmas.Bool.{cases_Bool}
+use Rattle.std.proofs.lemmas.Slice.Eq.{bytes_eq-Decides}
+use Rattle.lexicon_fields.specs.{Architecture.architecture_of, BinaryFormat.binary_format_of, Environment.environment_of, Names.dash, OperatingSystem.fixed_operating_system_of, OperatingSystem.operating_system_of, Vendor.is_custom, Vendor.known_vendor_of}
+use Rattle.target_lexicon.proofs.{ComputedReading.reading_computed, PartLemmas.parts_of-are, PartLemmas.parts_of-some}
+use Rattle.target_lexicon.specs.{Explanation.PlacedPart, GreedyReading.reading, GreedyReading.reading_after_architecture, GreedyReading.reading_from_vendor, GreedyReading.reading_of_parts, GreedyReading.reading_unless_special as port_reading, Placement.parts_of, Refusal.Refusal, SpecialTexts.esp_idf, SpecialTexts.esp_idf_text, SpecialTexts.nintendo_3ds, SpecialTexts.nintendo_3ds_text, SpecialTexts.special_values}
+use Rattle.target_lexicon.specs.Values.{Architecture, Values}
+use Rattle.tool_names.specs.declared.change.Position.{Position}
+use Rattle.tool_names.specs.declared.change.Position.TheVariants.{First, Second, Later}
+use Rattle.tool_names.specs.Changes.{KnownNamesStay, PartChange, UnchangedStringsAreReadAsTheyParse, changes, changes_of, is_only, next_position, parts_at, spelling_at}
+use Rattle.tool_names.specs.Spelling.{SpelledName, SpelledPart, first_at_end, first_spelling, later_names, later_parts, later_spelling, later_spellings, listed_spelling, located, name_texts, names_after_first, names_of, other_parts, reading_unless_special, second_spelling, spelled_names, spelled_parts, spelled_reading, unread_names, versioned_spellings}
+use Rattle.tool_names.proofs.SpelledNames.{AllStay, CustomStays, read-stated, vendor-stays}
+
+bytes_eq-same : (part : List ℕ) → bytes_eq part part ≡ true
+bytes_eq-same part = (bytes_eq-Decides part part).1 refl
+
+-- a part that spells itself is no change
+itself : (text part : List ℕ) (others names : List (List ℕ)) (rest : List SpelledPart) → names ≡ part ∷ []
+    → changes_of text (let it : SpelledPart = record { names = names; from = part ∷ others } in it ∷ rest) ≡ changes_of text rest
+itself text part others names rest is = rw (is, bytes_eq-same part) refl
+
+later-none : (text : List ℕ) (ps : List (List ℕ)) → AllStay ps → changes_of text (later_parts ps) ≡ []
+later-none text [] all = refl
+later-none text (p ∷ ps) all = itself text p ps (later_spelling p) (later_parts ps) all.0 ∙ later-none text ps all.1
+
+module _ (text : List ℕ) (t : Values) (custom : CustomStays t) where
+  other-none : (a : Architecture) (ps : List (List ℕ)) → reading_from_vendor a ps ≡ Ok t → changes_of text (other_parts ps) ≡ []
+  other-none a [] h = refl
+  other-none a (p ∷ ps) h =
+      let all = vendor-stays a t (p ∷ ps) h custom in
+      itself text p ps (second_spelling p ps) (later_parts ps) (rw (read-stated a t p ps h) all.0) ∙ later-none text ps all.1
+
+  parts-none : (ps : List (List ℕ)) → reading_of_parts ps ≡ Ok t → changes_of text (spelled_parts ps) ≡ []
+  parts-none [] h = refl
+  parts-none (p ∷ ps) h = by_found (architecture_of p) refl h
+    where
+      by_found : (o : Option Architecture) → architecture_of p ≡ o → reading_after_architecture o p ps ≡ Ok t → changes_of text (spelled_parts (p ∷ ps)) ≡ []
+      by_found None is h = absurd cc
+      by_found (Some a) is h = itself text p ps (first_spelling p ∷ []) (other_parts ps) (rw is refl) ∙ other-none a ps h
+
+-- the special texts have no changes
+
+nintendo-none : changes nintendo_3ds_text ≡ []
+unfolding changes later_spelling listed_spelling later_spellings versioned_spellings architecture_of known_vendor_of operating_system_of fixed_operating_system_of environment_of binary_format_of
+nintendo-none = refl
+
+esp-none : changes esp_idf_text ≡ []
+unfolding changes later_spelling listed_spelling later_spellings versioned_spellings architecture_of known_vendor_of operating_system_of fixed_operating_system_of environment_of binary_format_of
+esp-none = refl
+
+special-none : (text : List ℕ) (t : Values) → special_values text ≡ Some t → changes text ≡ []
+unfolding special_values
+special-none text t is = by_tests (bytes_eq text nintendo_3ds_text) (bytes_eq text esp_idf_text) refl refl is
+  where
+    by_tests : (x y : Bool) → bytes_eq text nintendo_3ds_text ≡ x → bytes_eq text esp_idf_text ≡ y
+        → cond x (Some nintendo_3ds) (cond y (Some esp_idf) None) ≡ Some t → changes text ≡ []
+    by_tests true y first second h = ap changes ((bytes_eq-Decides text nintendo_3ds_text).0 first) ∙ nintendo-none
+    by_tests false true first second h = ap changes ((bytes_eq-Decides text esp_idf_text).0 second) ∙ esp-none
+    by_tests false false first second h = absurd cc
+
+pub known_names_stay : KnownNamesStay
+unfolding reading changes
+known_names_stay text t reads known = by_special (special_values text) refl (((reading_computed text).read t).0 reads)
+  where
+    by_special : (o : Option Values) → special_values text ≡ o → port_reading o text ≡ Ok t → changes text ≡ []
+    by_special (Some u) is h = special-none text u is
+    by_special None is h = parts-none text t (λ custom same. let custom_is = ap is_custom same in absurd cc) (parts_of text) h
+
+-- the names of a string without changes are its parts
+
+only-itself : (part : List ℕ) (names : List (List ℕ)) → is_only part names ≡ true → names ≡ part ∷ []
+only-itself part [] only = absurd cc
+only-itself part (name ∷ []) only = ap (λ (n : List ℕ). n ∷ []) ((bytes_eq-Decides name part).0 only)
+only-itself part (name ∷ (other ∷ others)) only = absurd cc
+
+-- the first of these parts is no change, and no other one is
+module _ (text part : List ℕ) (others names : List (List ℕ)) (rest : List SpelledPart) where
+  none-first : (let it : SpelledPart = record { names = names; from = part ∷ others } in changes_of text (it ∷ rest) ≡ [])
+      → (names ≡ part ∷ []) × (changes_of text rest ≡ [])
+  none-first none =
+      elim (cases_Bool (is_only part names)) [
+        | inl only ↦ (only-itself part names only, rw only at none)
+        | inr other ↦ let some = rw other at none in absurd cc
+      ]
+
+  named-first : (ps : List (List ℕ)) → names ≡ part ∷ [] → name_texts (names_of rest) ≡ ps
+      → (let it : SpelledPart = record { names = names; from = part ∷ others } in name_texts (names_of (it ∷ rest)) ≡ part ∷ ps)
+  named-first ps is same = rw is (ap (λ qs. part ∷ qs) same)
+
+later-same : (text : List ℕ) (ps : List (List ℕ)) → changes_of text (later_parts ps) ≡ [] → name_texts (later_names ps) ≡ ps
+later-same text [] none = refl
+later-same text (p ∷ ps) none =
+    let first = none-first text p ps (later_spelling p) (later_parts ps) none in
+    named-first text p ps (later_spelling p) (later_parts ps) ps first.0 (later-same text ps first.1)
+
+other-same : (text : List ℕ) (ps : List (List ℕ)) → changes_of text (other_parts ps) ≡ [] → name_texts (names_after_first ps) ≡ ps
+other-same text [] none = refl
+other-same text (p ∷ ps) none =
+    let first = none-first text p ps (second_spelling p ps) (later_parts ps) none in
+    named-first text p ps (second_spelling p ps) (later_parts ps) ps first.0 (later-same text ps first.1)
+
+parts-same : (text : List ℕ) (ps : List (List ℕ)) → changes_of text (spelled_parts ps) ≡ [] → name_texts (spelled_names ps) ≡ ps
+parts-same text [] none = refl
+parts-same text (p ∷ ps) none =
+    let first = none-first text p ps (first_spelling p ∷ []) (other_parts ps) none in
+    named-first text p ps (first_spelling p ∷ []) (other_parts ps) ps first.0 (other-same text ps first.1)
+
+-- so it is read as it parses
+located-is : (text : List ℕ) (r : Result Values Refusal) (left : List SpelledName) (t : Values) → (located text r left ≡ Ok t) ↔ (r ≡ Ok t)
+located-is text (Ok u) left t = (λ h. let same : u ≡ t = cc in ap Ok same, λ h. let same : u ≡ t = cc in ap Ok same)
+located-is text (Err refusal) left t = (λ h. absurd cc, λ h. absurd cc)
+
+unchanged-is : (text : List ℕ) (t : Values) → changes text ≡ [] → (spelled_reading text ≡ Ok t) ↔ (reading text ≡ Ok t)
+unfolding reading spelled_reading changes
+unchanged-is text t none = by_special (special_values text)
+  where
+    names : List SpelledName
+    names = spelled_names (parts_of text)
+
+    same : reading_of_parts (name_texts names) ≡ reading_of_parts (parts_of text)
+    same = ap reading_of_parts (parts-same text (parts_of text) none)
+
+    by_special : (o : Option Values) → (reading_unless_special o text ≡ Ok t) ↔ (port_reading o text ≡ Ok t)
+    by_special (Some u) = (λ h. let same : u ≡ t = cc in ap Ok same, λ h. let same : u ≡ t = cc in ap Ok same)
+    by_special None =
+        let is = located-is text (reading_of_parts (name_texts names)) (unread_names names) t in
+        (λ h. sym same ∙ is.0 h, λ h. is.1 (same ∙ h))
+
+pub unchanged_read : UnchangedStringsAreReadAsTheyParse
+unchanged_read text t none =
+    let is = unchanged-is text t none in
+    let computed = (reading_computed text).read t in
+    (λ h. computed.1 (is.0 h), λ h. is.1 (computed.0 h))
+
+-- one part after the other
+
+-- what the first of these parts spells, and what the others do
+parts-split : (at : Position) (part : List ℕ) (others : List (List ℕ))
+    → (let it : SpelledPart = record { names = spelling_at at part others; from = part ∷ others } in parts_at at (part ∷ others) ≡ it ∷ parts_at (next_position at) others)
+parts-split First part others = refl
+parts-split Second part others = refl
+parts-split Later part others = refl
+
+module _ (text end : List ℕ) (at : Position) (part : List ℕ) (others names : List (List ℕ)) (cut : parts_of end ≡ part ∷ others) (spells : names ≡ spelling_at at part others) where
+  -- the first part spells only itself, and the changes are those of the others
+  pub unchanged : is_only part names ≡ true → changes_of text (parts_at at (parts_of end)) ≡ changes_of text (parts_at (next_position at) others)
+  unchanged only =
+      let only_itself : is_only part (spelling_at at part others) ≡ true = subst (λ ns. is_only part ns ≡ true) spells only in
+      rw (cut, parts-split at part others, only_itself) refl
+
+  -- it is the first change
+  pub changed : (found : PlacedPart) → found ≡ first_at_end text (parts_of end) → is_only part names ≡ false
+      → (let it : PartChange = record { part = found; names = names } in changes_of text (parts_at at (parts_of end)) ≡ it ∷ changes_of text (parts_at (next_position at) others))
+  changed found is other =
+      let not_only : is_only part (spelling_at at part others) ≡ false = subst (λ ns. is_only part ns ≡ false) spells other in
+      rw (is, spells, cut, parts-split at part others, not_only) refl
+
+-- names of which there are two
+two-names : (part name others : List ℕ) → is_only part (name ∷ parts_of others) ≡ false
+two-names part name others = by_parts (parts_of others) refl
+  where
+    by_parts : (ps : List (List ℕ)) → parts_of others ≡ ps → is_only part (name ∷ ps) ≡ false
+    by_parts [] none = absurd (parts_of-some others none)
+    by_parts (p ∷ ps) are = refl
+
+pub not-only : (part name others : List ℕ) → false ≡ is_only part (name ∷ parts_of others)
+not-only part name others = sym (two-names part name others)
+
+-- two names as they are written
+pub two-joined : (name others : List ℕ) → join_with_byte dash (name ∷ parts_of others) ≡ name ++ (dash ∷ others)
+two-joined name others = by_parts (parts_of others) refl (parts_of-are others).joined
+  where
+    by_parts : (ps : List (List ℕ)) → parts_of others ≡ ps → join_with_byte dash ps ≡ others → join_with_byte dash (name ∷ ps) ≡ name ++ (dash ∷ others)
+    by_parts [] none joined = absurd (parts_of-some others none)
+    by_parts (p ∷ ps) are joined = ap (λ (k : List ℕ). name ++ (dash ∷ k)) joined

@@ -1,0 +1,134 @@
+-- The range of a refused part, and of a changed one, holds the part.
+use Rattle.std.proofs.Common.{◌≡◌, ◌∙◌, ℕ, ◌+◌, ◌-◌, List, [], ◌∷◌, ◌++◌, length, take, drop, Option, Some, None, Result, Ok, Err, refl, sym, ap, subst, append_assoc, arith, inl, inr}
+use Rattle.std.specs.Prelude.{is_some}
+use Rattle.std.specs.List.{join_with_byte}
+use Rattle.std.proofs.{Math.Seq.drop-append_seam, Math.Seq.take-append_seam, lemmas.Bool.cases_Bool}
+use Rattle.std.proofs.lemmas.List.{append-nil, length-append}
+use Rattle.lexicon_fields.specs.{Architecture.architecture_of, BinaryFormat.binary_format_of, Environment.environment_of, Names.dash, OperatingSystem.operating_system_of, Vendor.vendor_of}
+use Rattle.target_lexicon.proofs.PartLemmas.{parts_of-are}
+use Rattle.target_lexicon.specs.{Explanation.IsInText, Explanation.part_from, GreedyReading.reading_of_parts, Placement.parts_of, Refusal.Refusal, SpecialTexts.special_values, Values.Values}
+use Rattle.tool_names.specs.Changes.{AreInTheString, ChangedPartsAreInTheString, changes, changes_of, is_only}
+use Rattle.tool_names.specs.Spelling.{PartRefusal, RefusedPartsAreInTheString, SpelledName, SpelledPart, first_at_end, later_parts, located, name_texts, names_left, names_of, other_parts, reading_unless_special, refusal_of_first, refused_part, spelled_by, spelled_names, spelled_parts, spelled_reading, unread_names}
+
+range-at : (before p rest : List ℕ) → take (length before + length p - length before) (drop (length before) (before ++ (p ++ rest))) ≡ p
+range-at before p rest =
+    let size : length before + length p - length before ≡ length p = omega arith in
+    ap (λ n. take n (drop (length before) (before ++ (p ++ rest)))) size ∙ ap (take (length p)) (drop-append_seam before (p ++ rest)) ∙ take-append_seam p rest
+
+-- a part that is followed by these bytes
+part-in : (text before p rest : List ℕ) (start : ℕ) → length before ≡ start → text ≡ before ++ (p ++ rest) → IsInText text (part_from start p)
+part-in text before p rest start at is =
+    let whole = length-append before (p ++ rest) in
+    let inner = length-append p rest in
+    rw (← at, is) (omega (arith, whole, inner), range-at before p rest)
+
+-- these parts end the string
+abbrev EndText : List ℕ → List (List ℕ) → Type 0
+EndText text from = (before : List ℕ) × (text ≡ before ++ join_with_byte dash from)
+
+-- the first of the parts that end a string is in its range
+first-in : (text : List ℕ) (from : List (List ℕ)) → EndText text from → IsInText text (first_at_end text from)
+first-in text [] end = part-in text text [] [] (length text) refl (sym (append-nil text))
+first-in text (p ∷ []) (before, is) =
+    let whole = ap length is ∙ length-append before p in
+    part-in text before p [] _ (omega (arith, whole)) (is ∙ ap (λ (k : List ℕ). before ++ k) (sym (append-nil p)))
+first-in text (p ∷ (q ∷ qs)) (before, is) =
+    let rest = dash ∷ join_with_byte dash (q ∷ qs) in
+    let whole = ap length is ∙ length-append before (p ++ rest) in
+    part-in text before p rest _ (omega (arith, whole)) is
+
+-- all parts of a string end it, each with those after it
+
+abbrev AllEnd : List ℕ → List SpelledPart → Type 0
+AllEnd text [] = Unit {0}
+AllEnd text (it ∷ others) = EndText text it.from × AllEnd text others
+
+after-first : (text p q : List ℕ) (qs : List (List ℕ)) → EndText text (p ∷ (q ∷ qs)) → EndText text (q ∷ qs)
+after-first text p q qs (before, is) =
+    let rest = join_with_byte dash (q ∷ qs) in
+    ((before ++ p) ++ (dash ∷ []), is ∙ sym (append_assoc before p (dash ∷ rest)) ∙ sym (append_assoc (before ++ p) (dash ∷ []) rest))
+
+later-end : (text : List ℕ) (ps : List (List ℕ)) → EndText text ps → AllEnd text (later_parts ps)
+later-end text [] end = tt
+later-end text (p ∷ []) end = (end, tt)
+later-end text (p ∷ (q ∷ qs)) end = (end, later-end text (q ∷ qs) (after-first text p q qs end))
+
+other-end : (text : List ℕ) (ps : List (List ℕ)) → EndText text ps → AllEnd text (other_parts ps)
+other-end text [] end = tt
+other-end text (p ∷ []) end = (end, tt)
+other-end text (p ∷ (q ∷ qs)) end = (end, later-end text (q ∷ qs) (after-first text p q qs end))
+
+spelled-end : (text : List ℕ) (ps : List (List ℕ)) → EndText text ps → AllEnd text (spelled_parts ps)
+spelled-end text [] end = tt
+spelled-end text (p ∷ []) end = (end, tt)
+spelled-end text (p ∷ (q ∷ qs)) end = (end, other-end text (q ∷ qs) (after-first text p q qs end))
+
+parts-end : (text : List ℕ) → AllEnd text (spelled_parts (parts_of text))
+parts-end text = spelled-end text (parts_of text) ([], sym (parts_of-are text).joined)
+
+-- so do the parts that spell the names
+
+abbrev NamesEnd : List ℕ → List SpelledName → Type 0
+NamesEnd text [] = Unit {0}
+NamesEnd text (it ∷ others) = EndText text it.from × NamesEnd text others
+
+spelled_by-end : (text : List ℕ) (from names : List (List ℕ)) (rest : List SpelledName) → EndText text from → NamesEnd text rest → NamesEnd text (spelled_by from names ++ rest)
+spelled_by-end text from [] rest end all = all
+spelled_by-end text from (name ∷ names) rest end all = (end, spelled_by-end text from names rest end all)
+
+names-end : (text : List ℕ) (parts : List SpelledPart) → AllEnd text parts → NamesEnd text (names_of parts)
+names-end text [] all = tt
+names-end text (it ∷ others) all = spelled_by-end text it.from it.names (names_of others) all.0 (names-end text others all.1)
+
+left-end : {A : Type 0} (find : List ℕ → Option A) (text : List ℕ) (names : List SpelledName) → NamesEnd text names → NamesEnd text (names_left find names)
+left-end find text [] all = tt
+left-end find text (it ∷ others) all =
+    elim (cases_Bool (is_some (find it.name))) [
+      | inl takes ↦ rw takes all.1
+      | inr skips ↦ rw skips all
+    ]
+
+unread-end : (text : List ℕ) (names : List SpelledName) → NamesEnd text names → NamesEnd text (unread_names names)
+unread-end text [] all = tt
+unread-end text (it ∷ others) all =
+    elim (cases_Bool (is_some (architecture_of it.name))) [
+      | inl takes ↦
+          rw takes (left-end binary_format_of text _ (left-end environment_of text _ (left-end operating_system_of text _ (left-end vendor_of text others all.1))))
+      | inr skips ↦ rw skips all
+    ]
+
+refused-in : (text : List ℕ) (refusal : Refusal) (left : List SpelledName) → NamesEnd text left → IsInText text (refused_part (refusal_of_first text refusal left))
+refused-in text refusal [] all = first-in text [] (text, sym (append-nil text))
+refused-in text refusal (it ∷ others) all = first-in text it.from all.0
+
+pub refused_in_string : RefusedPartsAreInTheString
+unfolding spelled_reading
+refused_in_string text it is = by_special (special_values text) is
+  where
+    left : List SpelledName
+    left = unread_names (spelled_names (parts_of text))
+
+    by_result : (r : Result Values Refusal) → located text r left ≡ Err it → IsInText text (refused_part it)
+    by_result (Ok t) h = absurd cc
+    by_result (Err refusal) h =
+        let same : refusal_of_first text refusal left ≡ it = cc in
+        subst (λ (found : PartRefusal). IsInText text (refused_part found)) same
+        (refused-in text refusal left (unread-end text (spelled_names (parts_of text)) (names-end text (spelled_parts (parts_of text)) (parts-end text))))
+
+    by_special : (o : Option Values) → reading_unless_special o text ≡ Err it → IsInText text (refused_part it)
+    by_special (Some t) h = absurd cc
+    by_special None h = by_result (reading_of_parts (name_texts (spelled_names (parts_of text)))) h
+
+-- and the changed parts
+
+changed-in : (text : List ℕ) (parts : List SpelledPart) → AllEnd text parts → AreInTheString text (changes_of text parts)
+changed-in text [] all = tt
+changed-in text (it ∷ others) all =
+    elim (cases_Bool (is_only (first_at_end text it.from).text it.names)) [
+      | inl only ↦ rw only (changed-in text others all.1)
+      | inr other ↦ rw other (first-in text it.from all.0, changed-in text others all.1)
+    ]
+
+pub changed_in_string : ChangedPartsAreInTheString
+unfolding changes
+changed_in_string text = changed-in text (spelled_parts (parts_of text)) (parts-end text)

@@ -1,0 +1,97 @@
+//! What is changed in a string that is spelled like a triple.
+ghost use Rattle.std.specs.Prelude.{◌≡◌};
+ghost use Rattle.tool_names.specs.Changes.{change_value, changes, changes_left, next_position, parts_after, spelling_at, spelling_names};
+
+use crate::spelling::{Spelling, first_at_end, first_part, first_spelling};
+use target_lexicon::TextPart;
+
+/// A part of a string that is another spelling of known names.
+#[derive(Clone, Copy, Debug, PartialEq, Eq)]
+pub struct Change<'a> {
+    /// The part, as it is in the string.
+    pub part: TextPart<'a>,
+    /// The names that are read instead.
+    pub names: Spelling<'a>,
+}
+
+/// Where a part is in a string.
+#[derive(Clone, Copy, Debug)]
+enum Position {
+    First,
+    Second,
+    Later,
+}
+
+impl Position {
+    /// The names that a part at this position spells, with this after its dash.
+    fn spelling<'a>(self, part: &'a str, rest: Option<&str>) -> Spelling<'a>
+        ensures { spelling_names result
+            ≡ spelling_at self part.entry.now (parts_after rest.entry) }
+    {
+        match self {
+            Position::First => Spelling::of(first_spelling(part)),
+            Position::Second => Spelling::of_second(part, rest),
+            Position::Later => Spelling::of_later(part),
+        }
+    }
+
+    /// The position of the part after one at this position.
+    fn next(self) -> Position
+        ensures { result ≡ next_position self }
+    {
+        match self {
+            Position::First => Position::Second,
+            Position::Second | Position::Later => Position::Later,
+        }
+    }
+}
+
+/// The changes of a string, from its start to its end. [`changes`] returns them.
+#[derive(Debug, Drop)]
+pub struct ChangedParts<'a> {
+    text: &'a str,
+    /// The string from the next part on, if one is left.
+    rest: Option<&'a str>,
+    position: Position,
+}
+
+/// What [`read`](crate::read) changes in a string: the parts that are other spellings of known names, and these names.
+/// Nothing is allocated.
+///
+/// A string that parses without a custom vendor has no changes. A string that is refused has its changes too, since
+/// what a part spells doesn't depend on that.
+pub fn changes(text: &str) -> ChangedParts<'_>
+    ensures { changes_left result ≡ changes text.entry.now }
+{
+    ChangedParts {
+        text,
+        rest: Some(text),
+        position: Position::First,
+    }
+}
+
+impl<'a> Iterator for ChangedParts<'a> {
+    ghost use Rattle.std.specs.Iterator.{YieldsFirstBy, item_count};
+
+    type Item = Change<'a>;
+
+    ghost next_gives = { YieldsFirstBy change_value changes_left };
+
+    ghost remaining = { item_count changes_left };
+
+    fn next(&mut self) -> Option<Change<'a>> {
+        while let Some(end) = self.rest {
+            let (part, rest) = first_part(end);
+            let names = self.position.spelling(part, rest);
+            self.rest = rest;
+            self.position = self.position.next();
+            if !names.is_only(part) {
+                return Some(Change {
+                    part: first_at_end(self.text, end),
+                    names,
+                });
+            }
+        }
+        None
+    }
+}
