@@ -1,7 +1,8 @@
 //! The numbers of lexicon.h and lexicon.hpp are the library's.
 use crate::proved::{dialect_at, facts, name_at, NumberedTriple, TripleNumbers};
 use std::collections::BTreeMap;
-use target_lexicon::internals::names::{architecture_at, field_at};
+use target_lexicon::internals::names::{architecture_at, field_at, operating_system_at};
+use target_lexicon::TripleRef;
 
 const HEADER: &str = include_str!("../include/lexicon.h");
 const CPP_HEADER: &str = include_str!("../include/lexicon.hpp");
@@ -50,20 +51,36 @@ fn the_enumerators_are_the_values() {
 
 #[test]
 fn the_dialects_are_those_of_the_library() {
-    let (found, cpp_found) = (enumerators(HEADER, "LEXICON_DIALECT_"), dialect_names());
+    let (found, cpp_found) = (enumerators(HEADER, "LEXICON_DIALECT_"), cpp_names("Dialect"));
     let names: Vec<_> = (0..).map_while(dialect_at).map(|it| it.map_or("none", |it| it.as_str())).collect();
     assert_eq!(found.len(), names.len());
-    assert_eq!(cpp_found, names[1..]);
+    assert_eq!(cpp_found[1..], names[1..]);
     for (number, name) in (0..).zip(names) {
         assert_eq!(found[&number], name.to_uppercase());
     }
 }
 
-/// The names of dialects in lexicon.hpp.
-fn dialect_names() -> Vec<&'static str> {
-    let (_, after) = CPP_HEADER.split_once("name(Dialect value)").expect("the names");
+/// The names of the values of a type in lexicon.hpp, by number.
+fn cpp_names(of: &str) -> Vec<&'static str> {
+    let (_, after) = CPP_HEADER.split_once(&format!("name({of} value)")).expect(of);
     let listed = after.split_once("};").expect("an end").0;
-    listed.split('"').skip(3).step_by(2).collect()
+    listed.split('"').skip(1).step_by(2).collect()
+}
+
+/// A triple of an architecture and a system, as C has it.
+fn numbered(architecture: u16, operating_system: u8) -> NumberedTriple<'static> {
+    let numbers = TripleNumbers {
+        architecture,
+        vendor: 0,
+        operating_system,
+        environment: 0,
+        binary_format: 0,
+        has_version: 0,
+        minor: 0,
+        patch: 0,
+        major: 0,
+    };
+    NumberedTriple { numbers, custom_vendor: &[] }
 }
 
 #[test]
@@ -71,22 +88,86 @@ fn the_families_are_the_values() {
     let (found, cpp_found) = (enumerators(HEADER, "LEXICON_FAMILY_"), cpp_enumerators("Family"));
     for number in 0.. {
         let Some(architecture) = architecture_at(number) else { break };
-        let numbers = TripleNumbers {
-            architecture: number,
-            vendor: 0,
-            operating_system: 0,
-            environment: 0,
-            binary_format: 0,
-            has_version: 0,
-            minor: 0,
-            patch: 0,
-            major: 0,
-        };
-        let family = facts(&NumberedTriple { numbers, custom_vendor: &[] }).ok().expect("a triple").family.into();
+        let family = facts(&numbered(number, 0)).ok().expect("a triple").family.into();
         let shown = format!("{architecture:?}");
         let variant = shown.split('(').next().unwrap_or("");
         assert_eq!(found[&family], variant.to_uppercase());
         assert_eq!(cpp_found[&family], variant);
     }
     assert_eq!(found.len(), cpp_found.len());
+}
+
+/// The names of the values of a type by number, which lexicon.h and lexicon.hpp have alike; that of 0 is empty.
+fn names_of_answers(prefix: &str, of: &str) -> Vec<&'static str> {
+    let (found, names) = (enumerators(HEADER, prefix), cpp_names(of));
+    let expected = names.iter().map(|name| if name.is_empty() { "NONE".into() } else { name.to_uppercase() });
+    assert_eq!(found.values().map(|name| name.replace('_', "")).collect::<Vec<_>>(), expected.collect::<Vec<_>>());
+    assert!(found.keys().copied().eq(0..names.len() as u32));
+    names
+}
+
+#[test]
+fn the_conventions_and_models_are_those_of_the_queries() {
+    let conventions = names_of_answers("LEXICON_CALLING_CONVENTION_", "CallingConvention");
+    let models = names_of_answers("LEXICON_DATA_MODEL_", "DataModel");
+    for (number, architecture) in (0..).map_while(|it| Some((it, architecture_at(it)?))) {
+        for (system_number, operating_system) in (0..).map_while(|it| Some((it, operating_system_at(it, None)?))) {
+            let triple = TripleRef { architecture, operating_system, ..TripleRef::unknown() };
+            let facts = facts(&numbered(number, system_number)).ok().expect("a triple");
+            let convention = triple.default_calling_convention().map_or("", |it| it.name());
+            assert_eq!(conventions[usize::from(facts.default_calling_convention)], convention);
+            assert_eq!(models[usize::from(facts.data_model)], triple.data_model().map_or("", |it| it.name()));
+        }
+    }
+}
+
+const TYPES: [(&str, &str); 7] = [
+    ("uint8_t", "u8"),
+    ("uint16_t", "u16"),
+    ("uint32_t", "u32"),
+    ("size_t", "usize"),
+    ("bool", "bool"),
+    ("const char *", "*const u8"),
+    ("struct lexicon_source", "FieldSource"),
+];
+
+/// The members of a struct of lexicon.h, each as its type in Rust and its name.
+fn members(name: &str) -> Vec<(String, String)> {
+    let (_, after) = HEADER.split_once(&format!("struct {name} {{")).expect(name);
+    let listed = after.split_once("\n};").expect("an end").0;
+    let uncommented: String = listed.split("/*").map(|it| it.split_once("*/").map_or(it, |(_, after)| after)).collect();
+    let declared = uncommented.split(';').map(str::trim).filter(|it| !it.is_empty());
+    declared
+        .flat_map(|it| {
+            let (names, of) = TYPES.iter().find_map(|(c, rust)| Some((it.strip_prefix(c)?, rust))).expect(it);
+            names.split(',').map(|name| (of.to_string(), name.trim().to_string())).collect::<Vec<_>>()
+        })
+        .collect()
+}
+
+/// The fields of a struct in a source of Rust, likewise.
+fn fields(source: &str, name: &str) -> Vec<(String, String)> {
+    let (_, after) = source.split_once(&format!("pub struct {name} {{")).expect(name);
+    let lines = after.split_once("\n}").expect("an end").0.lines().map(str::trim);
+    let declared = lines.filter_map(|line| line.trim_start_matches("pub ").strip_suffix(',')?.split_once(": "));
+    declared.map(|(name, of)| (of.to_string(), name.to_string())).collect()
+}
+
+/// The fields of a struct, where one of them is the fields of another struct, with these names.
+fn flattened(fields: Vec<(String, String)>, inner: &str, of: &[(String, String)]) -> Vec<(String, String)> {
+    fields.into_iter().flat_map(|it| if it.0 == inner { of.to_vec() } else { vec![it] }).collect()
+}
+
+#[test]
+fn the_structs_are_those_of_the_library() {
+    let (triple, facts) = (include_str!("proved/triple.rs"), include_str!("proved/triple_facts.rs"));
+    let (error, sources) = (include_str!("proved/error.rs"), include_str!("proved/sources.rs"));
+    let numbers = fields(triple, "TripleNumbers");
+    assert_eq!(members("lexicon_triple"), flattened(fields(include_str!("lib.rs"), "Triple"), "TripleNumbers", &numbers));
+    let sizes: Vec<_> = fields(facts, "TypeSizes").into_iter().map(|(of, name)| (of, name + "_size")).collect();
+    assert_eq!(members("lexicon_triple_facts"), flattened(fields(facts, "TripleFacts"), "TypeSizes", &sizes));
+    assert_eq!(members("lexicon_error"), fields(error, "TextError"));
+    assert_eq!(members("lexicon_source"), fields(sources, "FieldSource"));
+    assert_eq!(members("lexicon_sources"), fields(sources, "FieldSources"));
+    assert_eq!((numbers.len(), sizes.len(), members("lexicon_sources").len()), (9, 6, 5));
 }
