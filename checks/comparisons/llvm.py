@@ -58,7 +58,9 @@ def clang_answer(target):
 
 def object_answer(target, folder):
     """The format of the object that rustc writes for a target, if it writes one."""
-    path = f"{folder}/{target}.o"
+    # A folder for each, since rustc takes what follows a dot in a file's name for its ending, as in `thumbv8m.main-none-eabi`.
+    path = f"{folder}/{target}/object"
+    os.mkdir(os.path.dirname(path))
     command = ["rustc", "--target", target, "--crate-type", "lib", "--emit", "obj", "-C", "panic=abort", "-A", "warnings", "-o", path, f"{folder}/no_core.rs"]
     if subprocess.run(command, env=UNSTABLE, capture_output=True).returncode:
         return {}
