@@ -4,9 +4,11 @@ import doctest
 import email
 import filecmp
 import importlib
+import importlib.util
 import json
 import os
 import pkgutil
+import platform
 import pydoc
 import re
 import shutil
@@ -142,6 +144,60 @@ class Built(Folder):
             ran = run(python, "-I", "-c", f"{PRINTS}; import lexicon; print(lexicon.LIBRARY_PATH)")
             printed, library = ran.stdout.split()
             self.assertEqual((printed, library.startswith(home)), ("aarch64-unknown-linux", True), ran.stderr)
+
+
+@unittest.skipUnless(shutil.which("cc") and platform.machine() == "x86_64", "no cc, or another machine than its libraries are for")
+class Platforms(Folder):
+    """The tag of the platforms that a library is for, by libraries that need more or less of the C library."""
+
+    def tag(self, source, *options, machine=62):
+        path = os.path.join(self.folder, "library.so")
+        with open(f"{path}.c", "w", encoding="utf-8") as it:
+            it.write(source)
+        ran = run("cc", "-shared", "-fPIC", f"{path}.c", "-o", path, "-Wl,--no-as-needed", *options)
+        self.assertEqual(ran.returncode, 0, ran.stderr)
+        with open(path, "rb") as it:
+            content = it.read()
+        spec = importlib.util.spec_from_file_location("build_backend", os.path.join(SOURCE, "build_backend.py"))
+        backend = importlib.util.module_from_spec(spec)
+        spec.loader.exec_module(backend)
+        return backend.linux_platform(content[:18] + machine.to_bytes(2, "little") + content[20:])
+
+    def versioned(self, *versions):
+        """A library whose symbols are of these versions of the C library, under its name."""
+        path = os.path.join(self.folder, "libc.so.6")
+        with open(f"{path}.c", "w", encoding="utf-8") as it:
+            it.write("".join(f"void f{number}(void) {{}}\n" for number in range(len(versions))))
+        with open(f"{path}.map", "w", encoding="utf-8") as it:
+            it.write("".join(f"{version} {{ f{number}; }};\n" for number, version in enumerate(versions)))
+        ran = run("cc", "-shared", "-fPIC", "-nostdlib", f"{path}.c", "-o", path, f"-Wl,--version-script={path}.map,-soname=libc.so.6")
+        self.assertEqual(ran.returncode, 0, ran.stderr)
+        calls = "".join(f"void f{it}(void); void g{it}(void) {{ f{it}(); }}\n" for it in range(len(versions)))
+        return calls, "-nostdlib", path
+
+    def test_versions_of_the_c_library(self):
+        for versions, tag in ((["GLIBC_2.2.5"], "manylinux_2_17"), (["GLIBC_2.17"], "manylinux_2_17"), (["GLIBC_2.9", "GLIBC_2.34"], "manylinux_2_34"),
+                              (["GLIBC_2.38", "GLIBC_2.4", "GLIBC_2.18"], "manylinux_2_38"), (["GLIBC_3.1"], "manylinux_3_1"),
+                              (["GLIBC_2.17", "GLIBC_PRIVATE"], "linux")):
+            for machine, name in (62, "x86_64"), (183, "aarch64"):
+                self.assertEqual(self.tag(*self.versioned(*versions), machine=machine), f"{tag}_{name}", versions)
+        self.assertIsNone(self.tag(*self.versioned("GLIBC_2.17"), machine=40))
+
+    def test_other_libraries(self):
+        self.assertEqual(self.tag("int f(void) { return 1; }", "-nostdlib"), "manylinux_2_17_x86_64")
+        source, *options = self.versioned("GLIBC_2.17")
+        other = os.path.join(self.folder, "libother.so")
+        self.assertEqual(run("cc", "-shared", "-fPIC", "-nostdlib", "-x", "c", "/dev/null", "-o", other, "-Wl,-soname=libother.so").returncode, 0)
+        self.assertEqual(self.tag(source, *options, other), "linux_x86_64")
+
+    @unittest.skipUnless(shutil.which("readelf"), "no readelf")
+    def test_the_tag_is_that_of_what_is_built(self):
+        """By what `readelf` says of the library."""
+        said = run("readelf", "--version-info", lists.LIBRARY).stdout
+        versions = [tuple(map(int, it)) for it in re.findall(r"Name: GLIBC_(\d+)\.(\d+)", said)]
+        self.assertTrue(versions)
+        needed = max([(2, 17), *versions])
+        self.assertRegex(built(".whl"), r"-manylinux_%d_%d_x86_64\.whl$" % needed)
 
 
 class FindsTheLibrary(Folder):
