@@ -162,7 +162,7 @@ export class ParseError extends Error {
   readonly part: string;
   readonly start: number;
   readonly end: number;
-  /** The known name that the part may mean. */
+  /** The known name that the part may mean; of an unknown name in a dialect, the nearest of its names. */
   readonly suggestion: string | null;
   /** Why a name of a dialect means no triple; null for an unknown name, and for any string that isn't one. */
   readonly reason: string | null;

@@ -265,7 +265,8 @@ export class ParseError extends Error {
   get report() {
     const it = instance(), given = it.text(this.text);
     const lines = it.written("error_text", given[1], ...given, it.error(this.#status, ...this.#range));
-    return this.reason === null ? lines : `${lines} ${this.reason}`;
+    if (this.reason !== null) return `${lines} ${this.reason}`;
+    return this.#status === UNKNOWN_NAME && this.suggestion !== null ? `${lines} did you mean \`${this.suggestion}\`?` : lines;
   }
 }
 
@@ -281,7 +282,7 @@ function rangesAt(it, place, text, size) {
 function errorAt(it, status, text, given, dialect = 0) {
   const [range, [start, end]] = rangesAt(it, ERROR + 4, text, given[1]);
   const line = it.written("error_line", given[1], ...given, it.base + ERROR);
-  const suggestion = it.string(it.call("suggestion", ...given, it.base + ERROR));
+  const suggestion = it.string(status === UNKNOWN_NAME ? it.call("name_suggestion", dialect, ...given) : it.call("suggestion", ...given, it.base + ERROR));
   const reason = it.string(it.call("reason", dialect, ...given));
   return new ParseError(reason === null ? line : `${line}: ${reason}`, status, range, text, start, end, suggestion, reason);
 }

@@ -97,6 +97,15 @@ class Names(unittest.TestCase):
             self.assertEqual((error.field, error.part, error.start, error.reason), (field, part, start, None), text)
         self.assertEqual(self.refusal("amd64-w64-linx").suggestion, "linux")
 
+    def test_nearest_names(self):
+        for dialect, name, nearest in (("go", "linux/amd46", "linux/amd64"), ("debian", "amd63", "amd64"), ("oci", "linux/arm/v9", "linux/arm/v5"),
+                                       ("node", "linux-x65-musl", "linux-x64-musl"), ("go", "plan10", None), ("gnu", "x86_64-linux-gnuu", None)):
+            error = self.refusal(name, dialect)
+            self.assertEqual((error.suggestion, error.reason, str(error).endswith(f"^ did you mean `{nearest}`?")), (nearest, None, nearest is not None))
+        rows = [it for it in NAMES if "r" in it.ways]
+        found = sum(self.refusal(f"{it.name}x", it.dialect).suggestion == it.name for it in rows)
+        self.assertGreater(found, len(rows) * 9 // 10)
+
     def test_names_are_whole(self):
         for name in "", "linux", "linux/amd64 ", "Linux/amd64", "linux/amd64\0", "\0", "linux/\u00e9", "x" * 1_000_000:
             error = self.refusal(name, Dialect.GO)

@@ -88,20 +88,23 @@ const tests = {
     assert(counts.read > 200 && counts.written > 200 && counts.withoutTriple > 30, JSON.stringify(counts));
   },
   "a name that is refused": () => {
-    for (const [dialect, name, message, reason] of [
-      ["go", "amd64", "Unknown name: amd64", null],
+    for (const [dialect, name, message, reason, suggestion = null] of [
+      ["go", "amd64", "Unknown name: amd64", null], ["go", "linux/amd46", "Unknown name: linux/amd46", null, "linux/amd64"],
       ["debian", "", "Unknown name: ", null], ["oci", "linux/\u{1f600}", "Unknown name: linux/\u{1f600}", null],
       ["node", "sunos-x64", "No triple has this name: sunos-x64: two systems: Solaris and illumos", "two systems: Solaris and illumos"],
       ["gnu", "avr", "Unknown name: avr", null],
     ]) {
       const error = refusal(name, (it) => Triple.read(it, dialect));
-      assert.deepEqual([error.message, error.reason, error.field, error.suggestion], [message, reason, null, null]);
+      assert.deepEqual([error.message, error.reason, error.field, error.suggestion], [message, reason, null, suggestion]);
       assert.deepEqual([error.part, error.start, error.end], [name, 0, name.length]);
     }
     const prefix = refusal("x86_64-linux-gnu", (it) => Triple.read(it, "gnu"));
     assert.equal(prefix.reason, "names of cross compilers are only written");
     assert.equal(refusal("sunos-x64", (it) => Triple.read(it, "node")).report,
       "No triple has this name: sunos-x64\n  sunos-x64\n  ^^^^^^^^^ two systems: Solaris and illumos");
+    assert.equal(refusal("linux/amd46", (it) => Triple.read(it, "oci")).report,
+      "Unknown name: linux/amd46\n  linux/amd46\n  ^^^^^^^^^^^ did you mean `linux/amd64`?");
+    assert.equal(refusal("amd64", (it) => Triple.read(it, "go")).report, "Unknown name: amd64\n  amd64\n  ^^^^^");
     assert.equal(refusal("x86_64-pc-linx").reason, null);
     for (const it of ["Debian", "", 1, undefined, null]) assert.throws(() => Triple.parse("x86_64").nameIn(it), TypeError);
     for (const it of ["Debian", "", 1]) assert.throws(() => Triple.read("amd64", it), TypeError);

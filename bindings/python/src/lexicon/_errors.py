@@ -29,16 +29,18 @@ class ParseError(ValueError):
 
     `part` is the refused part, from `start` to `end` of the whole `text`. `field` is what was expected there, such as
     `operating_system`. It is None for a part after the binary format, where no field is left, for a lone surrogate, and
-    for a name in a dialect. `suggestion` is the name that may have been meant, or None. `reason` says why no triple means
-    the same as a name that a dialect has; otherwise it is None. `line` is the first line of the message with the whole
-    part, and nothing escaped.
+    for a name in a dialect. `suggestion` is the name that may have been meant, in a dialect the nearest of its names, or
+    None. `reason` says why no triple means the same as a name that a dialect has; otherwise it is None. `line` is the
+    first line of the message with the whole part, and nothing escaped.
     """
 
     # The name by which tracebacks and callers know it.
     __module__ = "lexicon"
 
-    def __init__(self, text: str, status: int, start: int, part: str, reason: Optional[str] = None) -> None:
-        super().__init__(text, status, start, part, reason)
+    def __init__(
+        self, text: str, status: int, start: int, part: str, reason: Optional[str] = None, nearest: Optional[str] = None
+    ) -> None:
+        super().__init__(text, status, start, part, reason, nearest)
         #: The whole string that is refused.
         self.text = text
         #: Where the refused part begins in the string, as an index of the `str`.
@@ -48,6 +50,7 @@ class ParseError(ValueError):
         #: Why no triple means the same as a name that the dialect has; None for any other refusal.
         self.reason = reason
         self._status = status
+        self._nearest = nearest
 
     @property
     def end(self) -> int:
@@ -62,8 +65,8 @@ class ParseError(ValueError):
     @property
     def suggestion(self) -> Optional[str]:
         """The name that may have been meant by the part, or None if there is none."""
-        if self._status == _LONE_SURROGATE:
-            return None
+        if self._status > _library.UNRECOGNIZED_FIELD:
+            return self._nearest
         return _library.suggestion(self._status, self.part.encode())
 
     @property
@@ -108,8 +111,9 @@ def range_in(utf8: bytes, start: int, end: int) -> Tuple[int, str]:
     return len(utf8[:start].decode()), utf8[start:end].decode()
 
 
-def refusal(text: str, utf8: bytes, error: _library.ErrorStruct, reason: Optional[str] = None) -> ParseError:
-    """The error that the library wrote."""
+def refusal(text: str, utf8: bytes, error: _library.ErrorStruct, dialect: int = 0) -> ParseError:
+    """The error that the library wrote of a string, which is a name in the dialect of this number, if that isn't 0."""
     if error.status not in _REFUSALS:
         raise _library.LibraryError(f"a refusal with the status {error.status}")
-    return ParseError(text, error.status, *range_in(utf8, error.start, error.end), reason)
+    words = (_library.reason(dialect, utf8), _library.name_suggestion(dialect, utf8)) if dialect else ()
+    return ParseError(text, error.status, *range_in(utf8, error.start, error.end), *words)

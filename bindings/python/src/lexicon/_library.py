@@ -166,6 +166,7 @@ print_into = _declare("lexicon_print", _TRIPLE, c_void_p, c_size_t, _SIZE)
 read = _declare("lexicon_read", c_uint32, c_char_p, c_size_t, _TRIPLE, _ERROR)
 _write = _declare("lexicon_write", c_uint32, _TRIPLE, c_void_p, c_size_t, _SIZE)
 _reason = _declare("lexicon_reason", c_uint32, c_char_p, c_size_t, result=c_char_p)
+_name_suggestion = _declare("lexicon_name_suggestion", c_uint32, c_char_p, c_size_t, result=c_char_p)
 _number = _declare("lexicon_number", c_uint32, c_char_p, c_size_t, POINTER(c_uint32))
 _error_line = _declare("lexicon_error_line", c_char_p, c_size_t, _ERROR, c_void_p, c_size_t, _SIZE)
 _suggestion = _declare("lexicon_suggestion", c_char_p, c_size_t, _ERROR, result=c_char_p)
@@ -247,6 +248,12 @@ def name_in(dialect: int, triple: TripleStruct) -> Optional[str]:
 def reason(dialect: int, text: bytes) -> Optional[str]:
     """Why a name of a dialect has no triple, or None if it has one, or if it is no name."""
     found: Optional[bytes] = _reason(dialect, text, len(text))
+    return None if found is None else found.decode()
+
+
+def name_suggestion(dialect: int, text: bytes) -> Optional[str]:
+    """The nearest of the names that a dialect reads, if it doesn't know this one; None if it does, or if none is near."""
+    found: Optional[bytes] = _name_suggestion(dialect, text, len(text))
     return None if found is None else found.decode()
 
 

@@ -102,15 +102,16 @@ class Triple:
         >>> Triple.read("x86_64-w64-mingw32"), Triple.read("amd64-unknown-freebsd13.2")
         (Triple('x86_64-pc-windows-gnu'), Triple('x86_64-unknown-freebsd'))
 
-        What a name doesn't state is unknown. A name that the dialect doesn't have, and one that no triple means, raise a
-        `ParseError`, whose `reason` says why of the latter. A dialect that there isn't raises another ValueError.
+        What a name doesn't state is unknown. A name that the dialect doesn't have raises a `ParseError`, whose `suggestion`
+        is the nearest one. So does a name that no triple means; its `reason` says why. A dialect that there isn't raises
+        another ValueError.
         """
         number = NO_DIALECT if dialect is None else dialect_number(dialect)
         utf8 = encoded(text, "the name of a target")
         owner = ctypes.create_string_buffer(utf8, len(utf8))
         struct, error = _library.TripleStruct(), _library.ErrorStruct()
         if _library.read(number, owner, len(utf8), struct, error) != _library.OK:
-            raise refusal(text, utf8, error, _library.reason(number, utf8))
+            raise refusal(text, utf8, error, number)
         return _triple_of(struct, owner)
 
     @classmethod
