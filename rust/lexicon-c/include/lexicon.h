@@ -463,7 +463,7 @@ enum lexicon_status lexicon_print(const struct lexicon_triple *triple, char *out
 LEXICON_CHECKED LEXICON_NONNULL(1)
 enum lexicon_status lexicon_settle(struct lexicon_triple *triple);
 
-/* Writes the canonical form of each line of a text, with a line feed after it; of a line that is refused, only the line feed.
+/* Writes the canonical form of each line of a string, with a line feed after it; of a line that is refused, only the line feed.
    A line ends with a line feed, which the last one may lack. A buffer of text_size + lines * LEXICON_MAX_GROWTH + 2 bytes has
    room. One that is too small has the first lines, as far as they fit. */
 LEXICON_CHECKED

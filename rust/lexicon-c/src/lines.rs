@@ -1,4 +1,4 @@
-//! The canonical form of each line of a text.
+//! The canonical form of each line of a string.
 use core::str;
 use target_lexicon::TripleRef;
 
