@@ -102,19 +102,21 @@ matrix-whole none far = (far.before, so-far-end none far.answers, far.written_li
 
 -- what a line that parses adds, and what a refused line adds
 
-pub read-adds : {T E : Type 0} (done : Result T E) (shown : Values → List ℕ) (line old new : List ℕ) (t : Values) → ReadsAs line t
-    → OnOk done (new ≡ old ++ (shown t ++ line_feed ∷ [])) → OnOk done (AddsAnswer shown line old new)
-read-adds (Ok _) shown line old new t reads grown = record { answer = Shown (shown t); is = (t, reads, refl); grown = grown }
-read-adds (Err _) shown line old new t reads grown = tt
+abbrev refused_text : Refusal → List ℕ
+refused_text refusal = codes "error: " ++ refusal_line refusal
 
-pub refusal-adds : {T E : Type 0} (done : Result T E) (shown : Values → List ℕ) (line old new : List ℕ) (refusal : Refusal) → IsRefusedAs line refusal
-    → OnOk done (new ≡ old ++ ((codes "error: " ++ refusal_line refusal) ++ line_feed ∷ [])) → OnOk done (AddsAnswer shown line old new)
-refusal-adds (Ok _) shown line old new refusal refused grown = record {
-  answer = Refused (codes "error: " ++ refusal_line refusal);
-  is = (refusal, refused, refl);
-  grown = grown;
+line-ended : (old text unended new : List ℕ) → unended ≡ old ++ text → new ≡ unended ++ line_feed ∷ [] → new ≡ old ++ (text ++ line_feed ∷ [])
+line-ended old text unended new grown ended = ended ∙ ap (λ (t : List ℕ). t ++ line_feed ∷ []) grown ∙ append_assoc old text (line_feed ∷ [])
+
+-- an answer that was written, and then a line feed
+pub answer-adds : {T E : Type 0} (done : Result T E) (shown : Values → List ℕ) (line old unended new : List ℕ) (answer : Answer) → IsAnswer shown line answer
+    → unended ≡ old ++ answer_bytes answer → OnOk done (new ≡ unended ++ line_feed ∷ []) → OnOk done (AddsAnswer shown line old new)
+answer-adds (Ok _) shown line old unended new answer is grown ended = record {
+  answer = answer;
+  is = is;
+  grown = line-ended old (answer_bytes answer) unended new grown ended;
 }
-refusal-adds (Err _) shown line old new refusal refused grown = tt
+answer-adds (Err _) shown line old unended new answer is grown ended = tt
 
 module _ (line old new : List ℕ) (seen_old seen_new : Seen) where
   unless-seen : (b : Bool) (text : List ℕ) → (if b then [] else text ++ line_feed ∷ []) ≡ written_lines (if b then [] else Shown text ∷ [])
@@ -133,16 +135,15 @@ module _ (line old new : List ℕ) (seen_old seen_new : Seen) where
   }
   read-enters (Err _) t text reads is grown seen = tt
 
-  pub refusal-enters : {T E : Type 0} (done : Result T E) (refusal : Refusal) → IsRefusedAs line refusal
-      → OnOk done (new ≡ old ++ ((codes "error: " ++ refusal_line refusal) ++ line_feed ∷ []))
-      → OnOk done (AddsEntry line old new seen_old seen_old)
-  refusal-enters (Ok _) refusal refused grown = record {
-    answer = Refused (codes "error: " ++ refusal_line refusal);
+  pub refusal-enters : {T E : Type 0} (done : Result T E) (unended : List ℕ) (refusal : Refusal) → IsRefusedAs line refusal
+      → unended ≡ old ++ refused_text refusal → OnOk done (new ≡ unended ++ line_feed ∷ []) → OnOk done (AddsEntry line old new seen_old seen_old)
+  refusal-enters (Ok _) unended refusal refused grown ended = record {
+    answer = Refused (refused_text refusal);
     is = (refusal, refused, refl);
-    grown = grown;
+    grown = line-ended old (refused_text refusal) unended new grown ended;
     seen = λ text. sym (or-false (contains_text seen_old text));
   }
-  refusal-enters (Err _) refusal refused grown = tt
+  refusal-enters (Err _) unended refusal refused grown ended = tt
 
 bytes_eq-comm : (a b : List ℕ) → bytes_eq a b ≡ bytes_eq b a
 bytes_eq-comm a b =
@@ -155,13 +156,13 @@ or-if true false = refl
 or-if false true = refl
 or-if false false = refl
 
--- a set into which a text is inserted has it and its earlier ones
+-- a set into which a string is inserted has it and its earlier ones
 pub inserted : (text : List ℕ) (old new : Seen) → UpdatesBy string_eq (λ other. bytes_eq text (string_bytes other)) old new true → HasOneMore old new text
 inserted text old new updates = λ other.
     hash_set_updates_text text old new true updates other
     ∙ or-if (bytes_eq text other) (contains_text old other)
     ∙ ap (λ (b : Bool). contains_text old other || b) (bytes_eq-comm text other)
 
--- an empty set has no text
+-- an empty set has no string
 pub none-seen : (seen : Seen) → IsEmpty seen → (text : List ℕ) → contains_text seen text ≡ false
 none-seen seen empty text = ap (λ (keys : List (String Global)). list_any (λ other. bytes_eq text (string_bytes other)) keys) empty

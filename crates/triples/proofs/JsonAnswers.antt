@@ -7,7 +7,7 @@ use Rattle.triples.specs.{JsonOutput.IsJsonAnswerErrorOf, JsonOutput.IsJsonInput
 use Rattle.triples.specs.declared.run_error.RunError.{RunError}
 use Rattle.triples.specs.declared.run_error.RunError.TheVariants as run_error
 
--- a list of texts has no floating-point number
+-- a list of strings has no floating-point number
 pub no_float : (ts : List Values) → items_have_float (items_of (map json_of ts)) ≡ false
 no_float [] = refl
 no_float (t ∷ ts) = no_float ts
@@ -18,7 +18,7 @@ unfolding serde_json_on_literals
 read-some [] value found = absurd (let same : None ≡ Some value = found in cc)
 read-some (b ∷ bs) value found = omega arith
 
--- the reason why a value has no answer is the reason why its text has no output
+-- the reason why a value has no answer is the reason why the input has no output
 pub input_error : (input : List ℕ) (value : Data) (e : RunError) → read input ≡ Some value → IsJsonAnswerErrorOf value e → IsJsonInputErrorOf input e
 input_error input value run_error.NotList found error =
     subst (λ (o : Option Data). MatchOption o ⊥ (λ d. as_array d ≡ None)) (sym found) error

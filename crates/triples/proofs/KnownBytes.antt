@@ -1,23 +1,36 @@
--- Bytes that grew by a beginning of a text.
-use Rattle.std.proofs.Common.{◌≡◌, ℕ, List, ◌++◌, length, take, drop, Option, sym, ap, ◌∙◌, append_assoc}
-use Rattle.std.proofs.{lemmas.List.append-nil, lemmas.List.take-append-drop, KnownBytes.Appends-trans, Math.Seq.take-append_seam}
-use Rattle.std.specs.Io.KnownBytes.{Appends}
-use Rattle.triples.specs.Streams.{AppendsBeginning}
+-- Bytes that grew by a beginning of others.
+use Rattle.std.proofs.Common.{◌≡◌, ℕ, ◌==◌, Bool, true, false, ◌&&◌, not, if◌then◌else◌, List, [], ◌++◌, length, take, drop, Option, Some, None, Result, Ok, Err, refl, sym, ap, ◌∙◌, append_assoc, arith}
+use Rattle.std.proofs.{lemmas.Bool.eqb-true, lemmas.List.append-nil, lemmas.List.take-append-drop, KnownBytes.Appends-trans, Math.Seq.take-append_seam}
+use Rattle.std.specs.Io.KnownBytes.{Appends, Keeps, WriteAppends}
+use Rattle.triples.specs.Streams.{AppendsBeginning, write_failures_of}
 
 pub AppendsBeginning-of : (u v : Option (List ℕ)) (a b c : List ℕ) → Appends u v a → c ≡ a ++ b → AppendsBeginning u v c
 AppendsBeginning-of u v a b c x e = (length a, rw (e, take-append_seam a b) x)
 
--- nothing was taken
-pub Appends-none : (u v w : Option (List ℕ)) (a b c d : List ℕ) (n : ℕ) → n ≡ 0 → Appends u v a → Appends v w (take n b) → c ≡ a ++ d → AppendsBeginning u w c
-Appends-none u v w a b c d n z x y e = AppendsBeginning-of u w a d c (rw append-nil at (Appends-trans u v w a (take 0 b) x (rw z at y))) e
+-- a write that failed took no byte
+took-none : (is_none is_empty : Bool) (count : ℕ) → (is_none ≡ true → count ≡ 0) → ◌≡◌ {A = ℕ} (if is_none && not is_empty then 1 else 0) 1 → count ≡ 0
+took-none true is_empty count none failed = none refl
+took-none false is_empty count none failed = absurd (let bad : ◌≡◌ {A = ℕ} 0 1 = failed in omega (arith, bad))
 
--- a beginning of the first text is one of both
+Keeps-none : (u v : Option (List ℕ)) (bytes : List ℕ) → bytes ≡ [] → Appends u v bytes → Keeps u v
+Keeps-none None v bytes none appends = tt
+Keeps-none (Some xs) None bytes none appends = appends
+Keeps-none (Some xs) (Some ys) bytes none appends = appends ∙ ap (λ (t : List ℕ). xs ++ t) none ∙ append-nil xs
+
+pub Keeps-failed_write : {E : Type 0} (u v : Option (List ℕ)) (answer : Result ℕ E) (piece : List ℕ)
+    → write_failures_of answer piece ≡ 1 → WriteAppends u v answer piece → Keeps u v
+Keeps-failed_write u v (Ok count) piece failed appends =
+    let none = took-none (count == 0) (length piece == 0) count (eqb-true count 0) failed in
+    Keeps-none u v (take count piece) (ap (λ (n : ℕ). take n piece) none) appends
+Keeps-failed_write u v (Err e) piece failed appends = appends
+
+-- a beginning of the first bytes is one of both
 pub AppendsBeginning-more : (u v : Option (List ℕ)) (a b : List ℕ) → AppendsBeginning u v a → AppendsBeginning u v (a ++ b)
 AppendsBeginning-more u v a b begun =
     AppendsBeginning-of u v (take begun.0 a) (drop begun.0 a ++ b) (a ++ b) begun.1
     (ap (λ (t : List ℕ). t ++ b) (sym (take-append-drop begun.0 a)) ∙ append_assoc (take begun.0 a) (drop begun.0 a) b)
 
--- the first text, then a beginning of the second
+-- the first bytes, then a beginning of the second
 pub AppendsBeginning-then : (u v w : Option (List ℕ)) (a b : List ℕ) → Appends u v a → AppendsBeginning v w b → AppendsBeginning u w (a ++ b)
 AppendsBeginning-then u v w a b whole begun =
     AppendsBeginning-of u w (a ++ take begun.0 b) (drop begun.0 b) (a ++ b) (Appends-trans u v w a (take begun.0 b) whole begun.1)

@@ -1,4 +1,4 @@
--- The first line of a text.
+-- The first line of an input.
 use Rattle.std.proofs.Common.{◌≡◌, ◌∙◌, ap, ℕ, ◌+◌, ◌-◌, ◌<◌, ◌==◌, Bool, List, [], ◌∷◌, length, take, drop, get_or, Some, None, refl, arith}
 use Rattle.std.specs.List.{slice_range, slice_split, position_or_len, before_first, after_first}
 use Rattle.std.proofs.lemmas.Bool.{eqb-true, false_from_ne_true}
@@ -16,7 +16,7 @@ stays-first [] (next ∷ parts) some = refl
 stays-first (b ∷ bs) [] some = refl
 stays-first (b ∷ bs) (next ∷ parts) some = refl
 
--- a text that has a line feed is cut at the first one
+-- an input that has a line feed is cut at the first one
 pub lines_of-cut : (text : List ℕ) → position_or_len is_line_feed text < length text
     → lines_of text ≡ before_first is_line_feed text ∷ lines_of (after_first is_line_feed text)
 lines_of-cut text below =
@@ -24,7 +24,7 @@ lines_of-cut text below =
     ap parts_without_empty_last (slice_split_first is_line_feed text 0 below)
     ∙ stays-first _ (slice_split is_line_feed rest) (omega (arith, length-slice_split is_line_feed rest))
 
--- a text without a line feed is one line
+-- an input without a line feed is one line
 pub lines_of-whole : (text : List ℕ) → 0 < length text → position_or_len is_line_feed text ≡ length text → lines_of text ≡ text ∷ []
 lines_of-whole text some past =
     rw (slice_split_none is_line_feed text (λ k d h. fails_before_first is_line_feed text k d (omega (arith, past, h))))
@@ -35,7 +35,7 @@ pub position_of_feed : (text : List ℕ) (end : ℕ) → IsFirstByte (is_byte li
 position_of_feed text end first =
     position_or_len_is is_line_feed text end 0 (omega (arith, first.0.high)) (λ k below. false_from_ne_true (is_line_feed (get_or text k 0)) (first.0.before k (omega arith) below)) (λ _. first.1)
 
--- the text that has its first line feed there, before and after it
+-- the input that has its first line feed there, before and after it
 module _ (text : List ℕ) (end : ℕ) (first : IsFirstByte (is_byte line_feed) text (Some end)) where
   pub feed_at : get_or text end 0 ≡ 10
   feed_at = eqb-true _ 10 first.1
@@ -48,7 +48,7 @@ module _ (text : List ℕ) (end : ℕ) (first : IsFirstByte (is_byte line_feed) 
       ∙ ap (λ (n : ℕ). take n text ∷ lines_of (drop (n + 1) text)) is
       ∙ rw (earlier ∙ ap (λ (n : ℕ). take n text) whole, later) refl
 
--- a text without a line feed
+-- an input without a line feed
 pub lines_of-no_feed : (text : List ℕ) → 0 < length text → IsFirstByte (is_byte line_feed) text None → lines_of text ≡ text ∷ []
 lines_of-no_feed text some none =
     lines_of-whole text some (position_or_len_is is_line_feed text (length text) 0 (omega arith) (λ k below. false_from_ne_true (is_line_feed (get_or text k 0)) (none k (omega arith) below)) (λ more. absurd (omega (arith, more))))

@@ -20,7 +20,7 @@ entries_are_settled_triples one plain keys a b t u reads_a reads_b = (
   λ same. (canonical_text t, (t, reads_a, refl), (u, reads_b, ap text_of same)),
 )
 
--- the matrix keeps the first entry for each text and no other
+-- the matrix keeps the first entry for each string and no other
 
 entry-case : (before is stays : Bool) (test : Answer → Bool) (line : Answer) (rest : List Answer) → test line ≡ is → (is ≡ true → stays ≡ not before)
     → filter test (if_stays stays line) ++ (if before || is then [] else take 1 rest) ≡ (if before then [] else take 1 (cond is (line ∷ rest) rest))
@@ -129,7 +129,7 @@ or-there false true implied = absurd (let bad = implied refl in cc)
 there-again : (xs : List Answer) (text other : List ℕ) → not (list_any (shows text) xs) ≡ false → bytes_eq other text ≡ true → list_any (shows other) xs ≡ true
 there-again xs text other stays is = ap (λ (t : List ℕ). list_any (shows t) xs) (same_text other text (sym is)) ∙ not-false (list_any (shows text) xs) stays
 
--- the entries that stay after some lines and the entry for a text
+-- the entries that stay after some lines and the entry for a string
 abbrev entries_more : List Answer → List ℕ → List Answer → List Answer
 entries_more before text lines = only_entries (kept_answers (before ++ Shown text ∷ []) lines)
 
@@ -153,7 +153,7 @@ stay-again before entries (Shown text ∷ lines) same =
         ap (λ (b : Bool). if_stays b (Shown text) ++ kept_answers (entries ++ Shown text ∷ []) (entries_more before text lines)) (ap not (sym (same text)) ∙ is)
         ∙ ap (λ (t : List Answer). Shown text ∷ t) there
 
--- each entry is what mode `settle` writes for its own text
+-- each entry is what mode `settle` writes for its own string
 abbrev AreOwn : List Answer → Type 0
 AreOwn lines = AreAnswers canonical_text (map answer_bytes (only_entries lines)) (only_entries lines)
 

@@ -1,4 +1,4 @@
--- What mode `show` writes of a triple: its text and four words.
+-- What mode `show` writes of a triple: the triple, printed, and four words.
 use Rattle.std.specs.Prelude.{ℕ, List, ◌++◌, codes, Option, option_map, unwrap_or}
 use Rattle.lexicon_fields.specs.{Endianness.endianness_name, PointerWidth.width_name}
 use Rattle.target_lexicon.specs.{CallingConvention.convention_name, DataModel.model_name, Printing.text_of, Values.Values}
@@ -8,7 +8,7 @@ use Rattle.target_lexicon.specs.Queries.{endianness, pointer_width, calling_conv
 abbrev pub spaced_word : Option (List ℕ) → List ℕ
 spaced_word word = codes " " ++ unwrap_or word (codes "-")
 
--- the text of a triple, and the words for its byte order, pointer width, calling convention and data model
+-- a printed triple, and the words for its byte order, pointer width, calling convention and data model
 abbrev pub text_with_facts : Values → List ℕ
 text_with_facts t =
     text_of t ++ (spaced_word (option_map endianness_name (endianness t)) ++ (spaced_word (option_map width_name (pointer_width t))

@@ -10,7 +10,7 @@ use Rattle.triples.specs.Lines.{line_feed}
 use Rattle.triples.specs.declared.run_error.RunError.{RunError}
 use Rattle.triples.specs.declared.run_error.RunError.TheVariants as run_error
 
--- the compact text of the list that the value parses as
+-- the compact form of the list that the value parses as
 abbrev pub IsListWritten : Data → List ℕ → Type 0
 IsListWritten value answer = (ts : List Values) × ListReadsAs value ts × (answer ≡ compact_text (list_json_of ts))
 

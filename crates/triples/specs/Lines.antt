@@ -1,4 +1,4 @@
--- The lines of a text.
+-- The lines of an input.
 use Rattle.std.specs.Prelude.{ℕ, ◌==◌, List, [], ◌∷◌}
 use Rattle.std.specs.List.{slice_split}
 

@@ -4,7 +4,7 @@ use Rattle.std.specs.List.{filter}
 use Rattle.target_lexicon.specs.{FixedPoints.settled_values, FixedPoints.canonical_text, Reading.ReadsAs, Values.Values}
 use Rattle.triples.specs.Output.{Answer, Shown, Refused, IsAnswer, AreAnswers, shows, matrix_of, answer_bytes}
 
--- mode `settle` writes the same text for two lines
+-- mode `settle` writes the same string for two lines
 abbrev pub ShareAnEntry : List ℕ → List ℕ → Type 0
 ShareAnEntry a b = (text : List ℕ) × IsAnswer canonical_text a (Shown text) × IsAnswer canonical_text b (Shown text)
 
@@ -12,7 +12,7 @@ ShareAnEntry a b = (text : List ℕ) × IsAnswer canonical_text a (Shown text) �
 abbrev pub EntriesAreSettledTriples : Type 0
 EntriesAreSettledTriples = (a b : List ℕ) (t u : Values) → ReadsAs a t → ReadsAs b u → ShareAnEntry a b ↔ (settled_values t ≡ settled_values u)
 
--- the entries for a text among the answers of mode `settle`
+-- the entries for a string among the answers of mode `settle`
 abbrev pub entries_of : List ℕ → List Answer → List Answer
 entries_of text lines = filter (shows text) lines
 
@@ -21,13 +21,13 @@ abbrev pub is_refusal : Answer → Bool
 is_refusal (Shown text) = false
 is_refusal (Refused message) = true
 
--- the matrix keeps one entry for each text, and every refusal
+-- the matrix keeps one entry for each string, and every refusal
 pub record KeepsEntriesOnce (lines : List Answer) : Type 0 where
   pub entries : (text : List ℕ) → entries_of text (matrix_of lines) ≡ take 1 (entries_of text lines)
   pub refusals : filter is_refusal (matrix_of lines) ≡ filter is_refusal lines
 
--- An answer that follows others is added at the end of their matrix if it is a refusal or the first entry for its text;
--- another entry for the same text adds nothing.
+-- An answer that follows others is added at the end of their matrix if it is a refusal or the first entry for its
+-- string; another entry for the same string adds nothing.
 pub record StaysAtItsFirst (before : List Answer) : Type 0 where
   pub refusal : (message : List ℕ) → matrix_of (before ++ Refused message ∷ []) ≡ matrix_of before ++ Refused message ∷ []
   pub first : (text : List ℕ) → entries_of text before ≡ [] → matrix_of (before ++ Shown text ∷ []) ≡ matrix_of before ++ Shown text ∷ []

@@ -9,15 +9,7 @@ use Rattle.triples.specs.{declared.run_error.RunError.RunError, declared.run_err
 use Rattle.triples.specs.Lines.{line_feed, lines_of}
 use Rattle.triples.specs.JsonOutput.{IsJsonOutput, IsJsonInputErrorOf}
 
--- what a mode shows of a triple
-abbrev pub shown_text : Mode → Values → List ℕ
-shown_text Print = text_of
-shown_text Show = text_with_facts
-shown_text Settle = canonical_text
-shown_text Matrix = canonical_text
-shown_text Json = text_of
-
--- the answer to a line: what is shown of its triple, or the text of its refusal
+-- the answer to a line: what is shown of its triple, or the line of its refusal
 pub data Answer : Type 0 where
   Shown : List ℕ → Answer
   Refused : List ℕ → Answer
@@ -31,23 +23,23 @@ IsAnswer shown line (Refused message) = (refusal : Refusal) × IsRefusedAs line 
 abbrev pub AreAnswers : (Values → List ℕ) → List (List ℕ) → List Answer → Type 0
 AreAnswers shown lines answers = AllZip (IsAnswer shown) lines answers
 
--- whether an answer shows this text; a refusal never does, even if it has the same bytes
+-- whether an answer shows this string; a refusal never does, even if it has the same bytes
 abbrev pub shows : List ℕ → Answer → Bool
 shows text (Shown other) = bytes_eq text other
 shows text (Refused message) = false
 
--- whether an answer stays after earlier ones: none of them shows the same text
+-- whether an answer stays after earlier ones: none of them shows the same string
 abbrev pub is_kept_after : List Answer → Answer → Bool
 is_kept_after before (Shown text) = not (list_any (shows text) before)
 is_kept_after before (Refused message) = true
 
--- the answers without those that show a text which an earlier one shows
+-- the answers without those that show a string which an earlier one shows
 abbrev pub kept_answers : List Answer → List Answer → List Answer
 kept_answers before [] = []
 kept_answers before (answer ∷ answers) =
     (if is_kept_after before answer then answer ∷ [] else []) ++ kept_answers (before ++ answer ∷ []) answers
 
--- the matrix: the first answer that shows each text, and each refusal
+-- the matrix: the first answer that shows each string, and each refusal
 abbrev pub matrix_of : List Answer → List Answer
 matrix_of answers = kept_answers [] answers
 

@@ -4,29 +4,39 @@ use Rattle.std.specs.declared.alloc.Global.{Global}
 use Rattle.std.specs.HashSet.{HashSet, contains_text}
 use Rattle.std.specs.declared.hash.{BuildHasherDefault.BuildHasherDefault, FoldHasher.FoldHasher}
 use Rattle.std.specs.Str.{bytes_eq}
-use Rattle.target_lexicon.specs.{FixedPoints.canonical_text, Values.Values}
+use Rattle.target_lexicon.specs.{FixedPoints.canonical_text, Printing.text_of, Values.Values}
+use Rattle.triples.specs.Facts.{text_with_facts}
+use Rattle.triples.specs.declared.lines.LineMode.{LineMode}
+use Rattle.triples.specs.declared.lines.LineMode.TheVariants.{Print, Show, Settle}
 use Rattle.triples.specs.Output.{Answer, Shown, Refused, IsAnswer, shows, written_lines}
 
--- the texts that were seen
+-- what a mode shows of a triple
+abbrev pub shown_text : LineMode → Values → List ℕ
+shown_text Print = text_of
+shown_text Show = text_with_facts
+shown_text Settle = canonical_text
+
+-- the printed triples that were seen
 abbrev pub Seen : Type 0
 Seen = HashSet (String Global) (BuildHasherDefault FoldHasher)
 
--- a set has this text and its earlier ones
+-- a set has this string and its earlier ones
 abbrev pub HasOneMore : Seen → Seen → List ℕ → Type 0
 HasOneMore old new text = (other : List ℕ) → contains_text new other ≡ (contains_text old other || bytes_eq other text)
 
--- whether an answer shows a text that was seen
+-- whether an answer shows a string that was seen
 abbrev pub is_repeated : Seen → Answer → Bool
 is_repeated seen (Shown text) = contains_text seen text
 is_repeated seen (Refused message) = false
 
--- a text grew by the answer to a line
+-- the output grew by the answer to a line
 pub record AddsAnswer (shown : Values → List ℕ) (line old new : List ℕ) : Type 0 where
   pub answer : Answer
   pub is : IsAnswer shown line answer
   pub grown : new ≡ old ++ written_lines (answer ∷ [])
 
--- a text grew by the answer to a line, unless that shows a text that was seen, and what it shows has now been seen
+-- the output grew by the answer to a line, unless that shows a string that was seen, and what it shows has now been
+-- seen
 pub record AddsEntry (line old new : List ℕ) (seen_old seen_new : Seen) : Type 0 where
   pub answer : Answer
   pub is : IsAnswer canonical_text line answer

@@ -1,9 +1,9 @@
 -- What is read from a reader and written to a writer, and what counts as a failure of them.
 use Rattle.std.specs.Prelude.{if◌then◌else◌, ℕ, ◌<◌, List, length, take, Option, ◌==◌, ◌&&◌, not, Result, Ok, Err}
-use Rattle.triples.specs.declared.counted.Counted.{Counted}
+use Rattle.triples.specs.declared.streams.Counted.{Counted}
 use Rattle.std.specs.Io.KnownBytes.{Appends, Consumes}
 
--- if the bytes are known, they grew by a beginning of this text
+-- if the bytes are known, they grew by a beginning of these
 abbrev pub AppendsBeginning : Option (List ℕ) → Option (List ℕ) → List ℕ → Type 0
 AppendsBeginning old new bytes = (n : ℕ) × Appends old new (take n bytes)
 

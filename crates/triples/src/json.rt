@@ -11,7 +11,7 @@ use serde_json::Value;
 use std::alloc::{AllocError, Global};
 use target_lexicon::{JsonError, ListError, ParseError, Triple, list_from_json, list_to_json};
 
-/// The compact JSON text of the triples. They are dropped before it is made, to save memory.
+/// The triples as compact JSON. They are dropped before it is made, to save memory.
 fn list_text(alloc: Global, triples: Vec<Triple>) -> Result<String, AllocError>
     ensures { IfOk result
         (λ text. string_bytes text ≡ compact_text (list_json_of (map values_of triples.items))) }
@@ -39,8 +39,8 @@ fn is_out_of_memory(error: &JsonError) -> bool
     matches!(error, JsonError::Parse(ParseError::OutOfMemory))
 }
 
-/// The text of the list that the value parses as, or the line for its first refused element. The value is dropped
-/// before the text is made, to save memory.
+/// The list that the value parses as, printed as JSON, or the line for its first refused element. The value is dropped
+/// before that is made, to save memory.
 fn answer(alloc: Global, value: Value) -> Result<String, RunError>
     ensures ok { IfOk result (λ answer. IsJsonAnswer (view value) (string_bytes answer)) }
     ensures err { IfErr result (λ e. IsJsonAnswerErrorOf (view value) e) }
@@ -60,7 +60,7 @@ fn answer(alloc: Global, value: Value) -> Result<String, RunError>
     }
 }
 
-/// The output for an input that is one JSON text, or why there is none.
+/// The output for an input that is one JSON value, or why there is none.
 pub(crate) fn json_output(alloc: Global, input: &str) -> Result<String, RunError>
     ensures output { IfOk result (λ output. IsJsonOutput input.now (string_bytes output)) }
     ensures err { IfErr result (λ e. IsJsonInputErrorOf input.now e) }

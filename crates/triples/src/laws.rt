@@ -27,7 +27,7 @@ pub fn copies_equal_their_sources()
         ⟦<RunError as Clone>⟧.is_infallible }
 {}
 
-/// Mode `settle` writes the same text for two lines that parse exactly if their canonical triples are equal.
+/// Mode `settle` writes the same string for two lines that parse exactly if their canonical triples are equal.
 pub fn entries_are_settled_triples()
     ensures { EntriesAreSettledTriples }
 {
@@ -36,13 +36,13 @@ pub fn entries_are_settled_triples()
     target_lexicon::laws::settled_texts_are_keys();
 }
 
-/// The matrix keeps one entry for each text, and every refused line.
+/// The matrix keeps one entry for each string, and every refused line.
 pub fn entries_are_kept_once()
     ensures { (lines : List Answer) → KeepsEntriesOnce lines }
 {}
 
-/// The matrix follows the order of the lines: each refused line and the first entry of each text are added at its end,
-/// and a later entry of the same text changes nothing.
+/// The matrix follows the order of the lines: each refused line and the first entry of each string are added at its
+/// end, and a later entry of the same string changes nothing.
 #[tactic(auto, using(crate::proofs::MatrixLawLemmas::first_entries_stay_in_order))]
 pub fn first_entries_stay_in_order()
     ensures { FirstEntriesStayInOrder }

@@ -1,29 +1,24 @@
-//! Reads lines of target triples and writes what they are. `main` calls `run`, which calls `output` for what to write,
-//! and then `conclude`, which gives the exit status.
+//! Reads lines of target triples and writes what they are. `main` calls `run`, which reads the input, calls a function of
+//! the mode for what to write, and writes that; and then `conclude`, which gives the exit status.
 #![tactic(auto)]
 
-mod conclude;
-mod counted;
-mod facts;
-mod input;
 mod json;
 mod laws;
 mod lines;
 mod matrix;
 mod mode;
-mod output;
 mod run;
 mod run_error;
+mod streams;
 #[cfg(test)]
 mod tests;
 
-use conclude::conclude;
-use counted::Counted;
 use mode::Mode;
-use run::run;
+use run::{conclude, run};
 use std::env;
 use std::process::ExitCode;
 use std::rt::Env;
+use streams::Counted;
 
 /// The mode that the arguments name: `print` without an argument, the mode that a single word names, and `None` for
 /// other words, more words, or arguments that aren't available.

@@ -1,17 +1,55 @@
-//! The canonical texts that mode `matrix` has written so far.
-ghost use Rattle.std.specs.Prelude.{◌≡◌, ◌++◌, ◌∷◌, [], string_bytes, if◌then◌else◌, OnOk};
+//! Mode `matrix`: each canonical triple once, at its first line.
+ghost use Rattle.std.specs.Prelude.{◌≡◌, ◌<◌, ◌++◌, ◌∷◌, [], length, string_bytes, if◌then◌else◌, IfOk, OnOk, OnErr};
 ghost use Rattle.std.specs.HashSet.{contains_text};
 ghost use Rattle.target_lexicon.specs.Printing.{text_of};
 ghost use Rattle.target_lexicon.specs.ValuesRef.{values_of_ref};
-ghost use Rattle.triples.specs.Private.{HasOneMore};
-ghost use Rattle.triples.specs.Lines.{line_feed};
+ghost use Rattle.triples.specs.Lines.{line_feed, lines_of};
+ghost use Rattle.triples.specs.Output.{IsMatrix};
+ghost use Rattle.triples.specs.Private.{AddsEntry, HasOneMore};
 
+use crate::lines::{first_line, push_refusal};
 use std::alloc::{AllocError, Global};
 use std::collections::HashSet;
 use target_lexicon::TripleRef;
 
-/// Appends the printed text of a triple and a line feed if the text was not seen before, and adds it to those seen.
-pub(crate) fn push_first(
+/// The matrix of the lines of an input.
+pub(crate) fn matrix(alloc: Global, input: &str) -> Result<String, AllocError>
+    ensures output { IfOk result (λ output. IsMatrix (lines_of input.now) (string_bytes output)) }
+    ensures memory { OnErr result (0 < length input.now) }
+{
+    let mut output = String::new(alloc);
+    let mut seen = HashSet::new(alloc);
+    let mut rest = input;
+    while !rest.is_empty() {
+        let (line, others) = first_line(rest);
+        push_entry(alloc, &mut output, &mut seen, line)?;
+        rest = others;
+    }
+    Ok(output)
+}
+
+/// Appends the answer to a line, and a line feed, unless it is a canonical triple that an earlier line has.
+fn push_entry(
+    alloc: Global,
+    output: &mut String,
+    seen: &mut HashSet<String>,
+    line: &str,
+) -> Result<(), AllocError>
+    ensures { OnOk result
+        (AddsEntry line.now (string_bytes output.old) (string_bytes output.new) seen.old
+        seen.new) }
+{
+    match TripleRef::from_str(line) {
+        Ok(triple) => push_first(alloc, output, seen, &triple.settle()),
+        Err(refusal) => {
+            push_refusal(output, &refusal)?;
+            output.push('\n')
+        }
+    }
+}
+
+/// Appends a printed triple and a line feed if it was not seen before, and adds it to what was seen.
+fn push_first(
     alloc: Global,
     output: &mut String,
     seen: &mut HashSet<String>,

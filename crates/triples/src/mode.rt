@@ -10,7 +10,7 @@ pub enum Mode {
     Show,
     /// The canonical triple of each line, printed.
     Settle,
-    /// The triples of a JSON list of texts, printed, as a JSON list.
+    /// The triples of a JSON list of strings, printed, as a JSON list.
     Json,
     /// Each canonical triple once, printed, at its first line.
     Matrix,

@@ -1,17 +1,20 @@
-//! A run, from a reader to a writer.
-ghost use Rattle.std.specs.Prelude.{◌≡◌, ◌≢◌, ◌<◌, ◌≤◌, ◌↔◌, IsErrOf, OnOk, IfErr, IfSome};
+//! A run, from a reader to a writer, and the end of the program.
+ghost use Rattle.std.specs.Prelude.{◌≡◌, ◌≢◌, ◌<◌, ◌≤◌, ◌↔◌, string_bytes, IsErrOf, OnOk, IfOk, IfErr, IfSome};
 ghost use Rattle.std.specs.Str.{IsUtf8};
 ghost use Rattle.std.specs.Io.KnownBytes.{Appends, Keeps, IsAtEnd};
 ghost use Rattle.triples.specs.Run.{WritesOutput};
 ghost use Rattle.triples.specs.Streams.{inner, failures, AppendsBeginning, ConsumesSome};
-ghost use Rattle.triples.specs.Faults.{IsOfJson};
+ghost use Rattle.triples.specs.Faults.{IsOfJson, fault_line};
 ghost use Rattle.triples.specs.JsonOutput.{IsJsonInputErrorOf};
+ghost use Rattle.triples.specs.Output.{IsOutput, IsInputErrorOf};
+ghost use Rattle.triples.specs.Words.{status_of, closing_words};
 
-use crate::counted::Counted;
-use crate::input::{read_all, write_and_flush};
+use crate::json::json_output;
+use crate::lines::{LineMode, answers};
+use crate::matrix::matrix;
 use crate::mode::Mode;
-use crate::output::output;
 use crate::run_error::RunError;
+use crate::streams::{Counted, read_all, write_all, write_and_flush};
 use std::alloc::Global;
 use std::io::{Read, Write};
 
@@ -78,4 +81,60 @@ pub fn run<R: Read, W: Write>(
     };
     let output = output(alloc, mode, input)?;
     write_and_flush(w, output.as_bytes())
+}
+
+/// The output of a mode for an input, or why there is none. Nothing is allocated for an empty input.
+fn output(alloc: Global, mode: Mode, input: &str) -> Result<String, RunError>
+    ensures output { IfOk result (λ output. IsOutput mode input.now (string_bytes output)) }
+    ensures err { IfErr result (λ e. IsInputErrorOf mode input.now e) }
+{
+    match mode {
+        Mode::Print => Ok(answers(alloc, LineMode::Print, input)?),
+        Mode::Show => Ok(answers(alloc, LineMode::Show, input)?),
+        Mode::Settle => Ok(answers(alloc, LineMode::Settle, input)?),
+        Mode::Matrix => Ok(matrix(alloc, input)?),
+        Mode::Json => json_output(alloc, input),
+    }
+}
+
+/// Writes the closing line of the program, and returns the exit status:
+/// - after a successful run no line, and 0;
+/// - after a failed run `fault: ` and the line of the error, and 1;
+/// - if there was no run, the usage line, and 2.
+///
+/// If the writer fails, a part of the line may be missing; the status is the same.
+pub fn conclude<W: Write>(end: Option<Result<(), RunError>>, w: &mut Counted<W>) -> u8
+    ensures status { result ≡ status_of end }
+    ensures said { failures w.new ≡ failures w.old →
+        Appends (W.contents (inner w.old)) (W.contents (inner w.new)) (closing_words end) }
+    ensures begun { AppendsBeginning (W.contents (inner w.old)) (W.contents (inner w.new))
+        (closing_words end) }
+{
+    match end {
+        Some(Ok(())) => 0,
+        Some(Err(error)) => {
+            let _ = write_fault(w, error);
+            1
+        }
+        None => {
+            let _ = write_and_flush(w, b"usage: triples [MODE]\n");
+            2
+        }
+    }
+}
+
+/// Writes `fault: ` and the line of the error, and flushes. If the writer fails, a part of the line may be missing.
+fn write_fault<W: Write>(writer: &mut Counted<W>, error: RunError) -> Result<(), RunError>
+    ensures said { failures writer.new ≡ failures writer.old →
+        Appends (W.contents (inner writer.old)) (W.contents (inner writer.new)) (fault_line error) }
+    ensures begun { AppendsBeginning (W.contents (inner writer.old)) (W.contents (inner writer.new))
+        (fault_line error) }
+    ensures unfailed { OnOk result (failures writer.new ≡ failures writer.old) }
+    ensures counted { failures writer.old ≤ failures writer.new }
+    ensures write { IsErrOf result RunError.Write ↔ (failures writer.old < failures writer.new) }
+    ensures only { IfErr result (λ e. e ≡ RunError.Write) }
+{
+    write_all(writer, b"fault: ")?;
+    write_all(writer, error.line().as_bytes())?;
+    write_and_flush(writer, b"\n")
 }

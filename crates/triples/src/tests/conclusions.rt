@@ -2,9 +2,9 @@
 //! over a target that fails at each piece.
 
 use super::faulty::{Fault, FaultyTarget, FaultyWriter, WriterCalls};
-use crate::conclude::conclude;
-use crate::counted::Counted;
+use crate::run::conclude;
 use crate::run_error::RunError;
+use crate::streams::Counted;
 use std::alloc::Global;
 use std::fmt::Write as _;
 use std::io::ErrorKind;
@@ -83,7 +83,7 @@ fn concludes(rt: HostRuntime) {
     }
 }
 
-/// Whether an error prints the text of its closing line, also with a width and a fill.
+/// Whether an error prints its closing line, also with a width and a fill.
 fn prints_as(alloc: Global, error: RunError, line: &str) -> bool {
     let mut lines = String::new(alloc);
     write!(lines, "fault: {error}\nfault: {error:*>40}\n").is_ok()

@@ -1,7 +1,7 @@
 //! What `Counted` passes to its reader or writer, and what it passes back.
 
 use super::faulty::{Fault, FaultyReader, FaultyWriter, WriterCalls};
-use crate::counted::Counted;
+use crate::streams::Counted;
 use std::alloc::{AllocError, Global};
 use std::io;
 use std::io::{ErrorKind, Write};

@@ -1,5 +1,5 @@
 use Rattle.std.proofs.Common.{rules}
-use Rattle.triples.proofs.input.write_and_flush.Goals as goal
+use Rattle.triples.proofs.streams.write_and_flush.Goals as goal
 
 pub returns-in-Err-clause-unfailed : goal.returns-in-Err-clause-unfailed
 returns-in-Err-clause-unfailed c = search rules

@@ -3,9 +3,9 @@ use Rattle.std.proofs.Common.{length, string_bytes, ◌≤◌}
 use denote.Text.{Utf8}
 use denote.Shadow.{shadow}
 use Rattle.triples.specs.Lines.{lines_of}
-use Rattle.triples.specs.Output.{shown_text}
+use Rattle.triples.specs.Private.{shown_text}
 use Rattle.triples.proofs.AnswerLemmas.{IsSoFar}
-use Rattle.triples.proofs.output.answers.Given as goal
+use Rattle.triples.proofs.lines.answers.Given as goal
 
 abbrev pub invariant-loop-rest : goal.invariant-loop-rest
 invariant-loop-rest l = record {

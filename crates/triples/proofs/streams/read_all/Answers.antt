@@ -1,6 +1,6 @@
 use Rattle.std.proofs.Common.{◌<◌, ◌++◌, length, take, arith, length-append}
 use Rattle.std.proofs.{lemmas.Grind.common_steps, lemmas.List.length-take, KnownBytes.Consumes-trans}
-use Rattle.triples.proofs.input.read_all.Goals as goal
+use Rattle.triples.proofs.streams.read_all.Goals as goal
 
 pub returns-then-is_err-clause-memory : goal.returns-then-is_err-clause-memory
 returns-then-is_err-clause-memory g c = λ is.

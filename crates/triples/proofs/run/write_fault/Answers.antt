@@ -2,7 +2,7 @@
 use Rattle.std.proofs.Common.{arith}
 use Rattle.std.proofs.lemmas.Grind.{common_steps}
 use Rattle.triples.proofs.KnownBytes.{AppendsBeginning-more, AppendsBeginning-then}
-use Rattle.triples.proofs.input.write_fault.Goals as goal
+use Rattle.triples.proofs.run.write_fault.Goals as goal
 
 pub returns-in_err-write_all-clause-begun : goal.returns-in_err-write_all-clause-begun
 returns-in_err-write_all-clause-begun g c = search (AppendsBeginning-more, c.in_err-write_all.ensures.begun)

@@ -4,7 +4,7 @@ use denote.Text.{Utf8}
 use denote.Shadow.{shadow}
 use Rattle.triples.specs.Lines.{lines_of}
 use Rattle.triples.proofs.AnswerLemmas.{IsMatrixSoFar}
-use Rattle.triples.proofs.output.matrix.Given as goal
+use Rattle.triples.proofs.matrix.matrix.Given as goal
 
 abbrev pub invariant-loop-rest : goal.invariant-loop-rest
 invariant-loop-rest l = record {
