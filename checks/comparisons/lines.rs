@@ -12,8 +12,11 @@ use std::io::{self, Read, Write as _};
 use std::str::FromStr;
 use target_lexicon::Triple;
 
-const CONVENTIONS: [&str; 4] = ["SystemV", "WasmBasicCAbi", "WindowsFastcall", "AppleAarch64"];
-const MODELS: [&str; 5] = ["LP32", "ILP32", "LLP64", "LP64", "ILP64"];
+// The words of mode `show`: for no answer, and in the order of the variants.
+const ORDERS: &[&str; 3] = &["-", "little", "big"];
+const WIDTHS: &[&str; 4] = &["-", "16", "32", "64"];
+const CONVENTIONS: &[&str; 5] = &["-", "SystemV", "WasmBasicCAbi", "WindowsFastcall", "AppleAarch64"];
+const MODELS: &[&str; 6] = &["-", "LP32", "ILP32", "LLP64", "LP64", "ILP64"];
 
 /// How upstream's crate prints.
 #[derive(Clone, Copy, PartialEq)]
@@ -25,13 +28,13 @@ enum How {
 
 fn show(output: &mut String, triple: &Triple, how: How) {
     print(output, triple, how);
-    let order = triple.endianness().map(|order| ["little", "big"][order as usize]);
-    let width = triple.pointer_width().map(|width| ["16", "32", "64"][width as usize]);
-    let convention = triple.default_calling_convention().map(|convention| CONVENTIONS[convention as usize]);
-    let model = triple.data_model().map(|model| MODELS[model as usize]);
-    for answer in [order, width, convention, model] {
+    let order = ORDERS[triple.endianness().map_or(0, |order| order as usize + 1)];
+    let width = WIDTHS[triple.pointer_width().map_or(0, |width| width as usize + 1)];
+    let convention = CONVENTIONS[triple.default_calling_convention().map_or(0, |convention| convention as usize + 1)];
+    let model = MODELS[triple.data_model().map_or(0, |model| model as usize + 1)];
+    for word in [order, width, convention, model] {
         output.push(' ');
-        output.push_str(answer.unwrap_or("-"));
+        output.push_str(word);
     }
 }
 
@@ -123,13 +126,13 @@ fn main() -> io::Result<()> {
         println!("{}", lines.iter().filter(|line| Triple::from_str(line).is_ok()).count());
         return Ok(());
     }
+    if mode == "names" {
+        lines.iter().for_each(|line| println!("{}", name(line)));
+        return Ok(());
+    }
     let mut output = String::with_capacity(input.len() + 16);
     let mut seen = HashSet::new();
     for line in lines {
-        if mode == "names" {
-            output += &(name(line) + "\n");
-            continue;
-        }
         match (mode.as_str(), Triple::from_str(line)) {
             (_, Err(error)) => write!(output, "error: {error}").expect("memory"),
             ("print", Ok(triple)) => print(&mut output, &triple, how),
