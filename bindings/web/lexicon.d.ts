@@ -220,7 +220,7 @@ export class Triple {
    */
   nameIn(dialect: Dialect): string | null;
   /** The canonical form: two canonical triples with the same printed string are equal, so the string is a key. */
-  settled(): Triple;
+  settle(): Triple;
   /** Whether the triple round-trips: printing and parsing give it again. */
   comesBack(): boolean;
   equals(other: Triple): boolean;

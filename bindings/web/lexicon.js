@@ -403,7 +403,7 @@ export class Triple {
   }
 
   /** The canonical form: two canonical triples with the same printed string are equal. */
-  settled() {
+  settle() {
     const it = instance(), status = it.call("settle", it.triple(this).start);
     if (status !== OK) throw failure(status);
     return it.tripleAt();

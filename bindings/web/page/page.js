@@ -60,7 +60,7 @@ const header = (text, ...inside) => element("th", { role: "rowheader", scope: "r
 
 /** The printed and the canonical form, where they aren't the target. */
 function* forms(triple, text) {
-  const printed = `${triple}`, canonical = `${triple.settled()}`;
+  const printed = `${triple}`, canonical = `${triple.settle()}`;
   if (printed !== text && printed !== canonical) yield small("prints ", code(printed));
   if (canonical !== text) yield small("is ", code(canonical));
 }
@@ -79,7 +79,7 @@ function foldButton(row, text) {
 function meaningElsewhere(text) {
   try {
     const triple = Triple.read(text);
-    return triple.hasCustomVendor ? null : `${triple.settled()}`;
+    return triple.hasCustomVendor ? null : `${triple.settle()}`;
   } catch (error) {
     if (!(error instanceof ParseError)) throw error;
     return null;
@@ -116,7 +116,7 @@ function parsedRow({ text, triple, fields, suggestion }) {
   row.append(answerCell("Byte order", facts.endianness),
     answerCell("Pointers", facts.pointerWidth && `${facts.pointerWidth} bits`), answerCell("Convention", facts.defaultCallingConvention),
     answerCell("Data model", facts.dataModel), namesCell(triple, text));
-  row.canonical = `${triple.settled()}`;
+  row.canonical = `${triple.settle()}`;
   row.names = row.lastChild.firstChild;
   row.double = head.appendChild(small());
   head.append(foldButton(row, text));
@@ -278,7 +278,7 @@ function matrixEntry(text) {
     return { ...place, error: reason, part, start: from, end: from + size, field: name, suggestion };
   }
   const fields = FIELDS.flatMap((name) => [[name, triple[name]], ...(name === "operatingSystem" ? [["version", versionOf(triple)]] : [])]);
-  const facts = { ...Object.fromEntries(fields), ...triple.facts(), printed: `${triple}`, canonical: `${triple.settled()}` };
+  const facts = { ...Object.fromEntries(fields), ...triple.facts(), printed: `${triple}`, canonical: `${triple.settle()}` };
   return { ...place, ...Object.fromEntries(Object.entries(facts).map(([name, fact]) => [snakeCase(name), fact])) };
 }
 

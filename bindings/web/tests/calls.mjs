@@ -49,7 +49,7 @@ const tests = {
     const it = Triple.parse("aarch64-acme_1.0-ios65535.255.255");
     assert.deepEqual([it.operatingSystem, it.version], ["ios", { major: 65535, minor: 255, patch: 255 }]);
     assert.deepEqual([it.vendor, it.hasCustomVendor, it.numbers.vendor], ["acme_1.0", true, 255]);
-    assert.equal(`${it.settled()}`, "aarch64-acme_1.0-ios65535.255.255");
+    assert.equal(`${it.settle()}`, "aarch64-acme_1.0-ios65535.255.255");
     assert(it.equals(Triple.parse(`${it}`)) && !it.sameTarget(Triple.parse("aarch64-acme_1.1-ios65535.255.255")));
   },
   "a refusal has its field, its range and a suggestion": () => {
@@ -150,10 +150,10 @@ const tests = {
     assert.deepEqual(refused.fields.operatingSystem, { value: null, origin: "not given", part: null });
     for (const it of Object.values(Triple.explain("armv6k-nintendo-3ds").fields)) assert.deepEqual([it.start, it.end], [0, 19]);
   },
-  "settled, comesBack, sameTarget": () => {
+  "settle, comesBack, sameTarget": () => {
     const it = Triple.parse("clever-unknown-unknown-none");
-    assert.deepEqual([it.comesBack(), `${it.settled()}`, it.settled().comesBack()], [false, "clever-unknown-none-elf", true]);
-    assert.deepEqual([it.equals(it.settled()), it.sameTarget(it.settled())], [false, true]);
+    assert.deepEqual([it.comesBack(), `${it.settle()}`, it.settle().comesBack()], [false, "clever-unknown-none-elf", true]);
+    assert.deepEqual([it.equals(it.settle()), it.sameTarget(it.settle())], [false, true]);
     assert.throws(() => it.equals("clever"), TypeError);
   },
   facts: () => {
@@ -228,7 +228,7 @@ const tests = {
     for (const size of [60, 64, 65, 128, 65535, 65536, 300000, 30000000]) {
       const vendor = "a".repeat(size), it = Triple.parse(`x86_64-${vendor}-linux`);
       assert(it.vendor === vendor && `${it}` === `x86_64-${vendor}-linux`, `${size}`);
-      assert(it.equals(it) && it.settled().vendor === vendor && it.comesBack());
+      assert(it.equals(it) && it.settle().vendor === vendor && it.comesBack());
       const error = refusal(`x86_64-${"\u{1f600}".repeat(size / 60)}`);
       assert(error.start === 7 && error.message === `Unrecognized vendor: ${error.part}`);
       assert.equal(`${Triple.parse("wasm32-unknown-wasi")}`, "wasm32-wasi");

@@ -4,7 +4,7 @@ const wordOf = (answer) => answer ?? "-";
 
 const MODES = {
   print: (triple) => `${triple}`,
-  settle: (triple) => `${triple.settled()}`,
+  settle: (triple) => `${triple.settle()}`,
   show: (triple) => {
     const { endianness, pointerWidth, defaultCallingConvention, dataModel } = triple.facts();
     return [`${triple}`, ...[endianness, pointerWidth, defaultCallingConvention, dataModel].map(wordOf)].join(" ");
@@ -19,7 +19,7 @@ function* agreeing({ FIELDS, ParseError, Triple, numberOf }, line) {
     yield error.message.endsWith(`: ${error.part}`) && given.every((name) => fields[name].end < error.start);
     return;
   }
-  const parsed = Triple.parse(line), settled = triple.settled(), printed = Triple.parse(`${settled}`), { version } = triple;
+  const parsed = Triple.parse(line), settled = triple.settle(), printed = Triple.parse(`${settled}`), { version } = triple;
   const isSpecial = given.length === 5 && fields.architecture.end === fields.vendor.end;
   const values = Object.fromEntries(FIELDS.map((name) => [name, triple[name]]));
   yield parsed.equals(triple) && FIELDS.every((name) => parsed[name] === triple[name] && parsed.numbers[name] === triple.numbers[name]);

@@ -43,12 +43,12 @@ const members: {
   [Name in keyof Triple]: Same<Triple[Name], {
     architecture: Architecture; vendor: Values["vendor"]; operatingSystem: OperatingSystem; environment: Environment; binaryFormat: BinaryFormat;
     version: Version | null; hasCustomVendor: boolean; numbers: Readonly<Record<Field, number>>; with: (values: Given) => Triple;
-    toString: () => string; toJSON: () => string; nameIn: (dialect: Dialect) => string | null; settled: () => Triple; comesBack: () => boolean;
+    toString: () => string; toJSON: () => string; nameIn: (dialect: Dialect) => string | null; settle: () => Triple; comesBack: () => boolean;
     equals: (other: Triple) => boolean; sameTarget: (other: Triple) => boolean; facts: () => Facts;
   }[Name]>
 } = {
   architecture: true, vendor: true, operatingSystem: true, environment: true, binaryFormat: true, version: true, hasCustomVendor: true,
-  numbers: true, with: true, toString: true, toJSON: true, nameIn: true, settled: true, comesBack: true, equals: true, sameTarget: true, facts: true,
+  numbers: true, with: true, toString: true, toJSON: true, nameIn: true, settle: true, comesBack: true, equals: true, sameTarget: true, facts: true,
 };
 const errors: {
   [Name in Exclude<keyof ParseError, keyof Error>]: Same<ParseError[Name], {
