@@ -1,6 +1,6 @@
 -- Parsing: PartLemmas, RowLookUps, Vendors (the parts of a string and their values); NamesAcross (the names
 -- of one field, parsed as an earlier field); GreedyPlacement, RefusalLemmas, UniqueReading, ComputedReading (from
--- parsing as a function to the least placement); SourceLemmas (the source of each field); ReadValues (facts about
+-- parsing as a function to the least placement); SourceLemmas, TakenParts (the source of each field); ReadValues (facts about
 -- all parsed triples). Printing: PrintingLemmas, Upstream, Lengths (how much longer than the text). Round trips:
 -- RoundTrips, TextRoundTrips (a printed text parsed again); StepCases, FixedPointLemmas, SettleLemmas, ModelsKnown,
 -- QueriesKept; Elements. SameValues: equality of triples. HashInputPairs: what fields feed a hasher.
@@ -9,6 +9,7 @@ pub mod PartLemmas
 pub mod RowLookUps
 pub mod Elements
 pub mod SourceLemmas
+pub mod TakenParts
 pub mod HashInputPairs
 pub mod FixedPointLemmas
 pub mod GreedyPlacement

@@ -1,7 +1,7 @@
 -- What is left of a string while it is parsed, for the contracts of private functions, which no public contract cites.
-use Rattle.std.specs.Prelude.{ℕ, List, [], ◌∷◌, Option, Some, None, Result, Ok, Err, is_some, map, if◌then◌else◌}
+use Rattle.std.specs.Prelude.{ℕ, Bool, List, [], ◌∷◌, Option, Some, None, Result, Ok, Err, is_some, map, if◌then◌else◌}
 use Rattle.lexicon_fields.specs.{Architecture.architecture_of, Vendor.vendor_of, OperatingSystem.operating_system_of, Environment.environment_of, BinaryFormat.binary_format_of}
-use Rattle.target_lexicon.specs.{declared.read.Part.Part, declared.read.PartCursor.PartCursor, Private.parts_of_rest, GreedyReading.FieldReading, Values.Architecture}
+use Rattle.target_lexicon.specs.{declared.read.Part.Part, Field.Field, Private.parts_of_rest, Values.Architecture}
 use Rattle.target_lexicon.specs.{declared.explanation.Explanation.Explanation, declared.explanation.ExplainedError.ExplainedError, Refusal.Refusal, Values.Values, ValuesRef.refusal_of_ref, ValuesRef.values_of_ref}
 use Rattle.target_lexicon.specs.Explanation.{PlacedPart, part_value, SourceValue, FromPart, NotGiven, Implied, SourceValues, source_values, same_sources}
 
@@ -13,9 +13,24 @@ remaining_parts (Some part) = part_value part.place ∷ parts_of_rest part.rest
 abbrev pub texts_of : List PlacedPart → List (List ℕ)
 texts_of parts = map (λ (part : PlacedPart). part.text) parts
 
--- the value of a field, and what is left then
-abbrev pub field_reading_of : {A : Type 0} → A → PartCursor → FieldReading A
-field_reading_of value cursor = (value, cursor.last, texts_of (remaining_parts cursor.next_part))
+-- what the first part parses as, if one is left
+abbrev pub first_value : {A : Type 0} → (List ℕ → Option A) → List PlacedPart → Option A
+first_value find [] = None
+first_value find (p ∷ ps) = find p.text
+
+-- a field takes the first part if it is a value of the field: the field's source, the last field that took a part, and
+-- the parts that are left then
+abbrev pub source_if : SourceValue → Bool → List PlacedPart → SourceValue
+source_if without_part is_value [] = without_part
+source_if without_part is_value (p ∷ ps) = if is_value then FromPart p else NotGiven
+
+abbrev pub last_taken : Bool → Field → Field → List PlacedPart → Field
+last_taken is_value f last [] = last
+last_taken is_value f last (p ∷ ps) = if is_value then f else last
+
+abbrev pub left_if : Bool → List PlacedPart → List PlacedPart
+left_if is_value [] = []
+left_if is_value (p ∷ ps) = if is_value then ps else p ∷ ps
 
 -- the source of a field that takes the first part that is left, if that parses as a value of the field
 abbrev pub taken_source : {A : Type 0} → SourceValue → (List ℕ → Option A) → List PlacedPart → SourceValue

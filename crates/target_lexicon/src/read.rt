@@ -27,23 +27,16 @@ use lexicon_fields::{
 };
 use std::alloc::Global;
 
-/// A part of a string, its row in the table of names, what it parses as in each field, and what follows its dash. Few parts
-/// are asked whether they are a vendor, so that isn't computed before.
+/// A part of a string, its row in the table of names, the system that it parses as, and what follows its dash.
 #[derive(Clone, Copy)]
 struct Part<'a> {
     place: TextPart<'a>,
     row: Option<FixedRow>,
-    architecture: Option<Architecture>,
     operating_system: Option<OperatingSystem>,
-    environment: Option<Environment>,
-    binary_format: Option<BinaryFormat>,
     rest: Option<TextPart<'a>>,
     ghost is_row: { ForSome row (IsRowOf place.text.now) },
     ghost no_row: { ForNone row (has_row place.text.now ≡ false) },
-    ghost is_architecture: { architecture ≡ architecture_of place.text.now },
-    ghost is_operating_system: { operating_system ≡ operating_system_of place.text.now },
-    ghost is_environment: { environment ≡ environment_of place.text.now },
-    ghost is_binary_format: { binary_format ≡ binary_format_of place.text.now },
+    ghost system: { operating_system ≡ operating_system_of place.text.now },
     ghost range: { ForSome rest IsRange },
 }
 
@@ -74,6 +67,15 @@ fn split_at_dash(rest: TextPart<'_>) -> (TextPart<'_>, Option<TextPart<'_>>)
     }
 }
 
+/// What a part parses as in the fields after the vendor. Few parts are asked whether they are a vendor, so that is computed
+/// for itself.
+#[derive(Clone, Copy)]
+struct LaterValues {
+    operating_system: Option<OperatingSystem>,
+    environment: Option<Environment>,
+    binary_format: Option<BinaryFormat>,
+}
+
 /// The parts that are left, and the last field that took one.
 #[derive(Drop)]
 struct PartCursor<'a> {
@@ -82,104 +84,71 @@ struct PartCursor<'a> {
 }
 
 impl<'a> PartCursor<'a> {
-    ghost use Rattle.lexicon_fields.specs.declared.known_vendor.KnownVendor.TheVariants.{Unknown};
-    ghost use Rattle.lexicon_fields.specs.Vendor.{Known};
-    ghost use Rattle.target_lexicon.specs.Explanation.{NotGiven, source_value};
-    ghost use Rattle.target_lexicon.specs.GreedyReading.{field_reading};
-    ghost use Rattle.target_lexicon.specs.Field as field;
-    ghost use Rattle.target_lexicon.specs.RemainingParts.{field_reading_of, format_source, parts_left, remaining_parts, taken_source, texts_of};
-    ghost use Rattle.target_lexicon.specs.Values.operating_system;
-    ghost use Rattle.target_lexicon.specs.Values.environment;
+    ghost use Rattle.target_lexicon.specs.Explanation.{source_value};
+    ghost use Rattle.target_lexicon.specs.RemainingParts.{first_value, last_taken, left_if, remaining_parts, source_if};
 
-    /// Takes the first part that is left, if it parses as a vendor. Otherwise the part stays, and the value is
-    /// `Unknown`.
-    #[inline(always)]
-    fn take_vendor(&mut self) -> (VendorRef<'a>, Source<'a>)
-        ensures value { field_reading_of (ref_value result.0) self.new
-            ≡ field_reading field.Vendor vendor_of (Known Unknown) self.old.last
-            (texts_of (remaining_parts self.old.next_part)) }
-        ensures source { source_value result.1
-            ≡ taken_source NotGiven vendor_of (remaining_parts self.old.next_part) }
-        ensures left { remaining_parts self.new.next_part
-            ≡ parts_left vendor_of (remaining_parts self.old.next_part) }
+    /// The vendor that the first part that is left parses as.
+    #[tactic(auto, using(crate::proofs::RowLookUps::row_found))]
+    fn vendor(&self) -> Option<VendorRef<'a>>
+        ensures { option_map ref_value result
+            ≡ first_value vendor_of (remaining_parts self.now.next_part) }
     {
-        if let Some(part) = self.next_part {
-            if let Some(vendor) = part.vendor() {
-                self.last = Field::Vendor;
-                self.next_part = part.next();
-                return (vendor, Source::Part(part.place));
-            }
-        }
-        (VendorRef::Known(KnownVendor::Unknown), Source::NotGiven)
+        let part = self.next_part?;
+        VendorRef::from_row(part.place.text, part.row, part.operating_system)
     }
 
-    /// Takes the first part that is left, if it parses as an operating system. Otherwise the part stays, and the value is
-    /// `Unknown`.
+    /// What the first part that is left parses as in the fields after the vendor.
     #[inline(always)]
-    fn take_operating_system(&mut self) -> (OperatingSystem, Source<'a>)
-        ensures value { field_reading_of result.0 self.new
-            ≡ field_reading field.OperatingSystem operating_system_of operating_system.Unknown
-            self.old.last (texts_of (remaining_parts self.old.next_part)) }
-        ensures source { source_value result.1
-            ≡ taken_source NotGiven operating_system_of (remaining_parts self.old.next_part) }
-        ensures left { remaining_parts self.new.next_part
-            ≡ parts_left operating_system_of (remaining_parts self.old.next_part) }
-    {
-        if let Some(part) = self.next_part {
-            if let Some(operating_system) = part.operating_system {
-                self.last = Field::OperatingSystem;
-                self.next_part = part.next();
-                return (operating_system, Source::Part(part.place));
-            }
-        }
-        (OperatingSystem::Unknown, Source::NotGiven)
-    }
-
-    /// Takes the first part that is left, if it parses as an environment. Otherwise the part stays, and the value is
-    /// `Unknown`.
-    #[inline(always)]
-    fn take_environment(&mut self) -> (Environment, Source<'a>)
-        ensures value { field_reading_of result.0 self.new
-            ≡ field_reading field.Environment environment_of environment.Unknown self.old.last
-            (texts_of (remaining_parts self.old.next_part)) }
-        ensures source { source_value result.1
-            ≡ taken_source NotGiven environment_of (remaining_parts self.old.next_part) }
-        ensures left { remaining_parts self.new.next_part
-            ≡ parts_left environment_of (remaining_parts self.old.next_part) }
-    {
-        if let Some(part) = self.next_part {
-            if let Some(environment) = part.environment {
-                self.last = Field::Environment;
-                self.next_part = part.next();
-                return (environment, Source::Part(part.place));
-            }
-        }
-        (Environment::Unknown, Source::NotGiven)
-    }
-
-    /// Takes the first part that is left, if it parses as a binary format. If no part is left, the value is the implied one.
-    /// Otherwise the part stays, and will be refused.
-    #[inline(always)]
-    fn take_binary_format(&mut self, implied: BinaryFormat) -> (BinaryFormat, Source<'a>)
-        ensures value { field_reading_of result.0 self.new
-            ≡ field_reading field.BinaryFormat binary_format_of implied self.old.last
-            (texts_of (remaining_parts self.old.next_part)) }
-        ensures source { source_value result.1
-            ≡ format_source (remaining_parts self.old.next_part) }
-        ensures left { remaining_parts self.new.next_part
-            ≡ parts_left binary_format_of (remaining_parts self.old.next_part) }
+    fn later_values(&self) -> LaterValues
+        ensures operating_system { result.operating_system
+            ≡ first_value operating_system_of (remaining_parts self.now.next_part) }
+        ensures environment { result.environment
+            ≡ first_value environment_of (remaining_parts self.now.next_part) }
+        ensures binary_format { result.binary_format
+            ≡ first_value binary_format_of (remaining_parts self.now.next_part) }
     {
         let Some(part) = self.next_part else {
-            return (implied, Source::Implied);
+            return LaterValues {
+                operating_system: None,
+                environment: None,
+                binary_format: None,
+            };
         };
-        match part.binary_format {
-            Some(binary_format) => {
-                self.last = Field::BinaryFormat;
-                self.next_part = part.next();
-                (binary_format, Source::Part(part.place))
-            }
-            None => (implied, Source::NotGiven),
+        match part.row {
+            Some(row) => LaterValues {
+                operating_system: part.operating_system,
+                environment: row.environment,
+                binary_format: row.binary_format,
+            },
+            None => LaterValues {
+                operating_system: part.operating_system,
+                environment: None,
+                binary_format: None,
+            },
         }
+    }
+
+    /// Takes the first part that is left for a field, if it is a value of the field. Otherwise the part stays. If no part is
+    /// left, the source of the field is `without_part`.
+    #[inline(always)]
+    fn take(&mut self, field: Field, is_value: bool, without_part: Source<'a>) -> Source<'a>
+        ensures source { source_value result
+            ≡ source_if (source_value without_part.entry) is_value
+            (remaining_parts self.old.next_part) }
+        ensures last { self.new.last
+            ≡ last_taken is_value field self.old.last (remaining_parts self.old.next_part) }
+        ensures left { remaining_parts self.new.next_part
+            ≡ left_if is_value (remaining_parts self.old.next_part) }
+    {
+        let Some(part) = self.next_part else {
+            return without_part;
+        };
+        if !is_value {
+            return Source::NotGiven;
+        }
+        self.last = field;
+        self.next_part = part.next();
+        Source::Part(part.place)
     }
 }
 
@@ -211,35 +180,19 @@ impl<'a> Part<'a> {
     {
         let (place, rest) = split_at_dash(rest);
         let row = fixed_row(place.text, &mut Steps::new());
-        let operating_system = OperatingSystem::from_row(place.text, row);
-        match row {
-            Some(values) => Part {
-                place,
-                row,
-                architecture: values.architecture,
-                operating_system,
-                environment: values.environment,
-                binary_format: values.binary_format,
-                rest,
-            },
-            None => Part {
-                place,
-                row,
-                architecture: None,
-                operating_system,
-                environment: None,
-                binary_format: None,
-                rest,
-            },
+        Part {
+            place,
+            row,
+            operating_system: OperatingSystem::from_row(place.text, row),
+            rest,
         }
     }
 
-    /// The vendor that the part parses as.
-    #[tactic(auto, using(crate::proofs::RowLookUps::row_found))]
-    fn vendor(&self) -> Option<VendorRef<'a>>
-        ensures { option_map ref_value result ≡ vendor_of self.now.place.text.now }
+    /// The architecture that the part parses as.
+    fn architecture(&self) -> Option<Architecture>
+        ensures { result ≡ architecture_of self.now.place.text.now }
     {
-        VendorRef::from_row(self.place.text, self.row, self.operating_system)
+        self.row?.architecture
     }
 
     /// The part after the dash.
@@ -268,7 +221,7 @@ impl<'a> Part<'a> {
             (λ it. slice_get (left_by_fields (remaining_parts (Some self.entry))) 0
             ≡ Some (part_value it.part)) }
     {
-        let Some(architecture) = self.architecture else {
+        let Some(architecture) = self.architecture() else {
             return Err(ExplainedError {
                 error: ParseErrorRef::UnrecognizedArchitecture(self.place.text),
                 part: self.place,
@@ -279,24 +232,32 @@ impl<'a> Part<'a> {
             last: Field::Architecture,
             next_part: self.next(),
         };
-        let (vendor, vendor_source) = cursor.take_vendor();
-        let (operating_system, operating_system_source) = cursor.take_operating_system();
-        let (environment, environment_source) = cursor.take_environment();
-        let mut triple = TripleRef {
-            architecture,
-            vendor,
-            operating_system,
-            environment,
-            binary_format: BinaryFormat::Unknown,
-        };
-        let implied = triple.default_binary_format();
-        let (binary_format, binary_format_source) = cursor.take_binary_format(implied);
+        let vendor = cursor.vendor();
+        let vendor_source = cursor.take(Field::Vendor, vendor.is_some(), Source::NotGiven);
+        let operating_system = cursor.later_values().operating_system;
+        let system_source = cursor.take(
+            Field::OperatingSystem,
+            operating_system.is_some(),
+            Source::NotGiven,
+        );
+        let environment = cursor.later_values().environment;
+        let environment_source = cursor.take(
+            Field::Environment,
+            environment.is_some(),
+            Source::NotGiven,
+        );
+        let binary_format = cursor.later_values().binary_format;
+        let format_source = cursor.take(
+            Field::BinaryFormat,
+            binary_format.is_some(),
+            Source::Implied,
+        );
         let sources = Sources {
             architecture: Source::Part(self.place),
             vendor: vendor_source,
-            operating_system: operating_system_source,
+            operating_system: system_source,
             environment: environment_source,
-            binary_format: binary_format_source,
+            binary_format: format_source,
         };
         if let Some(left) = cursor.next_part {
             return Err(ExplainedError {
@@ -305,7 +266,14 @@ impl<'a> Part<'a> {
                 sources,
             });
         }
-        triple.binary_format = binary_format;
+        let mut triple = TripleRef {
+            architecture,
+            vendor: vendor.unwrap_or(VendorRef::Known(KnownVendor::Unknown)),
+            operating_system: operating_system.unwrap_or(OperatingSystem::Unknown),
+            environment: environment.unwrap_or(Environment::Unknown),
+            binary_format: BinaryFormat::Unknown,
+        };
+        triple.binary_format = binary_format.unwrap_or(triple.default_binary_format());
         Ok(Explanation { triple, sources })
     }
 }

@@ -10,16 +10,12 @@ use crate::{
     OperatingSystem, VendorRef,
 };
 
-/// A part of a string, its row in the table of names, what it parses as in each field, and what follows its dash. Few parts
-/// are asked whether they are a vendor, so that isn't computed before.
+/// A part of a string, its row in the table of names, the system that it parses as, and what follows its dash.
 #[derive(Clone, Copy)]
 struct Part<'a> {
     place: TextPart<'a>,
     row: Option<FixedRow>,
-    architecture: Option<Architecture>,
     operating_system: Option<OperatingSystem>,
-    environment: Option<Environment>,
-    binary_format: Option<BinaryFormat>,
     rest: Option<TextPart<'a>>,
 }
 
@@ -45,6 +41,15 @@ fn split_at_dash(rest: TextPart<'_>) -> (TextPart<'_>, Option<TextPart<'_>>) {
     }
 }
 
+/// What a part parses as in the fields after the vendor. Few parts are asked whether they are a vendor, so that is computed
+/// for itself.
+#[derive(Clone, Copy)]
+struct LaterValues {
+    operating_system: Option<OperatingSystem>,
+    environment: Option<Environment>,
+    binary_format: Option<BinaryFormat>,
+}
+
 /// The parts that are left, and the last field that took one.
 struct PartCursor<'a> {
     last: Field,
@@ -52,63 +57,49 @@ struct PartCursor<'a> {
 }
 
 impl<'a> PartCursor<'a> {
-    /// Takes the first part that is left, if it parses as a vendor. Otherwise the part stays, and the value is
-    /// `Unknown`.
-    #[inline(always)]
-    fn take_vendor(&mut self) -> (VendorRef<'a>, Source<'a>) {
-        if let Some(part) = self.next_part {
-            if let Some(vendor) = part.vendor() {
-                self.last = Field::Vendor;
-                self.next_part = part.next();
-                return (vendor, Source::Part(part.place));
-            }
-        }
-        (VendorRef::Known(KnownVendor::Unknown), Source::NotGiven)
+    /// The vendor that the first part that is left parses as.
+    fn vendor(&self) -> Option<VendorRef<'a>> {
+        let part = self.next_part?;
+        VendorRef::from_row(part.place.text, part.row, part.operating_system)
     }
 
-    /// Takes the first part that is left, if it parses as an operating system. Otherwise the part stays, and the value is
-    /// `Unknown`.
+    /// What the first part that is left parses as in the fields after the vendor.
     #[inline(always)]
-    fn take_operating_system(&mut self) -> (OperatingSystem, Source<'a>) {
-        if let Some(part) = self.next_part {
-            if let Some(operating_system) = part.operating_system {
-                self.last = Field::OperatingSystem;
-                self.next_part = part.next();
-                return (operating_system, Source::Part(part.place));
-            }
-        }
-        (OperatingSystem::Unknown, Source::NotGiven)
-    }
-
-    /// Takes the first part that is left, if it parses as an environment. Otherwise the part stays, and the value is
-    /// `Unknown`.
-    #[inline(always)]
-    fn take_environment(&mut self) -> (Environment, Source<'a>) {
-        if let Some(part) = self.next_part {
-            if let Some(environment) = part.environment {
-                self.last = Field::Environment;
-                self.next_part = part.next();
-                return (environment, Source::Part(part.place));
-            }
-        }
-        (Environment::Unknown, Source::NotGiven)
-    }
-
-    /// Takes the first part that is left, if it parses as a binary format. If no part is left, the value is the implied one.
-    /// Otherwise the part stays, and will be refused.
-    #[inline(always)]
-    fn take_binary_format(&mut self, implied: BinaryFormat) -> (BinaryFormat, Source<'a>) {
+    fn later_values(&self) -> LaterValues {
         let Some(part) = self.next_part else {
-            return (implied, Source::Implied);
+            return LaterValues {
+                operating_system: None,
+                environment: None,
+                binary_format: None,
+            };
         };
-        match part.binary_format {
-            Some(binary_format) => {
-                self.last = Field::BinaryFormat;
-                self.next_part = part.next();
-                (binary_format, Source::Part(part.place))
-            }
-            None => (implied, Source::NotGiven),
+        match part.row {
+            Some(row) => LaterValues {
+                operating_system: part.operating_system,
+                environment: row.environment,
+                binary_format: row.binary_format,
+            },
+            None => LaterValues {
+                operating_system: part.operating_system,
+                environment: None,
+                binary_format: None,
+            },
         }
+    }
+
+    /// Takes the first part that is left for a field, if it is a value of the field. Otherwise the part stays. If no part is
+    /// left, the source of the field is `without_part`.
+    #[inline(always)]
+    fn take(&mut self, field: Field, is_value: bool, without_part: Source<'a>) -> Source<'a> {
+        let Some(part) = self.next_part else {
+            return without_part;
+        };
+        if !is_value {
+            return Source::NotGiven;
+        }
+        self.last = field;
+        self.next_part = part.next();
+        Source::Part(part.place)
     }
 }
 
@@ -129,32 +120,17 @@ impl<'a> Part<'a> {
     fn first_of(rest: TextPart<'a>) -> Self {
         let (place, rest) = split_at_dash(rest);
         let row = fixed_row(place.text);
-        let operating_system = OperatingSystem::from_row(place.text, row);
-        match row {
-            Some(values) => Part {
-                place,
-                row,
-                architecture: values.architecture,
-                operating_system,
-                environment: values.environment,
-                binary_format: values.binary_format,
-                rest,
-            },
-            None => Part {
-                place,
-                row,
-                architecture: None,
-                operating_system,
-                environment: None,
-                binary_format: None,
-                rest,
-            },
+        Part {
+            place,
+            row,
+            operating_system: OperatingSystem::from_row(place.text, row),
+            rest,
         }
     }
 
-    /// The vendor that the part parses as.
-    fn vendor(&self) -> Option<VendorRef<'a>> {
-        VendorRef::from_row(self.place.text, self.row, self.operating_system)
+    /// The architecture that the part parses as.
+    fn architecture(&self) -> Option<Architecture> {
+        self.row?.architecture
     }
 
     /// The part after the dash.
@@ -169,7 +145,7 @@ impl<'a> Part<'a> {
     /// What the parts give of which this is the first.
     #[inline(always)]
     fn explanation(self) -> Result<Explanation<'a>, ExplainedError<'a>> {
-        let Some(architecture) = self.architecture else {
+        let Some(architecture) = self.architecture() else {
             return Err(ExplainedError {
                 error: ParseErrorRef::UnrecognizedArchitecture(self.place.text),
                 part: self.place,
@@ -180,24 +156,29 @@ impl<'a> Part<'a> {
             last: Field::Architecture,
             next_part: self.next(),
         };
-        let (vendor, vendor_source) = cursor.take_vendor();
-        let (operating_system, operating_system_source) = cursor.take_operating_system();
-        let (environment, environment_source) = cursor.take_environment();
-        let mut triple = TripleRef {
-            architecture,
-            vendor,
-            operating_system,
-            environment,
-            binary_format: BinaryFormat::Unknown,
-        };
-        let implied = triple.default_binary_format();
-        let (binary_format, binary_format_source) = cursor.take_binary_format(implied);
+        let vendor = cursor.vendor();
+        let vendor_source = cursor.take(Field::Vendor, vendor.is_some(), Source::NotGiven);
+        let operating_system = cursor.later_values().operating_system;
+        let system_source = cursor.take(
+            Field::OperatingSystem,
+            operating_system.is_some(),
+            Source::NotGiven,
+        );
+        let environment = cursor.later_values().environment;
+        let environment_source =
+            cursor.take(Field::Environment, environment.is_some(), Source::NotGiven);
+        let binary_format = cursor.later_values().binary_format;
+        let format_source = cursor.take(
+            Field::BinaryFormat,
+            binary_format.is_some(),
+            Source::Implied,
+        );
         let sources = Sources {
             architecture: Source::Part(self.place),
             vendor: vendor_source,
-            operating_system: operating_system_source,
+            operating_system: system_source,
             environment: environment_source,
-            binary_format: binary_format_source,
+            binary_format: format_source,
         };
         if let Some(left) = cursor.next_part {
             return Err(ExplainedError {
@@ -206,7 +187,14 @@ impl<'a> Part<'a> {
                 sources,
             });
         }
-        triple.binary_format = binary_format;
+        let mut triple = TripleRef {
+            architecture,
+            vendor: vendor.unwrap_or(VendorRef::Known(KnownVendor::Unknown)),
+            operating_system: operating_system.unwrap_or(OperatingSystem::Unknown),
+            environment: environment.unwrap_or(Environment::Unknown),
+            binary_format: BinaryFormat::Unknown,
+        };
+        triple.binary_format = binary_format.unwrap_or(triple.default_binary_format());
         Ok(Explanation { triple, sources })
     }
 }
