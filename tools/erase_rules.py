@@ -12,7 +12,9 @@ PACKAGES = {
     "rust/lexicon-c": {"lexicon_c": ""},
 }
 # What is compiled only with the feature of a module's name: these modules of it. Suggestions need the others.
-FEATURES = {"tool_names": {"change", "dialect", "formats", "names", "names_left", "reading", "shape", "tables"}}
+FEATURES = {
+    "tool_names": {"change", "dialect", "formats", "name", "names", "names_left", "platform", "reading", "shape", "tables", "tags"},
+}
 # Where one package finds the crates of another.
 OUTSIDE = "target_lexicon::internals::"
 

@@ -1,10 +1,11 @@
 """Asks the tools that the names of targets come from whether the rows of tools/names/elsewhere.tsv mean what the tools mean.
 
 dpkg says byte order, pointer width and GNU type of each name; Go and containerd, which names they have and how they write
-them; esbuild and Node's manual, the words; config.sub, which strings there are. The crate cc has a table of prefixes. The tools
-that aren't installed are named. The status is 1 if an answer differs that docs/TOOL_NAMES.md doesn't list.
+them; esbuild and Node's manual, the words; config.sub, which strings there are. The crate cc has a table of prefixes. Python's
+sysconfig says how it names platforms, and packaging which tags it makes. The tools that aren't installed are named. The status is 1 if an answer differs that docs/TOOL_NAMES.md doesn't list.
 
-Debian's packages: dpkg-dev autotools-dev golang-go golang-github-containerd-containerd-dev esbuild nodejs-doc librust-cc-dev.
+Debian's packages: dpkg-dev autotools-dev golang-go golang-github-containerd-containerd-dev esbuild nodejs-doc librust-cc-dev
+python3-packaging.
 """
 import collections
 import glob
@@ -13,6 +14,7 @@ import os
 import re
 import shutil
 import subprocess
+import sys
 
 import built
 import upstream
@@ -20,7 +22,7 @@ from comparisons.tools import Library, Report, output
 
 # The word of each dialect for a system, where it isn't the library's. A word that means another system in every row of a
 # dialect is found by nothing else.
-SYSTEM_WORDS = {"android": "linux", "win32": "windows", "macos": "darwin", "sunos": "solaris illumos", "hurd": "hurd", "musl": "linux", "uclibc": "linux"}
+SYSTEM_WORDS = {"android": "linux", "win32": "windows", "win": "windows", "manylinux": "linux", "musllinux": "linux", "macos": "darwin", "sunos": "solaris illumos", "hurd": "hurd", "musl": "linux", "uclibc": "linux"}
 PLATFORMS = """package main
 
 import ("bufio"; "fmt"; "os"; "github.com/containerd/containerd/platforms")
@@ -36,11 +38,18 @@ func main() {
 Row = collections.namedtuple("Row", "dialect name triple ways note", defaults=[""])
 
 
+def with_versions(row):
+    """A row of a name with a version has the version 13.2, or 21 on Android."""
+    if row.dialect != "python":
+        return row
+    return row._replace(name=row.name.replace("*", "21" if row.name.startswith("android") else "13_2"), triple=row.triple.replace("*", "13.2.0"))
+
+
 class Comparison(Report):
     def __init__(self, options, folder):
         super().__init__(options)
         lines = upstream.read(f"{built.ROOT}/tools/names/elsewhere.tsv").splitlines()
-        self.rows = [Row(*line.split("\t")) for line in lines if not line.startswith("#")]
+        self.rows = [with_versions(Row(*line.split("\t"))) for line in lines if not line.startswith("#")]
         self.library, self.folder = Library(folder), folder
 
     def names_of(self, dialect, ways=("rw", "r", "w")):
@@ -58,6 +67,7 @@ class Comparison(Report):
             bad = []
             for row in rows if dialect != "gnu" else []:
                 word = re.split("[/_-]", row.name)[0] if dialect != "debian" or "-" in row.name else "linux"
+                word = word if word in SYSTEM_WORDS else word.rstrip("0123456789")
                 if row.triple != "-" and not set(SYSTEM_WORDS.get(word, word).split()) & set(re.split("[-.0-9]", row.triple)):
                     bad.append((row.name, row.triple))
             self.fact(f"the word of {dialect} for the system is the library's, or a listed one", bad, len(rows))
@@ -139,6 +149,36 @@ class Comparison(Report):
             self.fact("the crate cc's prefixes are the names of GNU's compilers",
                       [(name, pairs[name], written[name]) for name in pairs if written[name] not in ("-", pairs[name])], len(pairs), "musl|powerpc64|arm-frc")
 
+    def check_python(self):
+        """The names are sorted by what gave them: python_platforms.py says which words there are."""
+        pythons = [it for it in (shutil.which("python3.13"), "/usr/bin/python3", sys.executable) if it and os.path.exists(it)]
+        lines = next(filter(None, (output(it, f"{built.ROOT}/checks/comparisons/python_platforms.py").splitlines() for it in pythons)))
+        said = collections.defaultdict(list)
+        for line in lines:
+            word, _, name = line.partition(" ")
+            said[word].append(name)
+        tags = {name: re.sub("[-.]", "_", name) for name in said["sysconfig"]}
+        for name in ("Python's sysconfig", "packaging"):
+            self.has(name, name not in said["without"])
+        self.missing += said["without"]
+        meanings = self.library.meanings([*tags, *tags.values(), *said["tag"], *said["fat"]], "python\tread")
+        # Before Python 3.13 a deployment target without a second number gives a name without one.
+        self.fact("what sysconfig says is read, and means what its tag means", [(name, meanings[name].triple) for name, tag in tags.items()
+                  if meanings[name].triple == "-" or meanings[name] != meanings[tag]], len(tags), "macosx-11-")
+        written = self.library.written("python", [meanings[name].triple for name in tags])
+        self.fact("the tag of what sysconfig says is written", [(name, written[meanings[name].triple]) for name, tag in tags.items()
+                  if written[meanings[name].triple] != tag], len(tags), "android|macosx-11-")
+        self.fact("each tag that packaging makes is read, if it is one machine's", [tag for tag in said["tag"] if meanings[tag].triple == "-"], len(said["tag"]))
+        self.fact("no tag of several machines is read", [tag for tag in said["fat"] if meanings[tag].triple != "-"], len(said["fat"]))
+        self.fact("the machine's word has the byte order and width", [(tag, meanings[tag]) for tag in [*said["tag"], *tags.values()]
+                  if meanings[tag].triple != "-" and meanings[tag][1:3] != byte_order_and_width(tag)], len(said["tag"]) + len(tags))
+
+
+def byte_order_and_width(tag):
+    """What the machine at the end of a tag means to Linux's `uname -m`, or to Apple, Android and Windows."""
+    is_wide = re.search(r"(64|64le|64_v8a|s390x|amd64|iphoneos|iphonesimulator)$", tag)
+    return ("big" if re.search("_(ppc|ppc64|s390x)$", tag) else "little", "64" if is_wide else "32")
+
 
 def main(options, folder):
     comparison = Comparison(options, folder)
@@ -147,4 +187,5 @@ def main(options, folder):
     comparison.check_go()
     comparison.check_node()
     comparison.check_gnu()
+    comparison.check_python()
     return comparison.conclude()

@@ -1,14 +1,14 @@
 //! Names of targets in other tools.
 ghost use Rattle.std.specs.Prelude.{◌≡◌, option_map, slice_get};
 ghost use Rattle.tool_names.specs.Spelling.{part_refusal, spelled_reading};
-ghost use Rattle.tool_names.specs.ToolNames.{name_meaning, triple_name, unread_of};
+ghost use Rattle.tool_names.specs.ToolNames.{name_bytes, name_meaning, triple_name, unread_of};
 ghost use Rattle.lexicon_c.specs.Dialects.{GivesTriple, IsNameSuggestion, dialect_reading, dialects_by_number, name_error, part_error, reason_of};
 ghost use Rattle.lexicon_c.specs.Triple.{Answers, OnTriple};
 
 use crate::error::{TextError, refusal_status};
 use crate::triple::{Fault, NumberedTriple, numbers_of, triple_in};
 use tool_names::laws::names_are_canonical;
-use tool_names::{Dialect, NameError, ReadError};
+use tool_names::{Dialect, Name, NameError, ReadError};
 
 /// The dialect with this number. 0 is no dialect: that of strings that are spelled like triples.
 pub fn dialect_at(number: u32) -> Option<Option<Dialect>>
@@ -45,15 +45,12 @@ pub fn read(dialect: Option<Dialect>, text: &str) -> Result<NumberedTriple<'_>, 
 }
 
 /// The name of a triple in a dialect, if it has one.
-pub fn name_in(dialect: Dialect, triple: &NumberedTriple<'_>) -> Result<Option<&'static str>, Fault>
+pub fn name_in(dialect: Dialect, triple: &NumberedTriple<'_>) -> Result<Option<Name>, Fault>
     ensures { OnTriple triple.now (λ t.
-        Answers (λ name. option_map (λ text. text.now) name ≡ triple_name dialect t)) result }
+        Answers (λ name. option_map name_bytes name ≡ triple_name dialect t)) result }
 {
     match triple_in(triple) {
-        Ok(named) => match dialect.write(&named) {
-            Some(name) => Ok(Some(name.as_str())),
-            None => Ok(None),
-        },
+        Ok(named) => Ok(dialect.write(&named)),
         Err(fault) => Err(fault),
     }
 }

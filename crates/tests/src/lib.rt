@@ -31,6 +31,8 @@ mod systems;
 #[cfg(test)]
 mod table;
 #[cfg(test)]
+mod tool_names;
+#[cfg(test)]
 mod values;
 #[cfg(test)]
 mod vendors;

@@ -1,17 +1,20 @@
 -- The shape of a triple: what it keeps, and that it is its own shape.
-use Rattle.std.proofs.Common.{◌≡◌, ◌≢◌, Some, Bool, true, false, refl, ap}
-use Rattle.lexicon_fields.specs.{declared.architecture.arm.ArmArchitecture.ArmArchitecture, declared.known_vendor.KnownVendor.KnownVendor, ArchitectureQueries.arm_endianness, ArchitectureQueries.architecture_endianness, ArchitectureQueries.architecture_width, Laws.HasVersionInRange}
+use Rattle.std.proofs.Common.{◌≡◌, Some, None, Bool, true, false, refl, sym, ap, subst}
+use Rattle.lexicon_fields.specs.{declared.architecture.arm.ArmArchitecture.ArmArchitecture, ArchitectureQueries.arm_endianness, ArchitectureQueries.architecture_endianness, ArchitectureQueries.architecture_width, Laws.HasVersionInRange, Laws.IsVersionInRange, declared.deployment_target.DeploymentTarget.DeploymentTarget}
 use Rattle.lexicon_fields.specs.declared.known_vendor.KnownVendor.TheVariants.{Nintendo, Espressif}
 use Rattle.target_lexicon.specs.{FixedPoints.IsPlainTriple, Queries.endianness, Queries.is_ilp32, Queries.pointer_width}
-use Rattle.target_lexicon.specs.Values.{Architecture, OperatingSystem, Environment, Values}
+use Rattle.target_lexicon.specs.Values.{Architecture, OperatingSystem, Environment, VendorValue, Known, Custom, Values}
 use Rattle.target_lexicon.specs.Values.architecture
 use Rattle.target_lexicon.specs.Values.arm
 use Rattle.target_lexicon.specs.Values.operating_system
 use Rattle.target_lexicon.specs.Values.environment
 use Rattle.tool_names.specs.declared.dialect.Dialect.{Dialect}
-use Rattle.tool_names.specs.declared.dialect.Dialect.TheVariants.{Debian, Go, Oci, Node, Gnu}
+use Rattle.tool_names.specs.declared.dialect.Dialect.TheVariants.{Debian, Go, Oci, Node, Gnu, Python}
+use Rattle.tool_names.specs.declared.platform.VersionedSystem.{VersionedSystem}
+use Rattle.tool_names.specs.declared.platform.VersionedSystem.TheVariants.{MacOs, Ios}
 use Rattle.tool_names.specs.Laws.{ShapesAreFixed}
-use Rattle.tool_names.specs.Shape.{abi_in, abi_in_node, arm_in, arm_of_order, arm_of_version, is_bare_abi, is_library, machine_in, shape, unknown_if, unversioned, usual_vendor}
+use Rattle.tool_names.specs.Platform.{keeps_version, kept_version, system_with}
+use Rattle.tool_names.specs.Shape.{abi_in, abi_in_node, arm_in, arm_of_order, arm_of_version, is_bare_abi, is_library, machine_in, shape, system_in, two_numbers, unknown_if, unversioned, usual_vendor, with_two_numbers}
 
 -- once is enough
 
@@ -25,19 +28,39 @@ version-once _ = refl
 
 arm-once : (d : Dialect) (a : ArmArchitecture) → arm_in d (arm_in d a) ≡ arm_in d a
 arm-once Oci a = version-once a
+arm-once Python a = version-once a
 arm-once _ a = order-once a
 
 machine-once : (d : Dialect) (a : Architecture) → machine_in d (machine_in d a) ≡ machine_in d a
 machine-once d (architecture.Arm a) = ap architecture.Arm (arm-once d a)
 machine-once d _ = refl
 
-system-once : (s : OperatingSystem) → unversioned (unversioned s) ≡ unversioned s
-system-once operating_system.Linux = refl
-system-once _ = refl
+unversioned-once : (s : OperatingSystem) → unversioned (unversioned s) ≡ unversioned s
+unversioned-once operating_system.Linux = refl
+unversioned-once _ = refl
 
-vendor-once : (s : OperatingSystem) → usual_vendor (unversioned s) ≡ usual_vendor s
-vendor-once operating_system.Linux = refl
-vendor-once _ = refl
+two_numbers-once : (s : OperatingSystem) → with_two_numbers (with_two_numbers s) ≡ with_two_numbers s
+two_numbers-once (operating_system.MacOSX None) = refl
+two_numbers-once (operating_system.MacOSX (Some version)) = refl
+two_numbers-once (operating_system.IOS None) = refl
+two_numbers-once (operating_system.IOS (Some version)) = refl
+two_numbers-once _ = refl
+
+system-once : (d : Dialect) (s : OperatingSystem) → system_in d (system_in d s) ≡ system_in d s
+system-once Python s = two_numbers-once s
+system-once _ s = unversioned-once s
+
+unversioned-vendor : (s : OperatingSystem) → usual_vendor (unversioned s) ≡ usual_vendor s
+unversioned-vendor operating_system.Linux = refl
+unversioned-vendor _ = refl
+
+two_numbers-vendor : (s : OperatingSystem) → usual_vendor (with_two_numbers s) ≡ usual_vendor s
+two_numbers-vendor operating_system.Linux = refl
+two_numbers-vendor _ = refl
+
+vendor-once : (d : Dialect) (s : OperatingSystem) → usual_vendor (system_in d s) ≡ usual_vendor s
+vendor-once Python s = two_numbers-vendor s
+vendor-once _ s = unversioned-vendor s
 
 library-once : (e : Environment) → unknown_if (is_library (unknown_if (is_library e) e)) (unknown_if (is_library e) e) ≡ unknown_if (is_library e) e
 library-once environment.Unknown = refl
@@ -51,9 +74,10 @@ node-once : (s : OperatingSystem) (e : Environment) → abi_in_node (unversioned
 node-once operating_system.Linux e = bare-once e
 node-once _ e = library-once e
 
-abi-once : (d : Dialect) (s : OperatingSystem) (e : Environment) → abi_in d (unversioned s) (abi_in d s e) ≡ abi_in d s e
+abi-once : (d : Dialect) (s : OperatingSystem) (e : Environment) → abi_in d (system_in d s) (abi_in d s e) ≡ abi_in d s e
 abi-once Go s e = library-once e
 abi-once Oci s e = library-once e
+abi-once Python s e = library-once e
 abi-once Node s e = node-once s e
 abi-once Debian s e = refl
 abi-once Gnu s e = refl
@@ -61,7 +85,7 @@ abi-once Gnu s e = refl
 pub shapes_fixed : ShapesAreFixed
 unfolding shape
 shapes_fixed = record {
-  again = λ d t. rw (machine-once d t.architecture, vendor-once t.operating_system, system-once t.operating_system, abi-once d t.operating_system t.environment) refl;
+  again = λ d t. rw (machine-once d t.architecture, vendor-once d t.operating_system, system-once d t.operating_system, abi-once d t.operating_system t.environment) refl;
   vendor = λ d t v. refl;
 }
 
@@ -77,6 +101,7 @@ version-endianness _ = refl
 
 arm-endianness : (d : Dialect) (a : ArmArchitecture) → arm_endianness (arm_in d a) ≡ arm_endianness a
 arm-endianness Oci a = version-endianness a
+arm-endianness Python a = version-endianness a
 arm-endianness _ a = order-endianness a
 
 machine-endianness : (d : Dialect) (a : Architecture) → architecture_endianness (machine_in d a) ≡ architecture_endianness a
@@ -102,6 +127,7 @@ node-ilp32 _ e = library-ilp32 e
 abi-ilp32 : (d : Dialect) (s : OperatingSystem) (e : Environment) → is_ilp32 (abi_in d s e) ≡ is_ilp32 e
 abi-ilp32 Go s e = library-ilp32 e
 abi-ilp32 Oci s e = library-ilp32 e
+abi-ilp32 Python s e = library-ilp32 e
 abi-ilp32 Node s e = node-ilp32 s e
 abi-ilp32 Debian s e = refl
 abi-ilp32 Gnu s e = refl
@@ -114,24 +140,60 @@ pub shape-width : (d : Dialect) (t : Values) → pointer_width (shape d t) ≡ p
 unfolding shape pointer_width
 shape-width d t = rw (abi-ilp32 d t.operating_system t.environment, machine-width d t.architecture) refl
 
--- a shape is plain: its vendor is known, and its system has no version
-pub shape-plain : (d : Dialect) (t : Values) → IsPlainTriple (shape d t)
+-- a shape is plain: its vendor is known, and its version, if it has one, is in range
+pub shape-plain : (d : Dialect) (t : Values) → HasVersionInRange (shape d t).operating_system → IsPlainTriple (shape d t)
 unfolding shape
-shape-plain d t = record { vendor = refl; version = in_range t.operating_system }
-  where
-    in_range : (s : OperatingSystem) → HasVersionInRange (unversioned s)
-    in_range operating_system.Linux = tt
-    in_range _ = tt
+shape-plain d t range = record { vendor = refl; version = range }
 
--- and its vendor is not one whose triples have a text of their own
-pub usual-vendor : (s : OperatingSystem) → (usual_vendor s ≢ Nintendo) × (usual_vendor s ≢ Espressif)
-usual-vendor s = let usual = by_system s in (λ is. let bad = rw is at usual in cc, λ is. let bad = rw is at usual in cc)
+-- a version that isn't kept is dropped
+pub unkept-range : (d : Dialect) (s : OperatingSystem) → kept_version (system_in d s) ≡ None → HasVersionInRange (system_in d s)
+unkept-range Python (operating_system.MacOSX None) none = tt
+unkept-range Python (operating_system.MacOSX (Some version)) none = absurd cc
+unkept-range Python (operating_system.IOS None) none = tt
+unkept-range Python (operating_system.IOS (Some version)) none = absurd cc
+unkept-range Python _ none = tt
+unkept-range _ s none = by_system s
   where
-    is_usual : KnownVendor → Bool
-    is_usual Nintendo = false
-    is_usual Espressif = false
-    is_usual _ = true
+    by_system : (r : OperatingSystem) → HasVersionInRange (unversioned r)
+    by_system operating_system.Linux = tt
+    by_system _ = tt
 
-    by_system : (r : OperatingSystem) → is_usual (usual_vendor r) ≡ true
+-- only Python keeps one, with two numbers
+pub kept-python : (d : Dialect) (s : OperatingSystem) (kept : VersionedSystem × DeploymentTarget) → kept_version (system_in d s) ≡ Some kept → (d ≡ Python) × (kept.1.patch ≡ 0)
+kept-python Python (operating_system.MacOSX (Some version)) kept is = let same : (MacOs, two_numbers version) ≡ kept = cc in (refl, sym (ap (λ (k : VersionedSystem × DeploymentTarget). k.1.patch) same))
+kept-python Python (operating_system.IOS (Some version)) kept is = let same : (Ios, two_numbers version) ≡ kept = cc in (refl, sym (ap (λ (k : VersionedSystem × DeploymentTarget). k.1.patch) same))
+kept-python Python _ kept is = absurd cc
+kept-python _ s kept is = absurd (by_system s is)
+  where
+    by_system : (r : OperatingSystem) → kept_version (unversioned r) ≡ Some kept → ⊥
+    by_system operating_system.Linux is = cc
+    by_system _ is = cc
+
+-- what is known of a system whose version is kept
+pub record IsKept (s : OperatingSystem) (kept : VersionedSystem × DeploymentTarget) : Type 0 where
+  pub again : system_with kept.0 (Some kept.1) (system_with kept.0 None s) ≡ s
+  pub keeps : keeps_version kept.0 ≡ true
+  pub range : HasVersionInRange s → IsVersionInRange kept.1
+  pub unversioned : HasVersionInRange (system_with kept.0 None s)
+
+pub kept-is : (s : OperatingSystem) (kept : VersionedSystem × DeploymentTarget) → kept_version s ≡ Some kept → IsKept s kept
+kept-is (operating_system.MacOSX (Some version)) kept is =
+    let same : (MacOs, version) ≡ kept = cc in subst (IsKept (operating_system.MacOSX (Some version))) same (record { again = refl; keeps = refl; range = λ range. range; unversioned = tt })
+kept-is (operating_system.IOS (Some version)) kept is =
+    let same : (Ios, version) ≡ kept = cc in subst (IsKept (operating_system.IOS (Some version))) same (record { again = refl; keeps = refl; range = λ range. range; unversioned = tt })
+kept-is _ kept is = absurd cc
+
+-- and its vendor is a usual one, whose triples have no string of their own
+abbrev pub is_usual : VendorValue → Bool
+is_usual (Known Nintendo) = false
+is_usual (Known Espressif) = false
+is_usual (Known _) = true
+is_usual (Custom _) = false
+
+pub shape-usual : (d : Dialect) (t : Values) → is_usual (shape d t).vendor ≡ true
+unfolding shape
+shape-usual d t = by_system t.operating_system
+  where
+    by_system : (s : OperatingSystem) → is_usual (Known (usual_vendor s)) ≡ true
     by_system operating_system.Linux = refl
     by_system _ = refl

@@ -2,6 +2,7 @@ pub mod Changes
 pub mod Dialects
 pub mod ObjectFormat
 pub mod Laws
+pub mod Platform
 pub mod Private
 pub mod Shape
 pub mod Spelling

@@ -3,8 +3,9 @@ use Rattle.std.specs.Prelude.{ℕ, List, [], ◌∷◌, ◌++◌, Option, Some, 
 use Rattle.std.specs.Borrow.{Bor}
 use Rattle.lexicon_fields.specs.Names.{Pair}
 use Rattle.target_lexicon.specs.{GreedyReading.FieldReading, Placement.parts_of}
-use Rattle.tool_names.specs.{declared.names_left.Left.Left, declared.names_left.NameCursor.NameCursor}
+use Rattle.tool_names.specs.{declared.names_left.Left.Left, declared.names_left.NameCursor.NameCursor, declared.platform.VersionedName.VersionedName}
 use Rattle.tool_names.specs.Changes.{name_text, parts_after}
+use Rattle.tool_names.specs.Platform.{NameParts, tag_of}
 use Rattle.tool_names.specs.Spelling.{SpelledName, later_names, name_texts, spelled_by}
 
 -- a table in the code as a list of pairs
@@ -27,3 +28,7 @@ field_reading_of value cursor = (value, cursor.last, name_texts (left_names curs
 -- a table of texts in the code as a list of pairs
 abbrev pub text_table : List (Bor (List ℕ) × Bor (List ℕ)) → List (Pair (List ℕ))
 text_table rows = map (λ (row : Bor (List ℕ) × Bor (List ℕ)). (row.0.now, row.1.now)) rows
+
+-- the parts of a name with a version, whose machine is read by its tag
+abbrev pub parts_seen : VersionedName → NameParts
+parts_seen name = record { system = name.system; version = name.version; machine = tag_of name.machine.now }

@@ -1,8 +1,9 @@
 -- The shape of a triple in a dialect: the triple without what the dialect doesn't name. The architecture has no more of
--- a version than the dialect states, the vendor is the usual one of the system, the system has no version, and Go, OCI
--- and Node don't state every ABI. The binary format stays, so that a name never stands for another one.
-use Rattle.std.specs.Prelude.{Bool, true, false, None, if◌then◌else◌}
-use Rattle.lexicon_fields.specs.{declared.architecture.arm.ArmArchitecture.ArmArchitecture, declared.known_vendor.KnownVendor.KnownVendor}
+-- a version than the dialect states, the vendor is the usual one of the system, the system has no version, except in
+-- Python, and Go, OCI, Node and Python don't state every ABI. The binary format stays, so that a name never stands for
+-- another one.
+use Rattle.std.specs.Prelude.{Bool, true, false, None, option_map, if◌then◌else◌}
+use Rattle.lexicon_fields.specs.{declared.architecture.arm.ArmArchitecture.ArmArchitecture, declared.deployment_target.DeploymentTarget.DeploymentTarget, declared.known_vendor.KnownVendor.KnownVendor}
 use Rattle.lexicon_fields.specs.declared.known_vendor.KnownVendor.TheVariants as vendor
 use Rattle.lexicon_fields.specs.declared.architecture.x86_32.X86_32Architecture.TheVariants.{I686}
 use Rattle.lexicon_fields.specs.declared.architecture.riscv.Riscv64Architecture.TheVariants.{Riscv64}
@@ -13,7 +14,7 @@ use Rattle.target_lexicon.specs.Values.riscv32
 use Rattle.target_lexicon.specs.Values.operating_system
 use Rattle.target_lexicon.specs.Values.environment
 use Rattle.tool_names.specs.declared.dialect.Dialect.{Dialect}
-use Rattle.tool_names.specs.declared.dialect.Dialect.TheVariants.{Debian, Go, Oci, Node, Gnu}
+use Rattle.tool_names.specs.declared.dialect.Dialect.TheVariants.{Debian, Go, Oci, Node, Gnu, Python}
 
 -- one Arm for each byte order
 abbrev pub arm_of_order : ArmArchitecture → ArmArchitecture
@@ -38,9 +39,10 @@ arm_of_version arm.Thumbv7neon = arm.Armv7
 arm_of_version arm.Armv8a = arm.Armv8
 arm_of_version a = a
 
--- of Arm, OCI states the version
+-- of Arm, OCI and Python state the version
 abbrev pub arm_in : Dialect → ArmArchitecture → ArmArchitecture
 arm_in Oci a = arm_of_version a
+arm_in Python a = arm_of_version a
 arm_in _ a = arm_of_order a
 
 -- the architecture without the rest of its version
@@ -63,6 +65,21 @@ unversioned (operating_system.VisionOS _) = operating_system.VisionOS None
 unversioned (operating_system.WatchOS _) = operating_system.WatchOS None
 unversioned (operating_system.XROS _) = operating_system.XROS None
 unversioned s = s
+
+-- a version without its third number
+abbrev pub two_numbers : DeploymentTarget → DeploymentTarget
+two_numbers v = record { major = v.major; minor = v.minor; patch = 0 }
+
+-- the system without a version, except that macOS and iOS have two numbers of it
+abbrev pub with_two_numbers : OperatingSystem → OperatingSystem
+with_two_numbers (operating_system.MacOSX version) = operating_system.MacOSX (option_map two_numbers version)
+with_two_numbers (operating_system.IOS version) = operating_system.IOS (option_map two_numbers version)
+with_two_numbers s = unversioned s
+
+-- what a dialect states of the system
+abbrev pub system_in : Dialect → OperatingSystem → OperatingSystem
+system_in Python s = with_two_numbers s
+system_in _ s = unversioned s
 
 -- the vendor that triples on a system usually have
 abbrev pub usual_vendor : OperatingSystem → KnownVendor
@@ -118,10 +135,11 @@ abi_in Debian s e = e
 abi_in Gnu s e = e
 abi_in Go s e = unknown_if (is_library e) e
 abi_in Oci s e = unknown_if (is_library e) e
+abi_in Python s e = unknown_if (is_library e) e
 abi_in Node s e = abi_in_node s e
 
 -- the shape of a triple
 unfoldable pub shape : Dialect → Values → Values
 shape d t =
-    values (machine_in d t.architecture) (Known (usual_vendor t.operating_system)) (unversioned t.operating_system)
+    values (machine_in d t.architecture) (Known (usual_vendor t.operating_system)) (system_in d t.operating_system)
     (abi_in d t.operating_system t.environment) t.binary_format

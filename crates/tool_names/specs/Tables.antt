@@ -2,7 +2,9 @@
 use Rattle.std.specs.Prelude.{ℕ, List, [], ◌∷◌, codes}
 use Rattle.lexicon_fields.specs.Names.{Pair}
 use Rattle.tool_names.specs.declared.dialect.Dialect.{Dialect}
-use Rattle.tool_names.specs.declared.dialect.Dialect.TheVariants.{Debian, Go, Oci, Node, Gnu}
+use Rattle.tool_names.specs.declared.dialect.Dialect.TheVariants.{Debian, Go, Oci, Node, Gnu, Python}
+use Rattle.tool_names.specs.declared.platform.VersionedSystem.{VersionedSystem}
+use Rattle.tool_names.specs.declared.platform.VersionedSystem.TheVariants.{MacOs, Ios, Manylinux, Musllinux, Android}
 
 unfoldable pub debian_without_a_triple : List (Pair (List ℕ))
 -- written by tools/names/write: debian_without_a_triple
@@ -523,6 +525,136 @@ gnu_without_a_triple =
 
 -- end of what is written
 
+unfoldable pub python_both_ways : List (Pair (List ℕ))
+-- written by tools/names/write: python_both_ways
+python_both_ways =
+    (codes "linux_aarch64", codes "aarch64-unknown-linux") ∷
+    (codes "linux_armv6l", codes "armv6-unknown-linux") ∷
+    (codes "linux_armv7l", codes "armv7-unknown-linux") ∷
+    (codes "linux_armv8l", codes "armv8-unknown-linux") ∷
+    (codes "linux_i686", codes "i686-unknown-linux") ∷
+    (codes "linux_loongarch64", codes "loongarch64-unknown-linux") ∷
+    (codes "linux_ppc64", codes "powerpc64-unknown-linux") ∷
+    (codes "linux_ppc64le", codes "powerpc64le-unknown-linux") ∷
+    (codes "linux_riscv64", codes "riscv64-unknown-linux") ∷
+    (codes "linux_s390x", codes "s390x-unknown-linux") ∷
+    (codes "linux_x86_64", codes "x86_64-unknown-linux") ∷
+    (codes "win32", codes "i686-pc-windows") ∷
+    (codes "win_amd64", codes "x86_64-pc-windows") ∷
+    (codes "win_arm32", codes "armv7-pc-windows") ∷
+    (codes "win_arm64", codes "aarch64-pc-windows") ∷
+    []
+
+-- end of what is written
+
+unfoldable pub python_only_read : List (Pair (List ℕ))
+-- written by tools/names/write: python_only_read
+python_only_read =
+    (codes "manylinux1_i686", codes "i686-unknown-linux-gnu") ∷
+    (codes "manylinux1_x86_64", codes "x86_64-unknown-linux-gnu") ∷
+    (codes "manylinux2010_i686", codes "i686-unknown-linux-gnu") ∷
+    (codes "manylinux2010_x86_64", codes "x86_64-unknown-linux-gnu") ∷
+    (codes "manylinux2014_aarch64", codes "aarch64-unknown-linux-gnu") ∷
+    (codes "manylinux2014_armv7l", codes "armv7-unknown-linux-gnueabihf") ∷
+    (codes "manylinux2014_i686", codes "i686-unknown-linux-gnu") ∷
+    (codes "manylinux2014_loongarch64", codes "loongarch64-unknown-linux-gnu") ∷
+    (codes "manylinux2014_ppc64", codes "powerpc64-unknown-linux-gnu") ∷
+    (codes "manylinux2014_ppc64le", codes "powerpc64le-unknown-linux-gnu") ∷
+    (codes "manylinux2014_riscv64", codes "riscv64-unknown-linux-gnu") ∷
+    (codes "manylinux2014_s390x", codes "s390x-unknown-linux-gnu") ∷
+    (codes "manylinux2014_x86_64", codes "x86_64-unknown-linux-gnu") ∷
+    []
+
+-- end of what is written
+
+unfoldable pub python_without_a_triple : List (Pair (List ℕ))
+-- written by tools/names/write: python_without_a_triple
+python_without_a_triple =
+    (codes "any", codes "no machine") ∷
+    []
+
+-- end of what is written
+
+unfoldable pub python_macosx_machines : List (Pair (List ℕ))
+-- written by tools/names/write: python_macosx_machines
+python_macosx_machines =
+    (codes "arm64", codes "aarch64-apple-macosx") ∷
+    (codes "i386", codes "i686-apple-macosx") ∷
+    (codes "ppc", codes "powerpc-apple-macosx") ∷
+    (codes "ppc64", codes "powerpc64-apple-macosx") ∷
+    (codes "x86_64", codes "x86_64-apple-macosx") ∷
+    []
+
+-- end of what is written
+
+unfoldable pub python_macosx_without_a_triple : List (Pair (List ℕ))
+-- written by tools/names/write: python_macosx_without_a_triple
+python_macosx_without_a_triple =
+    (codes "fat", codes "several machines") ∷
+    (codes "fat3", codes "several machines") ∷
+    (codes "fat32", codes "several machines") ∷
+    (codes "fat64", codes "several machines") ∷
+    (codes "intel", codes "several machines") ∷
+    (codes "universal", codes "several machines") ∷
+    (codes "universal2", codes "several machines") ∷
+    []
+
+-- end of what is written
+
+unfoldable pub python_ios_machines : List (Pair (List ℕ))
+-- written by tools/names/write: python_ios_machines
+python_ios_machines =
+    (codes "arm64_iphoneos", codes "aarch64-apple-ios") ∷
+    (codes "arm64_iphonesimulator", codes "aarch64-apple-ios-sim") ∷
+    (codes "x86_64_iphonesimulator", codes "x86_64-apple-ios-sim") ∷
+    []
+
+-- end of what is written
+
+unfoldable pub python_manylinux_machines : List (Pair (List ℕ))
+-- written by tools/names/write: python_manylinux_machines
+python_manylinux_machines =
+    (codes "aarch64", codes "aarch64-unknown-linux-gnu") ∷
+    (codes "armv7l", codes "armv7-unknown-linux-gnueabihf") ∷
+    (codes "i686", codes "i686-unknown-linux-gnu") ∷
+    (codes "loongarch64", codes "loongarch64-unknown-linux-gnu") ∷
+    (codes "ppc64", codes "powerpc64-unknown-linux-gnu") ∷
+    (codes "ppc64le", codes "powerpc64le-unknown-linux-gnu") ∷
+    (codes "riscv64", codes "riscv64-unknown-linux-gnu") ∷
+    (codes "s390x", codes "s390x-unknown-linux-gnu") ∷
+    (codes "x86_64", codes "x86_64-unknown-linux-gnu") ∷
+    []
+
+-- end of what is written
+
+unfoldable pub python_musllinux_machines : List (Pair (List ℕ))
+-- written by tools/names/write: python_musllinux_machines
+python_musllinux_machines =
+    (codes "aarch64", codes "aarch64-unknown-linux-musl") ∷
+    (codes "armv6l", codes "armv6-unknown-linux-musleabihf") ∷
+    (codes "armv7l", codes "armv7-unknown-linux-musleabihf") ∷
+    (codes "i686", codes "i686-unknown-linux-musl") ∷
+    (codes "loongarch64", codes "loongarch64-unknown-linux-musl") ∷
+    (codes "ppc64", codes "powerpc64-unknown-linux-musl") ∷
+    (codes "ppc64le", codes "powerpc64le-unknown-linux-musl") ∷
+    (codes "riscv64", codes "riscv64-unknown-linux-musl") ∷
+    (codes "s390x", codes "s390x-unknown-linux-musl") ∷
+    (codes "x86_64", codes "x86_64-unknown-linux-musl") ∷
+    []
+
+-- end of what is written
+
+unfoldable pub python_android_machines : List (Pair (List ℕ))
+-- written by tools/names/write: python_android_machines
+python_android_machines =
+    (codes "arm64_v8a", codes "aarch64-linux-android") ∷
+    (codes "armeabi_v7a", codes "armv7-linux-androideabi") ∷
+    (codes "x86", codes "i686-linux-android") ∷
+    (codes "x86_64", codes "x86_64-linux-android") ∷
+    []
+
+-- end of what is written
+
 -- the names that are read and written
 abbrev pub both_ways : Dialect → List (Pair (List ℕ))
 both_ways Debian = debian_both_ways
@@ -530,6 +662,7 @@ both_ways Go = go_both_ways
 both_ways Oci = oci_both_ways
 both_ways Node = node_both_ways
 both_ways Gnu = []
+both_ways Python = python_both_ways
 
 -- the names that are only read: other names of a triple
 abbrev pub only_read : Dialect → List (Pair (List ℕ))
@@ -538,6 +671,7 @@ only_read Go = []
 only_read Oci = oci_only_read
 only_read Node = []
 only_read Gnu = []
+only_read Python = python_only_read
 
 -- the names that are only written: those of cross compilers, and names that several triples share
 abbrev pub only_written : Dialect → List (Pair (List ℕ))
@@ -546,6 +680,7 @@ only_written Go = []
 only_written Oci = []
 only_written Node = node_only_written
 only_written Gnu = gnu_only_written
+only_written Python = []
 
 -- the names that have no triple, and why
 abbrev pub without_a_triple : Dialect → List (Pair (List ℕ))
@@ -554,3 +689,17 @@ without_a_triple Go = go_without_a_triple
 without_a_triple Oci = oci_without_a_triple
 without_a_triple Node = node_without_a_triple
 without_a_triple Gnu = gnu_without_a_triple
+without_a_triple Python = python_without_a_triple
+
+-- the machines on a system of Python whose names have a version, each with its triple without the version
+abbrev pub machines : VersionedSystem → List (Pair (List ℕ))
+machines MacOs = python_macosx_machines
+machines Ios = python_ios_machines
+machines Manylinux = python_manylinux_machines
+machines Musllinux = python_musllinux_machines
+machines Android = python_android_machines
+
+-- those that have no triple, and why
+abbrev pub machines_without_a_triple : VersionedSystem → List (Pair (List ℕ))
+machines_without_a_triple MacOs = python_macosx_without_a_triple
+machines_without_a_triple _ = []

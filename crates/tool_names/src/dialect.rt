@@ -21,6 +21,9 @@ pub enum Dialect {
     Node,
     /// Prefixes of GNU's cross compilers: `x86_64-w64-mingw32`. They are only written; [`read`](crate::read) reads them.
     Gnu,
+    /// Platforms of Python, as tags of wheels: `manylinux_2_17_x86_64`, `macosx_11_0_arm64`. What
+    /// `sysconfig.get_platform()` prints is read too: `macosx-11.0-arm64` means the same as its tag.
+    Python,
 }
 
 impl Dialect {
@@ -34,6 +37,7 @@ impl Dialect {
             Dialect::Oci => "oci",
             Dialect::Node => "node",
             Dialect::Gnu => "gnu",
+            Dialect::Python => "python",
         }
     }
 
@@ -46,12 +50,13 @@ impl Dialect {
     }
 }
 
-static DIALECTS: [(&str, Dialect); 5] = [
+static DIALECTS: [(&str, Dialect); 6] = [
     ("debian", Dialect::Debian),
     ("go", Dialect::Go),
     ("oci", Dialect::Oci),
     ("node", Dialect::Node),
     ("gnu", Dialect::Gnu),
+    ("python", Dialect::Python),
 ];
 
 impl FromStr for Dialect {

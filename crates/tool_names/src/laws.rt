@@ -1,6 +1,6 @@
 //! Laws of the definitions. Each function's contract is a law; a call does nothing.
 ghost use Rattle.tool_names.specs.Changes.{ChangedPartsAreInTheString, KnownNamesStay, UnchangedStringsAreReadAsTheyParse};
-ghost use Rattle.tool_names.specs.Laws.{NamesAreCanonical, NamesKeepAnswers, NamesMeanTheShape, NamesReadBack, NamesWithoutTripleAreRefused, ShapesAreFixed};
+ghost use Rattle.tool_names.specs.Laws.{NamesAreCanonical, NamesKeepAnswers, NamesMeanTheShape, NamesReadBack, NamesWithoutTripleAreRefused, ShapesAreFixed, TagsMeanTheSame};
 ghost use Rattle.tool_names.specs.ObjectFormat.{GivenFormatsAreKept};
 ghost use Rattle.tool_names.specs.Spelling.{KnownNamesAreReadAsBefore, ListedPartsAreUnknown, OnceIsEnough, ReadingAgainIsTheSame, RefusedPartsAreInTheString};
 
@@ -83,6 +83,12 @@ pub fn names_read_back()
 #[tactic(auto, using(crate::proofs::NameLaws::without_triple_refused))]
 pub fn names_without_triple_are_refused()
     ensures { NamesWithoutTripleAreRefused }
+{}
+
+/// A name of Python means what its tag means.
+#[tactic(auto, using(crate::proofs::NameLaws::tags_mean_same))]
+pub fn tags_mean_the_same()
+    ensures { TagsMeanTheSame }
 {}
 
 /// The name of a triple means the shape of the triple: reading what was written gives the shape.

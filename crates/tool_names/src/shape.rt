@@ -1,18 +1,19 @@
 //! The shape of a triple in a dialect.
-ghost use Rattle.std.specs.Prelude.{◌≡◌};
+ghost use Rattle.std.specs.Prelude.{◌≡◌, option_map};
 ghost use Rattle.target_lexicon.specs.ValuesRef.{values_of_ref};
-ghost use Rattle.tool_names.specs.Shape.{abi_in, abi_in_node, arm_in, arm_of_order, arm_of_version, is_bare_abi, is_library, machine_in, shape, unversioned, usual_vendor};
+ghost use Rattle.tool_names.specs.Shape.{abi_in, abi_in_node, arm_in, arm_of_order, arm_of_version, is_bare_abi, is_library, machine_in, shape, system_in, two_numbers, unversioned, usual_vendor, with_two_numbers};
 
 use crate::dialect::Dialect;
 use target_lexicon::{
-    Architecture, ArmArchitecture, Environment, KnownVendor, OperatingSystem, Riscv32Architecture,
-    Riscv64Architecture, TripleRef, VendorRef, X86_32Architecture,
+    Architecture, ArmArchitecture, DeploymentTarget, Environment, KnownVendor, OperatingSystem,
+    Riscv32Architecture, Riscv64Architecture, TripleRef, VendorRef, X86_32Architecture,
 };
 
 impl Dialect {
     /// The triple without what the dialect doesn't name: the vendor, which is the usual one of the system; the version
-    /// of the system, and how much of that of the architecture isn't stated; in Go, OCI and Node also the C library and
-    /// the floating-point ABI, but on Linux Node states them. The binary format stays.
+    /// of the system, and how much of that of the architecture isn't stated; in Go, OCI, Node and Python also the C
+    /// library and the floating-point ABI, but on Linux Node states them. Python keeps versions of macOS and iOS, with two
+    /// numbers. The binary format stays.
     #[tactic(auto, unfolding(crate::specs::Shape::shape))]
     pub fn shape(self, triple: &TripleRef<'_>) -> TripleRef<'static>
         ensures { values_of_ref result ≡ shape self (values_of_ref triple.now) }
@@ -20,7 +21,7 @@ impl Dialect {
         TripleRef {
             architecture: self.machine(triple.architecture),
             vendor: VendorRef::Known(usual_vendor(triple.operating_system)),
-            operating_system: unversioned(triple.operating_system),
+            operating_system: self.system(triple.operating_system),
             environment: self.abi(triple.operating_system, triple.environment),
             binary_format: triple.binary_format,
         }
@@ -44,8 +45,17 @@ impl Dialect {
         ensures { result ≡ arm_in self arm }
     {
         match self {
-            Dialect::Oci => arm_of_version(arm),
+            Dialect::Oci | Dialect::Python => arm_of_version(arm),
             _ => arm_of_order(arm),
+        }
+    }
+
+    fn system(self, operating_system: OperatingSystem) -> OperatingSystem
+        ensures { result ≡ system_in self operating_system }
+    {
+        match self {
+            Dialect::Python => with_two_numbers(operating_system),
+            _ => unversioned(operating_system),
         }
     }
 
@@ -54,7 +64,7 @@ impl Dialect {
     {
         let forgotten = match self {
             Dialect::Debian | Dialect::Gnu => false,
-            Dialect::Go | Dialect::Oci => is_library(environment),
+            Dialect::Go | Dialect::Oci | Dialect::Python => is_library(environment),
             Dialect::Node => match operating_system {
                 OperatingSystem::Linux => is_bare_abi(environment),
                 _ => is_library(environment),
@@ -112,6 +122,30 @@ fn unversioned(operating_system: OperatingSystem) -> OperatingSystem
         OperatingSystem::WatchOS(_) => OperatingSystem::WatchOS(None),
         OperatingSystem::XROS(_) => OperatingSystem::XROS(None),
         other => other,
+    }
+}
+
+/// The system without a version, except that macOS and iOS have two numbers of it.
+fn with_two_numbers(operating_system: OperatingSystem) -> OperatingSystem
+    ensures { result ≡ with_two_numbers operating_system }
+{
+    match operating_system {
+        OperatingSystem::MacOSX(version) => OperatingSystem::MacOSX(two_numbers_of(version)),
+        OperatingSystem::IOS(version) => OperatingSystem::IOS(two_numbers_of(version)),
+        other => unversioned(other),
+    }
+}
+
+/// A version without its third number.
+fn two_numbers_of(version: Option<DeploymentTarget>) -> Option<DeploymentTarget>
+    ensures { result ≡ option_map two_numbers version }
+{
+    match version {
+        Some(version) => Some(DeploymentTarget {
+            patch: 0,
+            ..version
+        }),
+        None => None,
     }
 }
 

@@ -1,16 +1,17 @@
 //! The tables of the dialects' names.
 ghost use Rattle.std.specs.Prelude.{◌≡◌};
 ghost use Rattle.tool_names.specs.Private.{text_table};
-ghost use Rattle.tool_names.specs.Tables.{both_ways, only_read, only_written, without_a_triple};
+ghost use Rattle.tool_names.specs.Tables.{both_ways, machines, machines_without_a_triple, only_read, only_written, without_a_triple};
 
 use crate::dialect::Dialect;
+use crate::platform::VersionedSystem;
 
 /// A name and a canonical triple, or a name and why it has no triple.
 pub(crate) type Row = (&'static str, &'static str);
 
 impl Dialect {
     /// The names that are read and written, with their triples.
-    #[tactic(auto, unfolding(crate::specs::Tables::debian_both_ways, crate::specs::Tables::go_both_ways, crate::specs::Tables::oci_both_ways, crate::specs::Tables::node_both_ways))]
+    #[tactic(auto, unfolding(crate::specs::Tables::debian_both_ways, crate::specs::Tables::go_both_ways, crate::specs::Tables::oci_both_ways, crate::specs::Tables::node_both_ways, crate::specs::Tables::python_both_ways))]
     pub(crate) fn both_ways(self) -> &'static [Row]
         ensures { text_table result.now ≡ both_ways self }
     {
@@ -20,11 +21,12 @@ impl Dialect {
             Dialect::Oci => &OCI_BOTH_WAYS,
             Dialect::Node => &NODE_BOTH_WAYS,
             Dialect::Gnu => &[],
+            Dialect::Python => &PYTHON_BOTH_WAYS,
         }
     }
 
     /// The names that are only read, with their triples.
-    #[tactic(auto, unfolding(crate::specs::Tables::oci_only_read))]
+    #[tactic(auto, unfolding(crate::specs::Tables::oci_only_read, crate::specs::Tables::python_only_read))]
     pub(crate) fn only_read(self) -> &'static [Row]
         ensures { text_table result.now ≡ only_read self }
     {
@@ -34,6 +36,7 @@ impl Dialect {
             Dialect::Oci => &OCI_ONLY_READ,
             Dialect::Node => &[],
             Dialect::Gnu => &[],
+            Dialect::Python => &PYTHON_ONLY_READ,
         }
     }
 
@@ -48,11 +51,12 @@ impl Dialect {
             Dialect::Oci => &[],
             Dialect::Node => &NODE_ONLY_WRITTEN,
             Dialect::Gnu => &GNU_ONLY_WRITTEN,
+            Dialect::Python => &[],
         }
     }
 
     /// The names that have no triple, and why.
-    #[tactic(auto, unfolding(crate::specs::Tables::debian_without_a_triple, crate::specs::Tables::go_without_a_triple, crate::specs::Tables::oci_without_a_triple, crate::specs::Tables::node_without_a_triple, crate::specs::Tables::gnu_without_a_triple))]
+    #[tactic(auto, unfolding(crate::specs::Tables::debian_without_a_triple, crate::specs::Tables::go_without_a_triple, crate::specs::Tables::oci_without_a_triple, crate::specs::Tables::node_without_a_triple, crate::specs::Tables::gnu_without_a_triple, crate::specs::Tables::python_without_a_triple))]
     pub(crate) fn without_a_triple(self) -> &'static [Row]
         ensures { text_table result.now ≡ without_a_triple self }
     {
@@ -62,6 +66,37 @@ impl Dialect {
             Dialect::Oci => &OCI_WITHOUT_A_TRIPLE,
             Dialect::Node => &NODE_WITHOUT_A_TRIPLE,
             Dialect::Gnu => &GNU_WITHOUT_A_TRIPLE,
+            Dialect::Python => &PYTHON_WITHOUT_A_TRIPLE,
+        }
+    }
+}
+
+impl VersionedSystem {
+    /// The machines on the system, with their triples without a version.
+    #[tactic(auto, unfolding(crate::specs::Tables::python_macosx_machines, crate::specs::Tables::python_ios_machines, crate::specs::Tables::python_manylinux_machines, crate::specs::Tables::python_musllinux_machines, crate::specs::Tables::python_android_machines))]
+    pub(crate) fn machines(self) -> &'static [Row]
+        ensures { text_table result.now ≡ machines self }
+    {
+        match self {
+            VersionedSystem::MacOs => &PYTHON_MACOSX_MACHINES,
+            VersionedSystem::Ios => &PYTHON_IOS_MACHINES,
+            VersionedSystem::Manylinux => &PYTHON_MANYLINUX_MACHINES,
+            VersionedSystem::Musllinux => &PYTHON_MUSLLINUX_MACHINES,
+            VersionedSystem::Android => &PYTHON_ANDROID_MACHINES,
+        }
+    }
+
+    /// The machines that have no triple, and why.
+    #[tactic(auto, unfolding(crate::specs::Tables::python_macosx_without_a_triple))]
+    pub(crate) fn machines_without_a_triple(self) -> &'static [Row]
+        ensures { text_table result.now ≡ machines_without_a_triple self }
+    {
+        match self {
+            VersionedSystem::MacOs => &PYTHON_MACOSX_WITHOUT_A_TRIPLE,
+            VersionedSystem::Ios
+            | VersionedSystem::Manylinux
+            | VersionedSystem::Musllinux
+            | VersionedSystem::Android => &[],
         }
     }
 }
@@ -570,5 +605,126 @@ static GNU_WITHOUT_A_TRIPLE: [(&str, &str); 79] = [
     ("x86_64-linux-musl", "names of cross compilers are only written"),
     ("x86_64-linux-uclibc", "names of cross compilers are only written"),
     ("x86_64-w64-mingw32", "names of cross compilers are only written"),
+];
+// end of what is written
+
+#[rattlefmt::skip]
+// written by tools/names/write: the names of python, both ways
+static PYTHON_BOTH_WAYS: [(&str, &str); 15] = [
+    ("linux_aarch64", "aarch64-unknown-linux"),
+    ("linux_armv6l", "armv6-unknown-linux"),
+    ("linux_armv7l", "armv7-unknown-linux"),
+    ("linux_armv8l", "armv8-unknown-linux"),
+    ("linux_i686", "i686-unknown-linux"),
+    ("linux_loongarch64", "loongarch64-unknown-linux"),
+    ("linux_ppc64", "powerpc64-unknown-linux"),
+    ("linux_ppc64le", "powerpc64le-unknown-linux"),
+    ("linux_riscv64", "riscv64-unknown-linux"),
+    ("linux_s390x", "s390x-unknown-linux"),
+    ("linux_x86_64", "x86_64-unknown-linux"),
+    ("win32", "i686-pc-windows"),
+    ("win_amd64", "x86_64-pc-windows"),
+    ("win_arm32", "armv7-pc-windows"),
+    ("win_arm64", "aarch64-pc-windows"),
+];
+// end of what is written
+
+#[rattlefmt::skip]
+// written by tools/names/write: the names of python, only read
+static PYTHON_ONLY_READ: [(&str, &str); 13] = [
+    ("manylinux1_i686", "i686-unknown-linux-gnu"),
+    ("manylinux1_x86_64", "x86_64-unknown-linux-gnu"),
+    ("manylinux2010_i686", "i686-unknown-linux-gnu"),
+    ("manylinux2010_x86_64", "x86_64-unknown-linux-gnu"),
+    ("manylinux2014_aarch64", "aarch64-unknown-linux-gnu"),
+    ("manylinux2014_armv7l", "armv7-unknown-linux-gnueabihf"),
+    ("manylinux2014_i686", "i686-unknown-linux-gnu"),
+    ("manylinux2014_loongarch64", "loongarch64-unknown-linux-gnu"),
+    ("manylinux2014_ppc64", "powerpc64-unknown-linux-gnu"),
+    ("manylinux2014_ppc64le", "powerpc64le-unknown-linux-gnu"),
+    ("manylinux2014_riscv64", "riscv64-unknown-linux-gnu"),
+    ("manylinux2014_s390x", "s390x-unknown-linux-gnu"),
+    ("manylinux2014_x86_64", "x86_64-unknown-linux-gnu"),
+];
+// end of what is written
+
+#[rattlefmt::skip]
+// written by tools/names/write: the names of python, without a triple
+static PYTHON_WITHOUT_A_TRIPLE: [(&str, &str); 1] = [
+    ("any", "no machine"),
+];
+// end of what is written
+
+#[rattlefmt::skip]
+// written by tools/names/write: the names of python macosx, machines
+static PYTHON_MACOSX_MACHINES: [(&str, &str); 5] = [
+    ("arm64", "aarch64-apple-macosx"),
+    ("i386", "i686-apple-macosx"),
+    ("ppc", "powerpc-apple-macosx"),
+    ("ppc64", "powerpc64-apple-macosx"),
+    ("x86_64", "x86_64-apple-macosx"),
+];
+// end of what is written
+
+#[rattlefmt::skip]
+// written by tools/names/write: the names of python macosx, without a triple
+static PYTHON_MACOSX_WITHOUT_A_TRIPLE: [(&str, &str); 7] = [
+    ("fat", "several machines"),
+    ("fat3", "several machines"),
+    ("fat32", "several machines"),
+    ("fat64", "several machines"),
+    ("intel", "several machines"),
+    ("universal", "several machines"),
+    ("universal2", "several machines"),
+];
+// end of what is written
+
+#[rattlefmt::skip]
+// written by tools/names/write: the names of python ios, machines
+static PYTHON_IOS_MACHINES: [(&str, &str); 3] = [
+    ("arm64_iphoneos", "aarch64-apple-ios"),
+    ("arm64_iphonesimulator", "aarch64-apple-ios-sim"),
+    ("x86_64_iphonesimulator", "x86_64-apple-ios-sim"),
+];
+// end of what is written
+
+#[rattlefmt::skip]
+// written by tools/names/write: the names of python manylinux, machines
+static PYTHON_MANYLINUX_MACHINES: [(&str, &str); 9] = [
+    ("aarch64", "aarch64-unknown-linux-gnu"),
+    ("armv7l", "armv7-unknown-linux-gnueabihf"),
+    ("i686", "i686-unknown-linux-gnu"),
+    ("loongarch64", "loongarch64-unknown-linux-gnu"),
+    ("ppc64", "powerpc64-unknown-linux-gnu"),
+    ("ppc64le", "powerpc64le-unknown-linux-gnu"),
+    ("riscv64", "riscv64-unknown-linux-gnu"),
+    ("s390x", "s390x-unknown-linux-gnu"),
+    ("x86_64", "x86_64-unknown-linux-gnu"),
+];
+// end of what is written
+
+#[rattlefmt::skip]
+// written by tools/names/write: the names of python musllinux, machines
+static PYTHON_MUSLLINUX_MACHINES: [(&str, &str); 10] = [
+    ("aarch64", "aarch64-unknown-linux-musl"),
+    ("armv6l", "armv6-unknown-linux-musleabihf"),
+    ("armv7l", "armv7-unknown-linux-musleabihf"),
+    ("i686", "i686-unknown-linux-musl"),
+    ("loongarch64", "loongarch64-unknown-linux-musl"),
+    ("ppc64", "powerpc64-unknown-linux-musl"),
+    ("ppc64le", "powerpc64le-unknown-linux-musl"),
+    ("riscv64", "riscv64-unknown-linux-musl"),
+    ("s390x", "s390x-unknown-linux-musl"),
+    ("x86_64", "x86_64-unknown-linux-musl"),
+];
+// end of what is written
+
+#[rattlefmt::skip]
+// written by tools/names/write: the names of python android, machines
+static PYTHON_ANDROID_MACHINES: [(&str, &str); 4] = [
+    ("arm64_v8a", "aarch64-linux-android"),
+    ("armeabi_v7a", "armv7-linux-androideabi"),
+    ("x86", "i686-linux-android"),
+    ("x86_64", "x86_64-linux-android"),
 ];
 // end of what is written

@@ -279,7 +279,7 @@ pub unsafe extern "C" fn lexicon_write(
         name_in(dialect, &unsafe { Triple::read(triple) })?.ok_or(TRIPLE_WITHOUT_NAME)
     };
     match find() {
-        Ok(name) => unsafe { write_text(out, out_size, length, |out| Ok(written(name, out))) },
+        Ok(name) => unsafe { write_text(out, out_size, length, |out| Ok(written(name.as_str(), out))) },
         Err(status) => status,
     }
 }

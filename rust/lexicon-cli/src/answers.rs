@@ -243,7 +243,7 @@ fn implied_format(triple: &TripleRef<'_>) -> String {
 
 /// The names that other tools have for a triple.
 pub fn elsewhere(triple: &TripleRef<'_>) -> Object {
-    let name = |dialect: Dialect| dialect.write(triple).map(|name| name.as_str());
+    let name = |dialect: Dialect| dialect.write(triple).map(|name| name.to_string());
     DIALECTS
         .map(|dialect| (dialect.as_str(), name(dialect).into()))
         .into()

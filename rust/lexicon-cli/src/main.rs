@@ -22,7 +22,7 @@ use refusal::Refusal;
 use std::io::{self, Write};
 use std::path::Path;
 use std::process;
-use target_lexicon::tool_names::Dialect;
+use target_lexicon::tool_names::{Dialect, Name};
 use target_lexicon::{Explanation, TripleRef};
 
 /// What ends a run early.
@@ -58,7 +58,7 @@ enum Call {
 enum Found<'a> {
     Parsed(Explanation<'a>),
     Read(TripleRef<'a>),
-    Name(&'static str),
+    Name(Name),
 }
 
 /// A call that answers for targets.
@@ -165,7 +165,7 @@ impl Run {
                 };
                 [canonical(*triple), vec![("changes", changes)]].concat()
             }
-            Found::Name(name) => vec![("name", (*name).into())],
+            Found::Name(name) => vec![("name", name.as_str().into())],
         }
     }
 

@@ -3,7 +3,7 @@ use crate::arguments::{DIALECTS, FIELDS};
 use crate::input::{Place, Target};
 use crate::json::{Json, Object};
 use std::io::{self, Write};
-use target_lexicon::tool_names::{self, Dialect, NameError};
+use target_lexicon::tool_names::{self, Dialect, Name, NameError};
 use target_lexicon::{Explanation, Field, ParseErrorRef, Source, TextPart, TripleRef, VendorRef};
 
 pub struct Refusal<'a> {
@@ -77,11 +77,10 @@ pub fn name_in<'a>(
     dialect: Dialect,
     text: &'a str,
     triple: &TripleRef<'_>,
-) -> Result<&'static str, Refusal<'a>> {
-    match dialect.write(triple) {
-        Some(name) => Ok(name.as_str()),
-        None => Err(Refusal::of_all(format!("no name of {dialect} for"), text)),
-    }
+) -> Result<Name, Refusal<'a>> {
+    dialect
+        .write(triple)
+        .ok_or_else(|| Refusal::of_all(format!("no name of {dialect} for"), text))
 }
 
 impl<'a> Refusal<'a> {

@@ -3,7 +3,7 @@
 
 use crate::error::{refusal_status, TextError};
 use crate::triple::{numbers_of, triple_in, Fault, NumberedTriple};
-use target_lexicon::internals::tool_names::{Dialect, NameError, ReadError};
+use target_lexicon::internals::tool_names::{Dialect, Name, NameError, ReadError};
 
 /// The dialect with this number. 0 is no dialect: that of strings that are spelled like triples.
 pub fn dialect_at(number: u32) -> Option<Option<Dialect>> {
@@ -33,15 +33,9 @@ pub fn read(dialect: Option<Dialect>, text: &str) -> Result<NumberedTriple<'_>, 
 }
 
 /// The name of a triple in a dialect, if it has one.
-pub fn name_in(
-    dialect: Dialect,
-    triple: &NumberedTriple<'_>,
-) -> Result<Option<&'static str>, Fault> {
+pub fn name_in(dialect: Dialect, triple: &NumberedTriple<'_>) -> Result<Option<Name>, Fault> {
     match triple_in(triple) {
-        Ok(named) => match dialect.write(&named) {
-            Some(name) => Ok(Some(name.as_str())),
-            None => Ok(None),
-        },
+        Ok(named) => Ok(dialect.write(&named)),
         Err(fault) => Err(fault),
     }
 }

@@ -10,9 +10,13 @@ pub(crate) mod dialect;
 pub(crate) mod formats;
 pub(crate) mod macos;
 #[cfg(feature = "tool_names")]
+pub(crate) mod name;
+#[cfg(feature = "tool_names")]
 pub(crate) mod names;
 #[cfg(feature = "tool_names")]
 pub(crate) mod names_left;
+#[cfg(feature = "tool_names")]
+pub(crate) mod platform;
 #[cfg(feature = "tool_names")]
 pub(crate) mod reading;
 #[cfg(feature = "tool_names")]
@@ -21,6 +25,8 @@ pub(crate) mod spelling;
 pub(crate) mod suggestions;
 #[cfg(feature = "tool_names")]
 pub(crate) mod tables;
+#[cfg(feature = "tool_names")]
+pub(crate) mod tags;
 
 #[cfg(feature = "tool_names")]
 pub use change::{changes, Change, ChangedParts};
@@ -29,7 +35,9 @@ pub use dialect::Dialect;
 #[cfg(feature = "tool_names")]
 pub use formats::object_format;
 #[cfg(feature = "tool_names")]
-pub use names::{Name, NameError};
+pub use name::Name;
+#[cfg(feature = "tool_names")]
+pub use names::NameError;
 #[cfg(feature = "tool_names")]
 pub use reading::{read, ReadError};
 pub use spelling::Spelling;

@@ -4,25 +4,12 @@
 use crate::names::misspelling::{misspelling, TOO_MANY_EDITS};
 use crate::names::nearest::nearer;
 use crate::tool_names::dialect::Dialect;
+use crate::tool_names::name::Name;
+use crate::tool_names::platform::{kept_version, VersionedName, VersionedSystem};
 use crate::tool_names::spelling::look_up;
 use crate::tool_names::tables::Row;
+use crate::tool_names::tags::look_up_tag;
 use crate::TripleRef;
-use core::fmt;
-
-/// A name of a target in a dialect.
-///
-/// # Examples
-///
-/// ```
-/// use target_lexicon::{tool_names::Dialect, TripleRef};
-///
-/// let triple = TripleRef::from_str("x86_64-unknown-freebsd").unwrap();
-/// assert_eq!(Dialect::Go.write(&triple).unwrap().to_string(), "freebsd/amd64");
-/// ```
-#[derive(Clone, Copy, Debug, PartialEq, Eq)]
-pub struct Name {
-    text: &'static str,
-}
 
 /// Why a name isn't read.
 ///
@@ -45,31 +32,11 @@ pub enum NameError {
 /// The most bytes of a triple's text that a row has, and more.
 const MAX_LENGTH: usize = 64;
 
-impl Name {
-    /// The name. It has at most 32 bytes.
-    ///
-    /// # Examples
-    ///
-    /// ```
-    /// use target_lexicon::{tool_names::Dialect, TripleRef};
-    ///
-    /// let triple = TripleRef::from_str("x86_64-unknown-freebsd").unwrap();
-    /// assert_eq!(Dialect::Go.write(&triple).unwrap().as_str(), "freebsd/amd64");
-    /// ```
-    pub fn as_str(&self) -> &'static str {
-        self.text
-    }
-}
-
-impl fmt::Display for Name {
-    fn fmt(&self, f: &mut fmt::Formatter<'_>) -> fmt::Result {
-        f.write_str(self.text)
-    }
-}
-
 impl Dialect {
     /// The triple that a name of this dialect means. It is canonical, and has a known vendor. What the name doesn't
     /// state is unknown: `linux/arm64` of Go is `aarch64-unknown-linux`, without a C library. Nothing is allocated.
+    ///
+    /// A name of Python is read by its tag: `macosx-11.0-arm64` and `macosx_11_0_arm64` mean the same.
     ///
     /// # Errors
     ///
@@ -85,15 +52,9 @@ impl Dialect {
     /// assert_eq!(Dialect::Go.read("linux/foo"), Err(NameError::Unknown));
     /// ```
     pub fn read(self, name: &str) -> Result<TripleRef<'static>, NameError> {
-        match self.triple_text(name) {
-            Some(text) => match TripleRef::from_str(text) {
-                Ok(triple) => Ok(triple),
-                Err(_) => Err(NameError::Unknown),
-            },
-            None => match look_up_text(self.without_a_triple(), name) {
-                Some(why) => Err(NameError::WithoutTriple(why)),
-                None => Err(NameError::Unknown),
-            },
+        match self.versioned_name(name) {
+            Some(versioned) => versioned.read(),
+            None => self.read_plain(name),
         }
     }
 
@@ -109,19 +70,21 @@ impl Dialect {
     /// assert_eq!(Dialect::Node.write(&triple).unwrap().to_string(), "darwin-arm64");
     /// ```
     pub fn write(self, triple: &TripleRef<'_>) -> Option<Name> {
-        let mut buffer = [0; MAX_LENGTH];
-        let length = self.shape(triple).write_to(&mut buffer);
-        if MAX_LENGTH < length {
-            return None;
-        }
-        match self.name_of_text(&buffer[..length]) {
-            Some(text) => Some(Name { text }),
-            None => None,
+        let shape = self.shape(triple);
+        match kept_version(shape.operating_system) {
+            Some((system, version)) => {
+                let machine = system.machine_of(&TripleRef {
+                    operating_system: system.with(None, shape.operating_system),
+                    ..shape
+                })?;
+                Some(Name::with_version(system, version, machine))
+            }
+            None => Some(Name::of_text(self.name_of_shape(&shape)?)),
         }
     }
 
-    /// The name that is suggested for an unknown one: the nearest of the names that [`read`](Dialect::read) knows, if the
-    /// name may be a misspelling of it. Nothing is allocated.
+    /// The name that is suggested for an unknown one: the nearest of the names without a version that
+    /// [`read`](Dialect::read) knows, if the name may be a misspelling of it. Nothing is allocated.
     pub fn suggestion(self, name: &str) -> Option<&'static str> {
         nearer(
             name,
@@ -130,12 +93,46 @@ impl Dialect {
         )
     }
 
+    /// The parts of a name with a version, which only Python has.
+    fn versioned_name(self, name: &str) -> Option<VersionedName<'_>> {
+        match self {
+            Dialect::Python => VersionedName::of(name),
+            _ => None,
+        }
+    }
+
+    /// The triple that a name without a version means.
+    fn read_plain(self, name: &str) -> Result<TripleRef<'static>, NameError> {
+        match self.triple_text(name) {
+            Some(text) => triple_of(text),
+            None => Err(unread(self.look_up(self.without_a_triple(), name))),
+        }
+    }
+
     /// The triple that a name means, as a string.
     fn triple_text(self, name: &str) -> Option<&'static str> {
-        match look_up_text(self.both_ways(), name) {
+        match self.look_up(self.both_ways(), name) {
             Some(text) => Some(text),
-            None => look_up_text(self.only_read(), name),
+            None => self.look_up(self.only_read(), name),
         }
+    }
+
+    /// The second text of the first row whose first text is the name, or in Python its tag.
+    fn look_up(self, rows: &[Row], name: &str) -> Option<&'static str> {
+        match self {
+            Dialect::Python => look_up_tag_text(rows, name),
+            _ => look_up_text(rows, name),
+        }
+    }
+
+    /// The name of a shape without a version.
+    fn name_of_shape(self, shape: &TripleRef<'_>) -> Option<&'static str> {
+        let mut buffer = [0; MAX_LENGTH];
+        let length = shape.write_to(&mut buffer);
+        if MAX_LENGTH < length {
+            return None;
+        }
+        self.name_of_text(&buffer[..length])
     }
 
     /// The name of a shape's string.
@@ -147,9 +144,63 @@ impl Dialect {
     }
 }
 
+impl VersionedSystem {
+    /// The machine of a triple without a version.
+    fn machine_of(self, triple: &TripleRef<'_>) -> Option<&'static str> {
+        let mut buffer = [0; MAX_LENGTH];
+        let length = triple.write_to(&mut buffer);
+        if MAX_LENGTH < length {
+            return None;
+        }
+        name_with(self.machines(), &buffer[..length])
+    }
+}
+
+impl VersionedName<'_> {
+    /// The triple that the name means.
+    fn read(&self) -> Result<TripleRef<'static>, NameError> {
+        match look_up_tag_text(self.system.machines(), self.machine) {
+            Some(text) => {
+                let triple = triple_of(text)?;
+                Ok(TripleRef {
+                    operating_system: self
+                        .system
+                        .with(Some(self.version), triple.operating_system),
+                    ..triple
+                })
+            }
+            None => Err(unread(look_up_tag_text(
+                self.system.machines_without_a_triple(),
+                self.machine,
+            ))),
+        }
+    }
+}
+
+/// The triple of a row.
+fn triple_of(text: &'static str) -> Result<TripleRef<'static>, NameError> {
+    match TripleRef::from_str(text) {
+        Ok(triple) => Ok(triple),
+        Err(_) => Err(NameError::Unknown),
+    }
+}
+
+/// Why a name without a triple isn't read, if there is a reason.
+fn unread(why: Option<&'static str>) -> NameError {
+    match why {
+        Some(why) => NameError::WithoutTriple(why),
+        None => NameError::Unknown,
+    }
+}
+
 /// The second text of the first row with this first text.
 fn look_up_text(rows: &[Row], text: &str) -> Option<&'static str> {
     look_up(rows, text)
+}
+
+/// The second text of the first row whose first text is the tag of a name.
+fn look_up_tag_text(rows: &[Row], name: &str) -> Option<&'static str> {
+    look_up_tag(rows, name)
 }
 
 /// The nearest of the names of the rows, if a name may be a misspelling of it.

@@ -3,14 +3,15 @@
 
 use crate::tool_names::dialect::Dialect;
 use crate::{
-    Architecture, ArmArchitecture, Environment, KnownVendor, OperatingSystem, Riscv32Architecture,
-    Riscv64Architecture, TripleRef, VendorRef, X86_32Architecture,
+    Architecture, ArmArchitecture, DeploymentTarget, Environment, KnownVendor, OperatingSystem,
+    Riscv32Architecture, Riscv64Architecture, TripleRef, VendorRef, X86_32Architecture,
 };
 
 impl Dialect {
     /// The triple without what the dialect doesn't name: the vendor, which is the usual one of the system; the version
-    /// of the system, and how much of that of the architecture isn't stated; in Go, OCI and Node also the C library and
-    /// the floating-point ABI, but on Linux Node states them. The binary format stays.
+    /// of the system, and how much of that of the architecture isn't stated; in Go, OCI, Node and Python also the C
+    /// library and the floating-point ABI, but on Linux Node states them. Python keeps versions of macOS and iOS, with two
+    /// numbers. The binary format stays.
     ///
     /// # Examples
     ///
@@ -24,7 +25,7 @@ impl Dialect {
         TripleRef {
             architecture: self.machine(triple.architecture),
             vendor: VendorRef::Known(usual_vendor(triple.operating_system)),
-            operating_system: unversioned(triple.operating_system),
+            operating_system: self.system(triple.operating_system),
             environment: self.abi(triple.operating_system, triple.environment),
             binary_format: triple.binary_format,
         }
@@ -44,15 +45,22 @@ impl Dialect {
 
     fn arm(self, arm: ArmArchitecture) -> ArmArchitecture {
         match self {
-            Dialect::Oci => arm_of_version(arm),
+            Dialect::Oci | Dialect::Python => arm_of_version(arm),
             _ => arm_of_order(arm),
+        }
+    }
+
+    fn system(self, operating_system: OperatingSystem) -> OperatingSystem {
+        match self {
+            Dialect::Python => with_two_numbers(operating_system),
+            _ => unversioned(operating_system),
         }
     }
 
     fn abi(self, operating_system: OperatingSystem, environment: Environment) -> Environment {
         let forgotten = match self {
             Dialect::Debian | Dialect::Gnu => false,
-            Dialect::Go | Dialect::Oci => is_library(environment),
+            Dialect::Go | Dialect::Oci | Dialect::Python => is_library(environment),
             Dialect::Node => match operating_system {
                 OperatingSystem::Linux => is_bare_abi(environment),
                 _ => is_library(environment),
@@ -104,6 +112,26 @@ fn unversioned(operating_system: OperatingSystem) -> OperatingSystem {
         OperatingSystem::WatchOS(_) => OperatingSystem::WatchOS(None),
         OperatingSystem::XROS(_) => OperatingSystem::XROS(None),
         other => other,
+    }
+}
+
+/// The system without a version, except that macOS and iOS have two numbers of it.
+fn with_two_numbers(operating_system: OperatingSystem) -> OperatingSystem {
+    match operating_system {
+        OperatingSystem::MacOSX(version) => OperatingSystem::MacOSX(two_numbers_of(version)),
+        OperatingSystem::IOS(version) => OperatingSystem::IOS(two_numbers_of(version)),
+        other => unversioned(other),
+    }
+}
+
+/// A version without its third number.
+fn two_numbers_of(version: Option<DeploymentTarget>) -> Option<DeploymentTarget> {
+    match version {
+        Some(version) => Some(DeploymentTarget {
+            patch: 0,
+            ..version
+        }),
+        None => None,
     }
 }
 

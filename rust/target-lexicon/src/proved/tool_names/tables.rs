@@ -2,6 +2,7 @@
 //! The tables of the dialects' names.
 
 use crate::tool_names::dialect::Dialect;
+use crate::tool_names::platform::VersionedSystem;
 
 /// A name and a canonical triple, or a name and why it has no triple.
 pub(crate) type Row = (&'static str, &'static str);
@@ -15,6 +16,7 @@ impl Dialect {
             Dialect::Oci => &OCI_BOTH_WAYS,
             Dialect::Node => &NODE_BOTH_WAYS,
             Dialect::Gnu => &[],
+            Dialect::Python => &PYTHON_BOTH_WAYS,
         }
     }
 
@@ -26,6 +28,7 @@ impl Dialect {
             Dialect::Oci => &OCI_ONLY_READ,
             Dialect::Node => &[],
             Dialect::Gnu => &[],
+            Dialect::Python => &PYTHON_ONLY_READ,
         }
     }
 
@@ -37,6 +40,7 @@ impl Dialect {
             Dialect::Oci => &[],
             Dialect::Node => &NODE_ONLY_WRITTEN,
             Dialect::Gnu => &GNU_ONLY_WRITTEN,
+            Dialect::Python => &[],
         }
     }
 
@@ -48,6 +52,31 @@ impl Dialect {
             Dialect::Oci => &OCI_WITHOUT_A_TRIPLE,
             Dialect::Node => &NODE_WITHOUT_A_TRIPLE,
             Dialect::Gnu => &GNU_WITHOUT_A_TRIPLE,
+            Dialect::Python => &PYTHON_WITHOUT_A_TRIPLE,
+        }
+    }
+}
+
+impl VersionedSystem {
+    /// The machines on the system, with their triples without a version.
+    pub(crate) fn machines(self) -> &'static [Row] {
+        match self {
+            VersionedSystem::MacOs => &PYTHON_MACOSX_MACHINES,
+            VersionedSystem::Ios => &PYTHON_IOS_MACHINES,
+            VersionedSystem::Manylinux => &PYTHON_MANYLINUX_MACHINES,
+            VersionedSystem::Musllinux => &PYTHON_MUSLLINUX_MACHINES,
+            VersionedSystem::Android => &PYTHON_ANDROID_MACHINES,
+        }
+    }
+
+    /// The machines that have no triple, and why.
+    pub(crate) fn machines_without_a_triple(self) -> &'static [Row] {
+        match self {
+            VersionedSystem::MacOs => &PYTHON_MACOSX_WITHOUT_A_TRIPLE,
+            VersionedSystem::Ios
+            | VersionedSystem::Manylinux
+            | VersionedSystem::Musllinux
+            | VersionedSystem::Android => &[],
         }
     }
 }
@@ -533,4 +562,107 @@ static GNU_WITHOUT_A_TRIPLE: [(&str, &str); 79] = [
     ("x86_64-linux-musl", "names of cross compilers are only written"),
     ("x86_64-linux-uclibc", "names of cross compilers are only written"),
     ("x86_64-w64-mingw32", "names of cross compilers are only written"),
+];
+
+#[rustfmt::skip]
+static PYTHON_BOTH_WAYS: [(&str, &str); 15] = [
+    ("linux_aarch64", "aarch64-unknown-linux"),
+    ("linux_armv6l", "armv6-unknown-linux"),
+    ("linux_armv7l", "armv7-unknown-linux"),
+    ("linux_armv8l", "armv8-unknown-linux"),
+    ("linux_i686", "i686-unknown-linux"),
+    ("linux_loongarch64", "loongarch64-unknown-linux"),
+    ("linux_ppc64", "powerpc64-unknown-linux"),
+    ("linux_ppc64le", "powerpc64le-unknown-linux"),
+    ("linux_riscv64", "riscv64-unknown-linux"),
+    ("linux_s390x", "s390x-unknown-linux"),
+    ("linux_x86_64", "x86_64-unknown-linux"),
+    ("win32", "i686-pc-windows"),
+    ("win_amd64", "x86_64-pc-windows"),
+    ("win_arm32", "armv7-pc-windows"),
+    ("win_arm64", "aarch64-pc-windows"),
+];
+
+#[rustfmt::skip]
+static PYTHON_ONLY_READ: [(&str, &str); 13] = [
+    ("manylinux1_i686", "i686-unknown-linux-gnu"),
+    ("manylinux1_x86_64", "x86_64-unknown-linux-gnu"),
+    ("manylinux2010_i686", "i686-unknown-linux-gnu"),
+    ("manylinux2010_x86_64", "x86_64-unknown-linux-gnu"),
+    ("manylinux2014_aarch64", "aarch64-unknown-linux-gnu"),
+    ("manylinux2014_armv7l", "armv7-unknown-linux-gnueabihf"),
+    ("manylinux2014_i686", "i686-unknown-linux-gnu"),
+    ("manylinux2014_loongarch64", "loongarch64-unknown-linux-gnu"),
+    ("manylinux2014_ppc64", "powerpc64-unknown-linux-gnu"),
+    ("manylinux2014_ppc64le", "powerpc64le-unknown-linux-gnu"),
+    ("manylinux2014_riscv64", "riscv64-unknown-linux-gnu"),
+    ("manylinux2014_s390x", "s390x-unknown-linux-gnu"),
+    ("manylinux2014_x86_64", "x86_64-unknown-linux-gnu"),
+];
+
+#[rustfmt::skip]
+static PYTHON_WITHOUT_A_TRIPLE: [(&str, &str); 1] = [
+    ("any", "no machine"),
+];
+
+#[rustfmt::skip]
+static PYTHON_MACOSX_MACHINES: [(&str, &str); 5] = [
+    ("arm64", "aarch64-apple-macosx"),
+    ("i386", "i686-apple-macosx"),
+    ("ppc", "powerpc-apple-macosx"),
+    ("ppc64", "powerpc64-apple-macosx"),
+    ("x86_64", "x86_64-apple-macosx"),
+];
+
+#[rustfmt::skip]
+static PYTHON_MACOSX_WITHOUT_A_TRIPLE: [(&str, &str); 7] = [
+    ("fat", "several machines"),
+    ("fat3", "several machines"),
+    ("fat32", "several machines"),
+    ("fat64", "several machines"),
+    ("intel", "several machines"),
+    ("universal", "several machines"),
+    ("universal2", "several machines"),
+];
+
+#[rustfmt::skip]
+static PYTHON_IOS_MACHINES: [(&str, &str); 3] = [
+    ("arm64_iphoneos", "aarch64-apple-ios"),
+    ("arm64_iphonesimulator", "aarch64-apple-ios-sim"),
+    ("x86_64_iphonesimulator", "x86_64-apple-ios-sim"),
+];
+
+#[rustfmt::skip]
+static PYTHON_MANYLINUX_MACHINES: [(&str, &str); 9] = [
+    ("aarch64", "aarch64-unknown-linux-gnu"),
+    ("armv7l", "armv7-unknown-linux-gnueabihf"),
+    ("i686", "i686-unknown-linux-gnu"),
+    ("loongarch64", "loongarch64-unknown-linux-gnu"),
+    ("ppc64", "powerpc64-unknown-linux-gnu"),
+    ("ppc64le", "powerpc64le-unknown-linux-gnu"),
+    ("riscv64", "riscv64-unknown-linux-gnu"),
+    ("s390x", "s390x-unknown-linux-gnu"),
+    ("x86_64", "x86_64-unknown-linux-gnu"),
+];
+
+#[rustfmt::skip]
+static PYTHON_MUSLLINUX_MACHINES: [(&str, &str); 10] = [
+    ("aarch64", "aarch64-unknown-linux-musl"),
+    ("armv6l", "armv6-unknown-linux-musleabihf"),
+    ("armv7l", "armv7-unknown-linux-musleabihf"),
+    ("i686", "i686-unknown-linux-musl"),
+    ("loongarch64", "loongarch64-unknown-linux-musl"),
+    ("ppc64", "powerpc64-unknown-linux-musl"),
+    ("ppc64le", "powerpc64le-unknown-linux-musl"),
+    ("riscv64", "riscv64-unknown-linux-musl"),
+    ("s390x", "s390x-unknown-linux-musl"),
+    ("x86_64", "x86_64-unknown-linux-musl"),
+];
+
+#[rustfmt::skip]
+static PYTHON_ANDROID_MACHINES: [(&str, &str); 4] = [
+    ("arm64_v8a", "aarch64-linux-android"),
+    ("armeabi_v7a", "armv7-linux-androideabi"),
+    ("x86", "i686-linux-android"),
+    ("x86_64", "x86_64-linux-android"),
 ];
