@@ -79,7 +79,7 @@ are_numbers t triple a v s e f version none text =
       no_version = none;
     }
 
--- the text of a custom vendor is ASCII
+-- the string of a custom vendor is ASCII
 character_ascii : (c : ℕ) → is_vendor_character c ≡ true → c < 128
 character_ascii c is = grind (arith, nat_tests)
 

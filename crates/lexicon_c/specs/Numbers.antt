@@ -1,4 +1,4 @@
--- The number of the value that a text is in one field, and the name of a number.
+-- The number of the value that a string is in one field, and the name of a number.
 use Rattle.std.specs.Prelude.{◌≡◌, ℕ, List, Option, Some, None, Ok, option_map, slice_get}
 use Rattle.lexicon_fields.specs.{Architecture.architecture_name, Architecture.architecture_of, Architecture.architecture_values, BinaryFormat.binary_format_name, BinaryFormat.binary_format_of, BinaryFormat.binary_format_values}
 use Rattle.lexicon_fields.specs.{Environment.environment_name, Environment.environment_of, Environment.environment_values, OperatingSystem.operating_system_name, OperatingSystem.operating_system_of, OperatingSystem.system_version}
@@ -8,7 +8,7 @@ use Rattle.target_lexicon.specs.{Field.Field, Field.parses_as}
 use Rattle.lexicon_c.specs.Triple.{vendor_text, vendor_with}
 use Rattle.target_lexicon.specs.Field as field
 
--- the number is that of the value which the text parses as
+-- the number is that of the value which the string parses as
 abbrev pub IsNumberBy : {V : Type 0} → (List ℕ → Option V) → (ℕ → V → Type 0) → List ℕ → ℕ → Type 0
 IsNumberBy {V} find has_number text number = (value : V) × (find text ≡ Some value) × has_number number value
 

@@ -1,11 +1,11 @@
--- What is answered of a text that is parsed: the triple, where its fields come from, and the refused part.
+-- What is answered of a string that is parsed: the triple, where its fields come from, and the refused part.
 use Rattle.std.specs.Prelude.{◌≡◌, ℕ, suc, List, Option, Some, None, Result, Ok, Err}
 use Rattle.target_lexicon.specs.Explanation.{AreInText, AreSourcesOf, FromPart, Implied, IsInText, IsRefusedAfter, NotGiven, PlacedPart, SourceValue, SourceValues}
 use Rattle.target_lexicon.specs.{Field.Field, Field.field_number, Reading.ReadsAs, Reading.IsRefusedAs, Values.Values}
 use Rattle.target_lexicon.specs.Refusal.{Refusal}
 use Rattle.lexicon_c.specs.{declared.error.TextError.TextError, declared.sources.FieldSource.FieldSource, declared.sources.FieldSources.FieldSources}
 
--- the text parses as a triple of which this holds, or it is refused, and that holds of the refusal
+-- the string parses as a triple of which this holds, or it is refused, and that holds of the refusal
 abbrev pub Parses : {R E : Type 0} → List ℕ → (Values → R → Type 0) → (Refusal → E → Type 0) → Result R E → Type 0
 Parses text read refused (Ok answer) = (t : Values) × ReadsAs text t × read t answer
 Parses text read refused (Err error) = (refusal : Refusal) × IsRefusedAs text refusal × refused refusal error
@@ -30,7 +30,7 @@ sources_numbers s = record {
   binary_format = source_numbers s.binary_format;
 }
 
--- these are the sources of the text's fields
+-- these are the sources of the string's fields
 abbrev pub ExplainsTriple : List ℕ → FieldSources → Type 0
 ExplainsTriple text sources = (s : SourceValues) × AreSourcesOf text s × AreInText text s × (sources ≡ sources_numbers s)
 
@@ -39,7 +39,7 @@ abbrev pub IsErrorAt : Refusal → PlacedPart → TextError → Type 0
 IsErrorAt refusal part error =
     error ≡ record { status = refusal_status refusal.expected; start = part.start; end = part.end }
 
--- the text is refused at the part of the error, after parts that fill fields of which this holds
+-- the string is refused at the part of the error, after parts that fill fields of which this holds
 pub record IsErrorAfter (text : List ℕ) (holds : SourceValues → Type 0) (refusal : Refusal) (error : TextError) : Type 0 where
   pub sources : SourceValues
   pub part : PlacedPart

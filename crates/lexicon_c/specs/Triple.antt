@@ -1,4 +1,4 @@
--- Triples as numbers, beside the text of a custom vendor.
+-- Triples as numbers, beside the string of a custom vendor.
 use Rattle.std.specs.Prelude.{◌≡◌, ℕ, ◌==◌, List, [], Option, Some, None, Result, Ok, Err, if◌then◌else◌, option_and_then, slice_get, MatchResult}
 use Rattle.lexicon_fields.specs.{Architecture.architecture_values, BinaryFormat.binary_format_values, Environment.environment_values, Vendor.is_admitted, Vendor.known_vendors}
 use Rattle.lexicon_fields.specs.{declared.deployment_target.DeploymentTarget.DeploymentTarget, declared.known_vendor.KnownVendor.KnownVendor}
@@ -14,7 +14,7 @@ abbrev pub known_or_fault : Option KnownVendor → Result VendorValue Fault
 known_or_fault (Some known) = Ok (Known known)
 known_or_fault None = Err NoSuchValue
 
--- the vendor of a number, where a custom one has this text. The text must be one that parses as a custom vendor
+-- the vendor of a number, where a custom one has this string. The string must be one that parses as a custom vendor
 abbrev pub vendor_with : ℕ → List ℕ → Result VendorValue Fault
 vendor_with number text =
     if number == custom_vendor_number then (if is_admitted text then Ok (Custom text) else Err NoSuchVendor)
@@ -37,13 +37,13 @@ triple_with (Some a) (Ok v) (Some s) (Some e) (Some f) = Ok (values a v s e f)
 triple_with (Some a) (Err fault) _ _ _ = Err fault
 triple_with _ _ _ _ _ = Err NoSuchValue
 
--- the triple of these numbers, where a custom vendor has this text
+-- the triple of these numbers, where a custom vendor has this string
 unfoldable pub triple_in : TripleNumbers → List ℕ → Result Values Fault
 triple_in numbers text =
     triple_with (slice_get architecture_values numbers.architecture) (vendor_with numbers.vendor text) (operating_system_in numbers)
     (slice_get environment_values numbers.environment) (slice_get binary_format_values numbers.binary_format)
 
--- the text of a custom vendor, and no text for a known one
+-- the string of a custom vendor, and the empty one for a known vendor
 abbrev pub vendor_text : VendorValue → List ℕ
 vendor_text (Known known) = []
 vendor_text (Custom text) = text
@@ -52,7 +52,7 @@ vendor_text (Custom text) = text
 abbrev pub no_version : DeploymentTarget
 no_version = record { major = 0; minor = 0; patch = 0 }
 
--- the numbers are those of the triple, and 0 where a number isn't read; the text is a custom vendor's
+-- the numbers are those of the triple, and 0 where a number isn't read; the string is a custom vendor's
 pub record AreNumbersOf (t : Values) (triple : NumberedTriple) : Type 0 where
   pub is_triple : triple_in triple.numbers triple.custom_vendor.now ≡ Ok t
   pub vendor : triple.custom_vendor.now ≡ vendor_text t.vendor

@@ -15,7 +15,7 @@ use crate::triple_facts::{TripleFacts, facts_of};
 use target_lexicon::laws::read_vendors_are_plain;
 use target_lexicon::parse_or_locate;
 
-/// The triple that a text parses as, or why it is refused.
+/// The triple that a string parses as, or why it is refused.
 pub fn parse(text: &str) -> Result<NumberedTriple<'_>, TextError>
     ensures { Parses text.entry.now AreNumbersOf (IsErrorAfter text.entry.now (λ _. ⊤)) result }
 {
@@ -26,7 +26,7 @@ pub fn parse(text: &str) -> Result<NumberedTriple<'_>, TextError>
     }
 }
 
-/// The triple that a text parses as, or why it is refused, and where each field comes from.
+/// The triple that a string parses as, or why it is refused, and where each field comes from.
 pub fn explain(text: &str) -> (Result<NumberedTriple<'_>, TextError>, FieldSources)
     ensures { Parses text.entry.now
         (λ t numbers. AreNumbersOf t numbers × ExplainsTriple text.entry.now result.1)
@@ -46,7 +46,7 @@ pub fn explain(text: &str) -> (Result<NumberedTriple<'_>, TextError>, FieldSourc
     }
 }
 
-/// The length of the printed text, which is written if the buffer has room for it.
+/// The length of the printed triple, which is written if the buffer has room for it.
 pub fn print(triple: &NumberedTriple<'_>, out: &mut [u8]) -> Result<usize, Fault>
     ensures written { OnTriple triple.now
         (λ t. Answers (IsWritten (text_of t) out.old out.new)) result }
@@ -68,7 +68,7 @@ pub fn settle<'a>(triple: &NumberedTriple<'a>) -> Result<NumberedTriple<'a>, Fau
     }
 }
 
-/// Whether the triple comes back: its printed text parses as it.
+/// Whether the triple comes back: what it prints parses as it.
 pub fn comes_back(triple: &NumberedTriple<'_>) -> Result<bool, Fault>
     ensures { OnTriple triple.now
         (λ t. Answers (λ answer. IsTrue answer ↔ ComesBack t)) result }

@@ -1,4 +1,4 @@
-//! Why a text is refused, as numbers.
+//! Why a string is refused, as numbers.
 ghost use Rattle.std.specs.Prelude.{◌≡◌, ◌≢◌, Option, MatchOption};
 ghost use Rattle.target_lexicon.specs.Explanation.{part_value};
 ghost use Rattle.target_lexicon.specs.Field.{Field};
@@ -7,7 +7,7 @@ ghost use Rattle.lexicon_c.specs.Parsing.{IsErrorAt, refusal_status};
 
 use target_lexicon::{Field, ParseErrorRef, TextPart};
 
-/// Why a text is refused, and the range of the refused part in bytes.
+/// Why a string is refused, and the range of the refused part in bytes.
 #[repr(C)]
 #[derive(Clone, Copy)]
 pub struct TextError {
@@ -18,7 +18,6 @@ pub struct TextError {
 }
 
 /// A refusal and the refused part as numbers.
-#[inline(always)]
 pub(crate) fn error_of(refusal: &ParseErrorRef<'_>, part: &TextPart<'_>) -> TextError
     ensures { IsErrorAt (refusal_of_ref refusal.now) (part_value part.now) result }
 {
@@ -30,7 +29,6 @@ pub(crate) fn error_of(refusal: &ParseErrorRef<'_>, part: &TextPart<'_>) -> Text
 }
 
 /// The status of a refusal.
-#[inline(always)]
 pub(crate) fn refusal_status(refusal: &ParseErrorRef<'_>) -> u32
     ensures { result ≡ refusal_status (refusal_of_ref refusal.now).expected }
 {

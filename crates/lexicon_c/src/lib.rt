@@ -1,4 +1,4 @@
-//! What the calls for C answer: a triple is a struct of numbers beside the text of a custom vendor.
+//! What the calls for C answer: a triple is a struct of numbers beside the string of a custom vendor.
 #![tactic(auto)]
 
 mod calls;

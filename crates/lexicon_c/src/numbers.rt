@@ -1,4 +1,4 @@
-//! The number of a text in one field, and the name of a number.
+//! The number of a string in one field, and the name of a number.
 ghost use Rattle.std.specs.Prelude.{◌≡◌, false, MatchOption, option_map};
 ghost use Rattle.target_lexicon.specs.Field.{parses_as};
 ghost use Rattle.lexicon_c.specs.Numbers.{IsNumberIn, name_at};
@@ -10,7 +10,7 @@ use lexicon_names::{
 };
 use target_lexicon::{Architecture, BinaryFormat, Environment, Field, OperatingSystem, VendorRef};
 
-/// The number of the value that the text is in the field.
+/// The number of the value that the string is in the field.
 #[tactic(auto, unfolding(target_lexicon::specs::Field::parses_as))]
 pub fn number_in(field: Field, text: &str) -> Option<u32>
     ensures { MatchOption result (parses_as field text.now ≡ false)

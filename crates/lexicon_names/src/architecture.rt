@@ -11,7 +11,6 @@ use lexicon_fields::{
 };
 
 /// The number of an architecture.
-#[inline(always)]
 pub fn architecture_number(architecture: Architecture) -> u16
     ensures { slice_get architecture_values result ≡ Some architecture }
 {

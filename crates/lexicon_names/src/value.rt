@@ -2,7 +2,6 @@
 ghost use Rattle.std.specs.Prelude.{◌≡◌, slice_get};
 
 /// The value at an index, if there is one.
-#[inline(always)]
 pub(crate) fn value_at<V: Copy>(values: &[V], index: usize) -> Option<V>
     ensures { result ≡ slice_get values.now index }
 {

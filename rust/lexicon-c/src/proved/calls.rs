@@ -7,7 +7,7 @@ use crate::triple::{are_equal, numbers_of, triple_in, Fault, NumberedTriple};
 use crate::triple_facts::{facts_of, TripleFacts};
 use target_lexicon::internals::parse_or_locate;
 
-/// The triple that a text parses as, or why it is refused.
+/// The triple that a string parses as, or why it is refused.
 pub fn parse(text: &str) -> Result<NumberedTriple<'_>, TextError> {
     match parse_or_locate(text) {
         Ok(parsed) => Ok(numbers_of(&parsed)),
@@ -15,7 +15,7 @@ pub fn parse(text: &str) -> Result<NumberedTriple<'_>, TextError> {
     }
 }
 
-/// The triple that a text parses as, or why it is refused, and where each field comes from.
+/// The triple that a string parses as, or why it is refused, and where each field comes from.
 pub fn explain(text: &str) -> (Result<NumberedTriple<'_>, TextError>, FieldSources) {
     match target_lexicon::internals::explain(text) {
         Ok(explanation) => (
@@ -29,7 +29,7 @@ pub fn explain(text: &str) -> (Result<NumberedTriple<'_>, TextError>, FieldSourc
     }
 }
 
-/// The length of the printed text, which is written if the buffer has room for it.
+/// The length of the printed triple, which is written if the buffer has room for it.
 pub fn print(triple: &NumberedTriple<'_>, out: &mut [u8]) -> Result<usize, Fault> {
     match triple_in(triple) {
         Ok(printed) => Ok(printed.write_to(out)),
@@ -45,7 +45,7 @@ pub fn settle<'a>(triple: &NumberedTriple<'a>) -> Result<NumberedTriple<'a>, Fau
     }
 }
 
-/// Whether the triple comes back: its printed text parses as it.
+/// Whether the triple comes back: what it prints parses as it.
 pub fn comes_back(triple: &NumberedTriple<'_>) -> Result<bool, Fault> {
     match triple_in(triple) {
         Ok(printed) => Ok(printed.comes_back()),

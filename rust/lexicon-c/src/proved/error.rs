@@ -1,9 +1,9 @@
 // Erased from crates/lexicon_c/src/error.rt by tools/erase. Don't edit it here.
-//! Why a text is refused, as numbers.
+//! Why a string is refused, as numbers.
 
 use target_lexicon::internals::{Field, ParseErrorRef, TextPart};
 
-/// Why a text is refused, and the range of the refused part in bytes.
+/// Why a string is refused, and the range of the refused part in bytes.
 #[repr(C)]
 #[derive(Clone, Copy)]
 pub struct TextError {
@@ -14,7 +14,6 @@ pub struct TextError {
 }
 
 /// A refusal and the refused part as numbers.
-#[inline(always)]
 pub(crate) fn error_of(refusal: &ParseErrorRef<'_>, part: &TextPart<'_>) -> TextError {
     TextError {
         status: refusal_status(refusal),
@@ -24,7 +23,6 @@ pub(crate) fn error_of(refusal: &ParseErrorRef<'_>, part: &TextPart<'_>) -> Text
 }
 
 /// The status of a refusal.
-#[inline(always)]
 pub(crate) fn refusal_status(refusal: &ParseErrorRef<'_>) -> u32 {
     match refusal.expected() {
         Some(Field::Architecture) => 1,

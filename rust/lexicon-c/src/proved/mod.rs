@@ -1,5 +1,5 @@
 // Erased from crates/lexicon_c/src/lib.rt by tools/erase. Don't edit it here.
-//! What the calls for C answer: a triple is a struct of numbers beside the text of a custom vendor.
+//! What the calls for C answer: a triple is a struct of numbers beside the string of a custom vendor.
 
 pub(crate) mod calls;
 pub(crate) mod dialects;

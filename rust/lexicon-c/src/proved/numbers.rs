@@ -1,5 +1,5 @@
 // Erased from crates/lexicon_c/src/numbers.rt by tools/erase. Don't edit it here.
-//! The number of a text in one field, and the name of a number.
+//! The number of a string in one field, and the name of a number.
 
 use crate::triple::vendor_number;
 use core::str::FromStr as _;
@@ -11,7 +11,7 @@ use target_lexicon::internals::{
     Architecture, BinaryFormat, Environment, Field, OperatingSystem, VendorRef,
 };
 
-/// The number of the value that the text is in the field.
+/// The number of the value that the string is in the field.
 pub fn number_in(field: Field, text: &str) -> Option<u32> {
     match field {
         Field::Architecture => match Architecture::from_str(text) {

@@ -9,7 +9,6 @@ use crate::{
 };
 
 /// The number of an architecture.
-#[inline(always)]
 pub fn architecture_number(architecture: Architecture) -> u16 {
     match architecture {
         Architecture::Unknown => 0,

@@ -2,7 +2,6 @@
 //! Values in a list.
 
 /// The value at an index, if there is one.
-#[inline(always)]
 pub(crate) fn value_at<V: Copy>(values: &[V], index: usize) -> Option<V> {
     values.get(index).copied()
 }
