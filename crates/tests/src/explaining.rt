@@ -24,7 +24,7 @@ fn are_sources(sources: &Sources<'_>, expected: &str) -> bool {
         && words.next().is_none()
 }
 
-/// A text, and after `=` the range of each field's part.
+/// A string, and after `=` the range of each field's part.
 const EXPLAINED: &str = "\
 x86_64=0..6 - - - implied
 x86_64-unknown-linux-gnu=0..6 7..14 15..20 21..24 implied
@@ -61,7 +61,7 @@ fn is_refused_at(text: &str, part: &str, sources: &str) -> bool {
     }
 }
 
-/// A text, and after `=` the range of the refused part, and the range of each field that an earlier part fills.
+/// A string, and after `=` the range of the refused part, and the range of each field that an earlier part fills.
 const REFUSED: &str = "\
 =0..0 - - - - -
 foo=0..3 - - - - -

@@ -7,7 +7,7 @@ use std::fmt::Display;
 use std::process::Abort;
 use target_lexicon::{JsonError, ListError, ParseError, Triple, list_from_json, list_to_json};
 
-/// Whether the value is written as this text.
+/// Whether the value is written as this string.
 fn is_written(value: Result<Value, AllocError>, expected: &str) -> bool {
     match value {
         Ok(value) => prints(&value, expected),
@@ -37,7 +37,7 @@ true=Not a text
 {}=Not a text
 [\"x86_64\"]=Not a text";
 
-/// Whether the JSON text is a value that parses with this result.
+/// Whether the JSON source is a value that parses with this result.
 fn is_value_answer(alloc: Global, text: &str, expected: &str) -> bool {
     match Value::from_str(alloc, text) {
         Ok(value) => is_answer(Triple::from_json(alloc, &value), expected),
@@ -53,7 +53,7 @@ fn values_are_parsed_or_refused(rt: HostRuntime) {
     }
 }
 
-/// A JSON text, and after `=` the text of its list of triples, or the line of the error.
+/// A JSON source, and after `=` its list of triples, or the line of the error.
 const LISTS: &str = "\
 []=[]
 [\"x86_64-unknown-linux-gnu\",\"i686-pc-windows-gnu\"]=[\"x86_64-unknown-linux-gnu\",\"i686-pc-windows-gnu\"]
@@ -68,7 +68,7 @@ null=Not a list
 [[\"x86_64\"]]=Element 0: Not a text
 [\"x86_64\",18446744073709551616]=Element 1: Not a text";
 
-/// Whether the JSON text is a list with this result.
+/// Whether the JSON source is a list with this result.
 fn is_list_answer(alloc: Global, text: &str, expected: &str) -> bool {
     let Ok(value) = Value::from_str(alloc, text) else {
         return false;
@@ -87,7 +87,7 @@ fn lists_are_read_and_written_or_refused(rt: HostRuntime) {
     }
 }
 
-/// Whether the JSON text is no list of triples, for this reason, in the form of `{:?}`.
+/// Whether the JSON source is no list of triples, for this reason, in the form of `{:?}`.
 fn is_refused_as(alloc: Global, text: &str, expected: &str) -> bool {
     let Ok(value) = Value::from_str(alloc, text) else {
         return false;

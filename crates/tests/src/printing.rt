@@ -29,7 +29,7 @@ fn is_parsed_and_printed(alloc: Global, parsed: Result<Triple, ParseError>, text
     }
 }
 
-/// A text, and after `=` the printed text of its triple.
+/// A string, and after `=` its triple, printed.
 const READ: &str = "\
 unknown-unknown-unknown=unknown-unknown-unknown
 unknown-unknown-unknown-unknown=unknown-unknown-unknown
@@ -103,8 +103,8 @@ fn built_triples_print(rt: HostRuntime) {
     assert!(rt; is_built(rt.alloc(), text, "customvendor", print, true));
 }
 
-/// A vendor that isn't plain, and a text; the printed text of the text's triple with that vendor; and the triple that
-/// this text parses as, or why it is refused.
+/// A vendor that isn't plain, and a string; what the string's triple prints with that vendor; and the triple that this
+/// parses as, or why it is refused.
 const NOT_PLAIN: &str = "\
 a-b x86_64-unknown-linux-unknown-elf=x86_64-a-b-linux=Unrecognized operating system: b
  x86_64-unknown-linux-unknown-elf=x86_64--linux=Unrecognized vendor:\u{20}
@@ -135,7 +135,7 @@ fn is_implied(alloc: Global, text: &str, format: &str) -> bool {
     }
 }
 
-/// A text, and after `=` the format that its other fields imply, not the one that it has.
+/// A string, and after `=` the format that its other fields imply, not the one that it has.
 const IMPLIED: &str = "\
 x86_64-unknown-linux-gnu-coff=elf
 x86_64-unknown-xros-gnu-coff=macho
@@ -163,7 +163,7 @@ fn is_printed_upstream(alloc: Global, text: &str, print: &str) -> bool {
     }
 }
 
-/// A text, and after `=` the text that upstream prints for its triple.
+/// A string, and after `=` the string that upstream prints for its triple.
 const UPSTREAM: &str = "\
 x86_64-unknown-linux-unknown-unknown=x86_64-unknown-linux-unknown
 wasm32-wasi-unknown-unknown=wasm32-wasi-unknown

@@ -5,7 +5,7 @@ use std::alloc::Global;
 use std::process::Abort;
 use target_lexicon::{Architecture, OperatingSystem, Triple};
 
-/// A text, and after `=` the byte order, pointer width, calling convention and data model of its triple; `-` for no
+/// A string, and after `=` the byte order, pointer width, calling convention and data model of its triple; `-` for no
 /// answer.
 const ANSWERS: &str = "\
 wasm32-wasip1=little 32 - ILP32

@@ -26,7 +26,7 @@ fn is_read(alloc: Global, parsed: Result<Triple, ParseError>, expected: &str) ->
     }
 }
 
-/// A text, and after `=` the five values of the triple that it parses as.
+/// A string, and after `=` the five values of the triple that it parses as.
 const READ: &str = "\
 unknown-unknown-unknown=Unknown Unknown Unknown Unknown Unknown
 unknown-unknown-unknown-unknown=Unknown Unknown Unknown Unknown Unknown
@@ -123,7 +123,7 @@ fn check_refused(rt: &impl Abort, alloc: Global, rows: &str) {
     }
 }
 
-/// A text, and after `=` the line that says why it is refused. Some letters only look like those of a vendor.
+/// A string, and after `=` the line that says why it is refused. Some letters only look like those of a vendor.
 const REFUSED: &str = "\
 =Unrecognized architecture: 
 -=Unrecognized architecture: 

@@ -6,8 +6,8 @@ use std::alloc::Global;
 use std::process::Abort;
 use target_lexicon::{ParseError, Triple};
 
-/// A text, and after `=` the printed text of its triple, and that of the triple's normal step, if it differs or is
-/// given to show that it doesn't.
+/// A string, and after `=` what its triple prints, and what the triple's normal step prints, if that differs or is given
+/// to show that it doesn't.
 const ROUND_TRIPS: &str = "\
 armv6k-nintendo-horizon-gnu-coff=armv6k-nintendo-3ds armv6k-nintendo-3ds
 armv6k-nintendo-horizon-unknown-unknown=armv6k-nintendo-3ds armv6k-nintendo-3ds
@@ -32,8 +32,8 @@ fn is_read(alloc: Global, text: &str, expected: &Triple) -> bool {
     }
 }
 
-/// Whether the triple of the text prints this text, comes back exactly if that parses as the triple, and its normal step is the
-/// triple that the printed text parses as.
+/// Whether the triple of the string prints this, comes back exactly if that parses as the triple, and its normal step is
+/// the triple that the printed string parses as.
 fn is_step(alloc: Global, text: &str, print: &str) -> bool {
     let Ok(triple) = Triple::from_str(alloc, text) else {
         return false;
@@ -43,7 +43,7 @@ fn is_step(alloc: Global, text: &str, print: &str) -> bool {
     is_read(alloc, print, &triple.normal()) && is_printed
 }
 
-/// Whether the canonical triple of the text is that of the last printed text.
+/// Whether the canonical triple of the string is the triple that the last printed string parses as.
 fn ends_at(alloc: Global, text: &str, last: &str) -> bool {
     match Triple::from_str(alloc, text) {
         Ok(triple) => is_read(alloc, last, &triple.settle()),

@@ -27,7 +27,7 @@ x86_64-unknown-linux-gnu=x86_64-unknown-linux-musl
 x86_64-unknown-linux=x86_64-unknown-linux-unknown-coff
 x86_64-esp-espidf-elf=x86_64-espressif-espidf-elf";
 
-/// Whether the two spellings have the same canonical text.
+/// Whether the two spellings have the same canonical string.
 fn have_one_text(alloc: Global, first: &str, second: &str) -> Option<bool> {
     let text = canonical_text(alloc, first).ok()?;
     Some(text == canonical_text(alloc, second).ok()?)

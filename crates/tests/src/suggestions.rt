@@ -1,11 +1,11 @@
-//! Suggestions, and texts that have none.
+//! Suggestions, and strings that have none.
 
 use lexicon_names::{distance_up_to, names};
 use std::process::Abort;
 use target_lexicon::Field;
 use tool_names::suggestion;
 
-/// Fields, texts, and the names that should be suggested for them.
+/// Fields, strings, and the names that should be suggested for them.
 const ROWS: [(Field, &str, Option<&str>); 35] = [
     (Field::OperatingSystem, "linx", Some("linux")),
     (Field::OperatingSystem, "darwim", Some("darwin")),

@@ -6,7 +6,7 @@ use std::borrow::CowStr;
 use std::process::Abort;
 use target_lexicon::{DeploymentTarget, OperatingSystem};
 
-/// A text, and after `=` the name of the system that it parses as, or nothing if it is refused, as upstream answers.
+/// A string, and after `=` the name of the system that it parses as, or nothing if it is refused, as upstream answers.
 const VERSIONS: &str = "\
 darwin=darwin
 darwin7.8.9=darwin7.8.9

@@ -41,7 +41,7 @@ fn other_strings_have_no_row(rt: HostRuntime) {
     }
 }
 
-/// A row for a text without a value in any field.
+/// A row for a string without a value in any field.
 fn empty_row(text: &'static str) -> FixedRow {
     FixedRow {
         text,
@@ -53,7 +53,7 @@ fn empty_row(text: &'static str) -> FixedRow {
     }
 }
 
-/// The look-up of the row's text gives exactly this row.
+/// The look-up of the row's string gives exactly this row.
 fn check_row(rt: &impl Abort, row: FixedRow) {
     assert!(rt;
         fixed_row(row.text, &mut Steps::new()) == Some(row),

@@ -113,7 +113,7 @@ pub(crate) fn is_answer<E: Display + Drop>(parsed: Result<Triple, E>, expected: 
     }
 }
 
-/// The triple with the custom vendor of this static text, plain or not.
+/// The triple with the custom vendor of this static string, plain or not.
 pub(crate) fn with_vendor(triple: Triple, name: &'static str) -> Triple {
     Triple {
         vendor: Vendor::Custom(CustomVendor::Static(name)),

@@ -60,7 +60,7 @@ fn vendors_are_parsed_and_named(rt: HostRuntime) {
     }
 }
 
-/// Texts of other fields, texts of another form, and letters that only look like those of a vendor, or can't be seen.
+/// Names of other fields, strings of another form, and letters that only look like those of a vendor, or can't be seen.
 const REFUSED: &str = "\
 ios17 linux none elf gnu x86_64 arm64 3com __x CustomVendor a-b xros65535.255.255 darwin+023.6 gnu_ilp32 armv8.1a
 clever1.0 9 _a .a - a- a+b a/b a@b a[b a`b a{b a:b foO PC Ünix fóo foo\u{301} f\u{3bf}o \u{fb01}rm fo\u{200d}o
@@ -86,7 +86,7 @@ fn other_strings_are_refused(rt: HostRuntime) {
     }
 }
 
-/// Whether the string parses as a custom vendor that equals the one with the same static text.
+/// Whether the string parses as a custom vendor that equals the one with the same static string.
 fn is_equal_to_fixed(alloc: Global, text: &'static str) -> bool {
     let fixed = Vendor::Custom(CustomVendor::Static(text));
     match Vendor::from_str(alloc, text) {
@@ -102,7 +102,7 @@ fn custom_vendors_are_compared_by_text(rt: HostRuntime) {
     assert!(rt; apple != Vendor::Apple && !apple.is_plain());
 }
 
-/// Whether a clone of the vendor has this text, and is this one, in the form of `{:?}`.
+/// Whether a clone of the vendor has this string, and is this one, in the form of `{:?}`.
 fn is_custom_cloned(alloc: Global, custom: &CustomVendor, text: &str, expected: &str) -> bool {
     match custom.clone(alloc) {
         Ok(copy) => copy.as_str() == text && shows(&copy, expected),

@@ -17,7 +17,7 @@ pub struct ImageFacts {
     pub format: BinaryFormat,
 }
 
-/// The facts of the target that a text names. `None` if the text is refused.
+/// The facts of the target that a string names. `None` if the string is refused.
 pub fn image_facts(text: &str) -> Option<ImageFacts>
     ensures found { IfSome result
         (λ facts. (t : Values) × ReadsAs text.now t × (facts ≡ image_facts t)) }

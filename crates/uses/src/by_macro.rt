@@ -1,4 +1,5 @@
-//! A text parsed by the macro. The clauses are those of `Triple::from_str`, so the macro passes the text on unchanged.
+//! A string parsed by the macro. The clauses are those of `Triple::from_str`, so the macro passes the string on
+//! unchanged.
 ghost use Rattle.std.specs.Prelude.{◌≡◌, true, IfOk, IfErr};
 ghost use Rattle.lexicon_fields.specs.Vendor.{OwnsCustomText, vendor_value, is_plain};
 ghost use Rattle.target_lexicon.specs.Reading.{ReadsAs, IsErrorOf};
@@ -7,7 +8,7 @@ ghost use Rattle.target_lexicon.specs.Values.{values_of};
 use std::alloc::Global;
 use target_lexicon::{ParseError, Triple, triple};
 
-/// The triple that a text reads as, or why it is refused.
+/// The triple that a string parses as, or why it is refused.
 pub fn triple_by_macro(alloc: Global, text: &str) -> Result<Triple, ParseError>
     ensures ok { IfOk result (λ triple. ReadsAs text.now (values_of triple)) }
     ensures owned { IfOk result (λ triple. OwnsCustomText triple.vendor) }

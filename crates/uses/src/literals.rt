@@ -1,11 +1,11 @@
-//! A literal text: the proof computes what it parses as.
+//! A literal: the proof computes what it parses as.
 ghost use Rattle.std.specs.Prelude.{◌≡◌, IsOkAnd};
 ghost use Rattle.target_lexicon.specs.Values.{host_values, values_of};
 
 use std::alloc::Global;
 use target_lexicon::{ParseError, Triple, laws};
 
-/// The host's triple, by its text. It needs no memory.
+/// The host's triple, by its name. It needs no memory.
 pub fn host_by_text(alloc: Global) -> Result<Triple, ParseError>
     ensures { IsOkAnd result (λ triple. values_of triple ≡ host_values) }
 {

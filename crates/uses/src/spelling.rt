@@ -1,4 +1,4 @@
-//! The most common use: a text is parsed, settled and printed.
+//! The most common use: a string is parsed, settled and printed.
 ghost use Rattle.std.specs.Prelude.{◌≡◌, IfOk, IfErr, string_bytes};
 ghost use Rattle.target_lexicon.specs.FixedPoints.{settled_values};
 ghost use Rattle.target_lexicon.specs.Printing.{text_of};
@@ -8,7 +8,7 @@ ghost use Rattle.target_lexicon.specs.Values.{Values};
 use std::alloc::Global;
 use target_lexicon::{ParseError, Triple};
 
-/// The canonical text of the target that a text names, in any spelling.
+/// The canonical form of the target that a string names, in any spelling.
 pub fn canonical_text(alloc: Global, text: &str) -> Result<String, ParseError>
     ensures ok { IfOk result
         (λ out.
