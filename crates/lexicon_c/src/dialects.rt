@@ -21,6 +21,7 @@ pub fn dialect_at(number: u32) -> Option<Option<Dialect>>
         3 => Some(Some(Dialect::Oci)),
         4 => Some(Some(Dialect::Node)),
         5 => Some(Some(Dialect::Gnu)),
+        6 => Some(Some(Dialect::Python)),
         _ => None,
     }
 }

@@ -73,7 +73,7 @@ enum lexicon_status {
   LEXICON_UNKNOWN_NAME = 12,        /* the dialect has no such name */
   LEXICON_NAME_WITHOUT_TRIPLE = 13, /* the dialect has the name, but no triple means the same; lexicon_reason says why */
   LEXICON_TRIPLE_WITHOUT_NAME = 14, /* the dialect has no name for the triple */
-  LEXICON_NO_SUCH_DIALECT = 15      /* the number of a dialect is above 5; for lexicon_write also 0 */
+  LEXICON_NO_SUCH_DIALECT = 15      /* the number of a dialect is above 6; for lexicon_write also 0 */
 };
 
 /* A tool, or a group of tools, that names targets in its own way. */
@@ -83,7 +83,8 @@ enum lexicon_dialect {
   LEXICON_DIALECT_GO = 2,     /* Go's ports: linux/amd64 */
   LEXICON_DIALECT_OCI = 3,    /* platforms of container images: linux/arm/v7 */
   LEXICON_DIALECT_NODE = 4,   /* process.platform and process.arch of Node, as npm joins them: linux-x64, linux-x64-musl */
-  LEXICON_DIALECT_GNU = 5     /* prefixes of GNU's cross compilers; they are only written: x86_64-w64-mingw32 */
+  LEXICON_DIALECT_GNU = 5,    /* prefixes of GNU's cross compilers; they are only written: x86_64-w64-mingw32 */
+  LEXICON_DIALECT_PYTHON = 6  /* Python's platforms, as sysconfig.get_platform() prints them, and as tags of wheels: macosx_11_0_arm64 */
 };
 
 enum lexicon_field {
@@ -498,7 +499,7 @@ LEXICON_CHECKED LEXICON_NONNULL(4, 5)
 enum lexicon_status lexicon_read(uint32_t dialect, const char *text, size_t text_size, struct lexicon_triple *triple,
                                  struct lexicon_error *error);
 
-/* The name of a triple in a dialect, which has at most 32 bytes. The vendor doesn't matter, nor what the dialect doesn't name;
+/* The name of a triple in a dialect, which has at most 36 bytes. The vendor doesn't matter, nor what the dialect doesn't name;
    byte order, pointer width and object format do. A buffer that is too small is unchanged. */
 LEXICON_CHECKED LEXICON_NONNULL(2)
 enum lexicon_status lexicon_write(uint32_t dialect, const struct lexicon_triple *triple, char *out, size_t out_size, size_t *length);

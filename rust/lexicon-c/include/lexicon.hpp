@@ -101,7 +101,8 @@ enum class Dialect : std::uint8_t {
   Go = LEXICON_DIALECT_GO,
   Oci = LEXICON_DIALECT_OCI,
   Node = LEXICON_DIALECT_NODE,
-  Gnu = LEXICON_DIALECT_GNU
+  Gnu = LEXICON_DIALECT_GNU,
+  Python = LEXICON_DIALECT_PYTHON
 };
 
 enum class Endianness : std::uint8_t { Little = LEXICON_ENDIANNESS_LITTLE, Big = LEXICON_ENDIANNESS_BIG };
@@ -164,7 +165,7 @@ inline std::string_view name(Field field) {
   return names[static_cast<std::size_t>(field)];
 }
 inline std::string_view name(Dialect value) {
-  constexpr const char* names[] = {"", "debian", "go", "oci", "node", "gnu"};
+  constexpr const char* names[] = {"", "debian", "go", "oci", "node", "gnu", "python"};
   return names[static_cast<std::size_t>(value)];
 }
 inline std::string_view name(Endianness value) { return value == Endianness::Little ? "little" : "big"; }

@@ -138,8 +138,8 @@ mod tests {
     fn every_name_that_is_suggested_has_a_zero_byte_after_it() {
         let mut count = 0;
         for row in rows().filter(|row| matches!(row.get(3), Some(ways) if ways.contains('r'))) {
-            if row[0].parse::<Dialect>().is_err() {
-                continue;
+            if row[0].parse::<Dialect>().is_err() || row[1].contains('*') {
+                continue; // no name of a dialect; or one with a version, which isn't suggested
             }
             let found = c_name(row[1]);
             assert!(!found.is_null(), "{}", row[1]);
@@ -153,7 +153,7 @@ mod tests {
     fn every_reason_has_a_zero_byte_after_it() {
         let mut count = 0;
         for row in rows().filter(|row| row.get(3) == Some(&"-")) {
-            let why = reason(row[0].parse().expect("a dialect"), row[1]).expect(row[1]);
+            let why = reason(row[0].parse().expect("a dialect"), &row[1].replace('*', "10_9")).expect(row[1]);
             let found = c_reason(why);
             assert!(!found.is_null(), "{why}");
             assert_eq!(unsafe { CStr::from_ptr(found.cast()) }.to_str(), Ok(row[4]));

@@ -369,6 +369,9 @@ static const struct { uint32_t dialect; const char *name, *printed, *written; } 
     {LEXICON_DIALECT_GO, "linux/arm64", "aarch64-unknown-linux", "linux/arm64"},
     {LEXICON_DIALECT_OCI, "linux/arm64", "aarch64-unknown-linux", "linux/arm64"},
     {LEXICON_DIALECT_NODE, "darwin-arm64", "aarch64-apple-darwin", "darwin-arm64"},
+    {LEXICON_DIALECT_PYTHON, "macosx-11.0-arm64", "aarch64-apple-macosx11.0.0", "macosx_11_0_arm64"},
+    {LEXICON_DIALECT_PYTHON, "ios_65535_255_arm64_iphonesimulator", "aarch64-apple-ios65535.255.0-sim", "ios_65535_255_arm64_iphonesimulator"},
+    {LEXICON_DIALECT_PYTHON, "manylinux_2_17_x86_64", "x86_64-unknown-linux-gnu", "linux_x86_64"},
 };
 
 static const struct { uint32_t dialect; const char *name; enum lexicon_status status; size_t start, end; const char *line, *reason, *meant; } unread[] = {
@@ -386,6 +389,10 @@ static const struct { uint32_t dialect; const char *name; enum lexicon_status st
      "Go's pointers have 64 bits there, those of wasm32 32", NULL},
     {LEXICON_DIALECT_GNU, "x86_64-w64-mingw32", LEXICON_NAME_WITHOUT_TRIPLE, 0, 18, "No triple has this name: x86_64-w64-mingw32",
      "names of cross compilers are only written", NULL},
+    {LEXICON_DIALECT_PYTHON, "macosx_10_9_universal2", LEXICON_NAME_WITHOUT_TRIPLE, 0, 22, "No triple has this name: macosx_10_9_universal2",
+     "several machines", NULL},
+    {LEXICON_DIALECT_PYTHON, "linux_x86_46", LEXICON_UNKNOWN_NAME, 0, 12, "Unknown name: linux_x86_46", NULL, "linux_x86_64"},
+    {LEXICON_DIALECT_PYTHON, "macosx_11_0_amr64", LEXICON_UNKNOWN_NAME, 0, 17, "Unknown name: macosx_11_0_amr64", NULL, NULL},
 };
 
 static uint32_t dialect_of;
@@ -428,17 +435,17 @@ static void try_dialects(void) {
   size_t length = 77;
   fill(&triple, sizeof triple);
   fill(out, sizeof out);
-  expect(lexicon_read(6, "avr", 3, &triple, &error) == LEXICON_NO_SUCH_DIALECT && is_filled(&triple, sizeof triple), "no dialect", "6");
-  expect(error.status == LEXICON_NO_SUCH_DIALECT && error.start == 0 && error.end == 0 && lexicon_reason(~0u, "avr", 3) == NULL, "no dialect", "6");
-  expect(lexicon_name_suggestion(6, "linux/amd46", 11) == NULL && lexicon_name_suggestion(~0u, "amd46", 5) == NULL, "no dialect", "6");
-  expect(lexicon_error_line("avr", 3, &error, out, sizeof out, NULL) == LEXICON_NO_SUCH_VALUE, "no line", "6");
+  expect(lexicon_read(7, "avr", 3, &triple, &error) == LEXICON_NO_SUCH_DIALECT && is_filled(&triple, sizeof triple), "no dialect", "7");
+  expect(error.status == LEXICON_NO_SUCH_DIALECT && error.start == 0 && error.end == 0 && lexicon_reason(~0u, "avr", 3) == NULL, "no dialect", "7");
+  expect(lexicon_name_suggestion(7, "linux/amd46", 11) == NULL && lexicon_name_suggestion(~0u, "amd46", 5) == NULL, "no dialect", "7");
+  expect(lexicon_error_line("avr", 3, &error, out, sizeof out, NULL) == LEXICON_NO_SUCH_VALUE, "no line", "7");
   triple = triple_of("x86_64-acme-linux-gnu"); /* the vendor doesn't matter */
   dialect_of = LEXICON_DIALECT_DEBIAN;
   try_text(write_name, &triple, "amd64", false);
   dialect_of = LEXICON_DIALECT_GNU;
   try_text(write_name, &triple, "x86_64-linux-gnu", false);
   expect(lexicon_write(LEXICON_DIALECT_NONE, &triple, out, sizeof out, &length) == LEXICON_NO_SUCH_DIALECT, "no dialect", "0");
-  expect(lexicon_write(6, &triple, out, sizeof out, &length) == LEXICON_NO_SUCH_DIALECT, "no dialect", "6");
+  expect(lexicon_write(7, &triple, out, sizeof out, &length) == LEXICON_NO_SUCH_DIALECT, "no dialect", "7");
   triple.custom_vendor_size = 0;
   expect(lexicon_write(LEXICON_DIALECT_GO, &triple, out, sizeof out, &length) == LEXICON_NO_SUCH_VENDOR, "a bad vendor", "write");
   triple.environment = 255;

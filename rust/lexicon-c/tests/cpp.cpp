@@ -110,6 +110,8 @@ static void try_dialects() {
   auto arm = Triple::read("linux/arm64", Dialect::Oci);
   EXPECT(arm && *arm == parsed("aarch64-linux") && arm->name_in(Dialect::Oci) == "linux/arm64" && arm->name_in(Dialect::Debian) == std::nullopt);
   EXPECT(Triple::read("x86_64-acme-linux")->vendor_name() == "acme" && !Triple::read("linux/arm64"));
+  auto wheel = Triple::read("macosx_11_0_arm64", Dialect::Python);
+  EXPECT(wheel && wheel->printed() == "aarch64-apple-macosx11.0.0" && wheel->name_in(Dialect::Python) == "macosx_11_0_arm64");
   EXPECT(!Triple::read("amd64", Dialect::Go, &error) && error.status == LEXICON_UNKNOWN_NAME && error.part == "amd64" && !error.field());
   EXPECT(shown(error) == "Unknown name: amd64\n  amd64\n  ^^^^^" && error.reason.empty() && error.suggestion.empty());
   EXPECT(!Triple::read("linux/amd46", Dialect::Go, &error) && error.suggestion == "linux/amd64" && error.reason.empty());
@@ -118,7 +120,7 @@ static void try_dialects() {
   EXPECT(error.reason == "Plan 9 is no known name");
   EXPECT(shown(error) == "No triple has this name: plan9/386\n  plan9/386\n  ^^^^^^^^^ Plan 9 is no known name");
   EXPECT(!Triple::read("amd64-pc-linx", &error) && error.suggestion == "linux" && error.start == 9 && error.reason.empty());
-  EXPECT(shown(Dialect::Gnu) == "gnu" && name(Dialect::Debian) == "debian");
+  EXPECT(shown(Dialect::Gnu) == "gnu" && shown(Dialect::Python) == "python" && name(Dialect::Debian) == "debian");
 }
 
 int main() {

@@ -15,11 +15,12 @@ pub const FIELDS: [(&str, Field); 5] = [
 ];
 
 /// The tools whose names are known, in the order of answers. Those of the last one are only written.
-pub const DIALECTS: [Dialect; 5] = [
+pub const DIALECTS: [Dialect; 6] = [
     Dialect::Debian,
     Dialect::Go,
     Dialect::Oci,
     Dialect::Node,
+    Dialect::Python,
     Dialect::Gnu,
 ];
 
@@ -116,7 +117,7 @@ pub fn command() -> Command {
                  Examples:\n  $ lexicon read --from oci linux/arm/v7\n  $ lexicon read \"$(cc -dumpmachine)\"",
             )
             .mut_arg("target", |names| names.value_name("NAME"))
-            .arg(dialect("from", &DIALECTS[..4], "The tool whose names are read"))
+            .arg(dialect("from", &DIALECTS[..5], "The tool whose names are read"))
             .arg(
                 flag("changes", "Show which parts of a name are read as others, such as amd64 as x86_64")
                     .conflicts_with("from"),

@@ -357,6 +357,17 @@ fn names_of_other_tools_are_read_and_written() {
         json_of(&["write", "--to", "go", "--json", "x86_64-apple-darwin"])[0]["name"],
         "darwin/amd64"
     );
+    assert_eq!(
+        answers(&["write", "--to", "python", "arm64-apple-macosx11"]).0,
+        "macosx_11_0_arm64\n"
+    );
+    assert_eq!(
+        answers(&["read", "--from", "python", "manylinux_2_17_x86_64"]).0,
+        "x86_64-unknown-linux-gnu\n"
+    );
+    assert!(answers(&["read", "--from", "python", "linux_x86_46"])
+        .1
+        .contains(" did you mean `linux_x86_64`?\n"));
     assert_eq!(answers(&["write", "--to", "debian", "wasm32-wasip1"]).2, 1);
     let names = json_of(&["elsewhere", "--json", "x86_64-pc-windows-msvc"]);
     assert_eq!(
