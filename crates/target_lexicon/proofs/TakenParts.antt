@@ -72,16 +72,14 @@ module _ (a : Architecture) (p : PlacedPart) (v : VendorValue) (s : OperatingSys
   pub all-refused : (q : PlacedPart) (qs : List PlacedPart) → ps₄ ≡ q ∷ qs → Err (refusal_with (expected_after l₄) q.text) ≡ reading_of_parts (texts_of (p ∷ ps))
   all-refused q qs left = ap (λ (qs : List PlacedPart). final_reading (values a v s e f) l₄ (texts_of qs)) (sym left) ∙ all-reading
 
-  pub all-sources : (unfilled : SourceValue) → format_source ps₃ ≡ taken_source unfilled binary_format_of ps₃ → source_values (FromPart p) s₁ s₂ s₃ s₄ ≡ taken_sources unfilled (p ∷ ps)
-  all-sources unfilled is =
+  pub all-sources : (unfilled s₀ : SourceValue) → s₀ ≡ FromPart p → format_source ps₃ ≡ taken_source unfilled binary_format_of ps₃
+      → source_values s₀ s₁ s₂ s₃ s₄ ≡ taken_sources unfilled (p ∷ ps)
+  all-sources unfilled s₀ whole is =
       let in_format : s₄ ≡ taken_source unfilled binary_format_of ps₃ = format.source_is ∙ implied ps₃ ∙ is in
       let in_vendor = vendor.source_is ∙ not_given vendor_of ps in
       let in_system = system.source_is ∙ not_given operating_system_of ps₁ in
       let in_environment = environment.source_is ∙ not_given environment_of ps₂ in
-      rw (first, in_format, in_environment, in_system, in_vendor, environment.left_is, system.left_is, vendor.left_is) refl
+      rw (first, whole, in_format, in_environment, in_system, in_vendor, environment.left_is, system.left_is, vendor.left_is) refl
 
   pub all-left : ps₄ ≡ left_by_fields (p ∷ ps)
   all-left = rw (first, format.left_is, environment.left_is, system.left_is, vendor.left_is) refl
-
-  pub left_by_format : ps₄ ≡ parts_left binary_format_of ps₃
-  left_by_format = format.left_is

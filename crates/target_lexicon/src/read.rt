@@ -67,10 +67,11 @@ fn split_at_dash(rest: TextPart<'_>) -> (TextPart<'_>, Option<TextPart<'_>>)
     }
 }
 
-/// What a part parses as in the fields after the vendor. Few parts are asked whether they are a vendor, so that is computed
+/// What a part parses as in each field but the vendor. Few parts are asked whether they are a vendor, so that is computed
 /// for itself.
 #[derive(Clone, Copy)]
-struct LaterValues {
+struct PartValues {
+    architecture: Option<Architecture>,
     operating_system: Option<OperatingSystem>,
     environment: Option<Environment>,
     binary_format: Option<BinaryFormat>,
@@ -97,9 +98,11 @@ impl<'a> PartCursor<'a> {
         VendorRef::from_row(part.place.text, part.row, part.operating_system)
     }
 
-    /// What the first part that is left parses as in the fields after the vendor.
+    /// What the first part that is left parses as in the other fields.
     #[inline(always)]
-    fn later_values(&self) -> LaterValues
+    fn values(&self) -> PartValues
+        ensures architecture { result.architecture
+            ≡ first_value architecture_of (remaining_parts self.now.next_part) }
         ensures operating_system { result.operating_system
             ≡ first_value operating_system_of (remaining_parts self.now.next_part) }
         ensures environment { result.environment
@@ -108,19 +111,22 @@ impl<'a> PartCursor<'a> {
             ≡ first_value binary_format_of (remaining_parts self.now.next_part) }
     {
         let Some(part) = self.next_part else {
-            return LaterValues {
+            return PartValues {
+                architecture: None,
                 operating_system: None,
                 environment: None,
                 binary_format: None,
             };
         };
         match part.row {
-            Some(row) => LaterValues {
+            Some(row) => PartValues {
+                architecture: row.architecture,
                 operating_system: part.operating_system,
                 environment: row.environment,
                 binary_format: row.binary_format,
             },
-            None => LaterValues {
+            None => PartValues {
+                architecture: None,
                 operating_system: part.operating_system,
                 environment: None,
                 binary_format: None,
@@ -147,7 +153,10 @@ impl<'a> PartCursor<'a> {
             return Source::NotGiven;
         }
         self.last = field;
-        self.next_part = part.next();
+        self.next_part = match part.rest {
+            Some(rest) => Some(Part::first_of(rest)),
+            None => None,
+        };
         Source::Part(part.place)
     }
 }
@@ -188,24 +197,6 @@ impl<'a> Part<'a> {
         }
     }
 
-    /// The architecture that the part parses as.
-    fn architecture(&self) -> Option<Architecture>
-        ensures { result ≡ architecture_of self.now.place.text.now }
-    {
-        self.row?.architecture
-    }
-
-    /// The part after the dash.
-    #[inline(always)]
-    fn next(&self) -> Option<Self>
-        ensures { remaining_parts result ≡ parts_of_rest self.now.rest }
-    {
-        match self.rest {
-            Some(rest) => Some(Part::first_of(rest)),
-            None => None,
-        }
-    }
-
     /// What the parts give of which this is the first.
     #[inline(always)]
     fn explanation(self) -> Result<Explanation<'a>, ExplainedError<'a>>
@@ -221,39 +212,40 @@ impl<'a> Part<'a> {
             (λ it. slice_get (left_by_fields (remaining_parts (Some self.entry))) 0
             ≡ Some (part_value it.part)) }
     {
-        let Some(architecture) = self.architecture() else {
+        let mut cursor = PartCursor {
+            last: Field::Architecture,
+            next_part: Some(self),
+        };
+        let Some(architecture) = cursor.values().architecture else {
             return Err(ExplainedError {
                 error: ParseErrorRef::UnrecognizedArchitecture(self.place.text),
                 part: self.place,
                 sources: Sources::all(Source::NotGiven),
             });
         };
-        let mut cursor = PartCursor {
-            last: Field::Architecture,
-            next_part: self.next(),
-        };
+        let architecture_source = cursor.take(Field::Architecture, true, Source::NotGiven);
         let vendor = cursor.vendor();
         let vendor_source = cursor.take(Field::Vendor, vendor.is_some(), Source::NotGiven);
-        let operating_system = cursor.later_values().operating_system;
+        let operating_system = cursor.values().operating_system;
         let system_source = cursor.take(
             Field::OperatingSystem,
             operating_system.is_some(),
             Source::NotGiven,
         );
-        let environment = cursor.later_values().environment;
+        let environment = cursor.values().environment;
         let environment_source = cursor.take(
             Field::Environment,
             environment.is_some(),
             Source::NotGiven,
         );
-        let binary_format = cursor.later_values().binary_format;
+        let binary_format = cursor.values().binary_format;
         let format_source = cursor.take(
             Field::BinaryFormat,
             binary_format.is_some(),
             Source::Implied,
         );
         let sources = Sources {
-            architecture: Source::Part(self.place),
+            architecture: architecture_source,
             vendor: vendor_source,
             operating_system: system_source,
             environment: environment_source,

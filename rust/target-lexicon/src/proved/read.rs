@@ -41,10 +41,11 @@ fn split_at_dash(rest: TextPart<'_>) -> (TextPart<'_>, Option<TextPart<'_>>) {
     }
 }
 
-/// What a part parses as in the fields after the vendor. Few parts are asked whether they are a vendor, so that is computed
+/// What a part parses as in each field but the vendor. Few parts are asked whether they are a vendor, so that is computed
 /// for itself.
 #[derive(Clone, Copy)]
-struct LaterValues {
+struct PartValues {
+    architecture: Option<Architecture>,
     operating_system: Option<OperatingSystem>,
     environment: Option<Environment>,
     binary_format: Option<BinaryFormat>,
@@ -63,23 +64,26 @@ impl<'a> PartCursor<'a> {
         VendorRef::from_row(part.place.text, part.row, part.operating_system)
     }
 
-    /// What the first part that is left parses as in the fields after the vendor.
+    /// What the first part that is left parses as in the other fields.
     #[inline(always)]
-    fn later_values(&self) -> LaterValues {
+    fn values(&self) -> PartValues {
         let Some(part) = self.next_part else {
-            return LaterValues {
+            return PartValues {
+                architecture: None,
                 operating_system: None,
                 environment: None,
                 binary_format: None,
             };
         };
         match part.row {
-            Some(row) => LaterValues {
+            Some(row) => PartValues {
+                architecture: row.architecture,
                 operating_system: part.operating_system,
                 environment: row.environment,
                 binary_format: row.binary_format,
             },
-            None => LaterValues {
+            None => PartValues {
+                architecture: None,
                 operating_system: part.operating_system,
                 environment: None,
                 binary_format: None,
@@ -98,7 +102,10 @@ impl<'a> PartCursor<'a> {
             return Source::NotGiven;
         }
         self.last = field;
-        self.next_part = part.next();
+        self.next_part = match part.rest {
+            Some(rest) => Some(Part::first_of(rest)),
+            None => None,
+        };
         Source::Part(part.place)
     }
 }
@@ -128,53 +135,40 @@ impl<'a> Part<'a> {
         }
     }
 
-    /// The architecture that the part parses as.
-    fn architecture(&self) -> Option<Architecture> {
-        self.row?.architecture
-    }
-
-    /// The part after the dash.
-    #[inline(always)]
-    fn next(&self) -> Option<Self> {
-        match self.rest {
-            Some(rest) => Some(Part::first_of(rest)),
-            None => None,
-        }
-    }
-
     /// What the parts give of which this is the first.
     #[inline(always)]
     fn explanation(self) -> Result<Explanation<'a>, ExplainedError<'a>> {
-        let Some(architecture) = self.architecture() else {
+        let mut cursor = PartCursor {
+            last: Field::Architecture,
+            next_part: Some(self),
+        };
+        let Some(architecture) = cursor.values().architecture else {
             return Err(ExplainedError {
                 error: ParseErrorRef::UnrecognizedArchitecture(self.place.text),
                 part: self.place,
                 sources: Sources::all(Source::NotGiven),
             });
         };
-        let mut cursor = PartCursor {
-            last: Field::Architecture,
-            next_part: self.next(),
-        };
+        let architecture_source = cursor.take(Field::Architecture, true, Source::NotGiven);
         let vendor = cursor.vendor();
         let vendor_source = cursor.take(Field::Vendor, vendor.is_some(), Source::NotGiven);
-        let operating_system = cursor.later_values().operating_system;
+        let operating_system = cursor.values().operating_system;
         let system_source = cursor.take(
             Field::OperatingSystem,
             operating_system.is_some(),
             Source::NotGiven,
         );
-        let environment = cursor.later_values().environment;
+        let environment = cursor.values().environment;
         let environment_source =
             cursor.take(Field::Environment, environment.is_some(), Source::NotGiven);
-        let binary_format = cursor.later_values().binary_format;
+        let binary_format = cursor.values().binary_format;
         let format_source = cursor.take(
             Field::BinaryFormat,
             binary_format.is_some(),
             Source::Implied,
         );
         let sources = Sources {
-            architecture: Source::Part(self.place),
+            architecture: architecture_source,
             vendor: vendor_source,
             operating_system: system_source,
             environment: environment_source,

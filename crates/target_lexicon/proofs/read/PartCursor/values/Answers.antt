@@ -1,7 +1,11 @@
 use Rattle.std.proofs.Common.{◌∙◌, ap, sym}
-use Rattle.lexicon_fields.specs.{Environment.environment_of, BinaryFormat.binary_format_of}
+use Rattle.lexicon_fields.specs.{Architecture.architecture_of, Environment.environment_of, BinaryFormat.binary_format_of}
 use Rattle.target_lexicon.specs.RemainingParts.{first_value, remaining_parts}
-use Rattle.target_lexicon.proofs.read.PartCursor.later_values.Goals as goal
+use Rattle.target_lexicon.proofs.read.PartCursor.values.Goals as goal
+
+pub returns-in-Some-row-clause-architecture : goal.returns-in-Some-row-clause-architecture
+returns-in-Some-row-clause-architecture c =
+    (c.in-Some.part.is_row _ c.in-Some-row.is).architecture ∙ sym (ap (λ part. first_value architecture_of (remaining_parts part)) c.in-Some.is)
 
 pub returns-in-Some-row-clause-environment : goal.returns-in-Some-row-clause-environment
 returns-in-Some-row-clause-environment c =
