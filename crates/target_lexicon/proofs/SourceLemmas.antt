@@ -267,7 +267,7 @@ range-at before p rest =
     ap (λ n. take n (drop (length before) (before ++ (p ++ rest)))) size ∙ ap (take (length p)) (drop-append_seam before (p ++ rest)) ∙ take-append_seam p rest
 
 -- a part that is followed by these bytes
-part-in : (text before p rest : List ℕ) (start : ℕ) → length before ≡ start → text ≡ before ++ (p ++ rest) → IsInText text (part_from start p)
+pub part-in : (text before p rest : List ℕ) (start : ℕ) → length before ≡ start → text ≡ before ++ (p ++ rest) → IsInText text (part_from start p)
 part-in text before p rest start at is =
     let whole = length-append before (p ++ rest) in
     let inner = length-append p rest in

@@ -49,7 +49,7 @@ pub use lexicon_fields::{
 pub use list_error::ListError;
 pub use parse_error::ParseError;
 pub use parse_error_ref::ParseErrorRef;
-pub use read::{explain, parse_or_locate};
+pub use read::{expected_after, explain, parse_or_locate};
 pub use settle::versions_are_in_range;
 pub use triple::Triple;
 pub use triple_ref::TripleRef;

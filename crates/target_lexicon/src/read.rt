@@ -162,7 +162,7 @@ impl<'a> PartCursor<'a> {
 }
 
 /// The field that is expected after this one is filled, if any is left.
-fn expected_after(last: Field) -> Option<Field>
+pub fn expected_after(last: Field) -> Option<Field>
     ensures { result ≡ expected_after last }
 {
     match last {

@@ -1,26 +1,14 @@
 -- The range of a refused part, and of a changed one, holds the part.
-use Rattle.std.proofs.Common.{◌≡◌, ◌∙◌, ℕ, ◌+◌, ◌-◌, List, [], ◌∷◌, ◌++◌, length, take, drop, Option, Some, None, Result, Ok, Err, refl, sym, ap, subst, append_assoc, arith, inl, inr}
+use Rattle.std.proofs.Common.{◌≡◌, ◌∙◌, ℕ, List, [], ◌∷◌, ◌++◌, length, Option, Some, None, Result, Ok, Err, refl, sym, ap, subst, append_assoc, arith, inl, inr}
 use Rattle.std.specs.Prelude.{is_some}
 use Rattle.std.specs.List.{join_with_byte}
-use Rattle.std.proofs.{Math.Seq.drop-append_seam, Math.Seq.take-append_seam, lemmas.Bool.cases_Bool}
+use Rattle.std.proofs.lemmas.Bool.{cases_Bool}
 use Rattle.std.proofs.lemmas.List.{append-nil, length-append}
 use Rattle.lexicon_fields.specs.{Architecture.architecture_of, BinaryFormat.binary_format_of, Environment.environment_of, Names.dash, OperatingSystem.operating_system_of, Vendor.vendor_of}
-use Rattle.target_lexicon.proofs.PartLemmas.{parts_of-are}
-use Rattle.target_lexicon.specs.{Explanation.IsInText, Explanation.part_from, GreedyReading.reading_of_parts, Placement.parts_of, Refusal.Refusal, SpecialTexts.special_values, Values.Values}
+use Rattle.target_lexicon.proofs.{PartLemmas.parts_of-are, SourceLemmas.part-in}
+use Rattle.target_lexicon.specs.{Explanation.IsInText, GreedyReading.reading_of_parts, Placement.parts_of, Refusal.Refusal, SpecialTexts.special_values, Values.Values}
 use Rattle.tool_names.specs.Changes.{AreInTheString, ChangedPartsAreInTheString, changes, changes_of, is_only}
 use Rattle.tool_names.specs.Spelling.{PartRefusal, RefusedPartsAreInTheString, SpelledName, SpelledPart, first_at_end, later_parts, located, name_texts, names_left, names_of, other_parts, reading_unless_special, refusal_of_first, refused_part, spelled_by, spelled_names, spelled_parts, spelled_reading, unread_names}
-
-range-at : (before p rest : List ℕ) → take (length before + length p - length before) (drop (length before) (before ++ (p ++ rest))) ≡ p
-range-at before p rest =
-    let size : length before + length p - length before ≡ length p = omega arith in
-    ap (λ n. take n (drop (length before) (before ++ (p ++ rest)))) size ∙ ap (take (length p)) (drop-append_seam before (p ++ rest)) ∙ take-append_seam p rest
-
--- a part that is followed by these bytes
-part-in : (text before p rest : List ℕ) (start : ℕ) → length before ≡ start → text ≡ before ++ (p ++ rest) → IsInText text (part_from start p)
-part-in text before p rest start at is =
-    let whole = length-append before (p ++ rest) in
-    let inner = length-append p rest in
-    rw (← at, is) (omega (arith, whole, inner), range-at before p rest)
 
 -- these parts end the string
 abbrev EndText : List ℕ → List (List ℕ) → Type 0

@@ -1,12 +1,12 @@
 -- Strings that are spelled like triples, as the tools of GNU and LLVM print them: some parts are other spellings of
 -- known names. Each such part gives way to these names, which are parsed as ever.
-use Rattle.std.specs.Prelude.{◌≡◌, ℕ, Bool, true, false, ◌||◌, ◌&&◌, ◌-◌, List, [], ◌∷◌, ◌++◌, codes, length, map, Option, Some, None, is_none, is_some, not, option_map, option_and_then, unwrap_or, Result, Ok, Err, if◌then◌else◌, ◌==◌}
+use Rattle.std.specs.Prelude.{◌≡◌, ℕ, Bool, true, false, ◌||◌, ◌&&◌, ◌-◌, List, [], ◌∷◌, ◌++◌, codes, length, map, Option, Some, None, is_none, is_some, not, option_map, option_and_then, slice_get, unwrap_or, Result, Ok, Err, if◌then◌else◌, ◌==◌}
 use Rattle.std.specs.Char.{is_ascii_digit}
 use Rattle.std.specs.List.{list_all, join_with_byte}
 use Rattle.std.specs.Option.{option_or, option_map_or}
 use Rattle.std.specs.Str.{bytes_eq}
 use Rattle.lexicon_fields.specs.{Architecture.architecture_of, BinaryFormat.binary_format_of, Environment.environment_of, FixedRow.has_row, Names.Pair, Names.dash, Names.value_named, OperatingSystem.operating_system_of, OperatingSystem.text_after_prefix, Vendor.is_custom, Vendor.vendor_of, Version.dot, Version.version_of}
-use Rattle.target_lexicon.specs.{Explanation.IsInText, Explanation.PlacedPart, Explanation.part_from, Field.Field, FixedPoints.canonical_text, FixedPoints.settled_values, GreedyReading.reading_of_parts, Placement.parts_of, Printing.text_of, Reading.ReadsAs, Refusal.Refusal, Refusal.refusal_with, SpecialTexts.special_values, Values.Values, ValuesRef.refusal_of_ref, ValuesRef.values_of_ref, declared.triple_ref.TripleRef.TripleRef}
+use Rattle.target_lexicon.specs.{Explanation.IsInText, Explanation.PlacedPart, Explanation.part_from, Field.Field, FixedPoints.canonical_text, FixedPoints.settled_values, GreedyReading.reading_of_parts, Placement.parts_of, Printing.text_of, Reading.IsRefusal, Reading.ReadsAs, Refusal.Refusal, Refusal.refusal_with, SpecialTexts.special_values, Values.Values, ValuesRef.refusal_of_ref, ValuesRef.values_of_ref, declared.triple_ref.TripleRef.TripleRef}
 use Rattle.tool_names.specs.declared.reading.ReadError.{ReadError}
 
 -- other spellings of architectures, for the first part
@@ -245,6 +245,16 @@ spelled_reading text = reading_unless_special (special_values text) text
 -- a string that parses without a custom vendor is read as it parses
 abbrev pub KnownNamesAreReadAsBefore : Type 0
 KnownNamesAreReadAsBefore = (text : List ℕ) (t : Values) → ReadsAs text t → is_custom t.vendor ≡ false → spelled_reading text ≡ Ok t
+
+-- names are refused at this one: it is the first up to which they have no placement
+pub record IsRefusedName (names : List SpelledName) (refusal : Refusal) (it : SpelledName) : Type 0 where
+  pub holds : IsRefusal (name_texts names) refusal
+  pub refused : slice_get names holds.count ≡ Some it
+
+-- a string is refused at the part that spells the name at which its names are refused, and there the same is expected
+abbrev pub RefusalsAreAtTheRefusedName : Type 0
+RefusalsAreAtTheRefusedName = (text : List ℕ) (found : PartRefusal) → spelled_reading text ≡ Err found
+    → (refusal : Refusal) × (it : SpelledName) × IsRefusedName (spelled_names (parts_of text)) refusal it × (found ≡ refusal_at text refusal it.from)
 
 -- the range of a refusal holds the refused part
 abbrev pub RefusedPartsAreInTheString : Type 0

@@ -2,7 +2,7 @@
 ghost use Rattle.tool_names.specs.Changes.{ChangedPartsAreInTheString, KnownNamesStay, UnchangedStringsAreReadAsTheyParse};
 ghost use Rattle.tool_names.specs.Laws.{NamesAreCanonical, NamesKeepAnswers, NamesMeanTheShape, NamesReadBack, NamesWithoutTripleAreRefused, ShapesAreFixed, TagsMeanTheSame};
 ghost use Rattle.tool_names.specs.ObjectFormat.{GivenFormatsAreKept};
-ghost use Rattle.tool_names.specs.Spelling.{KnownNamesAreReadAsBefore, ListedPartsAreUnknown, OnceIsEnough, ReadingAgainIsTheSame, RefusedPartsAreInTheString};
+ghost use Rattle.tool_names.specs.Spelling.{KnownNamesAreReadAsBefore, ListedPartsAreUnknown, OnceIsEnough, ReadingAgainIsTheSame, RefusalsAreAtTheRefusedName, RefusedPartsAreInTheString};
 
 use target_lexicon::laws::{read_triples_are_plain, round_is_normal_step};
 
@@ -12,8 +12,12 @@ pub fn known_names_are_read_as_before()
     ensures { KnownNamesAreReadAsBefore }
 {}
 
+/// A string is refused at the part that spells the first name up to which its names have no placement.
+pub fn refusals_are_at_the_refused_name()
+    ensures { RefusalsAreAtTheRefusedName }
+{}
+
 /// The bytes of a string in the range of its refusal are the refused part.
-#[tactic(auto, using(crate::proofs::PlacedParts::refused_in_string))]
 pub fn refused_parts_are_in_the_string()
     ensures { RefusedPartsAreInTheString }
 {}

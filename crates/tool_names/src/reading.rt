@@ -1,13 +1,12 @@
 //! Reading a string that is spelled like a triple.
 ghost use Rattle.std.specs.Prelude.{◌≡◌};
 ghost use Rattle.target_lexicon.specs.Placement.{parts_of};
-ghost use Rattle.target_lexicon.specs.Reading.{expected_after};
 ghost use Rattle.target_lexicon.specs.SpecialTexts.{special_values};
 ghost use Rattle.tool_names.specs.Spelling.{part_refusal, read_outcome, first_at_end, reading_of_names, refusal_of_part, spelled_names, spelled_reading};
 
 use crate::names_left::{Left, NameCursor};
 use crate::spelling::{first_at_end, first_part, first_spelling};
-use target_lexicon::{Architecture, BinaryFormat, Field, ParseErrorRef, TripleRef};
+use target_lexicon::{Architecture, BinaryFormat, Field, ParseErrorRef, TripleRef, expected_after};
 
 /// Why a string that is spelled like a triple is refused, and where.
 #[derive(Clone, Copy, Debug, PartialEq, Eq)]
@@ -84,19 +83,6 @@ fn read_names(text: &str) -> Result<TripleRef<'_>, ReadError<'_>>
         },
         ..triple
     })
-}
-
-/// The field that is expected after this one is filled, if any is left.
-fn expected_after(last: Field) -> Option<Field>
-    ensures { result ≡ expected_after last }
-{
-    match last {
-        Field::Architecture => Some(Field::Vendor),
-        Field::Vendor => Some(Field::OperatingSystem),
-        Field::OperatingSystem => Some(Field::Environment),
-        Field::Environment => Some(Field::BinaryFormat),
-        Field::BinaryFormat => None,
-    }
 }
 
 /// The error at the first part of the end of a string, where this field was expected.

@@ -50,7 +50,7 @@ pub use known_vendor::KnownVendor;
 pub use operating_system::OperatingSystem;
 pub use parse_error_ref::ParseErrorRef;
 pub use pointer_width::PointerWidth;
-pub use read::{explain, parse_or_locate};
+pub use read::{expected_after, explain, parse_or_locate};
 pub use table::{fixed_row, row_order, FixedRow, ROW_COUNT};
 pub use triple::Triple;
 pub use triple_ref::TripleRef;

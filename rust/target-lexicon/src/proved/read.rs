@@ -111,7 +111,7 @@ impl<'a> PartCursor<'a> {
 }
 
 /// The field that is expected after this one is filled, if any is left.
-fn expected_after(last: Field) -> Option<Field> {
+pub fn expected_after(last: Field) -> Option<Field> {
     match last {
         Field::Architecture => Some(Field::Vendor),
         Field::Vendor => Some(Field::OperatingSystem),

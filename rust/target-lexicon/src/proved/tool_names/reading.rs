@@ -3,7 +3,7 @@
 
 use crate::tool_names::names_left::{Left, NameCursor};
 use crate::tool_names::spelling::{first_at_end, first_part, first_spelling};
-use crate::{Architecture, BinaryFormat, Field, ParseErrorRef, TripleRef};
+use crate::{expected_after, Architecture, BinaryFormat, Field, ParseErrorRef, TripleRef};
 
 /// Why a string that is spelled like a triple is refused, and where.
 ///
@@ -94,17 +94,6 @@ fn read_names(text: &str) -> Result<TripleRef<'_>, ReadError<'_>> {
         },
         ..triple
     })
-}
-
-/// The field that is expected after this one is filled, if any is left.
-fn expected_after(last: Field) -> Option<Field> {
-    match last {
-        Field::Architecture => Some(Field::Vendor),
-        Field::Vendor => Some(Field::OperatingSystem),
-        Field::OperatingSystem => Some(Field::Environment),
-        Field::Environment => Some(Field::BinaryFormat),
-        Field::BinaryFormat => None,
-    }
 }
 
 /// The error at the first part of the end of a string, where this field was expected.
