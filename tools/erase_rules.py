@@ -41,7 +41,7 @@ HIDDEN = {
 # Long functions that few programs call: rustc compiles them only where they are called, which saves a fifth of a build.
 INLINE = {
     "parse_or_locate", "suggestion", "Triple::settles_as", "Triple::write_to", "TripleRef::settles_as",
-    "TripleRef::upstream_pieces", "TripleRef::write_to", "TripleRef::write_upstream_to",
+    "TripleRef::write_to", "TripleRef::write_upstream_to",
 }
 
 # The start of the names of files, what is there, and what it becomes.
@@ -63,6 +63,6 @@ REPLACEMENTS = [
     ("lexicon_c/src/numbers.rt", "use target_lexicon::{", "use std::str::FromStr as _;\nuse target_lexicon::{"),
     ("lexicon_c/src/calls.rt", "settling.settle()", "settling.settle().ok_or(Fault::NoSuchVendor)?"),
     # With the feature, printing follows upstream's rule.
-    ("target_lexicon/src/display.rt", "self.pieces_with(self.shows_unknowns()",
-     'self.pieces_with(!cfg!(feature = "upstream_printing") && self.shows_unknowns()'),
+    ("target_lexicon/src/display.rt", ") && self.binary_format != self.default_binary_format()",
+     ') && !cfg!(feature = "upstream_printing") && self.binary_format != self.default_binary_format()'),
 ]

@@ -27,8 +27,9 @@ impl fmt::Display for TripleRef<'_> {
     ghost styled_output = { λ it _. Some (text_of (values_of_ref it)) };
 
     #[inline(always)]
+    #[tactic(auto, unfolding(crate::specs::Printing::text_of))]
     fn fmt<W: fmt::Write>(&self, f: &mut fmt::Formatter<W>) -> fmt::Result {
-        self.pieces().fmt(f)
+        self.pieces(self.shows_unknowns()).fmt(f)
     }
 }
 
@@ -73,55 +74,42 @@ impl<'a> TripleRef<'a> {
     ghost use Rattle.target_lexicon.specs.Pieces.{pieces_text};
 
     /// The printed text. `Err` if the allocation for it fails.
+    #[tactic(auto, unfolding(crate::specs::Printing::text_of))]
     pub fn to_text(&self, alloc: Global) -> Result<String, AllocError>
         ensures { IfOk result (λ text. string_bytes text ≡ text_of (values_of_ref self.now)) }
     {
-        self.pieces().to_text(alloc)
+        self.pieces(self.shows_unknowns()).to_text(alloc)
     }
 
     /// The text that upstream prints for the triple, as [`Triple::to_upstream_text`] says.
+    #[tactic(auto, unfolding(crate::specs::Printing::upstream_text_of))]
     pub fn to_upstream_text(&self, alloc: Global) -> Result<String, AllocError>
         ensures { IfOk result
             (λ text. string_bytes text ≡ upstream_text_of (values_of_ref self.now)) }
     {
-        self.upstream_pieces().to_text(alloc)
+        self.pieces(false).to_text(alloc)
     }
 
     /// Writes the printed text at the front of the buffer if it fits there, and returns its length. If it doesn't fit,
     /// the buffer is unchanged: compare the result with `out.len()`. Nothing is allocated.
+    #[tactic(auto, unfolding(crate::specs::Printing::text_of))]
     pub fn write_to(&self, out: &mut [u8]) -> usize
         ensures { IsWritten (text_of (values_of_ref self.now)) out.old out.new result }
     {
-        self.pieces().write_to(out)
+        self.pieces(self.shows_unknowns()).write_to(out)
     }
 
     /// Writes the text that upstream prints for the triple, as [`TripleRef::write_to`] writes the printed one.
+    #[tactic(auto, unfolding(crate::specs::Printing::upstream_text_of))]
     pub fn write_upstream_to(&self, out: &mut [u8]) -> usize
         ensures { IsWritten (upstream_text_of (values_of_ref self.now)) out.old out.new result }
     {
-        self.upstream_pieces().write_to(out)
-    }
-
-    /// The pieces of the printed text.
-    #[inline(always)]
-    #[tactic(auto, unfolding(crate::specs::Printing::text_of))]
-    fn pieces(&self) -> Pieces<'a>
-        ensures { pieces_text result ≡ text_of (values_of_ref self.now) }
-    {
-        self.pieces_with(self.shows_unknowns())
-    }
-
-    /// The pieces of upstream's text.
-    #[tactic(auto, unfolding(crate::specs::Printing::upstream_text_of))]
-    fn upstream_pieces(&self) -> Pieces<'a>
-        ensures { pieces_text result ≡ upstream_text_of (values_of_ref self.now) }
-    {
-        self.pieces_with(false)
+        self.pieces(false).write_to(out)
     }
 
     /// The pieces by upstream's rules, or with the last three fields shown whatever these say.
     #[inline(always)]
-    fn pieces_with(&self, shows_last_three: bool) -> Pieces<'a>
+    fn pieces(&self, shows_last_three: bool) -> Pieces<'a>
         ensures { pieces_text result ≡ spec.text_with shows_last_three (values_of_ref self.now) }
     {
         if let Some(text) = self.special_text() {

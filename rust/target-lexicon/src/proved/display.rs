@@ -13,7 +13,7 @@ use core::fmt;
 impl fmt::Display for TripleRef<'_> {
     #[inline(always)]
     fn fmt(&self, f: &mut fmt::Formatter<'_>) -> fmt::Result {
-        self.pieces().fmt(f)
+        self.pieces(self.shows_unknowns()).fmt(f)
     }
 }
 
@@ -57,31 +57,19 @@ impl<'a> TripleRef<'a> {
     /// ```
     #[inline]
     pub fn write_to(&self, out: &mut [u8]) -> usize {
-        self.pieces().write_to(out)
+        self.pieces(self.shows_unknowns()).write_to(out)
     }
 
     /// Writes the text that upstream prints for the triple, as [`TripleRef::write_to`] writes the printed one.
     #[inline]
     #[doc(hidden)]
     pub fn write_upstream_to(&self, out: &mut [u8]) -> usize {
-        self.upstream_pieces().write_to(out)
-    }
-
-    /// The pieces of the printed text.
-    #[inline(always)]
-    fn pieces(&self) -> Pieces<'a> {
-        self.pieces_with(!cfg!(feature = "upstream_printing") && self.shows_unknowns())
-    }
-
-    /// The pieces of upstream's text.
-    #[inline]
-    fn upstream_pieces(&self) -> Pieces<'a> {
-        self.pieces_with(false)
+        self.pieces(false).write_to(out)
     }
 
     /// The pieces by upstream's rules, or with the last three fields shown whatever these say.
     #[inline(always)]
-    fn pieces_with(&self, shows_last_three: bool) -> Pieces<'a> {
+    fn pieces(&self, shows_last_three: bool) -> Pieces<'a> {
         if let Some(text) = self.special_text() {
             return Pieces::of_special_text(text);
         }
@@ -186,7 +174,8 @@ impl<'a> TripleRef<'a> {
         matches!(
             (self.environment, self.binary_format),
             (Environment::Unknown, BinaryFormat::Unknown)
-        ) && self.binary_format != self.default_binary_format()
+        ) && !cfg!(feature = "upstream_printing")
+            && self.binary_format != self.default_binary_format()
     }
 }
 

@@ -4,7 +4,7 @@ use Rattle.lexicon_fields.specs.OperatingSystem.{version_suffix, system_version}
 use Rattle.lexicon_fields.proofs.NameLengths.{architectures_are_short, operating_systems_are_short, environments_are_short, binary_formats_are_short}
 use Rattle.target_lexicon.specs.ValuesRef.{values_of_ref}
 use Rattle.target_lexicon.proofs.PrintingLemmas.{text_of_pieces}
-use Rattle.target_lexicon.proofs.triple_ref.TripleRef.pieces_with.Goals as goal
+use Rattle.target_lexicon.proofs.triple_ref.TripleRef.pieces.Goals as goal
 
 pub invariant_of-result : goal.invariant_of-result
 invariant_of-result c =
