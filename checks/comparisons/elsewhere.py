@@ -170,8 +170,16 @@ class Comparison(Report):
                   if written[meanings[name].triple] != tag], len(tags), "android|macosx-11-")
         self.fact("each tag that packaging makes is read, if it is one machine's", [tag for tag in said["tag"] if meanings[tag].triple == "-"], len(said["tag"]))
         self.fact("no tag of several machines is read", [tag for tag in said["fat"] if meanings[tag].triple != "-"], len(said["fat"]))
-        self.fact("the machine's word has the byte order and width", [(tag, meanings[tag]) for tag in [*said["tag"], *tags.values()]
-                  if meanings[tag].triple != "-" and meanings[tag][1:3] != byte_order_and_width(tag)], len(said["tag"]) + len(tags))
+        named = {tag: meanings[tag].triple for tag in [*said["tag"], *tags.values()] if meanings[tag].triple != "-"}
+        self.fact("the machine's word has the byte order and width", [(tag, meanings[tag]) for tag in named if meanings[tag][1:3] != byte_order_and_width(tag)],
+                  len(named))
+        words = {tag: re.fullmatch(r"(many|musl|)linux[0-9_]*_([a-z]\w*)", tag) for tag in named}
+        machines = self.library.meanings(f"{it[2]}-unknown-linux" for it in words.values() if it)
+        self.fact("a tag of Linux has the machine of `uname -m`", [(tag, named[tag]) for tag, it in words.items()
+                  if it and named[tag].split("-")[0] != machines[f"{it[2]}-unknown-linux"].triple.split("-")[0]], sum(map(bool, words.values())))
+        libraries = {"": "", "many": "-gnu(eabihf)?", "musl": "-musl(eabihf)?"}
+        self.fact("a tag of Linux has the C library of its word", [(tag, named[tag]) for tag, it in words.items()
+                  if it and not re.fullmatch(r"\w+-unknown-linux" + libraries[it[1]], named[tag])], sum(map(bool, words.values())))
 
 
 def byte_order_and_width(tag):
