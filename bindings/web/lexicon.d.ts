@@ -83,12 +83,12 @@ export const FAMILIES: readonly Family[];
 
 /**
  * A tool, or a group of tools, that names targets in its own way: Debian's architectures, Go's ports, platforms of container images
- * (`oci`), `process.platform` and `process.arch` of Node, and the prefixes of GNU's cross compilers.
+ * (`oci`), `process.platform` and `process.arch` of Node, the prefixes of GNU's cross compilers, and the platforms of Python and its wheels.
  */
-export type Dialect = "debian" | "go" | "oci" | "node" | "gnu";
+export type Dialect = "debian" | "go" | "oci" | "node" | "gnu" | "python";
 
 /** The dialects, in the order of their numbers in lexicon.h, which begin with 1. */
-export const DIALECTS: readonly ["debian", "go", "oci", "node", "gnu"];
+export const DIALECTS: readonly ["debian", "go", "oci", "node", "gnu", "python"];
 
 export interface Version {
   readonly major: number;

@@ -3,6 +3,8 @@ import copy
 import gc
 import itertools
 import pickle
+import re
+import sysconfig
 import unittest
 
 import lexicon
@@ -55,10 +57,26 @@ class Names(unittest.TestCase):
         count = 0
         for dialect, other in itertools.permutations(Dialect, 2):
             for name in known[other] - known[dialect]:
+                if dialect is Dialect.PYTHON and re.sub("[-.]", "_", name) in known[dialect]:
+                    continue
                 error = self.refusal(name, dialect)
                 self.assertEqual((error.line, error.reason), (UNKNOWN + name, None))
                 count += 1
         self.assertGreater(count, 1000)
+
+    def test_platforms_of_python(self):
+        self.assertEqual(Triple.read(sysconfig.get_platform(), "python").operating_system, Triple.host().operating_system)
+        for name, tag, triple in (("macosx-11.0-arm64", "macosx_11_0_arm64", "aarch64-apple-macosx11.0.0"), ("win-amd64", "win_amd64", "x86_64-pc-windows"),
+                                  ("ios-65535.255-x86_64-iphonesimulator", "ios_65535_255_x86_64_iphonesimulator", "x86_64-apple-ios65535.255.0-sim"),
+                                  ("linux-armv7l", "linux_armv7l", "armv7-unknown-linux"), ("macosx-0.0-ppc", "macosx_0_0_ppc", "powerpc-apple-macosx0.0.0")):
+            for spelled in name, tag:
+                self.assertEqual(str(Triple.read(spelled, Dialect.PYTHON)), triple)
+            self.assertEqual(Triple(triple).name_in("python"), tag)
+        self.assertEqual(Triple("arm64-apple-macosx11.7.10").name_in("python"), "macosx_11_7_arm64")
+        for text in "arm64-apple-darwin", "arm64-apple-darwin22.5.0", "arm64-apple-macosx", "x86_64-unknown-freebsd":
+            self.assertIsNone(Triple(text).name_in("python"))
+        for name in "macosx_011_0_arm64", "macosx_11_arm64", "macosx_11_0_1_arm64", "macosx_65536_0_arm64", "macosx_1_256_arm64", "linux__x86_64":
+            self.assertEqual(self.refusal(name, "python").line, UNKNOWN + name)
 
     def test_first_parts(self):
         rows = [it for it in lists.elsewhere() if it.dialect == "first"]
@@ -99,10 +117,11 @@ class Names(unittest.TestCase):
 
     def test_nearest_names(self):
         for dialect, name, nearest in (("go", "linux/amd46", "linux/amd64"), ("debian", "amd63", "amd64"), ("oci", "linux/arm/v9", "linux/arm/v5"),
-                                       ("node", "linux-x65-musl", "linux-x64-musl"), ("go", "plan10", None), ("gnu", "x86_64-linux-gnuu", None)):
+                                       ("node", "linux-x65-musl", "linux-x64-musl"), ("go", "plan10", None), ("python", "linux_x86_46", "linux_x86_64"),
+                                       ("python", "macosx_11_0_arm46", None), ("gnu", "x86_64-linux-gnuu", None)):
             error = self.refusal(name, dialect)
             self.assertEqual((error.suggestion, error.reason, str(error).endswith(f"^ did you mean `{nearest}`?")), (nearest, None, nearest is not None))
-        rows = [it for it in NAMES if "r" in it.ways]
+        rows = [it for it in NAMES if "r" in it.ways and "13_2" not in it.name]
         found = sum(self.refusal(f"{it.name}x", it.dialect).suggestion == it.name for it in rows)
         self.assertGreater(found, len(rows) * 9 // 10)
 
@@ -124,7 +143,7 @@ class Names(unittest.TestCase):
         calls = [lambda it: Triple.read("linux/amd64", it), Triple("x86_64-linux").name_in]
         for call in calls:
             for value in "Go", "", "docker", "none", "g\u00f6":
-                with self.assertRaisesRegex(ValueError, "the dialect must be one of debian, go, oci, node, gnu, not ") as caught:
+                with self.assertRaisesRegex(ValueError, "the dialect must be one of debian, go, oci, node, gnu, python, not ") as caught:
                     call(value)
                 self.assertNotIsInstance(caught.exception, ParseError)
             for value in 1, b"go", Dialect, lexicon.Architecture.ARM:

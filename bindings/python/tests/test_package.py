@@ -273,7 +273,7 @@ class Samples(Folder):
 
     @unittest.skipUnless(sys.version_info >= (3, 10), "the page's programs are for Python 3.10 or later")
     def test_programs_of_the_page(self):
-        self.assertEqual(self.commands_run(sys.executable, False), 6)
+        self.assertEqual(self.commands_run(sys.executable, False), 8)
 
     @unittest.skipUnless(HAS_DASK, "no pandas and Dask")
     def test_columns_of_the_page(self):
@@ -308,7 +308,7 @@ class Samples(Folder):
 
     @unittest.skipUnless(COMMAND, "no command lexicon beside the program")
     def test_command_writes_what_the_command_lexicon_writes(self):
-        """The same bytes on standard output, and the same status."""
+        """The same bytes on standard output, except that objects of `read` have no `changes` here, and the same status."""
         targets = ["arm64-apple-ios17.1", "avr", "x86_64-aple-linux", "x86_64-unknown-uefi", "armv6k-nintendo-3ds", "thumbv7m-none-eabi",
                    "x86_64-w64-windows-gnu", "x86_64-pc-linx", "x86_64-\u00e9\U0001f600-x", "", "x86_64-linux-elf-gnu", "x86_64-w64-mingw32"]
         names = ["linux/arm64", "amd64", "linux-x64-musl", "js/wasm", "linux/amd46", "x86_64-linux-gnu", "", "x86_64-w64-mingw32", "gnu-\u00e9"]
@@ -320,7 +320,8 @@ class Samples(Folder):
             for arguments, line in (given, b""), (["--json", "-", "avr"], lines):
                 ran = [subprocess.run([*command, *words, *arguments], input=line, capture_output=True, check=False)
                        for command in ([sys.executable, "-I", "-m", "lexicon"], [COMMAND])]
-                self.assertEqual(*((it.stdout.decode().splitlines(), it.returncode) for it in ran), (words, arguments))
+                said = [re.sub(r',"changes":(?:null|\[.*?\])', "", it.stdout.decode()) for it in ran]
+                self.assertEqual(*((lines.splitlines(), it.returncode) for lines, it in zip(said, ran)), (words, arguments))
 
     def refusal(self, text):
         with self.assertRaises(lexicon.ParseError) as caught:

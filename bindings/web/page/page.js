@@ -4,7 +4,7 @@ import { DIALECTS, FIELDS, ParseError, Triple, load } from "../lexicon.js";
 const LABELS = {
   architecture: "Architecture", vendor: "Vendor", operatingSystem: "System", environment: "Environment", binaryFormat: "Format",
 };
-const TOOLS = { debian: "Debian", go: "Go", oci: "Container images", node: "Node", gnu: "GNU prefix" };
+const TOOLS = { debian: "Debian", go: "Go", oci: "Container images", node: "Node", gnu: "GNU prefix", python: "Python" };
 const LONGEST_LINK = 32000;
 const SLICE = 12; // milliseconds of work between two chances for input
 const UNFOLDED = 3; // of more targets than these, the names in other tools are folded, and on a phone the cards

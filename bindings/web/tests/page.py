@@ -129,15 +129,15 @@ def names_other_tools(page):
     typed(page, "arm64-linux-musl\navr-unknown")
     for width in 400, 1280:
         page.size(width, 900)
-        same(page.run(shown), ["Debianmusl-linux-arm64; Golinux/arm64; Container imageslinux/arm64; Nodelinux-arm64-musl; GNU prefixaarch64-linux-musl",
-                               "Debiannone; Gonone; Container imagesnone; Nodenone; GNU prefixnone"])
+        same(page.run(shown), ["Debianmusl-linux-arm64; Golinux/arm64; Container imageslinux/arm64; Nodelinux-arm64-musl; GNU prefixaarch64-linux-musl; "
+                               "Pythonlinux_aarch64", "Debiannone; Gonone; Container imagesnone; Nodenone; GNU prefixnone; Pythonnone"])
         holds(page.run("document.documentElement.scrollWidth") <= width, f"at {width} pixels the page scrolls sideways")
     typed(page, "arm64\nx86_64-pc-windows-msvc\nx86_64-linx\nwasm32-wasi")
     same(page.run(shown), [""] * 4)
     page.run("document.querySelectorAll('.elsewhere summary')[1].focus()")
     page.keys(Keys.ENTER)
-    page.until("document.querySelectorAll('.elsewhere dl > div').length === 5")
-    same(page.run(shown), ["", "Debiannone; Gowindows/amd64; Container imageswindows/amd64; Nodewin32-x64; GNU prefixnone", "", ""])
+    page.until("document.querySelectorAll('.elsewhere dl > div').length === 6")
+    same(page.run(shown), ["", "Debiannone; Gowindows/amd64; Container imageswindows/amd64; Nodewin32-x64; GNU prefixnone; Pythonwin_amd64", "", ""])
 
 
 def says_what_other_tools_mean(page):

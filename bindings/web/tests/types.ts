@@ -22,7 +22,7 @@ const widths: Each<NonNullable<Facts["pointerWidth"]>> = { 16: true, 32: true, 6
 const conventions: Each<NonNullable<Facts["defaultCallingConvention"]>> = { SystemV: true, WasmBasicCAbi: true, WindowsFastcall: true, AppleAarch64: true };
 const models: Each<NonNullable<Facts["dataModel"]>> = { LP32: true, ILP32: true, LLP64: true, LP64: true, ILP64: true };
 const origins: Each<Explained<string>["origin"]> = { given: true, alias: true, "not given": true, implied: true };
-const tools: Each<Dialect> = { debian: true, go: true, oci: true, node: true, gnu: true };
+const tools: Each<Dialect> = { debian: true, go: true, oci: true, node: true, gnu: true, python: true };
 const parts: Each<Field> = { architecture: true, vendor: true, operatingSystem: true, environment: true, binaryFormat: true };
 
 // `Same` is true only for two types that are the same, so that no answer's type is too wide.

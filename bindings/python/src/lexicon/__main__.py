@@ -26,7 +26,8 @@ _COMMANDS = {
     "write": "the name that another tool has for it",
     "elsewhere": "the names that other tools have for it",
 }
-_DIALECTS = [str(it) for it in Dialect]
+# As the command orders them: the last one is only written.
+_DIALECTS = [*(str(it) for it in Dialect if it is not Dialect.GNU), str(Dialect.GNU)]
 
 
 def _places(targets: List[str]) -> Iterator[Answer]:
@@ -127,7 +128,7 @@ def _parser() -> argparse.ArgumentParser:
         command.add_argument("--json", action="store_true", help="write one JSON array on one line")
         command.set_defaults(dialect=None)
         if name == "read":
-            command.add_argument("--from", dest="dialect", choices=[it for it in _DIALECTS if it != str(Dialect.GNU)])
+            command.add_argument("--from", dest="dialect", choices=_DIALECTS[:-1])
         elif name == "write":
             command.add_argument("--to", dest="dialect", choices=_DIALECTS, required=True)
     return parser

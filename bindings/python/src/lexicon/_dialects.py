@@ -19,6 +19,8 @@ class Dialect(NamedValue):
     NODE = "node"
     #: Prefixes of GNU's cross compilers, which are only written: `x86_64-w64-mingw32`.
     GNU = "gnu"
+    #: Python's platforms: tags of wheels such as `macosx_11_0_arm64`, and what `sysconfig.get_platform()` returns.
+    PYTHON = "python"
 
 
 #: The number in the library for C of no dialect: the string is spelled like a triple.

@@ -236,7 +236,7 @@ def vendor_suggestion(triple: TripleStruct) -> Optional[str]:
 
 
 def name_in(dialect: int, triple: TripleStruct) -> Optional[str]:
-    """The name of a triple in a dialect, which has at most 32 bytes, or None if there is none."""
+    """The name of a triple in a dialect, which has at most 36 bytes, or None if there is none."""
     out = TextBuffer()
     status = _write(dialect, triple, out, FIRST_SIZE, None)
     if status == TRIPLE_WITHOUT_NAME:
