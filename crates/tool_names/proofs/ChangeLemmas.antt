@@ -41,7 +41,7 @@ module _ (text : List ℕ) (t : Values) (custom : CustomStays t) where
       by_found None is h = absurd cc
       by_found (Some a) is h = itself text p ps (first_spelling p ∷ []) (other_parts ps) (rw is refl) ∙ other-none a ps h
 
--- the special texts have no changes
+-- the special strings have no changes
 
 nintendo-none : changes nintendo_3ds_text ≡ []
 unfolding changes later_spelling listed_spelling later_spellings versioned_spellings architecture_of known_vendor_of operating_system_of fixed_operating_system_of environment_of binary_format_of

@@ -1,4 +1,4 @@
--- What is read is plain, its custom vendor spells itself, and it is read again from its printed text.
+-- What is read is plain, its custom vendor spells itself, and it is read again from its printed string.
 use Rattle.std.specs.Prelude.{codes}
 use Rattle.std.proofs.Common.{◌≡◌, ◌∙◌, ℕ, List, [], ◌∷◌, ◌++◌, Option, Some, None, IfSome, Result, Ok, Err, Bool, true, false, cond, refl, sym, ap, subst}
 use Rattle.lexicon_fields.specs.{Architecture.architecture_of, BinaryFormat.binary_format_of, Environment.environment_of, Laws.HasVersionInRange, OperatingSystem.fixed_operating_system_of, OperatingSystem.operating_system_of, Vendor.is_plain, Vendor.known_vendor_of, Vendor.vendor_of}

@@ -10,7 +10,7 @@ use Rattle.target_lexicon.specs.Values.{Values}
 use Rattle.tool_names.specs.Spelling.{KnownNamesAreReadAsBefore, SpelledName, first_at_end, located, reading_of_names, reading_unless_special, refusal_at, spelled_names, spelled_reading, unread_names}
 use Rattle.tool_names.proofs.SpelledNames.{CustomStays, names-stay}
 
--- a special text has a known vendor
+-- a special string has a known vendor
 pub special-known : (text : List ℕ) (t : Values) → special_values text ≡ Some t → is_custom t.vendor ≡ false
 unfolding special_values
 special-known text t is = let known = value_named-all (λ pair. not_custom pair.1) ((nintendo_3ds_text, nintendo_3ds) ∷ ((esp_idf_text, esp_idf) ∷ [])) text t refl is in by_test (is_custom t.vendor) known
@@ -46,7 +46,7 @@ pub no_architecture : (text name : List ℕ) (from : List (List ℕ)) (names : L
     → reading_of_names text (record { name = name; from = from } ∷ names) ≡ Err (refusal_at text (refusal_with (Some Architecture) name) from)
 no_architecture text name from names none = rw none refl
 
--- the part with which the end of a text begins
+-- the part with which the end of a string begins
 pub first_at_end-is : (text from part : List ℕ) (others : List (List ℕ)) (start end : ℕ) → parts_of from ≡ part ∷ others
     → start ≡ length text - length from → end ≡ start + length part
     → (let found : PlacedPart = record { text = part; start = start; end = end } in found ≡ first_at_end text (parts_of from))
@@ -54,7 +54,7 @@ first_at_end-is text from part others start end are starts ends =
     let joined : join_with_byte dash (part ∷ others) ≡ from = ap (join_with_byte dash) (sym are) ∙ (parts_of-are from).joined in
     rw (are, joined, ends, starts) refl
 
--- a text that isn't special is read by its names
+-- a string that isn't special is read by its names
 pub ordinary-is : (text : List ℕ) → special_values text ≡ None → spelled_reading text ≡ reading_of_names text (spelled_names (parts_of text))
 unfolding spelled_reading
 ordinary-is text ordinary = rw ordinary refl

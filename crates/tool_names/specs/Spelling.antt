@@ -97,12 +97,12 @@ is_dropped_version (c ∷ cs) = list_all is_digit_or_dot (c ∷ cs)
 abbrev pub has_dropped_version : List ℕ → List ℕ → Bool
 has_dropped_version prefix part = option_map_or is_dropped_version (text_after_prefix prefix part) false
 
--- the names of the first row whose text the part is, with a version after it
+-- the names of the first row that the part begins with, if a version follows
 abbrev pub versioned_spelling : List (Pair (List (List ℕ))) → List ℕ → Option (List (List ℕ))
 versioned_spelling [] part = None
 versioned_spelling (row ∷ rows) part = if has_dropped_version row.0 part then Some row.1 else versioned_spelling rows part
 
--- the text, if it is a version of a system like Darwin
+-- the string, if it is a version of a system like Darwin
 abbrev pub checked_version : List ℕ → Option (List ℕ)
 checked_version text = option_map (λ _. text) (version_of text)
 
@@ -276,7 +276,7 @@ pub record OnceIsEnough : Type 0 where
   pub first : (part : List ℕ) → first_spelling (first_spelling part) ≡ first_spelling part
   pub later : (part : List ℕ) → SpellThemselves (later_spelling part)
 
--- a triple that was read is read again from its printed text, as its canonical form; and that is read as it is
+-- a triple that was read is read again from its printed string, as its canonical form; and that is read as it is
 pub record IsReadAgain (t : Values) : Type 0 where
   pub printed : spelled_reading (text_of t) ≡ Ok (settled_values t)
   pub canonical : spelled_reading (canonical_text t) ≡ Ok (settled_values t)

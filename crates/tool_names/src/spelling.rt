@@ -51,7 +51,7 @@ fn is_known_name(part: &str) -> bool
     row.is_some() || OperatingSystem::from_row(part, row).is_some()
 }
 
-/// The value of the first row with this text.
+/// The value of the first row with this name.
 #[tactic(auto, using(crate::proofs::LookUps::look_up_goes_on))]
 pub(crate) fn look_up<T: Copy>(rows: &[(&'static str, T)], text: &str) -> Option<T>
     ensures { result ≡ value_named (table_of rows.now) text.now }
@@ -291,7 +291,7 @@ pub(crate) fn later_spelling(part: &str) -> Option<&'static str>
     look_up(&LATER_SPELLINGS, part)
 }
 
-/// The names of the part in the table of texts that a version follows.
+/// The names of the part in the table of what comes before a version.
 #[tactic(auto, unfolding(crate::specs::Spelling::versioned_spellings))]
 pub(crate) fn versioned_spelling_of(part: &str) -> Option<&'static str>
     ensures { option_map (λ names. parts_of names.now) result
@@ -300,7 +300,7 @@ pub(crate) fn versioned_spelling_of(part: &str) -> Option<&'static str>
     versioned_spelling(&VERSIONED_SPELLINGS, part)
 }
 
-/// The names of the first row whose text the part is, with a version after it.
+/// The names of the first row that the part begins with, if a version follows.
 fn versioned_spelling(rows: &[(&'static str, &'static str)], part: &str) -> Option<&'static str>
     ensures { option_map (λ names. parts_of names.now) result
         ≡ versioned_spelling (parts_table rows.now) part.now }
@@ -323,7 +323,7 @@ fn has_dropped_version(prefix: &str, part: &str) -> bool
     }
 }
 
-/// Whether a text is digits and dots, at least one.
+/// Whether a string is digits and dots, at least one.
 fn is_dropped_version(text: &str) -> bool
     ensures { result ≡ is_dropped_version text.now }
 {

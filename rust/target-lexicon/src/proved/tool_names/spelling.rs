@@ -32,7 +32,7 @@ fn is_known_name(part: &str) -> bool {
     row.is_some() || OperatingSystem::from_row(part, row).is_some()
 }
 
-/// The value of the first row with this text.
+/// The value of the first row with this name.
 pub(crate) fn look_up<T: Copy>(rows: &[(&'static str, T)], text: &str) -> Option<T> {
     for row in rows {
         if text == row.0 {
@@ -231,12 +231,12 @@ pub(crate) fn later_spelling(part: &str) -> Option<&'static str> {
     look_up(&LATER_SPELLINGS, part)
 }
 
-/// The names of the part in the table of texts that a version follows.
+/// The names of the part in the table of what comes before a version.
 pub(crate) fn versioned_spelling_of(part: &str) -> Option<&'static str> {
     versioned_spelling(&VERSIONED_SPELLINGS, part)
 }
 
-/// The names of the first row whose text the part is, with a version after it.
+/// The names of the first row that the part begins with, if a version follows.
 fn versioned_spelling(rows: &[(&'static str, &'static str)], part: &str) -> Option<&'static str> {
     for row in rows {
         if has_dropped_version(row.0, part) {
@@ -254,7 +254,7 @@ fn has_dropped_version(prefix: &str, part: &str) -> bool {
     }
 }
 
-/// Whether a text is digits and dots, at least one.
+/// Whether a string is digits and dots, at least one.
 fn is_dropped_version(text: &str) -> bool {
     !text.is_empty() && are_digits_or_dots(text.as_bytes())
 }
