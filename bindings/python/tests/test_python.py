@@ -5,6 +5,7 @@ import itertools
 import json
 import pickle
 import unittest
+import unittest.mock
 
 import lexicon
 from lexicon import (Architecture, BinaryFormat, CustomVendor, Environment, OperatingSystem, ParseError, Triple, Vendor)
@@ -186,6 +187,12 @@ class Fields(unittest.TestCase):
         self.assertEqual([it.vendor for it in lexicon.facts_all(targets)], [None, None, vendor, "acme", *[None] * 5] * 2)
         for target in targets:
             self.assertEqual(lexicon.settle_all([target]), lexicon.settle_all(["avr", target])[1:])
+
+    def test_one_call_for_many_targets(self):
+        targets = [f"arm64-apple-ios{number}" for number in range(10000)] * 2
+        with unittest.mock.patch.object(lexicon._library, "settle_lines", wraps=lexicon._library.settle_lines) as calls:
+            lexicon.settle_all(targets)
+            self.assertLess(calls.call_count, 10)
 
     def test_long_columns(self):
         """More different targets than are answered at once, and than are remembered."""

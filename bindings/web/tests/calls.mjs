@@ -39,6 +39,9 @@ const tests = {
   "each export and each member has a type": () => {
     const types = readFileSync(script.replace(/js$/, "d.ts"), "utf8");
     assert.deepEqual([...types.matchAll(/^export (?:class|const|function) (\w+)/gm)].map((it) => it[1]).sort(), Object.keys(all).sort());
+    for (const [name, list] of Object.entries({ FIELDS, DIALECTS })) {
+      assert.equal(types.match(new RegExp(`const ${name}: readonly \\[(.*)\\];`))[1], list.map((it) => `"${it}"`).join(", "));
+    }
     const members = [...Object.getOwnPropertyNames(Triple.prototype), ...Object.keys(Triple.parse("x86_64")), "parse", "read", "explain", "of"];
     const declared = types.match(/export class Triple \{(.*?)^\}/ms)[1];
     for (const it of members) assert.match(declared, new RegExp(`^  (?:private |static |readonly )*${it}[(:]`, "m"));
