@@ -159,6 +159,14 @@ static void try_parsed(void) {
   }
 }
 
+/* Whether each member is the same. What is between them has no value. */
+static bool are_same(const struct lexicon_triple *a, const struct lexicon_triple *b) {
+  return a->architecture == b->architecture && a->vendor == b->vendor && a->operating_system == b->operating_system &&
+         a->environment == b->environment && a->binary_format == b->binary_format && a->has_version == b->has_version &&
+         a->minor == b->minor && a->patch == b->patch && a->major == b->major && a->custom_vendor == b->custom_vendor &&
+         a->custom_vendor_size == b->custom_vendor_size;
+}
+
 /* Every call with the triple gives the status, and changes nothing. */
 static void try_bad(struct lexicon_triple bad, enum lexicon_status status, const char *what) {
   struct lexicon_triple good = triple_of("x86_64-linux"), copy = bad;
@@ -170,7 +178,7 @@ static void try_bad(struct lexicon_triple bad, enum lexicon_status status, const
   fill(&facts, sizeof facts);
   expect(lexicon_print(&bad, out, sizeof out, &length) == status && length == 77 && is_filled(out, sizeof out), "bad print", what);
   expect(lexicon_facts(&bad, &facts) == status && is_filled(&facts, sizeof facts), "bad facts", what);
-  expect(lexicon_settle(&copy) == status && memcmp(&copy, &bad, sizeof copy) == 0, "bad settle", what);
+  expect(lexicon_settle(&copy) == status && are_same(&copy, &bad), "bad settle", what);
   expect(lexicon_comes_back(&bad, &answer) == status && answer, "bad comes_back", what);
   expect(lexicon_equal(&bad, &good, &answer) == status && lexicon_equal(&good, &bad, &answer) == status && answer, "bad equal", what);
   expect(lexicon_same_target(&bad, &good, &answer) == status && lexicon_same_target(&good, &bad, &answer) == status, "bad target", what);
