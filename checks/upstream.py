@@ -61,7 +61,7 @@ def read(path):
 
 def sources(crate):
     """The paths of upstream's sources and tests, by their names."""
-    folders = [f"{crate}/{name}" for name in ("src", "tests") if os.path.isdir(f"{crate}/{name}")] or [crate]
+    folders = [folder for folder in (f"{crate}/src", f"{crate}/tests") if os.path.isdir(folder)] or [crate] * os.path.isdir(crate)
     return {name.removesuffix(".txt").removeprefix("src__"): f"{folder}/{name}" for folder in folders
             for name in sorted(os.listdir(folder)) if name.endswith((".rs", ".rs.txt"))}
 
