@@ -300,7 +300,7 @@ enum lexicon_environment {
   LEXICON_ENVIRONMENT_MUSLABI64 = 21, /* Musl, with the 64-bit ABI of MIPS */
   LEXICON_ENVIRONMENT_MSVC = 22, /* Microsoft's Visual C++ */
   LEXICON_ENVIRONMENT_NEWLIB = 23, /* The C library Newlib, of embedded systems */
-  LEXICON_ENVIRONMENT_NONE = 24, /* No environment, if the text says so. A text that names none has Unknown */
+  LEXICON_ENVIRONMENT_NONE = 24, /* No environment, if the string says so. A string that names none has Unknown */
   LEXICON_ENVIRONMENT_KERNEL = 25, /* The kernel of the operating system */
   LEXICON_ENVIRONMENT_UCLIBC = 26, /* The C library uClibc */
   LEXICON_ENVIRONMENT_UCLIBCEABI = 27, /* uClibc, with Arm's embedded ABI without floating-point registers */

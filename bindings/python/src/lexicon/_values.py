@@ -448,7 +448,7 @@ class Environment(FieldValue):
     MSVC = "msvc"
     #: The C library Newlib, of embedded systems.
     NEWLIB = "newlib"
-    #: No environment, if the text says so. A text that names none has `Unknown`.
+    #: No environment, if the string says so. A string that names none has `Unknown`.
     NONE = "none"
     #: The kernel of the operating system.
     KERNEL = "kernel"

@@ -67,7 +67,7 @@ pub enum Environment {
     Msvc,
     /// The C library Newlib, of embedded systems.
     Newlib,
-    /// No environment, if the text says so. A text that names none has `Unknown`.
+    /// No environment, if the string says so. A string that names none has `Unknown`.
     None,
     /// The kernel of the operating system.
     Kernel,
