@@ -18,8 +18,18 @@ use crate::{Architecture, BinaryFormat, OperatingSystem, TripleRef};
 /// ```
 /// use target_lexicon::{tool_names::object_format, BinaryFormat, TripleRef};
 ///
-/// let triple = TripleRef::from_str("x86_64-unknown-uefi").unwrap();
-/// assert_eq!((triple.binary_format, object_format(&triple)), (BinaryFormat::Elf, BinaryFormat::Coff));
+/// for (string, upstreams, format) in [
+///     ("x86_64-unknown-linux-gnu", BinaryFormat::Elf, BinaryFormat::Elf),
+///     ("x86_64-unknown-none", BinaryFormat::Unknown, BinaryFormat::Elf),
+///     ("wasm32-wasip1", BinaryFormat::Elf, BinaryFormat::Wasm),
+///     ("x86_64-unknown-uefi", BinaryFormat::Elf, BinaryFormat::Coff),
+///     ("x86_64-pc-cygwin", BinaryFormat::Elf, BinaryFormat::Coff),
+///     ("x86_64-pc-cygwin-macho", BinaryFormat::Macho, BinaryFormat::Macho),
+///     ("powerpc64-ibm-aix", BinaryFormat::Xcoff, BinaryFormat::Xcoff),
+/// ] {
+///     let triple = TripleRef::from_str(string).unwrap();
+///     assert_eq!((triple.binary_format, object_format(&triple)), (upstreams, format), "{string}");
+/// }
 /// ```
 #[inline(always)]
 pub fn object_format(triple: &TripleRef<'_>) -> BinaryFormat {
