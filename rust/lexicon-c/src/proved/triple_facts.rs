@@ -91,6 +91,7 @@ fn convention_number(triple: &TripleRef<'_>) -> u8 {
         Ok(CallingConvention::WasmBasicCAbi) => 2,
         Ok(CallingConvention::WindowsFastcall) => 3,
         Ok(CallingConvention::AppleAarch64) => 4,
+        // no answer, or a convention that a later version adds
         _ => 0,
     }
 }
@@ -111,6 +112,7 @@ fn model_number(model: Option<CDataModel>) -> u8 {
         Some(CDataModel::LLP64) => 3,
         Some(CDataModel::LP64) => 4,
         Some(CDataModel::ILP64) => 5,
+        // no model, or one that a later version adds
         _ => 0,
     }
 }
