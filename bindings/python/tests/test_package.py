@@ -293,6 +293,11 @@ class Samples(Folder):
         self.assertEqual(answer("explain", "arm64-linux"), (f"{lexicon.explain('arm64-linux')}\n", "", 0))
         self.assertEqual(answer("read", "--from", "oci", "linux/arm64", "windows/386")[0], "aarch64-unknown-linux\ni686-pc-windows\n")
         self.assertEqual(answer("read", "x86_64-w64-mingw32")[0], "x86_64-pc-windows-gnu\n")
+        note = "  note: it is a name of another tool: use `--from go`"
+        self.assertTrue(answer("read", "linux/arm64")[1].endswith(f"^\n{note} or `--from oci`\n"))
+        self.assertTrue(answer("read", "js/wasm")[1].endswith(f"^\n{note}\n"))
+        self.assertEqual([answer(*it)[1].count("note") for it in (["read", "linx"], ["settle", "linux/arm64"], ["read", "--from", "debian", "linux/arm64"])],
+                         [0, 0, 0])
         self.assertEqual(answer("write", "--to", "go", "arm64-linux", "avr-none"), ("linux/arm64\n", "no name of go for avr-none\n", 1))
         self.assertIn("\n  go      linux/arm64\n", answer("elsewhere", "arm64-linux-gnu")[0])
         self.assertEqual(answer("read", "--from", "go", "js/wasm", "--json")[0].count('"error":"no triple means the same (Go'), 1)

@@ -109,13 +109,27 @@ def _lines(command: str, target: str, answer: Answer) -> str:
     return "\n".join([target, *lines])
 
 
+def _is_name(dialect: str, name: str) -> bool:
+    try:
+        Triple.read(name, dialect)
+    except ParseError as error:
+        return error.reason is not None
+    return True
+
+
 def _answered(options: argparse.Namespace, target: str) -> Tuple[Answer, str]:
     """The answer for a target, and how it is shown."""
     try:
         answer = _answer(options.command, options.dialect, target)
         return answer, "" if options.json else _lines(options.command, target, answer)
     except ParseError as error:
-        return _refusal(error, options.dialect if options.command == "read" else None), str(error)
+        lines = [str(error)]
+        if options.command != "read":
+            return _refusal(error, None), lines[0]
+        if options.dialect is None:
+            known = " or ".join(f"`--from {it}`" for it in _DIALECTS if _is_name(it, target))
+            lines += [f"  note: it is a name of another tool: use {known}"] if known else []
+        return _refusal(error, options.dialect), "\n".join(lines)
 
 
 def _parser() -> argparse.ArgumentParser:
