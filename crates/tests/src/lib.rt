@@ -9,6 +9,8 @@ mod callers;
 #[cfg(test)]
 mod defaults;
 #[cfg(test)]
+mod dialects;
+#[cfg(test)]
 mod explaining;
 #[cfg(test)]
 mod json;
@@ -30,8 +32,6 @@ mod suggestions;
 mod systems;
 #[cfg(test)]
 mod table;
-#[cfg(test)]
-mod tool_names;
 #[cfg(test)]
 mod values;
 #[cfg(test)]
