@@ -13,7 +13,7 @@ use core::str::FromStr;
 /// use target_lexicon::{tool_names::Dialect, TripleRef};
 ///
 /// let triple = TripleRef::from_str("x86_64-unknown-linux-gnu").unwrap();
-/// assert_eq!(Dialect::Debian.write(&triple).map(|name| name.as_str()), Some("amd64"));
+/// assert_eq!(Dialect::Debian.write(&triple).unwrap().as_str(), "amd64");
 /// assert_eq!("go".parse(), Ok(Dialect::Go));
 /// ```
 #[non_exhaustive]
