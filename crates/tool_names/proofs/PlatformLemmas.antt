@@ -11,7 +11,7 @@ use Rattle.lexicon_fields.specs.{declared.deployment_target.DeploymentTarget.Dep
 use Rattle.lexicon_fields.proofs.{LookUpLemmas.test_apart, LookUpLemmas.value_named-named_values, VersionsReadBack.digits_model}
 use Rattle.tool_names.specs.declared.platform.VersionedSystem.{VersionedSystem}
 use Rattle.tool_names.specs.declared.platform.VersionedSystem.TheVariants.{MacOs, Ios, Manylinux, Musllinux, Android}
-use Rattle.tool_names.specs.Platform.{NameParts, has_two_numbers, is_plain, is_separator, minor_first, number_first, plain_number, split_tag, system_tag, tag_byte, tag_of, underscore, version_of_two, versioned_name_of, versioned_system_of, versioned_systems, versioned_tag}
+use Rattle.tool_names.specs.Platform.{NameParts, has_two_numbers, is_plain, is_separator, minor_if_any, number_first, plain_number, split_tag, system_tag, tag_byte, tag_of, underscore, version_of_two, versioned_name_of, versioned_system_of, versioned_systems, versioned_tag}
 
 -- bytes of tags
 
@@ -202,9 +202,9 @@ pub record AreParts (tag : List ℕ) (it : NameParts) : Type 0 where
   pub range : IsVersionInRange it.version
   pub patch : it.version.patch ≡ 0
 
-minor_first-is : (s : VersionedSystem) (tag : List ℕ) (found : ℕ × List ℕ) → minor_first s tag ≡ Some found
+minor_if_any-is : (s : VersionedSystem) (tag : List ℕ) (found : ℕ × List ℕ) → minor_if_any s tag ≡ Some found
     → (has_two_numbers s ≡ true → tag ≡ decimal found.0 ++ (underscore ∷ found.1)) × (found.0 ≤ 255)
-minor_first-is s tag found h = by_test (has_two_numbers s) refl h
+minor_if_any-is s tag found h = by_test (has_two_numbers s) refl h
   where
     by_test : (b : Bool) → has_two_numbers s ≡ b → cond b (number_first 255 tag) (Some (0, tag)) ≡ Some found
         → (has_two_numbers s ≡ true → tag ≡ decimal found.0 ++ (underscore ∷ found.1)) × (found.0 ≤ 255)
@@ -220,9 +220,9 @@ parts-joined tag it h =
     let parts = and_then-some _ (split_tag tag) it h in
     let system = and_then-some _ (versioned_system_of parts.0.0) it parts.2 in
     let major = and_then-some _ (number_first 65535 parts.0.1) it system.2 in
-    let minor = map-some _ (minor_first system.0 major.0.1) it major.2 in
+    let minor = map-some _ (minor_if_any system.0 major.0.1) it major.2 in
     let first = number_first-is 65535 parts.0.1 major.0 (omega arith) major.1 in
-    let second = minor_first-is system.0 major.0.1 minor.0 minor.1 in
+    let second = minor_if_any-is system.0 major.0.1 minor.0 minor.1 in
     let named = system-tagged parts.0.0 system.0 system.1 in
     let made : NameParts = record { system = system.0; version = version_of_two major.0.0 minor.0.0; machine = minor.0.1 } in
     let of_made : AreParts tag made = record {

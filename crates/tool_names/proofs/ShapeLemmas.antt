@@ -14,7 +14,7 @@ use Rattle.tool_names.specs.declared.platform.VersionedSystem.{VersionedSystem}
 use Rattle.tool_names.specs.declared.platform.VersionedSystem.TheVariants.{MacOs, Ios}
 use Rattle.tool_names.specs.Laws.{ShapesAreFixed}
 use Rattle.tool_names.specs.Platform.{keeps_version, kept_version, system_with}
-use Rattle.tool_names.specs.Shape.{abi_in, abi_in_node, arm_in, arm_of_order, arm_of_version, is_bare_abi, is_library, machine_in, shape, system_in, two_numbers, unknown_if, unversioned, usual_vendor, with_two_numbers}
+use Rattle.tool_names.specs.Shape.{abi_in, abi_in_node, arm_in, arm_of_order, arm_of_version, is_bare_abi, is_dropped_abi, machine_in, shape, system_in, two_numbers, unknown_if, unversioned, usual_vendor, with_two_numbers}
 
 -- once is enough
 
@@ -62,7 +62,7 @@ vendor-once : (d : Dialect) (s : OperatingSystem) → usual_vendor (system_in d 
 vendor-once Python s = two_numbers-vendor s
 vendor-once _ s = unversioned-vendor s
 
-library-once : (e : Environment) → unknown_if (is_library (unknown_if (is_library e) e)) (unknown_if (is_library e) e) ≡ unknown_if (is_library e) e
+library-once : (e : Environment) → unknown_if (is_dropped_abi (unknown_if (is_dropped_abi e) e)) (unknown_if (is_dropped_abi e) e) ≡ unknown_if (is_dropped_abi e) e
 library-once environment.Unknown = refl
 library-once _ = refl
 
@@ -112,7 +112,7 @@ machine-width : (d : Dialect) (a : Architecture) → architecture_width (machine
 machine-width d architecture.X86_64 = refl
 machine-width d _ = refl
 
-library-ilp32 : (e : Environment) → is_ilp32 (unknown_if (is_library e) e) ≡ is_ilp32 e
+library-ilp32 : (e : Environment) → is_ilp32 (unknown_if (is_dropped_abi e) e) ≡ is_ilp32 e
 library-ilp32 environment.Unknown = refl
 library-ilp32 _ = refl
 
@@ -145,7 +145,7 @@ pub shape-plain : (d : Dialect) (t : Values) → HasVersionInRange (shape d t).o
 unfolding shape
 shape-plain d t range = record { vendor = refl; version = range }
 
--- a version that isn't kept is dropped
+-- where no version is kept, the system of a shape has a version in range: none
 pub unkept-range : (d : Dialect) (s : OperatingSystem) → kept_version (system_in d s) ≡ None → HasVersionInRange (system_in d s)
 unkept-range Python (operating_system.MacOSX None) none = tt
 unkept-range Python (operating_system.MacOSX (Some version)) none = absurd cc

@@ -1,4 +1,5 @@
--- What is changed in a string that is spelled like a triple: the parts that are other spellings of known names.
+-- What is changed in a string that is spelled like a triple: the parts that are other spellings of known names, and a
+-- second part that states no vendor.
 use Rattle.std.specs.Prelude.{◌≡◌, ◌↔◌, false, ℕ, Bool, List, [], ◌∷◌, ◌++◌, Option, Some, None, Ok, if◌then◌else◌}
 use Rattle.std.specs.Borrow.{Bor}
 use Rattle.std.specs.List.{join_with_byte}

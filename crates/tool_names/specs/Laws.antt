@@ -23,13 +23,13 @@ pub record ReadsBack (d : Dialect) (name : List ℕ) (t : Values) : Type 0 where
   pub read : name_meaning d name ≡ Ok t
   pub written : triple_name d t ≡ Some name
 
--- this holds for the names of rows, and in Python for each tag of a machine with a version that is kept
+-- this holds for the names of the rows of `both_ways`, and in Python for each tag of a machine with a version that is kept
 pub record NamesReadBack : Type 0 where
   pub plain : (d : Dialect) (name text : List ℕ) → value_named (both_ways d) name ≡ Some text → (t : Values) × ReadsBack d name t
   pub versioned : (name : List ℕ) (it : NameParts) (text : List ℕ) → tag_of name ≡ name → versioned_name_of name ≡ Some it → keeps_version it.system ≡ true
       → value_named (machines it.system) it.machine ≡ Some text → (t : Values) × ReadsBack Python name t
 
--- a name without a triple isn't read, whatever its version
+-- a name without a triple isn't read, whatever its version, and the reason is given
 pub record NamesWithoutTripleAreRefused : Type 0 where
   pub plain : (d : Dialect) (name why : List ℕ) → value_named (without_a_triple d) name ≡ Some why → name_meaning d name ≡ Err (HasNoTriple why)
   pub versioned : (name : List ℕ) (it : NameParts) (why : List ℕ) → versioned_name_of (tag_of name) ≡ Some it

@@ -12,7 +12,7 @@ use Rattle.tool_names.specs.declared.platform.VersionedSystem.TheVariants.{MacOs
 abbrev pub underscore : ℕ
 underscore = 95
 
--- the bytes between two parts of a name
+-- the bytes for which a tag has `_`
 abbrev pub is_separator : ℕ → Bool
 is_separator c = c == dash || c == dot || c == underscore
 
@@ -72,15 +72,15 @@ pub record NameParts : Type 0 where
 abbrev pub version_of_two : ℕ → ℕ → DeploymentTarget
 version_of_two major minor = record { major = major; minor = minor; patch = 0 }
 
--- the second number of a system that has one, and the machine
-abbrev pub minor_first : VersionedSystem → List ℕ → Option (ℕ × List ℕ)
-minor_first system tag = if has_two_numbers system then number_first 255 tag else Some (0, tag)
+-- the second number of a version and the machine; 0 and all that is left for a system whose version is one number
+abbrev pub minor_if_any : VersionedSystem → List ℕ → Option (ℕ × List ℕ)
+minor_if_any system tag = if has_two_numbers system then number_first 255 tag else Some (0, tag)
 
--- the parts after a system
+-- the parts of a tag, by its system and what follows that
 abbrev pub after_system : VersionedSystem → List ℕ → Option NameParts
 after_system system tag =
     option_and_then (λ (major : ℕ × List ℕ). option_map (λ (minor : ℕ × List ℕ). record { system = system; version = version_of_two major.0 minor.0; machine = minor.1 })
-    (minor_first system major.1)) (number_first 65535 tag)
+    (minor_if_any system major.1)) (number_first 65535 tag)
 
 -- the parts of a tag with a version
 unfoldable pub versioned_name_of : List ℕ → Option NameParts
@@ -97,7 +97,7 @@ keeps_version MacOs = true
 keeps_version Ios = true
 keeps_version _ = false
 
--- the system of a triple with this version, if it is kept
+-- the system with this version in place of this one, if versions are kept; `None` drops it
 abbrev pub system_with : VersionedSystem → Option DeploymentTarget → OperatingSystem → OperatingSystem
 system_with MacOs version s = operating_system.MacOSX version
 system_with Ios version s = operating_system.IOS version

@@ -1,7 +1,7 @@
--- The shape of a triple in a dialect: the triple without what the dialect doesn't name. The architecture has no more of
--- a version than the dialect states, the vendor is the usual one of the system, the system has no version, except in
--- Python, and Go, OCI, Node and Python don't state every ABI. The binary format stays, so that a name never stands for
--- another one.
+-- The shape of a triple in a dialect: the triple without what the dialect doesn't name. The architecture gives up the
+-- versions that are listed here, the vendor is the usual one of the system, the system has no version, except `macosx` and
+-- `ios` in Python, and Go, OCI, Node and Python don't state every ABI. The binary format stays, so that a name never stands
+-- for another one.
 use Rattle.std.specs.Prelude.{Bool, true, false, None, option_map, if◌then◌else◌}
 use Rattle.lexicon_fields.specs.{declared.architecture.arm.ArmArchitecture.ArmArchitecture, declared.deployment_target.DeploymentTarget.DeploymentTarget, declared.known_vendor.KnownVendor.KnownVendor}
 use Rattle.lexicon_fields.specs.declared.known_vendor.KnownVendor.TheVariants as vendor
@@ -23,7 +23,8 @@ arm_of_order arm.Armebv7r = arm.Armeb
 arm_of_order arm.Thumbeb = arm.Armeb
 arm_of_order _ = arm.Arm
 
--- the versions 5, 6, 7 and 8 of Arm for applications; every other Arm is itself
+-- the names of Armv5 to Armv8 that become `armv5te`, `armv6`, `armv7` or `armv8`; every other Arm is itself, such as `armv7r`
+-- or `armv8.1a`
 abbrev pub arm_of_version : ArmArchitecture → ArmArchitecture
 arm_of_version arm.Armv5t = arm.Armv5te
 arm_of_version arm.Armv5tej = arm.Armv5te
@@ -45,7 +46,7 @@ arm_in Oci a = arm_of_version a
 arm_in Python a = arm_of_version a
 arm_in _ a = arm_of_order a
 
--- the architecture without the rest of its version
+-- the architecture without the version that a dialect doesn't state
 abbrev pub machine_in : Dialect → Architecture → Architecture
 machine_in d (architecture.Arm a) = architecture.Arm (arm_in d a)
 machine_in d (architecture.X86_32 _) = architecture.X86_32 I686
@@ -70,7 +71,7 @@ unversioned s = s
 abbrev pub two_numbers : DeploymentTarget → DeploymentTarget
 two_numbers v = record { major = v.major; minor = v.minor; patch = 0 }
 
--- the system without a version, except that macOS and iOS have two numbers of it
+-- the system without a version, except that `macosx` and `ios` have two numbers of it
 abbrev pub with_two_numbers : OperatingSystem → OperatingSystem
 with_two_numbers (operating_system.MacOSX version) = operating_system.MacOSX (option_map two_numbers version)
 with_two_numbers (operating_system.IOS version) = operating_system.IOS (option_map two_numbers version)
@@ -103,23 +104,24 @@ is_bare_abi environment.Eabihf = true
 is_bare_abi environment.None = true
 is_bare_abi _ = false
 
--- the environments that state a C library, or how floating-point numbers are passed
-abbrev pub is_library : Environment → Bool
-is_library environment.Gnu = true
-is_library environment.Gnueabi = true
-is_library environment.Gnueabihf = true
-is_library environment.Gnuabi64 = true
-is_library environment.Gnuspe = true
-is_library environment.GnuLlvm = true
-is_library environment.Musl = true
-is_library environment.Musleabi = true
-is_library environment.Musleabihf = true
-is_library environment.Muslabi64 = true
-is_library environment.Uclibc = true
-is_library environment.Uclibceabi = true
-is_library environment.Uclibceabihf = true
-is_library environment.Msvc = true
-is_library e = is_bare_abi e
+-- the environments that a dialect without ABIs drops: those of GNU except its two with 32-bit pointers on a 64-bit
+-- architecture, those of musl, uClibc and Microsoft, and the bare ones
+abbrev pub is_dropped_abi : Environment → Bool
+is_dropped_abi environment.Gnu = true
+is_dropped_abi environment.Gnueabi = true
+is_dropped_abi environment.Gnueabihf = true
+is_dropped_abi environment.Gnuabi64 = true
+is_dropped_abi environment.Gnuspe = true
+is_dropped_abi environment.GnuLlvm = true
+is_dropped_abi environment.Musl = true
+is_dropped_abi environment.Musleabi = true
+is_dropped_abi environment.Musleabihf = true
+is_dropped_abi environment.Muslabi64 = true
+is_dropped_abi environment.Uclibc = true
+is_dropped_abi environment.Uclibceabi = true
+is_dropped_abi environment.Uclibceabihf = true
+is_dropped_abi environment.Msvc = true
+is_dropped_abi e = is_bare_abi e
 
 abbrev pub unknown_if : Bool → Environment → Environment
 unknown_if forgotten e = if forgotten then environment.Unknown else e
@@ -127,15 +129,15 @@ unknown_if forgotten e = if forgotten then environment.Unknown else e
 -- Node's packages state the C library on Linux
 abbrev pub abi_in_node : OperatingSystem → Environment → Environment
 abi_in_node operating_system.Linux e = unknown_if (is_bare_abi e) e
-abi_in_node _ e = unknown_if (is_library e) e
+abi_in_node _ e = unknown_if (is_dropped_abi e) e
 
 -- what a dialect states of the ABI
 abbrev pub abi_in : Dialect → OperatingSystem → Environment → Environment
 abi_in Debian s e = e
 abi_in Gnu s e = e
-abi_in Go s e = unknown_if (is_library e) e
-abi_in Oci s e = unknown_if (is_library e) e
-abi_in Python s e = unknown_if (is_library e) e
+abi_in Go s e = unknown_if (is_dropped_abi e) e
+abi_in Oci s e = unknown_if (is_dropped_abi e) e
+abi_in Python s e = unknown_if (is_dropped_abi e) e
 abi_in Node s e = abi_in_node s e
 
 -- the shape of a triple

@@ -1,5 +1,5 @@
 -- Strings that are spelled like triples, as the tools of GNU and LLVM print them: some parts are other spellings of
--- known names. Each such part gives way to these names, which are parsed as ever.
+-- known names, and a second part may state no vendor. Each such part gives way to known names, which are parsed as ever.
 use Rattle.std.specs.Prelude.{◌≡◌, ℕ, Bool, true, false, ◌||◌, ◌&&◌, ◌-◌, List, [], ◌∷◌, ◌++◌, codes, length, map, Option, Some, None, is_none, is_some, not, option_map, option_and_then, slice_get, unwrap_or, Result, Ok, Err, if◌then◌else◌, ◌==◌}
 use Rattle.std.specs.Char.{is_ascii_digit}
 use Rattle.std.specs.List.{list_all, join_with_byte}
@@ -260,7 +260,7 @@ RefusalsAreAtTheRefusedName = (text : List ℕ) (found : PartRefusal) → spelle
 abbrev pub RefusedPartsAreInTheString : Type 0
 RefusedPartsAreInTheString = (text : List ℕ) (it : PartRefusal) → spelled_reading text ≡ Err it → IsInText text (refused_part it)
 
--- no part that is listed is a known name, also with a version after it
+-- no part that is listed is a known name; those with a version aren't with the version `1`
 pub record ListedPartsAreUnknown : Type 0 where
   pub first : list_all (λ row. is_none (architecture_of row.0)) first_spellings ≡ true
   pub later : list_all (λ row. not (is_known_name row.0)) later_spellings ≡ true
@@ -271,7 +271,7 @@ abbrev pub SpellThemselves : List (List ℕ) → Type 0
 SpellThemselves [] = Unit {0}
 SpellThemselves (name ∷ names) = (later_spelling name ≡ name ∷ []) × SpellThemselves names
 
--- the names that a part spells spell themselves, so that to rewrite a string twice changes nothing more
+-- the names that a first or a later part spells spell themselves, so that to rewrite them again changes nothing more
 pub record OnceIsEnough : Type 0 where
   pub first : (part : List ℕ) → first_spelling (first_spelling part) ≡ first_spelling part
   pub later : (part : List ℕ) → SpellThemselves (later_spelling part)

@@ -23,7 +23,7 @@ abbrev pub key_of : Dialect → List ℕ → List ℕ
 key_of Python name = tag_of name
 key_of _ name = name
 
--- the triple that a name without a version means, as a string
+-- the triple that a key without a version means, as a string
 unfoldable pub triple_text : Dialect → List ℕ → Option (List ℕ)
 triple_text d name = option_or (value_named (both_ways d) name) (value_named (only_read d) name)
 
@@ -31,11 +31,11 @@ abbrev pub unread_because : Option (List ℕ) → Unread
 unread_because None = IsUnknown
 unread_because (Some why) = HasNoTriple why
 
--- the names without a version that have a triple
+-- the names of the rows that are read, which have no version
 unfoldable pub names_that_are_read : Dialect → List (List ℕ)
 names_that_are_read d = map (λ (row : Pair (List ℕ)). row.0) (both_ways d) ++ map (λ (row : Pair (List ℕ)). row.0) (only_read d)
 
--- the triple of a string that parses
+-- the triple of a row's string; a string that doesn't parse would be unknown
 abbrev pub read_or_unknown : Result Values Refusal → Result Values Unread
 read_or_unknown (Ok t) = Ok t
 read_or_unknown (Err _) = Err IsUnknown
@@ -44,7 +44,7 @@ abbrev pub meaning_of : Option (List ℕ) → Unread → Result Values Unread
 meaning_of (Some text) why = read_or_unknown (reading text)
 meaning_of None why = Err why
 
--- what a name without a version means: the triple of its row
+-- what a key without a version means: the triple of its row, or why it has none
 abbrev pub plain_meaning : Dialect → List ℕ → Result Values Unread
 plain_meaning d key = meaning_of (triple_text d key) (unread_because (value_named (without_a_triple d) key))
 
@@ -52,7 +52,8 @@ abbrev pub with_version : VersionedSystem → DeploymentTarget → Result Values
 with_version system version (Ok t) = Ok (triple_with system (Some version) t)
 with_version system version (Err why) = Err why
 
--- what a name with a version means: the triple of the machine on the system, with the version if it is kept
+-- what a name with a version means: the triple of the machine on the system, with the version if it is kept, or why it
+-- has none
 abbrev pub versioned_meaning : NameParts → Result Values Unread
 versioned_meaning it =
     with_version it.system it.version
@@ -84,7 +85,8 @@ name_with rows text = value_named (map (λ (row : Pair (List ℕ)). (row.1, row.
 unfoldable pub name_of_text : Dialect → List ℕ → Option (List ℕ)
 name_of_text d text = option_or (name_with (both_ways d) text) (name_with (only_written d) text)
 
--- the name of a shape: of one whose version is kept that of the machine on the system, with the version
+-- the name of a shape: with a version that is kept, which only Python does, the tag of system, version and machine;
+-- otherwise the name of its string
 abbrev pub name_by_version : Dialect → Values → Option (VersionedSystem × DeploymentTarget) → Option (List ℕ)
 name_by_version d t None = name_of_text d (text_of t)
 name_by_version d t (Some kept) = option_map (versioned_tag kept.0 kept.1) (name_with (machines kept.0) (text_of (triple_with kept.0 None t)))

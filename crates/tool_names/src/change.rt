@@ -5,7 +5,7 @@ ghost use Rattle.tool_names.specs.Changes.{change_value, changes, changes_left, 
 use crate::spelling::{Spelling, first_at_end, first_part, first_spelling};
 use target_lexicon::TextPart;
 
-/// A part of a string that is another spelling of known names.
+/// A part of a string that is another spelling of known names, or a second part that states no vendor.
 #[derive(Clone, Copy, Debug, PartialEq, Eq)]
 pub struct Change<'a> {
     /// The part, as it is in the string.

@@ -40,14 +40,13 @@ pub fn unchanged_strings_are_read_as_they_parse()
     ensures { UnchangedStringsAreReadAsTheyParse }
 {}
 
-/// No part that is listed as another spelling is a known name.
+/// No part that is listed as another spelling is a known name; those with a version aren't with the version `1`.
 #[tactic(auto, using(crate::proofs::SpelledNames::listed_unknown))]
 pub fn listed_parts_are_unknown()
     ensures { ListedPartsAreUnknown }
 {}
 
-/// What a part spells spells itself: each name is a known one, or the part. So to rewrite a string twice changes nothing
-/// more.
+/// What a first or a later part spells spells itself. So to rewrite it again changes nothing more.
 #[tactic(auto, using(crate::proofs::SpelledOnce::once_is_enough))]
 pub fn once_is_enough()
     ensures { OnceIsEnough }
@@ -76,8 +75,8 @@ pub fn names_are_canonical()
     read_triples_are_plain();
 }
 
-/// Each name that goes both ways is read, and is the name of the triple that it means. So no two such names mean one
-/// triple.
+/// Each name that goes both ways is read, and is the name of the triple that it means; so is each tag of Python with a
+/// version that is kept. So no two such names mean one triple.
 #[tactic(auto, using(crate::proofs::NameLaws::names_read_back))]
 pub fn names_read_back()
     ensures { NamesReadBack }
@@ -95,7 +94,8 @@ pub fn tags_mean_the_same()
     ensures { TagsMeanTheSame }
 {}
 
-/// The name of a triple means the shape of the triple: reading what was written gives the shape.
+/// The name of a triple means the shape of the triple, if it is read. Names that go both ways, and those with a version,
+/// are read.
 #[tactic(auto, using(crate::proofs::NameLaws::names_mean_shape))]
 pub fn names_mean_the_shape()
     ensures { NamesMeanTheShape }

@@ -50,10 +50,10 @@ impl VersionedSystem {
     }
 
     #[tactic(auto, unfolding(crate::specs::Platform::versioned_system_of))]
-    fn of_name(name: &str) -> Option<VersionedSystem>
-        ensures { result ≡ versioned_system_of name.now }
+    fn of_word(word: &str) -> Option<VersionedSystem>
+        ensures { result ≡ versioned_system_of word.now }
     {
-        look_up(&SYSTEMS, name)
+        look_up(&SYSTEMS, word)
     }
 
     /// Whether the version is two numbers. Android's is one, its API level.
@@ -63,7 +63,7 @@ impl VersionedSystem {
         !matches!(self, VersionedSystem::Android)
     }
 
-    /// The system of a triple with this version. Only those of Apple keep it.
+    /// The system with this version in place of a triple's; that of a triple on Linux or Android stays.
     pub(crate) fn with(
         self,
         version: Option<DeploymentTarget>,
@@ -88,7 +88,7 @@ impl<'a> VersionedName<'a> {
         ensures { option_map parts_seen result ≡ versioned_name_of (tag_of name.entry.now) }
     {
         let (system, rest) = split_once(name)?;
-        let system = VersionedSystem::of_name(system)?;
+        let system = VersionedSystem::of_word(system)?;
         let (major, rest) = major_first(rest)?;
         let (minor, machine) = if system.has_two_numbers() {
             minor_first(rest)?
@@ -107,7 +107,7 @@ impl<'a> VersionedName<'a> {
     }
 }
 
-/// The version that a name keeps of a system, and the system in Python.
+/// The system of Python whose names keep this system's version, and the version. `None` without one.
 pub(crate) fn kept_version(
     operating_system: OperatingSystem,
 ) -> Option<(VersionedSystem, DeploymentTarget)>

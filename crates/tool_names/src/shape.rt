@@ -1,7 +1,7 @@
 //! The shape of a triple in a dialect.
 ghost use Rattle.std.specs.Prelude.{◌≡◌, option_map};
 ghost use Rattle.target_lexicon.specs.ValuesRef.{values_of_ref};
-ghost use Rattle.tool_names.specs.Shape.{abi_in, abi_in_node, arm_in, arm_of_order, arm_of_version, is_bare_abi, is_library, machine_in, shape, system_in, two_numbers, unversioned, usual_vendor, with_two_numbers};
+ghost use Rattle.tool_names.specs.Shape.{abi_in, abi_in_node, arm_in, arm_of_order, arm_of_version, is_bare_abi, is_dropped_abi, machine_in, shape, system_in, two_numbers, unversioned, usual_vendor, with_two_numbers};
 
 use crate::dialect::Dialect;
 use target_lexicon::{
@@ -64,10 +64,10 @@ impl Dialect {
     {
         let forgotten = match self {
             Dialect::Debian | Dialect::Gnu => false,
-            Dialect::Go | Dialect::Oci | Dialect::Python => is_library(environment),
+            Dialect::Go | Dialect::Oci | Dialect::Python => is_dropped_abi(environment),
             Dialect::Node => match operating_system {
                 OperatingSystem::Linux => is_bare_abi(environment),
-                _ => is_library(environment),
+                _ => is_dropped_abi(environment),
             },
         };
         if forgotten {
@@ -180,8 +180,8 @@ fn is_bare_abi(environment: Environment) -> bool
 }
 
 /// Whether an environment states a C library, or how floating-point numbers are passed.
-fn is_library(environment: Environment) -> bool
-    ensures { result ≡ is_library environment }
+fn is_dropped_abi(environment: Environment) -> bool
+    ensures { result ≡ is_dropped_abi environment }
 {
     match environment {
         Environment::Gnu

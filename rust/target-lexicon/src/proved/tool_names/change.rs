@@ -4,7 +4,7 @@
 use crate::tool_names::spelling::{first_at_end, first_part, first_spelling, Spelling};
 use crate::TextPart;
 
-/// A part of a string that is another spelling of known names.
+/// A part of a string that is another spelling of known names, or a second part that states no vendor.
 ///
 /// # Examples
 ///

@@ -60,10 +60,10 @@ impl Dialect {
     fn abi(self, operating_system: OperatingSystem, environment: Environment) -> Environment {
         let forgotten = match self {
             Dialect::Debian | Dialect::Gnu => false,
-            Dialect::Go | Dialect::Oci | Dialect::Python => is_library(environment),
+            Dialect::Go | Dialect::Oci | Dialect::Python => is_dropped_abi(environment),
             Dialect::Node => match operating_system {
                 OperatingSystem::Linux => is_bare_abi(environment),
-                _ => is_library(environment),
+                _ => is_dropped_abi(environment),
             },
         };
         if forgotten {
@@ -162,7 +162,7 @@ fn is_bare_abi(environment: Environment) -> bool {
 }
 
 /// Whether an environment states a C library, or how floating-point numbers are passed.
-fn is_library(environment: Environment) -> bool {
+fn is_dropped_abi(environment: Environment) -> bool {
     match environment {
         Environment::Gnu
         | Environment::Gnueabi
