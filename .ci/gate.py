@@ -26,10 +26,7 @@ DEBIAN_CRATES = "/usr/share/cargo/registry"
 
 # Each step: what it is for, its command, and the tools that it needs: commands, modules of python3, or paths.
 FIRST = [
-    ("the table of names is well-formed, and each list of names is what it gives", "tools/names/write --check", ""),
-    ("the committed Rust source is the proved one without its proofs", "tools/erase --check", "rustfmt"),
-    ("what the eraser left out and changed is what was reviewed, by another method than the eraser's", "checks/erased", ""),
-    ("what SPEC names is defined, public contracts cite public definitions, and must-fail edits apply", "checks/statement", ""),
+    ("lists of names, the Rust source, what was reviewed of it, and SPEC are what they are made from", "tools/write --check", ""),
     ("no script of bash has a warning", "checks/scripts shell", "shellcheck"),
     ("no script of Python has a warning", "checks/scripts python", "pyflakes3"),
 ]
