@@ -1,4 +1,4 @@
--- Vendors: the known ones, and custom ones, which are any other text of a certain form.
+-- Vendors: the known ones, and custom ones, which are any other string of a certain form.
 use Rattle.std.specs.Prelude.{◌≡◌, ℕ, ◌==◌, Bool, true, false, ◌&&◌, ◌||◌, List, [], ◌∷◌, codes, Option, Some, None, is_none, option_map, if◌then◌else◌, string_bytes, IsTrue}
 use Rattle.std.specs.Char.{is_ascii_digit, is_ascii_lowercase}
 use Rattle.std.specs.List.{list_all}
@@ -10,22 +10,22 @@ use Rattle.lexicon_fields.specs.{declared.vendor.VendorError.TheVariants.Unrecog
 use Rattle.lexicon_fields.specs.declared.known_vendor.KnownVendor.TheVariants as known_vendor
 use Rattle.lexicon_fields.specs.declared.vendor.Vendor.TheVariants as vendor
 
--- a vendor as the rules see it: a known one, or a custom one, which is its text
+-- a vendor as the rules see it: a known one, or a custom one, which is its string
 pub data VendorValue : Type 0 where
   Known : KnownVendor → VendorValue
   Custom : List ℕ → VendorValue
 
--- the text of a custom vendor, owned or static
+-- the string of a custom vendor, owned or static
 abbrev pub custom_text : CustomVendor → List ℕ
 custom_text (Owned text) = string_bytes text.value
 custom_text (Static text) = text.now
 
--- whether a custom vendor owns its text
+-- whether a custom vendor owns its string
 abbrev pub is_owned : CustomVendor → Bool
 is_owned (Owned text) = true
 is_owned (Static text) = false
 
--- whether a vendor is a custom one that owns its text
+-- whether a vendor is a custom one that owns its string
 abbrev pub owns_text : Vendor → Bool
 owns_text (vendor.Custom custom) = is_owned custom
 owns_text _ = false
@@ -72,7 +72,7 @@ known_vendor_name known_vendor.Wrs = codes "wrs"
 
 -- end of what is written
 
--- the name of a vendor; that of a custom one is its text
+-- the name of a vendor; that of a custom one is its string
 abbrev pub vendor_name : VendorValue → List ℕ
 vendor_name (Known known) = known_vendor_name known
 vendor_name (Custom text) = text
@@ -98,30 +98,30 @@ underscore = 95
 abbrev pub is_vendor_character : ℕ → Bool
 is_vendor_character c = is_ascii_lowercase c || is_ascii_digit c || (c == underscore) || (c == dot)
 
--- a text that begins with a lower-case letter and has only characters of a vendor
+-- a string that begins with a lower-case letter and has only characters of a vendor
 abbrev pub has_vendor_form : List ℕ → Bool
 has_vendor_form [] = false
 has_vendor_form (c ∷ cs) = is_ascii_lowercase c && list_all is_vendor_character cs
 
--- a text that parses as no other field and is not the name of a known vendor
+-- a string that parses as no other field and is not the name of a known vendor
 abbrev pub is_free : List ℕ → Bool
 is_free text =
     is_none (known_vendor_of text) && is_none (architecture_of text) && is_none (operating_system_of text)
     && is_none (environment_of text) && is_none (binary_format_of text)
 
--- whether a text is admitted as a custom vendor
+-- whether a string is admitted as a custom vendor
 unfoldable pub is_admitted : List ℕ → Bool
 is_admitted text = is_free text && has_vendor_form text
 
--- the custom vendor with this text, if the text is admitted
+-- the custom vendor with this string, if the string is admitted
 abbrev pub custom_vendor_of : List ℕ → Option VendorValue
 custom_vendor_of text = if is_admitted text then Some (Custom text) else None
 
--- the value that a text parses as, if any
+-- the value that a string parses as, if any
 unfoldable pub vendor_of : List ℕ → Option VendorValue
 vendor_of text = option_or (option_map Known (known_vendor_of text)) (custom_vendor_of text)
 
--- whether a vendor is plain: known, or custom with an admitted text
+-- whether a vendor is plain: known, or custom with an admitted string
 abbrev pub is_plain : VendorValue → Bool
 is_plain (Known known) = true
 is_plain (Custom text) = is_admitted text
@@ -134,11 +134,11 @@ is_custom (Custom text) = true
 abbrev pub IsCustom : VendorValue → Type 0
 IsCustom v = IsTrue (is_custom v)
 
--- if the vendor is custom, it owns its text
+-- if the vendor is custom, it owns its string
 abbrev pub OwnsCustomText : Vendor → Type 0
 OwnsCustomText v = IsCustom (vendor_value v) → owns_text v ≡ true
 
--- why a text doesn't parse as a vendor: it is no vendor, or it is admitted and the allocation for it failed
+-- why a string doesn't parse as a vendor: it is no vendor, or it is admitted and the allocation for it failed
 abbrev pub IsVendorErrorOf : List ℕ → VendorError → Type 0
 IsVendorErrorOf text Unrecognized = vendor_of text ≡ None
 IsVendorErrorOf text OutOfMemory = is_admitted text ≡ true

@@ -1,4 +1,4 @@
--- Vendors that borrow a custom text.
+-- Vendors that borrow a custom string.
 use Rattle.lexicon_fields.specs.{declared.vendor_ref.VendorRef.VendorRef, Vendor.VendorValue, Vendor.Known, Vendor.Custom}
 use Rattle.lexicon_fields.specs.declared.vendor_ref.VendorRef.TheVariants as vendor_ref
 

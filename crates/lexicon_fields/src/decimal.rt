@@ -5,7 +5,7 @@ ghost use Rattle.lexicon_fields.specs.Put.{Puts};
 
 use std::str::from_utf8;
 
-/// The number of digits of the longest number.
+/// The most digits that a 64-bit number has in decimal.
 pub const MAX_DECIMAL_LENGTH: usize = 20;
 
 /// A number in decimal, written into a buffer that has room for the longest.
@@ -21,7 +21,7 @@ pub fn decimal_text(n: usize, buffer: &mut [u8; MAX_DECIMAL_LENGTH]) -> &str
     }
 }
 
-/// Writes a number in decimal, as [`put_byte`] writes a byte.
+/// Writes a number in decimal at `at`, and returns where it ends.
 pub(crate) fn put_decimal(out: &mut [u8], at: usize, n: usize) -> usize
     requires { at + length (decimal n) ≤ length out.old }
     ensures { Puts (decimal n) out.old at out.new result }
@@ -33,7 +33,7 @@ pub(crate) fn put_decimal(out: &mut [u8], at: usize, n: usize) -> usize
     put_byte(out, at, b'0' + (n % 10) as u8)
 }
 
-/// Writes a byte after what ends at `at`. Returns the end of both.
+/// Writes a byte at `at`, and returns where it ends.
 pub(crate) fn put_byte(out: &mut [u8], at: usize, byte: u8) -> usize
     requires { at + 1 ≤ length out.old }
     ensures { Puts (byte ∷ []) out.old at out.new result }

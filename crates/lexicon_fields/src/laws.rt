@@ -34,7 +34,7 @@ use crate::vendor::{CustomVendor, Vendor, VendorError};
 use crate::vendor_ref::VendorRef;
 use std::hash::Hash;
 
-/// Each value parses back from its name, versions included, and no text that parses as a value has a dash. For
+/// Each value parses back from its name, versions included, and no string that parses as a value has a dash. For
 /// vendors this holds for plain ones.
 pub fn names_read_back()
     ensures architecture { NamesReadBack architecture_name architecture_of }
@@ -54,8 +54,8 @@ pub fn names_read_back()
     ensures vendor { NamesReadBackOn (λ v. is_plain v ≡ true) vendor_name vendor_of }
 {}
 
-/// A text that parses as a vendor, an environment or a binary format is its name. The name of an architecture or a
-/// system can be longer than the text, by at most 2 and 4 bytes: `arm64` is `aarch64`, and `ios1` is `ios1.0.0`.
+/// A string that parses as a vendor, an environment or a binary format is its name. The name of an architecture or a
+/// system can be longer than the string, by at most 2 and 4 bytes: `arm64` is `aarch64`, and `ios1` is `ios1.0.0`.
 pub fn names_grow_at_most()
     ensures vendor { TextsAreNames vendor_name vendor_of }
     ensures environment { TextsAreNames environment_name environment_of }
@@ -64,7 +64,7 @@ pub fn names_grow_at_most()
     ensures operating_system { NamesGrowAtMost 4 operating_system_name operating_system_of }
 {}
 
-/// No name has more than 21 bytes, except the text of a custom vendor.
+/// No name has more than 21 bytes, except the string of a custom vendor.
 #[tactic(auto, using(crate::proofs::NameLengths::architectures_are_short, crate::proofs::NameLengths::known_vendors_are_short, crate::proofs::NameLengths::operating_systems_are_short, crate::proofs::NameLengths::environments_are_short, crate::proofs::NameLengths::binary_formats_are_short))]
 pub fn names_are_short()
     ensures architecture { NamesAreShort architecture_name }
@@ -76,7 +76,7 @@ pub fn names_are_short()
     ensures binary_format { NamesAreShort binary_format_name }
 {}
 
-/// The version of each system that a text parses as is in range.
+/// The version of each system that a string parses as is in range.
 #[tactic(auto, using(crate::proofs::ParsedSystems::version_in_range))]
 pub fn read_versions_are_in_range()
     ensures { (text : List ℕ) (s : OperatingSystem) →
@@ -89,13 +89,13 @@ pub fn versions_are_ordered()
     ensures { (x y : DeploymentTarget) → ⟦<DeploymentTarget as Ord>⟧.cmp x y ≡ version_cmp x y }
 {}
 
-/// Two custom vendors are equal exactly if their texts are, owned or static.
+/// Two custom vendors are equal exactly if their strings are, owned or static.
 pub fn custom_vendors_are_equal_by_text()
     ensures { (x y : CustomVendor) →
         IsTrue (⟦<CustomVendor as PartialEq>⟧.eq x y) ↔ (custom_text x ≡ custom_text y) }
 {}
 
-/// Known vendors are equal by variant, custom ones by text, and a custom vendor never equals a known one.
+/// Known vendors are equal by variant, custom ones by string, and a custom vendor never equals a known one.
 pub fn vendors_are_equal_by_value()
     ensures { (x y : Vendor) →
         IsTrue (⟦<Vendor as PartialEq>⟧.eq x y) ↔ (vendor_value x ≡ vendor_value y) }
@@ -113,14 +113,14 @@ pub fn vendor_refs_hash_by_value()
         ⟦<VendorRef<'static> as Hash>⟧.hash_input }
 {}
 
-/// The texts of the rows are the fixed names of all fields and the alias, each once, in the order of their bytes.
+/// The strings of the rows are the fixed names of all fields and the alias, each once, in the order of their bytes.
 pub fn rows_are_sorted_and_complete()
     ensures sorted { IsStrictlySortedBy (slice_cmp nat_cmp) row_texts }
     ensures count { length row_texts ≡ row_count }
     ensures whole { (text : List ℕ) → IsTrue (has_row text) ↔ Contains row_texts text }
 {}
 
-/// Values of each other type are equal exactly if their variants and fields are, the texts of rows by bytes.
+/// Values of each other type are equal exactly if their variants and fields are, the strings of rows by bytes.
 pub fn values_are_equal_by_variant_and_fields()
     ensures architecture { ComparesByValue ⟦<Architecture as PartialEq>⟧.eq }
     ensures arm { ComparesByValue ⟦<ArmArchitecture as PartialEq>⟧.eq }
@@ -145,7 +145,7 @@ pub fn values_are_equal_by_variant_and_fields()
         IsTrue (⟦<FixedRow as PartialEq>⟧.eq x y) ↔ HaveSameValues x y }
 {}
 
-/// Two custom vendors feed a hasher equally exactly if their texts are equal.
+/// Two custom vendors feed a hasher equally exactly if their strings are equal.
 pub fn custom_vendors_hash_by_text()
     ensures { (x y : CustomVendor) →
         (⟦<CustomVendor as Hash>⟧.hash_input x ≡ ⟦<CustomVendor as Hash>⟧.hash_input y)

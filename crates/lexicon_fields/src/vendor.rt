@@ -12,17 +12,17 @@ use std::alloc::{AllocError, Global};
 use std::fmt;
 use std::hash::{Hash, Hasher};
 
-/// A vendor other than the known ones, as its text.
+/// A vendor other than the known ones, as its string.
 #[derive(Debug, Drop)]
 pub enum CustomVendor {
-    /// An owned text.
+    /// An owned string.
     Owned(Box<String>),
-    /// A static text.
+    /// A static string.
     Static(&'static str),
 }
 
 impl CustomVendor {
-    /// The text.
+    /// The string.
     pub fn as_str(&self) -> &str
         ensures { result.now ≡ custom_text self.now }
     {
@@ -32,7 +32,7 @@ impl CustomVendor {
         }
     }
 
-    /// A copy of the same variant: it owns its text if this one does. `Err` if the allocation for that text fails.
+    /// A copy of the same variant: it owns its string if this one does. `Err` if the allocation for that string fails.
     pub fn clone(&self, alloc: Global) -> Result<Self, AllocError>
         ensures text { IfOk result (λ copy. custom_text copy ≡ custom_text self.now) }
         ensures variant { IfOk result (λ copy. is_owned copy ≡ is_owned self.now) }
@@ -44,7 +44,7 @@ impl CustomVendor {
         }
     }
 
-    /// A custom vendor that owns a copy of the text.
+    /// A custom vendor that owns a copy of the string.
     pub(crate) fn owned_copy(alloc: Global, text: &str) -> Result<Self, AllocError>
         ensures text { IfOk result (λ custom. custom_text custom ≡ text.now) }
         ensures owned { IfOk result (λ custom. is_owned custom ≡ true) }
@@ -113,9 +113,9 @@ pub enum Vendor {
     /// Wind River Systems.
     Wrs,
     // end of what is written
-    /// Any other vendor. Parsing admits a text as one if it begins with a letter from `a` to `z`, has only such
+    /// Any other vendor. Parsing admits a string as one if it begins with a letter from `a` to `z`, has only such
     /// letters, digits, `_` and `.`, and parses as no known vendor and no other field. Code can make a value with any
-    /// text.
+    /// string.
     Custom(CustomVendor),
 }
 
@@ -127,15 +127,15 @@ impl Vendor {
         Self::Unknown
     }
 
-    /// The vendor that the text parses as: a known one, or a custom one that owns the text, if the text is admitted.
+    /// The vendor that the string parses as: a known one, or a custom one that owns the string, if it is admitted.
     ///
-    /// A text is admitted as a custom vendor if it is not the name of a known vendor, parses as no other field, begins
-    /// with a letter from `a` to `z`, and has only such letters, digits, `_` and `.`.
+    /// A string is admitted as a custom vendor if it is not the name of a known vendor, parses as no other field,
+    /// begins with a letter from `a` to `z`, and has only such letters, digits, `_` and `.`.
     ///
     /// # Errors
     ///
-    /// - [`VendorError::Unrecognized`] for every other text.
-    /// - [`VendorError::OutOfMemory`] if the allocation for an admitted text fails.
+    /// - [`VendorError::Unrecognized`] for every other string.
+    /// - [`VendorError::OutOfMemory`] if the allocation for an admitted string fails.
     pub fn from_str(alloc: Global, s: &str) -> Result<Self, VendorError>
         ensures ok { IfOk result (λ vendor. vendor_of s.now ≡ Some (vendor_value vendor)) }
         ensures owned { IfOk result (λ vendor. owns_text vendor ≡ is_admitted s.now) }
@@ -150,21 +150,21 @@ impl Vendor {
         }
     }
 
-    /// The name. That of a custom vendor is its text.
+    /// The name. That of a custom vendor is its string.
     pub fn as_str(&self) -> &str
         ensures { result.now ≡ vendor_name (vendor_value self.now) }
     {
         self.as_vendor_ref().as_str()
     }
 
-    /// Whether parsing can produce the vendor: it is known, or custom with a text that [`Vendor::Custom`] admits.
+    /// Whether parsing can produce the vendor: it is known, or custom with a string that [`Vendor::Custom`] admits.
     pub fn is_plain(&self) -> bool
         ensures { result ≡ is_plain (vendor_value self.now) }
     {
         self.as_vendor_ref().is_plain()
     }
 
-    /// A copy of the same variant: it owns its text if this one does. `Err` if the allocation for that text fails.
+    /// A copy of the same variant: it owns its string if this one does. `Err` if the allocation for that string fails.
     pub fn clone(&self, alloc: Global) -> Result<Self, AllocError>
         ensures value { IfOk result (λ copy. vendor_value copy ≡ vendor_value self.now) }
         ensures variant { IfOk result (λ copy. owns_text copy ≡ owns_text self.now) }
@@ -187,11 +187,11 @@ impl fmt::Display for Vendor {
     }
 }
 
-/// Why a text doesn't parse as a vendor.
+/// Why a string doesn't parse as a vendor.
 #[derive(Clone, Copy, Debug, PartialEq, Eq)]
 pub enum VendorError {
-    /// The text is neither the name of a known vendor nor admitted as a custom vendor.
+    /// The string is neither the name of a known vendor nor admitted as a custom vendor.
     Unrecognized,
-    /// The text is admitted, and the allocation for it failed.
+    /// The string is admitted, and the allocation for it failed.
     OutOfMemory,
 }

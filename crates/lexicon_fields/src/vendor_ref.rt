@@ -1,4 +1,4 @@
-//! The vendors, of which a custom one borrows its text.
+//! The vendors, of which a custom one borrows its string.
 // Hint of inlining: `from_row` takes a row, which is wide.
 ghost use Rattle.std.specs.Prelude.{◌≡◌, false, None, Some, IfOk, MatchOption, OnErr, option_map};
 ghost use Rattle.std.specs.List.{list_all};
@@ -15,18 +15,18 @@ use crate::vendor::{CustomVendor, Vendor};
 use std::alloc::{AllocError, Global};
 use std::fmt;
 
-/// The vendor of a target, of which a custom one borrows its text. It is copied freely and never allocates.
+/// The vendor of a target, of which a custom one borrows its string. It is copied freely and never allocates.
 #[derive(Clone, Copy, Debug, PartialEq, Eq, Hash)]
 pub enum VendorRef<'a> {
     /// A vendor that has a fixed name.
     Known(KnownVendor),
-    /// Any other vendor, as its text: see [`Vendor::Custom`].
+    /// Any other vendor, as its string: see [`Vendor::Custom`].
     Custom(&'a str),
 }
 
 impl<'a> VendorRef<'a> {
-    /// The vendor that the text parses as: a known one, or a custom one that borrows the text, if [`Vendor::Custom`]
-    /// admits it. `Err` for every other text.
+    /// The vendor that the string parses as: a known one, or a custom one that borrows the string, if
+    /// [`Vendor::Custom`] admits it. `Err` for every other string.
     pub fn from_str(text: &'a str) -> Result<VendorRef<'a>, ()>
         ensures ok { IfOk result (λ vendor. vendor_of text.entry.now ≡ Some (ref_value vendor)) }
         ensures err { OnErr result (vendor_of text.entry.now ≡ None) }
@@ -36,8 +36,8 @@ impl<'a> VendorRef<'a> {
         VendorRef::from_row(text, row, system).ok_or(())
     }
 
-    /// The vendor that a text parses as, given its row in the table of names and the system that it parses as. A text
-    /// without a row that is no system may be a custom vendor.
+    /// The vendor that a string parses as, given its row in the table of names and the system that it parses as. A
+    /// string without a row that is no system may be a custom vendor.
     #[inline(always)]
     pub fn from_row(
         text: &'a str,
@@ -63,7 +63,7 @@ impl<'a> VendorRef<'a> {
         }
     }
 
-    /// The name. That of a custom vendor is its text.
+    /// The name. That of a custom vendor is its string.
     pub fn as_str(&self) -> &'a str
         ensures { result.now ≡ vendor_name (ref_value self.now) }
     {
@@ -73,7 +73,7 @@ impl<'a> VendorRef<'a> {
         }
     }
 
-    /// Whether parsing can produce the vendor: it is known, or custom with a text that [`Vendor::Custom`] admits.
+    /// Whether parsing can produce the vendor: it is known, or custom with a string that [`Vendor::Custom`] admits.
     pub fn is_plain(&self) -> bool
         ensures { result ≡ is_plain (ref_value self.now) }
     {
@@ -94,7 +94,7 @@ impl<'a> VendorRef<'a> {
         matches!(self, VendorRef::Custom(_))
     }
 
-    /// The same vendor, of which a custom one owns a copy of its text. `Err` if the allocation for that text fails.
+    /// The same vendor, of which a custom one owns a copy of its string. `Err` if the allocation for that string fails.
     pub fn to_vendor(&self, alloc: Global) -> Result<Vendor, AllocError>
         ensures value { IfOk result (λ vendor. vendor_value vendor ≡ ref_value self.now) }
         ensures owned { IfOk result OwnsCustomText }
@@ -145,7 +145,7 @@ impl<'a> fmt::Display for VendorRef<'a> {
     }
 }
 
-/// Whether the text begins with a lower-case letter and has only characters of a vendor.
+/// Whether the string begins with a lower-case letter and has only characters of a vendor.
 fn has_vendor_form(s: &str) -> bool
     ensures { result ≡ has_vendor_form s.now }
 {

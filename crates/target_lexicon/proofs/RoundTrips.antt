@@ -3,7 +3,7 @@ use Rattle.std.proofs.Common.{◌≡◌, ◌∙◌, ℕ, Bool, true, false, not,
 use Rattle.target_lexicon.specs.Values.{Architecture, Environment, OperatingSystem, BinaryFormat, VendorValue, Known, Values, values, implies_newlib, is_same_format}
 use Rattle.target_lexicon.specs.{Field.Field, ImpliedFormat.default_binary_format, ImpliedFormat.implied_format, Families.PrintsAsSpecial, Families.HidesNewlib, Refusal.Refusal, SpecialTexts.special_text}
 use Rattle.target_lexicon.specs.NormalStep.{normal_step, hides_newlib, prints_the_esp_idf_text, shows_only_none, elf_if_unknown}
-use Rattle.target_lexicon.specs.Printing.{shows_vendor, omits_unknown_vendor, shows_operating_system, shows_environment, names_no_system, shows_implied_format, shows_binary_format, shows_unknowns, shown_names, cons_if}
+use Rattle.target_lexicon.specs.Printing.{shows_vendor, omits_unknown_vendor, shows_operating_system, shows_environment, is_none_or_unknown, shows_implied_format, shows_binary_format, shows_unknowns, shown_names, cons_if}
 use Rattle.target_lexicon.specs.GreedyReading.{reading_of_parts, reading_from_vendor, reading_from_operating_system, reading_from_environment}
 use Rattle.lexicon_fields.specs.{declared.architecture.clever.CleverArchitecture.CleverArchitecture, Architecture.architecture_name, Laws.HasVersionInRange, Vendor.vendor_name, Vendor.is_plain, OperatingSystem.operating_system_name, Environment.environment_name, BinaryFormat.binary_format_name}
 use Rattle.lexicon_fields.specs.declared.known_vendor.KnownVendor.TheVariants.{Unknown, Nintendo, Espressif}
@@ -40,7 +40,7 @@ unfolding shows_binary_format
 shown_or_implied t = shown_by (is_same_format t.binary_format (default_binary_format t)) _ t.binary_format (default_binary_format t) (is_same_format-is t.binary_format (default_binary_format t))
 
 -- with a system an implied format isn't shown
-pub with_system : (t : Values) → names_no_system t.operating_system ≡ false → shows_implied_format t ≡ false
+pub with_system : (t : Values) → is_none_or_unknown t.operating_system ≡ false → shows_implied_format t ≡ false
 with_system t has = rw (has, and-false) refl
 
 -- the fields that are unknown if both are shown as unknown

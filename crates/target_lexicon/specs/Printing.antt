@@ -14,7 +14,7 @@ use Rattle.target_lexicon.specs.Values.operating_system
 use Rattle.target_lexicon.specs.Values.environment
 use Rattle.target_lexicon.specs.Values.binary_format
 
--- the Arm architectures whose triples without a system omit an unknown vendor
+-- the Arm architectures whose triples omit an unknown vendor if the system is `none`
 abbrev pub is_bare_arm : ArmArchitecture → Bool
 is_bare_arm arm.Armv4t = true
 is_bare_arm arm.Armv5te = true
@@ -31,7 +31,8 @@ is_bare_arm arm.Thumbv8mBase = true
 is_bare_arm arm.Thumbv8mMain = true
 is_bare_arm _ = false
 
--- where an unknown vendor is omitted: Android and kernels on Linux, WASI, some architectures without a system
+-- whether an unknown vendor is omitted: on Linux with an environment of Android or `kernel`, on WASI, and with the system `none`
+-- on MSP430 and these Arm architectures
 abbrev pub omits_unknown_vendor : Architecture → OperatingSystem → Environment → Bool
 omits_unknown_vendor a operating_system.Linux environment.Android = true
 omits_unknown_vendor a operating_system.Linux environment.Androideabi = true
@@ -43,15 +44,17 @@ omits_unknown_vendor architecture.Msp430 operating_system.None_ e = true
 omits_unknown_vendor (architecture.Arm sub) operating_system.None_ e = is_bare_arm sub
 omits_unknown_vendor a _ e = false
 
--- the kernels of Hermit and Linux
-abbrev pub is_kernel : Environment → Bool
-is_kernel environment.HermitKernel = true
-is_kernel environment.LinuxKernel = true
-is_kernel _ = false
+-- the environments `hermitkernel` and `linuxkernel`
+abbrev pub is_hermit_or_linux_kernel : Environment → Bool
+is_hermit_or_linux_kernel environment.HermitKernel = true
+is_hermit_or_linux_kernel environment.LinuxKernel = true
+is_hermit_or_linux_kernel _ = false
 
--- an unknown vendor is omitted in these cases, but never with such a kernel
+-- the vendor is shown unless it is unknown and the triple omits it; with one of these kernels it is always shown
 unfoldable pub shows_vendor : Values → Bool
-shows_vendor t = not (is_unknown_vendor t.vendor) || is_kernel t.environment || not (omits_unknown_vendor t.architecture t.operating_system t.environment)
+shows_vendor t =
+    not (is_unknown_vendor t.vendor) || is_hermit_or_linux_kernel t.environment
+    || not (omits_unknown_vendor t.architecture t.operating_system t.environment)
 
 -- an unknown system is omitted on Clever
 unfoldable pub shows_operating_system : Values → Bool
@@ -61,11 +64,11 @@ shows_operating_system t = not (is_clever_without_system t.architecture t.operat
 unfoldable pub shows_environment : Values → Bool
 shows_environment t = not (is_unknown_environment t.environment) && not (implies_newlib t.vendor t.operating_system && is_newlib t.environment)
 
--- the two systems for no operating system and an unknown one
-abbrev pub names_no_system : OperatingSystem → Bool
-names_no_system operating_system.None_ = true
-names_no_system operating_system.Unknown = true
-names_no_system _ = false
+-- the systems `none` and `unknown`
+abbrev pub is_none_or_unknown : OperatingSystem → Bool
+is_none_or_unknown operating_system.None_ = true
+is_none_or_unknown operating_system.Unknown = true
+is_none_or_unknown _ = false
 
 -- the environments and the architectures whose triples omit an implied format even without a system
 abbrev pub environment_implies_format : Environment → Bool
@@ -84,7 +87,8 @@ architecture_implies_format _ = false
 -- without a system a known format is shown even if it is the implied one, with these exceptions
 abbrev pub shows_implied_format : Values → Bool
 shows_implied_format t =
-    not (architecture_implies_format t.architecture) && names_no_system t.operating_system && not (environment_implies_format t.environment) && not (is_same_format t.binary_format binary_format.Unknown)
+    not (architecture_implies_format t.architecture) && is_none_or_unknown t.operating_system
+    && not (environment_implies_format t.environment) && not (is_same_format t.binary_format binary_format.Unknown)
 
 -- the implied format is omitted, except in such triples
 unfoldable pub shows_binary_format : Values → Bool
@@ -120,8 +124,8 @@ text_of t = text_with (shows_unknowns t) t
 unfoldable pub upstream_text_of : Values → List ℕ
 upstream_text_of t = text_with false t
 
--- environment and format are unknown, another format is implied, and no special text is printed
-pub record ShowsUnknowns (t : Values) : Type 0 where
+-- environment and format are unknown, another format is implied, and no special string is printed
+pub record HasUnimpliedUnknowns (t : Values) : Type 0 where
   pub implied : default_binary_format t ≢ binary_format.Unknown
   pub environment : t.environment ≡ environment.Unknown
   pub binary_format : t.binary_format ≡ binary_format.Unknown
@@ -129,4 +133,4 @@ pub record ShowsUnknowns (t : Values) : Type 0 where
 
 -- exactly the texts of these triples differ from upstream's
 abbrev pub OnlyUnknownsDifferFromUpstream : Type 0
-OnlyUnknownsDifferFromUpstream = (t : Values) → (text_of t ≢ upstream_text_of t) ↔ ShowsUnknowns t
+OnlyUnknownsDifferFromUpstream = (t : Values) → (text_of t ≢ upstream_text_of t) ↔ HasUnimpliedUnknowns t

@@ -6,7 +6,7 @@ use Rattle.target_lexicon.specs.{declared.explanation.TextPart.TextPart, Explana
 use Rattle.target_lexicon.specs.declared.display.Piece.TheVariants.{Hidden, Name}
 use Rattle.target_lexicon.specs.NormalStep.{prints_as_special, hides_newlib, prints_the_esp_idf_text, shows_only_none}
 
--- the part ends after its text
+-- the part ends where its string does: at its start plus the length of the string
 abbrev pub IsRange : TextPart → Type 0
 IsRange part = part_value part ≡ part_from part.start part.text.now
 
@@ -15,16 +15,16 @@ abbrev pub parts_of_rest : Option TextPart → List PlacedPart
 parts_of_rest None = []
 parts_of_rest (Some rest) = placed_from rest.start (parts_of rest.text.now)
 
--- a dash and the part, if it is shown
-abbrev pub part_text : Bool → List ℕ → List ℕ
-part_text is_shown part = if is_shown then dash ∷ part else []
+-- a dash and the name, if it is shown
+abbrev pub dashed_if : Bool → List ℕ → List ℕ
+dashed_if is_shown name = if is_shown then dash ∷ name else []
 
 -- whether none of the tests for families holds and the vendor is plain
 unfoldable pub is_in_no_family : Values → Bool
 is_in_no_family t =
     not (prints_as_special t) && not (hides_newlib t) && not (prints_the_esp_idf_text t) && not (shows_only_none t) && is_plain t.vendor
 
--- a dash and the name, if it is shown
+-- what a piece prints
 abbrev pub piece_text : Piece → List ℕ
 piece_text Hidden = []
 piece_text (Name name) = dash ∷ name.now

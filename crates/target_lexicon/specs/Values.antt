@@ -12,7 +12,7 @@ pub use Rattle.lexicon_fields.specs.declared.environment.Environment.TheVariants
 pub use Rattle.lexicon_fields.specs.declared.binary_format.BinaryFormat.TheVariants as binary_format
 use Rattle.target_lexicon.specs.declared.triple.Triple.{Triple}
 
--- a value for each field; that of a custom vendor is its text
+-- a value for each field; that of a custom vendor is its string
 pub record Values : Type 0 where
   pub architecture : Architecture
   pub vendor : VendorValue

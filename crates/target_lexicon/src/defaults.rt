@@ -21,7 +21,7 @@ impl Default for DefaultToHost {
 }
 
 impl DefaultToHost {
-    /// A copy. Its vendor owns its text if this one's does. `Err` if the allocation for that text fails.
+    /// A copy. Its vendor owns its string if this one's does. `Err` if the allocation for that string fails.
     pub fn clone(&self, alloc: Global) -> Result<Self, AllocError>
         ensures values { IfOk result (λ copy. values_of copy.0 ≡ values_of self.now.0) }
         ensures variant { IfOk result
@@ -47,7 +47,7 @@ impl Default for DefaultToUnknown {
 }
 
 impl DefaultToUnknown {
-    /// A copy. Its vendor owns its text if this one's does. `Err` if the allocation for that text fails.
+    /// A copy. Its vendor owns its string if this one's does. `Err` if the allocation for that string fails.
     pub fn clone(&self, alloc: Global) -> Result<Self, AllocError>
         ensures values { IfOk result (λ copy. values_of copy.0 ≡ values_of self.now.0) }
         ensures variant { IfOk result

@@ -7,7 +7,7 @@ ghost use Rattle.lexicon_fields.specs.Put.{IsPut, Puts};
 ghost use Rattle.lexicon_fields.specs.VendorRef.{ref_value};
 ghost use Rattle.target_lexicon.specs.Printing as spec;
 ghost use Rattle.target_lexicon.specs.Printing.{text_of, upstream_text_of};
-ghost use Rattle.target_lexicon.specs.Private.{piece_text, part_text, shown_version};
+ghost use Rattle.target_lexicon.specs.Private.{piece_text, dashed_if, shown_version};
 ghost use Rattle.target_lexicon.specs.Values.{values_of, implies_newlib};
 ghost use Rattle.target_lexicon.specs.ValuesRef.{values_of_ref};
 ghost use Rattle.target_lexicon.specs.Written.{IsWritten};
@@ -284,7 +284,7 @@ enum Piece<'a> {
 impl<'a> Piece<'a> {
     /// The piece of a name, if it is shown.
     fn name_if(is_shown: bool, name: &'a str) -> Piece<'a>
-        ensures text { piece_text result ≡ part_text is_shown name.entry.now }
+        ensures text { piece_text result ≡ dashed_if is_shown name.entry.now }
         ensures bound { length (piece_text result) ≤ 1 + length name.entry.now }
     {
         if is_shown {

@@ -106,7 +106,7 @@ pub fn equal_texts_equal_triples()
     ensures { EqualTextsEqualTriples }
 {}
 
-/// Two triples are equal exactly if their five values are. The value of a custom vendor is its text.
+/// Two triples are equal exactly if their five values are. The value of a custom vendor is its string.
 pub fn triples_are_equal_by_value()
     ensures { (x y : Triple) →
         IsTrue (⟦<Triple as PartialEq>⟧.eq x y) ↔ (values_of x ≡ values_of y) }

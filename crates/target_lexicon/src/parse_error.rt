@@ -20,7 +20,7 @@ pub enum ParseError {
     UnrecognizedBinaryFormat(String),
     /// A part follows the binary format.
     UnrecognizedField(String),
-    /// The allocation for a custom vendor's text or for the refused part failed.
+    /// The allocation for a custom vendor's string or for the refused part failed.
     OutOfMemory,
 }
 

@@ -36,7 +36,7 @@ impl Triple {
         }
     }
 
-    /// A copy. Its vendor owns its text if this one's does. `Err` if the allocation for that text fails.
+    /// A copy. Its vendor owns its string if this one's does. `Err` if the allocation for that string fails.
     pub fn clone(&self, alloc: Global) -> Result<Self, AllocError>
         ensures values { IfOk result (λ copy. values_of copy ≡ values_of self.now) }
         ensures variant { IfOk result (λ copy. owns_text copy.vendor ≡ owns_text self.now.vendor) }

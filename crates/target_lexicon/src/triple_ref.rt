@@ -8,7 +8,7 @@ use lexicon_fields::{
 };
 use std::alloc::{AllocError, Global};
 
-/// A target triple whose custom vendor, if it has one, borrows its text. It is copied freely, and only the calls that
+/// A target triple whose custom vendor, if it has one, borrows its string. It is copied freely, and only the calls that
 /// make an owned value need an allocator. The fields are those of [`Triple`].
 #[derive(Clone, Copy, Debug, PartialEq, Eq, Hash)]
 pub struct TripleRef<'a> {
@@ -41,7 +41,8 @@ impl<'a> TripleRef<'a> {
         }
     }
 
-    /// The same triple, of which a custom vendor owns a copy of its text. `Err` if the allocation for that text fails.
+    /// The same triple, of which a custom vendor owns a copy of its string. `Err` if the allocation for that string
+    /// fails.
     pub fn to_triple(&self, alloc: Global) -> Result<Triple, AllocError>
         ensures values { IfOk result (λ triple. values_of triple ≡ values_of_ref self.now) }
         ensures owned { IfOk result (λ triple. OwnsCustomText triple.vendor) }

@@ -13,15 +13,15 @@ use Rattle.tool_names.specs.Platform.{keeps_version, tag_of, triple_with}
 use Rattle.tool_names.specs.Shape.{shape}
 use Rattle.tool_names.specs.Tables.{machines, machines_without_a_triple, python_macosx_machines, python_ios_machines, python_manylinux_machines, python_musllinux_machines, python_android_machines, python_macosx_without_a_triple}
 use Rattle.tool_names.specs.ToolNames.{name_with}
-use Rattle.tool_names.proofs.{NameTables.swapped, RowChecks.is_canonical, RowChecks.is_this, ShapeLemmas.is_usual}
+use Rattle.tool_names.proofs.{NameTables.swapped, RowChecks.is_canonical, RowChecks.is_this, ShapeLemmas.has_no_special_text}
 
--- the triple of a text has a usual vendor
-abbrev pub is_usual_as : Result Values Refusal → Bool
-is_usual_as (Ok t) = is_usual t.vendor
-is_usual_as (Err _) = false
+-- the vendor of the triple that a text gives has no special string
+abbrev pub gives_no_special_text : Result Values Refusal → Bool
+gives_no_special_text (Ok t) = has_no_special_text t.vendor
+gives_no_special_text (Err _) = false
 
--- each triple of a machine is canonical, and its vendor is a usual one
-pub machines-canonical : (s : VersionedSystem) → list_all (λ row. is_canonical row.1 && is_usual_as (reading row.1)) (machines s) ≡ true
+-- each triple of a machine is canonical, and its vendor has no special string
+pub machines-canonical : (s : VersionedSystem) → list_all (λ row. is_canonical row.1 && gives_no_special_text (reading row.1)) (machines s) ≡ true
 unfolding python_macosx_machines python_ios_machines python_manylinux_machines python_musllinux_machines python_android_machines architecture_of known_vendor_of is_admitted vendor_of version_of fixed_operating_system_of operating_system_of environment_of binary_format_of implied_format special_values special_text shows_vendor shows_operating_system shows_environment shows_binary_format shown_names text_of reading
 machines-canonical MacOs = refl
 machines-canonical Ios = refl

@@ -21,12 +21,12 @@ use Rattle.tool_names.specs.{ObjectFormat.object_format, Shape.machine_in, Shape
 use Rattle.tool_names.specs.Platform.{NameParts, has_two_numbers, keeps_version, kept_version, system_with, tag_of, triple_with, version_of_two, versioned_name_of, versioned_tag}
 use Rattle.tool_names.specs.Tables.{both_ways, machines, machines_without_a_triple, only_read, only_written, without_a_triple}
 use Rattle.tool_names.specs.ToolNames.{HasNoTriple, Unread, key_of, meaning_by_parts, meaning_of, name_by_version, name_meaning, name_of_text, name_with, read_or_unknown, triple_name, triple_text, unread_because, versioned_meaning, versioned_name_in, with_version}
-use Rattle.tool_names.proofs.MachineChecks.{is_usual_as, is_written_on, machines-back, machines-canonical, machines-seen, machines-unread}
+use Rattle.tool_names.proofs.MachineChecks.{gives_no_special_text, is_written_on, machines-back, machines-canonical, machines-seen, machines-unread}
 use Rattle.tool_names.proofs.NameTables.{swapped}
 use Rattle.tool_names.proofs.ObjectFormats.{given_kept}
 use Rattle.tool_names.proofs.RowChecks.{both_ways-back, both_ways-canonical, both_ways-seen, is_canonical, is_canonical_as, is_known_format, is_ordinary, is_own_key, is_ordinary_architecture, is_ordinary_system, is_this, is_written_as, only_read-canonical, only_written-seen, without_a_triple-unread}
 use Rattle.tool_names.proofs.PlatformLemmas.{parts-joined, parts-read, tag_of-again, tag_of-tag}
-use Rattle.tool_names.proofs.ShapeLemmas.{is_usual, kept-is, kept-python, shape-endianness, shape-usual, shape-width, unkept-range}
+use Rattle.tool_names.proofs.ShapeLemmas.{has_no_special_text, kept-is, kept-python, shape-endianness, shape-no_special, shape-width, unkept-range}
 
 -- what the test of a row says
 
@@ -62,28 +62,28 @@ canonical-row text h = by_reading (reading text) refl h
         )
     by_reading (Err x) is test = absurd cc
 
--- a triple with a usual vendor, which isn't of Clever, comes back
+-- a triple whose vendor has no special string, which isn't of Clever, comes back
 
-usual-known : (v : VendorValue) → is_usual v ≡ true → (is_plain v ≡ true) × (is_custom v ≡ false)
-usual-known (Known k) usual = (refl, refl)
-usual-known (Custom text) usual = absurd cc
+no_special-known : (v : VendorValue) → has_no_special_text v ≡ true → (is_plain v ≡ true) × (is_custom v ≡ false)
+no_special-known (Known k) no_special = (refl, refl)
+no_special-known (Custom text) no_special = absurd cc
 
-step-usual : (u : Values) → is_usual u.vendor ≡ true → is_clever u.architecture ≡ false → normal_step u ≡ u
-step-usual u usual other =
+step-no_special : (u : Values) → has_no_special_text u.vendor ≡ true → is_clever u.architecture ≡ false → normal_step u ≡ u
+step-no_special u no_special other =
     step_cases (λ x. x ≡ u) u
-    (λ special. absurd (elim special.fields [ inl machine ↦ (let bad = rw machine.vendor at usual in cc) | inr machine ↦ (let bad = rw machine.vendor at usual in cc) ]))
-    (λ newlib. absurd (elim newlib.1 [ inl nintendo ↦ (let bad = rw nintendo.0 at usual in cc) | inr espressif ↦ (let bad = rw espressif.0 at usual in cc) ]))
-    (λ esp. absurd (let bad = rw (ap (λ x. x.vendor) esp) at usual in cc))
+    (λ special. absurd (elim special.fields [ inl machine ↦ (let bad = rw machine.vendor at no_special in cc) | inr machine ↦ (let bad = rw machine.vendor at no_special in cc) ]))
+    (λ newlib. absurd (elim newlib.1 [ inl nintendo ↦ (let bad = rw nintendo.0 at no_special in cc) | inr espressif ↦ (let bad = rw espressif.0 at no_special in cc) ]))
+    (λ esp. absurd (let bad = rw (ap (λ x. x.vendor) esp) at no_special in cc))
     (λ none. let clever = none.architecture in absurd cc)
     (λ outside. refl)
 
 fixed-canonical : (u : Values) → ComesBack u → is_custom u.vendor ≡ false → normal_step u ≡ u → IsCanonical u
 fixed-canonical u back known step = record { settled = ap normal_step step ∙ step; comes_back = back; known = known }
 
-usual-canonical : RoundIsNormalStep → (u : Values) → IsPlainTriple u → is_usual u.vendor ≡ true → is_clever u.architecture ≡ false → IsCanonical u
-usual-canonical round_trip u plain usual other =
-    let step = step-usual u usual other in
-    fixed-canonical u (subst (ReadsAs (text_of u)) step (round_trip u plain)) (usual-known u.vendor usual).1 step
+no_special-canonical : RoundIsNormalStep → (u : Values) → IsPlainTriple u → has_no_special_text u.vendor ≡ true → is_clever u.architecture ≡ false → IsCanonical u
+no_special-canonical round_trip u plain no_special other =
+    let step = step-no_special u no_special other in
+    fixed-canonical u (subst (ReadsAs (text_of u)) step (round_trip u plain)) (no_special-known u.vendor no_special).1 step
 
 row-comes_back : (text : List ℕ) (t : Values) → IsRow text t → ComesBack t
 row-comes_back text t row = subst (λ x. ReadsAs x t) (sym row.prints) (((reading_computed text).read t).1 row.reads)
@@ -93,16 +93,16 @@ row-canonical round_trip read_plain text t row =
     let back = row-comes_back text t row in
     fixed-canonical t back row.known (values_unique (text_of t) (normal_step t) t (round_trip t (read_plain (text_of t) t back)) back)
 
--- a triple with a usual vendor whose text is that of a row parses back from it, and is ordinary
-text-row : RoundIsNormalStep → (u : Values) → IsPlainTriple u → is_usual u.vendor ≡ true → is_canonical (text_of u) ≡ true → (reading (text_of u) ≡ Ok u) × (is_ordinary u ≡ true)
-text-row round_trip u plain usual canonical =
+-- a triple whose vendor has no special string, and whose text is that of a row, parses back from it, and is ordinary
+text-row : RoundIsNormalStep → (u : Values) → IsPlainTriple u → has_no_special_text u.vendor ≡ true → is_canonical (text_of u) ≡ true → (reading (text_of u) ≡ Ok u) × (is_ordinary u ≡ true)
+text-row round_trip u plain no_special canonical =
     let row = canonical-row (text_of u) canonical in
     let reads : reading (text_of u) ≡ Ok (normal_step u) = ((reading_computed (text_of u)).read (normal_step u)).0 (round_trip u plain) in
     let both : Ok row.0 ≡ Ok (normal_step u) = sym row.1.reads ∙ reads in
     let same : row.0 ≡ normal_step u = cc in
     let other : is_clever u.architecture ≡ false =
     sym (ap is_clever (kept u).architecture) ∙ sym (ap (λ x. is_clever x.architecture) same) ∙ row.1.not_clever in
-    let step = step-usual u usual other in
+    let step = step-no_special u no_special other in
     (reads ∙ ap Ok step, sym (ap is_ordinary (same ∙ step)) ∙ row.1.ordinary)
 
 -- the triple of a name without a version
@@ -136,13 +136,13 @@ meaning-of d name text t own found reads = own-meaning d name own ∙ rw (found,
 
 record IsMachineRow (s : VersionedSystem) (text : List ℕ) (t : Values) : Type 0 where
   row : IsRow text t
-  usual : is_usual t.vendor ≡ true
+  no_special : has_no_special_text t.vendor ≡ true
 
 machine-row : (s : VersionedSystem) (machine text : List ℕ) → value_named (machines s) machine ≡ Some text → (t : Values) × IsMachineRow s text t
 machine-row s machine text found =
-    let passes = and_parts _ _ (value_named-all (λ row. is_canonical row.1 && is_usual_as (reading row.1)) (machines s) machine text (machines-canonical s) found) in
+    let passes = and_parts _ _ (value_named-all (λ row. is_canonical row.1 && gives_no_special_text (reading row.1)) (machines s) machine text (machines-canonical s) found) in
     let row = canonical-row text passes.0 in
-    (row.0, record { row = row.1; usual = subst (λ r. is_usual_as r ≡ true) row.1.reads passes.1 })
+    (row.0, record { row = row.1; no_special = subst (λ r. gives_no_special_text r ≡ true) row.1.reads passes.1 })
 
 -- with a version it is in range
 version-plain : (s : VersionedSystem) (v : DeploymentTarget) (t : Values) → IsVersionInRange v → IsPlainTriple t → HasVersionInRange (system_with s (Some v) t.operating_system)
@@ -167,8 +167,8 @@ versioned-canonical round_trip read_plain it t range means = by_text (value_name
         let is_t : triple_with it.system (Some it.version) u ≡ t = cc in
         let plain = read_plain (text_of u) u (row-comes_back text u found.1.row) in
         subst IsCanonical is_t
-        (usual-canonical round_trip (triple_with it.system (Some it.version) u)
-        (record { vendor = plain.vendor; version = version-plain it.system it.version u range plain }) found.1.usual found.1.row.not_clever)
+        (no_special-canonical round_trip (triple_with it.system (Some it.version) u)
+        (record { vendor = plain.vendor; version = version-plain it.system it.version u range plain }) found.1.no_special found.1.row.not_clever)
 
 pub names_canonical : RoundIsNormalStep → ReadTriplesArePlain → NamesAreCanonical
 unfolding name_meaning
@@ -284,17 +284,17 @@ versionless-plain d t = by_kept (kept_version (shape d t).operating_system) refl
     by_kept : (o : Option (VersionedSystem × DeploymentTarget)) → kept_version (shape d t).operating_system ≡ o → IsPlainTriple (without_kept (shape d t) o)
     by_kept None is = unkept-plain d t is
     by_kept (Some version) is =
-        record { vendor = (usual-known (shape d t).vendor (shape-usual d t)).0; version = (kept-is (shape d t).operating_system version is).unversioned }
+        record { vendor = (no_special-known (shape d t).vendor (shape-no_special d t)).0; version = (kept-is (shape d t).operating_system version is).unversioned }
 
-versionless-usual : (d : Dialect) (t : Values) → is_usual (versionless d t).vendor ≡ true
-versionless-usual d t = by_kept (kept_version (shape d t).operating_system)
+versionless-no_special : (d : Dialect) (t : Values) → has_no_special_text (versionless d t).vendor ≡ true
+versionless-no_special d t = by_kept (kept_version (shape d t).operating_system)
   where
-    by_kept : (o : Option (VersionedSystem × DeploymentTarget)) → is_usual (without_kept (shape d t) o).vendor ≡ true
-    by_kept None = shape-usual d t
-    by_kept (Some version) = shape-usual d t
+    by_kept : (o : Option (VersionedSystem × DeploymentTarget)) → has_no_special_text (without_kept (shape d t) o).vendor ≡ true
+    by_kept None = shape-no_special d t
+    by_kept (Some version) = shape-no_special d t
 
 versionless-row : RoundIsNormalStep → (d : Dialect) (t : Values) → is_canonical (text_of (versionless d t)) ≡ true → (reading (text_of (versionless d t)) ≡ Ok (versionless d t)) × (is_ordinary (versionless d t) ≡ true)
-versionless-row round_trip d t canonical = text-row round_trip (versionless d t) (versionless-plain d t) (versionless-usual d t) canonical
+versionless-row round_trip d t canonical = text-row round_trip (versionless d t) (versionless-plain d t) (versionless-no_special d t) canonical
 
 -- the name of a triple without a version is that of a row with the text of the shape, which is read as this text or isn't
 -- read

@@ -183,17 +183,17 @@ kept-is (operating_system.IOS (Some version)) kept is =
     let same : (Ios, version) ≡ kept = cc in subst (IsKept (operating_system.IOS (Some version))) same (record { again = refl; keeps = refl; range = λ range. range; unversioned = tt })
 kept-is _ kept is = absurd cc
 
--- and its vendor is a usual one, whose triples have no string of their own
-abbrev pub is_usual : VendorValue → Bool
-is_usual (Known Nintendo) = false
-is_usual (Known Espressif) = false
-is_usual (Known _) = true
-is_usual (Custom _) = false
+-- and its vendor is a known one whose triples print no special string
+abbrev pub has_no_special_text : VendorValue → Bool
+has_no_special_text (Known Nintendo) = false
+has_no_special_text (Known Espressif) = false
+has_no_special_text (Known _) = true
+has_no_special_text (Custom _) = false
 
-pub shape-usual : (d : Dialect) (t : Values) → is_usual (shape d t).vendor ≡ true
+pub shape-no_special : (d : Dialect) (t : Values) → has_no_special_text (shape d t).vendor ≡ true
 unfolding shape
-shape-usual d t = by_system t.operating_system
+shape-no_special d t = by_system t.operating_system
   where
-    by_system : (s : OperatingSystem) → is_usual (Known (usual_vendor s)) ≡ true
+    by_system : (s : OperatingSystem) → has_no_special_text (Known (usual_vendor s)) ≡ true
     by_system operating_system.Linux = refl
     by_system _ = refl

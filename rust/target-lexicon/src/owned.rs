@@ -13,7 +13,7 @@ use core::str::FromStr;
 impl FromStr for Vendor {
     type Err = ();
 
-    /// The vendor that the text parses as: a known one, or a custom one, if [`Vendor::Custom`] admits the text.
+    /// The vendor that the string parses as: a known one, or a custom one, if [`Vendor::Custom`] admits the string.
     ///
     /// # Examples
     ///
@@ -116,7 +116,7 @@ impl<'a> TripleRef<'a> {
         explain(text)
     }
 
-    /// The same triple, of which a custom vendor owns a copy of its text.
+    /// The same triple, of which a custom vendor owns a copy of its string.
     ///
     /// # Examples
     ///
@@ -138,7 +138,7 @@ impl<'a> TripleRef<'a> {
 }
 
 impl VendorRef<'_> {
-    /// The same vendor, of which a custom one owns a copy of its text.
+    /// The same vendor, of which a custom one owns a copy of its string.
     ///
     /// # Examples
     ///

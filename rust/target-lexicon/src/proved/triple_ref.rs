@@ -4,7 +4,7 @@
 use crate::triple::Triple;
 use crate::{Architecture, BinaryFormat, Environment, KnownVendor, OperatingSystem, VendorRef};
 
-/// A target triple whose custom vendor, if it has one, borrows its text. It is copied freely, and only the calls that
+/// A target triple whose custom vendor, if it has one, borrows its string. It is copied freely, and only the calls that
 /// make an owned value need an allocator. The fields are those of [`Triple`].
 ///
 /// # Examples

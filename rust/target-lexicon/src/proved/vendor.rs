@@ -6,7 +6,7 @@ use alloc::string::String;
 use core::fmt;
 use core::hash::{Hash, Hasher};
 
-/// A vendor other than the known ones, as its text.
+/// A vendor other than the known ones, as its string.
 ///
 /// # Examples
 ///
@@ -18,14 +18,14 @@ use core::hash::{Hash, Hasher};
 /// ```
 #[derive(Debug, Clone)]
 pub enum CustomVendor {
-    /// An owned text.
+    /// An owned string.
     Owned(Box<String>),
-    /// A static text.
+    /// A static string.
     Static(&'static str),
 }
 
 impl CustomVendor {
-    /// The text.
+    /// The string.
     ///
     /// # Examples
     ///
@@ -98,14 +98,14 @@ pub enum Vendor {
     Uwp,
     /// Wind River Systems.
     Wrs,
-    /// Any other vendor. Parsing admits a text as one if it begins with a letter from `a` to `z`, has only such
+    /// Any other vendor. Parsing admits a string as one if it begins with a letter from `a` to `z`, has only such
     /// letters, digits, `_` and `.`, and parses as no known vendor and no other field. Code can make a value with any
-    /// text.
+    /// string.
     Custom(CustomVendor),
 }
 
 impl Vendor {
-    /// The name. That of a custom vendor is its text.
+    /// The name. That of a custom vendor is its string.
     ///
     /// # Examples
     ///
@@ -116,7 +116,7 @@ impl Vendor {
         self.as_vendor_ref().as_str()
     }
 
-    /// Whether parsing can produce the vendor: it is known, or custom with a text that [`Vendor::Custom`] admits.
+    /// Whether parsing can produce the vendor: it is known, or custom with a string that [`Vendor::Custom`] admits.
     ///
     /// # Examples
     ///

@@ -1,5 +1,5 @@
 // Erased from crates/lexicon_fields/src/vendor_ref.rt by tools/erase. Don't edit it here.
-//! The vendors, of which a custom one borrows its text.
+//! The vendors, of which a custom one borrows its string.
 // Hint of inlining: `from_row` takes a row, which is wide.
 
 use crate::known_vendor::KnownVendor;
@@ -8,7 +8,7 @@ use crate::table::{fixed_row, FixedRow};
 use crate::vendor::Vendor;
 use core::fmt;
 
-/// The vendor of a target, of which a custom one borrows its text. It is copied freely and never allocates.
+/// The vendor of a target, of which a custom one borrows its string. It is copied freely and never allocates.
 ///
 /// # Examples
 ///
@@ -21,13 +21,13 @@ use core::fmt;
 pub enum VendorRef<'a> {
     /// A vendor that has a fixed name.
     Known(KnownVendor),
-    /// Any other vendor, as its text: see [`Vendor::Custom`].
+    /// Any other vendor, as its string: see [`Vendor::Custom`].
     Custom(&'a str),
 }
 
 impl<'a> VendorRef<'a> {
-    /// The vendor that the text parses as: a known one, or a custom one that borrows the text, if [`Vendor::Custom`]
-    /// admits it. `Err` for every other text.
+    /// The vendor that the string parses as: a known one, or a custom one that borrows the string, if
+    /// [`Vendor::Custom`] admits it. `Err` for every other string.
     ///
     /// # Examples
     ///
@@ -42,8 +42,8 @@ impl<'a> VendorRef<'a> {
         VendorRef::from_row(text, row, system).ok_or(())
     }
 
-    /// The vendor that a text parses as, given its row in the table of names and the system that it parses as. A text
-    /// without a row that is no system may be a custom vendor.
+    /// The vendor that a string parses as, given its row in the table of names and the system that it parses as. A
+    /// string without a row that is no system may be a custom vendor.
     #[inline(always)]
     pub(crate) fn from_row(
         text: &'a str,
@@ -65,7 +65,7 @@ impl<'a> VendorRef<'a> {
         }
     }
 
-    /// The name. That of a custom vendor is its text.
+    /// The name. That of a custom vendor is its string.
     ///
     /// # Examples
     ///
@@ -79,7 +79,7 @@ impl<'a> VendorRef<'a> {
         }
     }
 
-    /// Whether parsing can produce the vendor: it is known, or custom with a text that [`Vendor::Custom`] admits.
+    /// Whether parsing can produce the vendor: it is known, or custom with a string that [`Vendor::Custom`] admits.
     ///
     /// # Examples
     ///
@@ -153,7 +153,7 @@ impl<'a> fmt::Display for VendorRef<'a> {
     }
 }
 
-/// Whether the text begins with a lower-case letter and has only characters of a vendor.
+/// Whether the string begins with a lower-case letter and has only characters of a vendor.
 fn has_vendor_form(s: &str) -> bool {
     match s.as_bytes().split_first() {
         None => false,

@@ -1,4 +1,4 @@
--- Each iteration answers the first remaining line.
+-- Each iteration adds the entry of the first remaining line.
 use Rattle.std.proofs.Common.{ap, rules, arith}
 use Rattle.std.proofs.{lemmas.Grind.common_steps, lemmas.List.nil_from_length}
 use Rattle.triples.specs.Lines.{lines_of}

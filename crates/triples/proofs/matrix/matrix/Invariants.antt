@@ -1,4 +1,4 @@
--- The lines so far have been answered.
+-- The output is the matrix of the lines so far, and its triples have been seen.
 use Rattle.std.proofs.Common.{length, string_bytes, ◌≤◌}
 use denote.Text.{Utf8}
 use denote.Shadow.{shadow}

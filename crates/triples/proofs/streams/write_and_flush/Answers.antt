@@ -1,3 +1,4 @@
+-- A flush that fails is counted.
 use Rattle.std.proofs.Common.{rules}
 use Rattle.triples.proofs.streams.write_and_flush.Goals as goal
 

@@ -39,7 +39,7 @@ impl Aarch64Architecture {
         false
     }
 
-    /// The width of a pointer: 64 bits on each, whatever the ABI.
+    /// The width of a pointer: 64 bits on each. In a triple, the environment can make it 32.
     ///
     /// # Examples
     ///
