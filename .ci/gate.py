@@ -43,7 +43,6 @@ WITHOUT_PROOF = [
     ("the module, the package and the page for JavaScript are built", f"bindings/web/build --out {WORK}/web", "wasm32"),
     ("they answer as the program does, in Node and in a browser", f"bindings/web/check {WORK}/web --program {COMMANDS}/triples",
      "wasm32 node tsc esbuild chromium chromedriver selenium cargo"),
-    ("the writer of names finds the faults that its test plants", "tools/names/test", ""),
 ]
 LAST = [
     ("links, names, samples, counts and versions of the pages, and the pictures", "checks/pages", "cc cargo"),
@@ -57,13 +56,12 @@ PACKAGES = {
     "shellcheck": "shellcheck", "pyflakes3": "pyflakes3", "cram3": "python3-cram", "hypothesis": "python3-hypothesis", "cc": "gcc", "c++": "g++",
     "cmake": "cmake", "pkg-config": "pkg-config", "dpkg-deb": "dpkg", "pip": "python3-pip", "ensurepip": "python3-venv", "chromium": "chromium",
     "chromedriver": "chromium-driver", "selenium": "python3-selenium", "mypy": "mypy", "pandas": "python3-pandas",
-    "distributed": "python3-distributed", "node": "nodejs", "tsc": "node-typescript", "esbuild": "esbuild",
-    "pypy3": "pypy3",
+    "distributed": "python3-distributed", "node": "nodejs", "tsc": "node-typescript", "esbuild": "esbuild", "pypy3": "pypy3",
     f"{DEBIAN_CRATES}/clap-4.0.32": "librust-clap-4-dev", f"{DEBIAN_CRATES}/clap_complete-4.0.7": "librust-clap-complete-dev",
     f"{DEBIAN_CRATES}/serde_json-1.0.87": "librust-serde-json-dev", f"{DEBIAN_CRATES}/cfg-expr-0.10.3": "librust-cfg-expr-dev",
 }
-# Modules of Debian's Python, and of the python3 on the path.
-DEBIAN_MODULES, MODULES = ("hypothesis", "selenium", "pandas", "distributed"), ("pip", "venv", "ensurepip")
+# The tools that are modules of Debian's Python, or of the python3 on the path.
+MODULES = {**dict.fromkeys(("hypothesis", "selenium", "pandas", "distributed"), "/usr/bin/python3"), **dict.fromkeys(("pip", "venv", "ensurepip"), "python3")}
 GIGABYTES_FOR_A_PROOF = 5
 
 running, passed, left_out, left_out_within, failed = set(), [], [], [], []
@@ -72,14 +70,11 @@ lock = threading.Lock()
 
 def has(tool):
     """Whether there is a command, a module or a path, or for `wasm32` rustc's `std`."""
+    if tool not in MODULES and tool != "wasm32":
+        return shutil.which(tool) is not None or os.path.exists(os.path.join(TOP, tool))
+    command = f"{MODULES.get(tool)} -c 'import {tool}'"
     if tool == "wasm32":
         command = f'ls "$(PATH={WASM}/bin:$PATH rustc --print target-libdir --target wasm32-unknown-unknown)"/libstd-*.rlib'
-    elif tool in DEBIAN_MODULES or tool in MODULES:
-        command = f"{'/usr/bin/' if tool in DEBIAN_MODULES else ''}python3 -c 'import {tool}'"
-    elif "/" in tool:
-        return os.path.exists(os.path.join(TOP, tool))
-    else:
-        return shutil.which(tool) is not None
     return subprocess.run(["bash", "-c", command], capture_output=True).returncode == 0
 
 
@@ -163,22 +158,19 @@ def install(environment):
 
 
 def settings():
-    """The environment of the steps. Crates come from Debian's packages, if there are some. Each proof gets one processor, if there
-    is memory for it, and a quarter of them is for what runs beside the proofs."""
+    """The environment of the steps. If there is memory for it, as many proofs run at once as there are processors."""
     environment = {**os.environ, "BUILT": BUILT, "PYTHONDONTWRITEBYTECODE": "1"}
     with open("/proc/meminfo", encoding="utf-8") as file:
         memory = next(int(line.split()[1]) // 1000000 for line in file if line.startswith("MemAvailable"))
-    jobs = (os.cpu_count() * 3 + 3) // 4
-    if memory >= GIGABYTES_FOR_A_PROOF * jobs:
-        environment["RT_JOBS"] = str(jobs)
+    if memory >= GIGABYTES_FOR_A_PROOF * os.cpu_count():
+        environment["RT_JOBS"] = str(os.cpu_count())
     return environment
 
 
 def debian_crates(environment):
     """Lets cargo take crates from Debian's packages, if they are installed, and then without a network."""
-    if has("rust/lexicon-cli/debian_crates") and has(f"{DEBIAN_CRATES}/clap-4.0.32"):
-        if subprocess.run(["rust/lexicon-cli/debian_crates", CARGO_HOME], cwd=TOP).returncode == 0:
-            environment["CARGO_HOME"] = CARGO_HOME
+    if has(f"{DEBIAN_CRATES}/clap-4.0.32") and subprocess.run(["rust/lexicon-cli/debian_crates", CARGO_HOME], cwd=TOP).returncode == 0:
+        environment["CARGO_HOME"] = CARGO_HOME
 
 
 def beside(environment):

@@ -1,7 +1,7 @@
 """The table of names, tools/names/names.tsv: its values by field and by Rust type, and what is wrong in it."""
+import hashlib
 import re
 from collections import namedtuple
-from itertools import count
 
 TYPES = {"vendor": "KnownVendor", "operating_system": "OperatingSystem", "environment": "Environment",
          "binary_format": "BinaryFormat"}
@@ -10,7 +10,9 @@ FIELDS = ("architecture", *TYPES)
 # A name has the form of a vendor (`has_vendor_form` in specs/Vendor.antt), so it has no dash (`is_dash_free`).
 NAME = re.compile(r"[a-z][a-z0-9_.]*")
 VARIANT = re.compile(r"[A-Z][A-Za-z0-9_]*")
-NUMBER = re.compile(r"0|[1-9][0-9]*")
+# How many values of a field target-lexicon 0.13.5 has, and a checksum of their names, in the order of their numbers.
+UPSTREAM = {"architecture": (107, "a141708f0cf0b4e1"), "vendor": (15, "35e14047bd8121b2"), "operating_system": (40, "03073d1aaf018aed"),
+            "environment": (35, "c4961a463ba6aac0"), "binary_format": (6, "4a7f083dc9f45cae")}
 
 # A line of the table, in which an alias has no number; a variant of a Rust type, with the type of its field, if it has
 # one; and a Rust type, with its name in definitions, its variants, and those of them without and with a field.
@@ -31,13 +33,12 @@ def table_of(text):
         value = Value(*columns, *[""] * (6 - len(columns)))
         wrong += [f"names.tsv:{number}: {it}" for it in faults_of(value, values)]
         values.append(value)
-    wrong = wrong or [f"names.tsv: {it}" for it in missing_numbers(values)]
+    wrong = wrong or [f"names.tsv: {it}" for it in number_faults(values)]
     return values if wrong else sorted(values, key=lambda it: int(it.number or 0)), wrong
 
 
 def faults_of(value, earlier):
     """What is wrong with a line after the earlier ones."""
-    field = [it for it in earlier if it.field == value.field]
     if value.field not in (*FIELDS, "alias"):
         yield f"`{value.field}` is no field"
     if not NAME.fullmatch(value.name):
@@ -47,41 +48,25 @@ def faults_of(value, earlier):
     if value.family and not (value.field in ("architecture", "alias") and VARIANT.fullmatch(value.family)
                              or (value.field, value.family) == ("operating_system", "Darwin")):
         yield f"`{value.family}` is no family of the field"
-    yield from number_faults(value, field)
-    if field and earlier[-1].field != value.field:
-        yield "the lines of the field are not together"
-    if value.name in [it.name for it in field]:
-        yield f"the name `{value.name}` is in the field twice"
-    if value.field in ("architecture", "alias"):
-        others = [it for it in earlier if it.field in {"architecture", "alias"} - {value.field}]
-        if value.name in [it.name for it in others]:
-            yield f"the alias `{value.name}` is a name"
-        if value.field == "alias" and (value.variant, value.family) not in [(it.variant, it.family) for it in others]:
-            yield "the alias comes before its architecture"
-    if value.field != "alias" and (value.variant, value.family) in [(it.variant, it.family) for it in field]:
-        yield f"the variant `{value.variant}` is in the field twice"
+    names = ("architecture", "alias") if value.field in ("architecture", "alias") else (value.field,)
+    if value.name in [it.name for it in earlier if it.field in names]:
+        yield f"the name `{value.name}` is there twice"
+    is_there = (value.variant, value.family) in [(it.variant, it.family) for it in earlier if it.field == names[0]]
+    if is_there != (value.field == "alias"):
+        yield f"the variant `{value.variant}` is in the field twice" if is_there else "the alias comes before its architecture"
 
 
-def number_faults(value, field):
-    """What is wrong with the number of a line after the earlier ones of its field."""
-    if value.field == "alias":
-        if value.number:
-            yield "an alias has no number"
-    elif not value.number:
-        yield "the value has no number"
-    elif not NUMBER.fullmatch(value.number):
-        yield f"`{value.number}` is no number"
-    elif value.number in [it.number for it in field]:
-        yield f"the number {value.number} is in the field twice"
-
-
-def missing_numbers(values):
-    """The fields in which a number is missing, which is lower than another one."""
+def number_faults(values):
+    """What is wrong with the numbers of a field."""
     for field in FIELDS:
-        numbers = {int(it.number) for it in values if it.field == field}
-        missing = next(it for it in count() if it not in numbers)
-        if missing < len(numbers):
-            yield f"no value of the field `{field}` has the number {missing}, and one has {max(numbers)}"
+        of_field = {it.number: it.name for it in values if it.field == field}
+        wanted = [str(it) for it in range(sum(it.field == field for it in values))]
+        if of_field.keys() != set(wanted):
+            yield f"the numbers of the field `{field}` are not 0 to {wanted[-1]}, each once: {', '.join(sorted(of_field.keys() ^ set(wanted)))}"
+            continue
+        count, checksum = UPSTREAM[field]
+        if hashlib.sha256(" ".join(map(of_field.get, wanted[:count])).encode()).hexdigest()[:16] != checksum:
+            yield f"a name of the field `{field}` that target-lexicon 0.13.5 has, or its number, has changed"
 
 
 class Table:

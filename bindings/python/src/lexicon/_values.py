@@ -1,4 +1,4 @@
-"""The values of each field, in the order of their numbers. Written by tools/names/write from tools/names/names.tsv."""
+"""The values of each field, in the order of their numbers."""
 from __future__ import annotations
 
 from ._fields import FieldValue, NamedValue, VendorValue
@@ -10,6 +10,7 @@ class Architecture(FieldValue):
     `Architecture.parse` gives the value that a string is in this field.
     """
 
+    # written by tools/names/write: the members of Architecture
     #: An architecture that the string doesn't say.
     UNKNOWN = "unknown"
     #: Arm of no stated version.
@@ -224,11 +225,13 @@ class Architecture(FieldValue):
     TLCS90 = "tlcs90"
     #: ASCII's R800, of the MSX turbo R.
     R800 = "r800"
+    # end of what is written
 
 
 class Family(NamedValue):
     """The family of an architecture: all of 32-bit Arm, Thumb too, is `ARM`; AArch64 is its own."""
 
+    # written by tools/names/write: the members of Family
     UNKNOWN = "unknown"
     ARM = "arm"
     AMDGCN = "amdgcn"
@@ -266,6 +269,7 @@ class Family(NamedValue):
     CLEVER = "clever"
     ZKASM = "zkasm"
     Z80 = "z80"
+    # end of what is written
 
 
 class Vendor(VendorValue):
@@ -274,6 +278,7 @@ class Vendor(VendorValue):
     `Vendor.parse` gives the value that a string is in this field.
     """
 
+    # written by tools/names/write: the members of Vendor
     #: A vendor that the string doesn't say, or none.
     UNKNOWN = "unknown"
     #: AMD.
@@ -304,6 +309,7 @@ class Vendor(VendorValue):
     UWP = "uwp"
     #: Wind River Systems.
     WRS = "wrs"
+    # end of what is written
 
 
 class OperatingSystem(FieldValue):
@@ -312,6 +318,7 @@ class OperatingSystem(FieldValue):
     `OperatingSystem.parse` gives the value that a string is in this field.
     """
 
+    # written by tools/names/write: the members of OperatingSystem
     #: A system that the string doesn't say.
     UNKNOWN = "unknown"
     #: IBM's AIX.
@@ -392,6 +399,7 @@ class OperatingSystem(FieldValue):
     WINDOWS = "windows"
     #: visionOS under LLVM's own name; `rustc` says `VisionOS`.
     XROS = "xros"
+    # end of what is written
 
 
 class Environment(FieldValue):
@@ -400,6 +408,7 @@ class Environment(FieldValue):
     `Environment.parse` gives the value that a string is in this field.
     """
 
+    # written by tools/names/write: the members of Environment
     #: An environment that the string doesn't say.
     UNKNOWN = "unknown"
     #: AMD graphics processors where the generic address space is number 0.
@@ -470,6 +479,7 @@ class Environment(FieldValue):
     THREADS = "threads"
     #: OpenHarmony.
     OHOS = "ohos"
+    # end of what is written
 
 
 class BinaryFormat(FieldValue):
@@ -478,6 +488,7 @@ class BinaryFormat(FieldValue):
     `BinaryFormat.parse` gives the value that a string is in this field.
     """
 
+    # written by tools/names/write: the members of BinaryFormat
     #: A format that isn't known.
     UNKNOWN = "unknown"
     #: ELF, of most systems like Unix.
@@ -490,3 +501,4 @@ class BinaryFormat(FieldValue):
     WASM = "wasm"
     #: XCOFF, the format of AIX.
     XCOFF = "xcoff"
+    # end of what is written
