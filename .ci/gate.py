@@ -62,7 +62,6 @@ PACKAGES = {
 }
 # The tools that are modules of Debian's Python, or of the python3 on the path.
 MODULES = {**dict.fromkeys(("hypothesis", "selenium", "pandas", "distributed"), "/usr/bin/python3"), **dict.fromkeys(("pip", "venv", "ensurepip"), "python3")}
-GIGABYTES_FOR_A_PROOF = 5
 
 running, passed, left_out, left_out_within, failed = set(), [], [], [], []
 lock = threading.Lock()
@@ -157,16 +156,6 @@ def install(environment):
         running.discard(process)
 
 
-def settings():
-    """The environment of the steps. If there is memory for it, as many proofs run at once as there are processors."""
-    environment = {**os.environ, "BUILT": BUILT, "PYTHONDONTWRITEBYTECODE": "1"}
-    with open("/proc/meminfo", encoding="utf-8") as file:
-        memory = next(int(line.split()[1]) // 1000000 for line in file if line.startswith("MemAvailable"))
-    if memory >= GIGABYTES_FOR_A_PROOF * os.cpu_count():
-        environment["RT_JOBS"] = str(os.cpu_count())
-    return environment
-
-
 def debian_crates(environment):
     """Lets cargo take crates from Debian's packages, if they are installed, and then without a network."""
     if has(f"{DEBIAN_CRATES}/clap-4.0.32") and subprocess.run(["rust/lexicon-cli/debian_crates", CARGO_HOME], cwd=TOP).returncode == 0:
@@ -181,7 +170,7 @@ def beside(environment):
 
 
 def main():
-    environment = settings()
+    environment = {**os.environ, "BUILT": BUILT, "PYTHONDONTWRITEBYTECODE": "1"}
     os.makedirs(f"{BUILT}/bin")
     install(environment)
     debian_crates(environment)
