@@ -1,53 +1,31 @@
-"""Upstream's crate as a package of cargo, the programs that are compared with it, and how they are compared.
+"""The programs that are compared with upstream's crate, and how they are compared.
 
 The programs have the line modes of `triples`: the proved one, the one of rust/lexicon-cli, and those of comparisons/ over
-the Rust crate, the library for C and the Python package. Upstream is 0.13.5, in a folder as cargo fetches it, or with
-files such as src__lib.rs.txt.
+the Rust crate, the library for C and the Python package.
 """
 import collections
+import concurrent.futures
+import glob
+import itertools
+import json
 import os
 import re
 import shutil
 import subprocess
 import sys
+import time
 
 import built
 
 SOURCES = f"{built.ROOT}/checks/comparisons"
-RUST_CRATE = f"{built.ROOT}/rust/target-lexicon"
 LINE_MODES = ("print", "show", "settle", "matrix")
-ALL_MODES = (*LINE_MODES, "json")
-FEATURES = ("std", "arch_z80", "arch_zkasm")
-
-MANIFEST = """[package]
-name = "target-lexicon"
-version = "0.13.5+upstream"
-edition = "2018"
-
-[features]
-std = []
-serde_support = ["serde", "std"]
-arch_zkasm = []
-arch_z80 = []
-rust_1_40 = []
-
-[dependencies]
-serde = { version = "1.0", optional = true }
-
-[workspace]
-"""
+SECONDS_BETWEEN_REPORTS = 30
 
 # A program: its command, the line modes that it has, and the one who answers.
 Program = collections.namedtuple("Program", "command modes name")
 
 
-def stop(why):
-    print(f"compare: {why}")
-    sys.exit(2)
-
-
 def write(path, text):
-    os.makedirs(os.path.dirname(path), exist_ok=True)
     with open(path, "w", encoding="utf-8", newline="") as file:
         file.write(text)
 
@@ -59,113 +37,69 @@ def read(path):
 
 # ---- building
 
-def sources(crate):
-    """The paths of upstream's sources and tests, by their names."""
-    folders = [folder for folder in (f"{crate}/src", f"{crate}/tests") if os.path.isdir(folder)] or [crate] * os.path.isdir(crate)
-    return {name.removesuffix(".txt").removeprefix("src__"): f"{folder}/{name}" for folder in folders
-            for name in sorted(os.listdir(folder)) if name.endswith((".rs", ".rs.txt"))}
+def cargo(crate, command, *words, flags=""):
+    """Runs a command of cargo for the package of comparisons/, with upstream's crate of a folder, if there is one. Returns its output."""
+    patch = ["--config", f'patch.crates-io.target-lexicon.path="{os.path.realpath(crate)}"'] if crate else []
+    words = [*built.CARGO, *patch, command, "--quiet", f"--manifest-path={SOURCES}/Cargo.toml", *words]
+    ran = subprocess.run(words, env={**os.environ, "RUSTFLAGS": f"--cap-lints allow {flags}"}, stdout=subprocess.PIPE, text=True)
+    if ran.returncode:
+        raise RuntimeError(f"that failed: {' '.join(words)}")
+    return ran.stdout
 
 
-def package(crate, folder):
-    """Makes a package of upstream's sources, which cargo builds without the network. Returns its folder."""
-    if "lib.rs" not in sources(crate):
-        stop(f"{crate} has no src/lib.rs: it must be the folder of target-lexicon 0.13.5 as cargo fetches it")
-    for name, path in sources(crate).items():
-        # lib.rs.txt may end with the attributes of its tests.
-        write(f"{folder}/src/{name}", re.sub(r'(#\[cfg\(feature = "serde_support"\)\]\s*)+\Z', "", read(path)))
-    write(f"{folder}/Cargo.toml", MANIFEST)
-    shutil.copy(f"{SOURCES}/upstream_build.rs", f"{folder}/build.rs")
-    return folder
+def rust_program(crate, name, profile="release", flags=""):
+    """The path of a program of the package."""
+    cargo(crate, "build", f"--profile={profile}", f"--bin={name}", flags=flags)
+    return f"{os.environ.get('CARGO_TARGET_DIR', f'{SOURCES}/target')}/{profile}/{name}"
 
 
-def cargo_program(folder, name, source, crates, features=(), flags="", target=None, crate_features=FEATURES):
-    """Builds a program of one source file over crates, which have names and folders. Returns the program's path."""
-    quoted = ", ".join(f'"{feature}"' for feature in crate_features)
-    dependencies = "".join(f'{alias} = {{ package = "target-lexicon", path = "{path}", features = [{quoted}] }}\n' for alias, path in crates.items())
-    write(f"{folder}/{name}/Cargo.toml", f"""[package]
-name = "{name}"
-version = "0.0.0"
-edition = "2021"
-[[bin]]
-name = "{name}"
-path = "{SOURCES}/{source}"
-[dependencies]
-{dependencies}[features]
-upstream = []
-c_library = []
-[workspace]
-""")
-    words = [*built.CARGO, "build", "--quiet", "--release", "--manifest-path", f"{folder}/{name}/Cargo.toml",
-             "--target-dir", f"{folder}/target", "--features", ",".join(features), *(["--target", target] if target else [])]
-    if subprocess.run(words, env={**os.environ, "RUSTFLAGS": f"--cap-lints allow {flags}"}).returncode:
-        stop(f"cargo doesn't build checks/comparisons/{source}")
-    return f"{folder}/target/{target or ''}/release/{name}"
+def quoted_texts(crate, form):
+    """The texts of a form that the files of upstream's crate have in quotes."""
+    packages = json.loads(cargo(crate, "metadata", "--format-version=1"))["packages"]
+    folder = next(os.path.dirname(it["manifest_path"]) for it in packages if (it["name"], it["version"]) == ("target-lexicon", "0.13.5"))
+    files = glob.glob(f"{folder}/**/*.rs", recursive=True)
+    return sorted({text for path in files for text in re.findall(f'"({form})"', read(path))})
 
 
-def build(crate, folder):
-    """Builds the program over upstream's crate. Returns its path, which is in the folder."""
-    return cargo_program(folder, "lines_upstream", "lines.rs", {"target-lexicon": package(crate, f"{folder}/upstream")}, ["upstream"])
+def c_program(tree, folder):
+    words = [f"-I{tree}/include", f"{SOURCES}/lines.c", f"{tree}/lib/liblexicon.a", "-o", f"{folder}/lines_c"]
+    if subprocess.run(["cc", "-O2", *words]).returncode:
+        raise RuntimeError(f"cc doesn't build checks/comparisons/lines.c with the library in {tree}")
+    return [f"{folder}/lines_c"]
 
 
-def c_flags(tree):
-    return [f"-I{tree}/include", f"{SOURCES}/lines.c"]
-
-
-def program_of(name, tree, folder):
+def program_of(name, options, folder):
     """One of the programs, or None if what it is made of isn't there."""
+    tree, three = options.tree, LINE_MODES[:3]
     if name == "proved" and (shutil.which("rt") or os.path.exists(f"{tree}/bin/triples")):
-        return Program([built.program("compare", "triples", 2)], ALL_MODES, "the proved program")
+        return Program([built.program("compare", "triples", 2)], (*LINE_MODES, "json"), "the proved program")
     if name == "cargo":
-        return Program([built.cargo_program("compare", "triples", 2)], ALL_MODES, "triples by cargo")
+        return Program([built.cargo_program("compare", "triples", 2)], (*LINE_MODES, "json"), "triples by cargo")
     if name == "rust":
-        return Program([cargo_program(folder, "lines", "lines.rs", {"target-lexicon": RUST_CRATE})], LINE_MODES, "the Rust crate")
+        return Program([rust_program(options.upstream, "lines_ours")], (*LINE_MODES, "parse"), "the Rust crate")
     if name == "c" and os.path.exists(f"{tree}/lib/liblexicon.a"):
-        if subprocess.run(["cc", "-O2", *c_flags(tree), f"{tree}/lib/liblexicon.a", "-o", f"{folder}/lines_c"]).returncode:
-            stop(f"cc doesn't build checks/comparisons/lines.c with the library in {tree}")
-        return Program([f"{folder}/lines_c"], LINE_MODES[:3], "the library for C")
+        return Program(c_program(tree, folder), three, "the library for C")
     if name == "python" and os.path.exists(f"{tree}/lib/liblexicon.so"):
         os.environ.update(PYTHONPATH=f"{built.ROOT}/bindings/python/src", LEXICON_LIBRARY=f"{tree}/lib/liblexicon.so")
-        return Program([sys.executable, f"{SOURCES}/lines_python.py"], LINE_MODES[:3], "the Python package")
+        return Program([sys.executable, f"{SOURCES}/lines_python.py"], three, "the Python package")
     return None
 
 
 def programs(options, folder):
     """The programs that are compared: those that the options name, otherwise all that are available."""
-    found = [Program([path], ALL_MODES, path) for path in options.program]
+    found = [Program([path], (*LINE_MODES, "json"), path) for path in options.program]
     for name in ("proved", "cargo", "rust", "c", "python") if options.of is None else options.of:
-        program = program_of(name, options.tree, folder)
+        program = program_of(name, options, folder)
         if program:
             found.append(program)
         elif options.of:
-            stop(f"{name} can't be compared: {'rt is missing' if name == 'proved' else 'BUILT or --tree must be a tree with the library for C'}")
+            why = "rt is missing" if name == "proved" else "BUILT or --tree must be a tree with the library for C"
+            raise RuntimeError(f"{name} can't be compared: {why}")
     print(f"compared: {', '.join(program.name for program in found)}", flush=True)
     return found
 
 
 # ---- comparing
-
-class Tally:
-    """How much was compared, and the first differences."""
-
-    def __init__(self, name, options):
-        self.name, self.most = name, sys.maxsize if options.all else 3
-        self.compared, self.parsed, self.differ, self.first = 0, 0, 0, []
-
-    def add(self, compared, parsed, found):
-        """Counts what was compared and parsed, and the differences.
-
-        A difference is a mode, a string, who answers, the answer and upstream's.
-        """
-        self.compared += compared
-        self.parsed += parsed
-        self.differ += len(found)
-        self.first += found[:self.most - len(self.first)]
-
-    def report(self):
-        print(f"{self.name + ':':16} {self.compared:13,} compared, {self.parsed:13,} parsed, {self.differ:,} differ", flush=True)
-        for mode, text, who, answer, upstream in self.first:
-            print(f"    {mode} {text!r:.200}\n        {who}: {answer!r:.200}\n        upstream: {upstream!r:.200}", flush=True)
-
 
 def answers(command, given):
     """What a command writes for an input, both as bytes."""
@@ -175,38 +109,48 @@ def answers(command, given):
     return ran.stdout
 
 
-def split(lines):
-    return lines.decode().split("\n")[:-1]
+def compare(upstream, compared, mode, block, *arguments):
+    """Compares the programs that have a mode with upstream on the lines of a block.
 
-
-def ask(command, lines):
-    """A command's answers to the lines: each line has one."""
-    found = split(answers(command, "".join(f"{line}\n" for line in lines).encode()))
-    if len(found) != len(lines):
-        raise RuntimeError(f"{command} has {len(found)} answers to {len(lines)} lines")
-    return found
-
-
-def differences(mode, who, given, ours, theirs):
-    """Each string that a program answers differently. A matrix has fewer answers than there are strings: of it the first difference."""
-    texts, ours, theirs = map(split, (given, ours, theirs))
-    if mode == "matrix":
-        pairs = zip([*ours, "the end"], [*theirs, "the end"])
-        return [(mode, "the first entry that differs", who, *next(pair for pair in pairs if pair[0] != pair[1]))]
-    if not len(texts) == len(ours) == len(theirs):
-        raise RuntimeError(f"{who} {mode} wrote {len(ours)} lines for {len(texts)}, upstream {len(theirs)}")
-    return [(mode, text, who, our, their) for text, our, their in zip(texts, ours, theirs) if our != their]
-
-
-def compare(upstream, compared, mode, given):
-    """Compares the programs that have a mode with upstream on lines.
-
-    Returns how many answers there are, how many of these aren't a refusal, and the differences.
+    Returns how many answers there are, how many of these aren't a refusal, and the differences: of each what was asked, who
+    answers, the answer and upstream's.
     """
+    given = "".join([f"{line}\n" for line in block(*arguments)]).encode()
     theirs, found = answers([upstream, mode], given), []
+    count, refused = theirs.count(b"\n"), theirs.startswith(b"error: ") + theirs.count(b"\nerror: ")
+    if mode != "matrix" and count != given.count(b"\n"):
+        raise RuntimeError(f"upstream has {count} answers to {given.count(chr(10).encode())} lines")
     for command, modes, who in compared:
         ours = answers([*command, mode], given) if mode in modes else theirs
         if ours != theirs:
-            found += differences(mode, who, given, ours, theirs)
-    count, refused = theirs.count(b"\n"), theirs.startswith(b"error: ") + theirs.count(b"\nerror: ")
+            rows = itertools.zip_longest(*(text.decode().split("\n") for text in (given, ours, theirs)))
+            wrong = [(repr(line), who, our, their) for line, our, their in rows if our != their]
+            # A matrix has fewer entries than there are lines, and one that is wrong moves the others.
+            found += [("the first entry that differs", *wrong[0][1:])] if mode == "matrix" else wrong
     return count, count - refused, found
+
+
+def compare_all(options, folder, sets):
+    """Compares the programs with upstream on sets of lines, and returns the status.
+
+    A set has a name, the modes, and blocks: what makes the lines, and its arguments.
+    """
+    begun = reported = time.monotonic()
+    upstream, compared = rust_program(options.upstream, "lines_upstream"), programs(options, folder)
+    strings = differ = 0
+    with concurrent.futures.ProcessPoolExecutor() as pool:
+        for name, modes, blocks in sets:
+            runs = {mode: [pool.submit(compare, upstream, compared, mode, *block) for block in blocks] for mode in modes}
+            for mode, done in runs.items():
+                count, parsed, found = 0, 0, []
+                for run in done:
+                    count, parsed, found = (total + more for total, more in zip((count, parsed, found), run.result()))
+                    if time.monotonic() - reported > SECONDS_BETWEEN_REPORTS:
+                        reported = time.monotonic()
+                        print(f"    {name}{mode}: {count:,} compared, {len(found):,} differ", flush=True)
+                print(f"{name + mode + ':':16} {count:13,} compared, {parsed:13,} parsed, {len(found):,} differ", flush=True)
+                for line, who, our, their in found[:None if options.all else 3]:
+                    print(f"    {line:.200}\n        {who}: {our!r:.200}\n        upstream: {their!r:.200}", flush=True)
+                strings, differ = strings + count, differ + len(found)
+    print(f"all: {strings:,} answers compared, {differ:,} differ, {time.monotonic() - begun:.0f} s")
+    return 1 if differ else 0

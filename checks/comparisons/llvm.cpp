@@ -6,20 +6,14 @@
 #include "llvm/ADT/Triple.h"
 #endif
 #include <iostream>
+#include <map>
 #include <string>
 
 using llvm::Triple;
 
-static const char *format_of(const Triple &triple) {
-  switch (triple.getObjectFormat()) {
-  case Triple::COFF: return "coff";
-  case Triple::ELF: return "elf";
-  case Triple::MachO: return "macho";
-  case Triple::Wasm: return "wasm";
-  case Triple::XCOFF: return "xcoff";
-  default: return "-";
-  }
-}
+static std::map<Triple::ObjectFormatType, std::string> formats = {
+    {Triple::UnknownObjectFormat, "-"}, {Triple::COFF, "coff"}, {Triple::ELF, "elf"}, {Triple::MachO, "macho"}, {Triple::Wasm, "wasm"},
+    {Triple::XCOFF, "xcoff"}};
 
 int main() {
   for (std::string line; std::getline(std::cin, line);) {
@@ -28,6 +22,7 @@ int main() {
       std::cout << "- - -\n";
     else
       std::cout << (triple.isLittleEndian() ? "little " : "big ")
-                << (triple.isArch64Bit() ? "64 " : triple.isArch32Bit() ? "32 " : triple.isArch16Bit() ? "16 " : "- ") << format_of(triple) << '\n';
+                << (triple.isArch64Bit() ? "64 " : triple.isArch32Bit() ? "32 " : triple.isArch16Bit() ? "16 " : "- ")
+                << formats[triple.getObjectFormat()] << '\n';
   }
 }

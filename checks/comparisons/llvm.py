@@ -1,9 +1,9 @@
-"""Compares what the Rust crate says of rustc's targets with what LLVM, clang and rustc say.
+"""Compares what the Python package says of rustc's targets with what LLVM, clang and rustc say.
 
 The targets are those of the installed rustc that parse. llvm.cpp asks LLVM for the byte order, the pointer width and the object
-format of each. The macros that clang defines give the first two, and the sizes of C's integers. rustc says byte order and
-width of each target, whose name for LLVM is read as a string spelled like a triple, and writes an object for each. What a tool
-doesn't know isn't compared.
+format of each. The macros that clang defines give the first two, and the sizes of C's integers. rustc's descriptions of targets
+have the byte order, the pointer width and the object format, and a name for LLVM, which is read as a string spelled like a triple.
+What a tool doesn't know isn't compared.
 
 Debian's packages: llvm-14-dev g++ clang; and rustc.
 """
@@ -15,83 +15,67 @@ import shutil
 import subprocess
 
 import upstream
-from comparisons.tools import Library, Report, output
+from comparisons.tools import Report, output
 
-MACROS = [f"__SIZEOF_{name}__" for name in ("SHORT", "INT", "LONG", "LONG_LONG")]
 # Where pointers have 32 bits here, and registers 64; clang 14 compiles for ILP32 on AArch64 as for LP64.
 NARROW = "gnux32|gnu_ilp32"
-# The first bytes of an object.
-MAGIC = {b"\x7fELF": "elf", b"\0asm": "wasm", b"\x01\xdf": "xcoff", b"\x01\xf7": "xcoff", b"\xcf\xfa\xed\xfe": "macho", b"\xce\xfa\xed\xfe": "macho",
-         b"\x64\x86": "coff", b"\x4c\x01": "coff", b"\x64\xaa": "coff", b"\xc4\x01": "coff", b"\x41\xa6": "coff"}
-NO_CORE = """#![feature(no_core, lang_items)]
-#![no_core]
-#[lang = "pointee_sized"] pub trait PointeeSized {}
-#[lang = "meta_sized"] pub trait MetaSized: PointeeSized {}
-#[lang = "sized"] pub trait Sized: MetaSized {}
-#[no_mangle] pub extern "C" fn function() {}
-"""
-UNSTABLE = {**os.environ, "RUSTC_BOOTSTRAP": "1"}
 
-
-def compare(report, who, ours, theirs, which, but=None):
-    """Compares answers of a kind; who doesn't know a target has none."""
-    pairs = [(target, getattr(meaning, which), theirs[target][which]) for target, meaning in ours.items() if which in theirs.get(target, {})]
-    pairs = [pair for pair in pairs if "-" not in pair[1:]]
-    report.fact(f"{who} has the same {which}", [pair for pair in pairs if pair[1] != pair[2]], len(pairs), but)
+def our_answers(triple):
+    sizes = (triple.short_size, triple.int_size, triple.long_size, triple.long_long_size)
+    return {"order": str(triple.endianness or "-"), "width": str(triple.pointer_width or "-"), "format": str(triple.object_format),
+            "sizes": " ".join(map(str, sizes)) if triple.data_model else "-"}
 
 
 def llvm_answers(targets, folder):
     flags = output("llvm-config", "--cxxflags", "--ldflags", "--libs", "--system-libs").split()
     subprocess.run(["c++", f"{upstream.SOURCES}/llvm.cpp", "-o", f"{folder}/llvm", *flags], check=True)
-    return {target: dict(zip(("order", "width", "format"), line.split())) for target, line in
-            zip(targets, upstream.ask([f"{folder}/llvm"], list(targets)))}
+    lines = output(f"{folder}/llvm", input="".join(f"{target}\n" for target in targets)).splitlines()
+    return {target: dict(zip(("order", "width", "format"), line.split())) for target, line in zip(targets, lines, strict=True)}
 
 
 def clang_answer(target):
     """What clang's macros say of a target, or nothing if clang doesn't know it."""
-    macros = dict(re.findall(r"^#define (\w+) (\w+)$", output("clang", "-target", target, "-dM", "-E", "-x", "c", "/dev/null"), re.MULTILINE))
+    text = output("clang", "-target", target, "-dM", "-E", "-x", "c", "/dev/null")
+    macros = dict(re.findall(r"^#define (\w+) (\w+)$", text, re.MULTILINE))
     if "__BYTE_ORDER__" not in macros:
         return {}
     order = {"__ORDER_LITTLE_ENDIAN__": "little", "__ORDER_BIG_ENDIAN__": "big"}[macros["__BYTE_ORDER__"]]
-    return {"order": order, "width": str(8 * int(macros["__SIZEOF_POINTER__"])), "sizes": " ".join(macros[name] for name in MACROS)}
+    sizes = " ".join(macros[f"__SIZEOF_{name}__"] for name in ("SHORT", "INT", "LONG", "LONG_LONG"))
+    return {"order": order, "width": str(8 * int(macros["__SIZEOF_POINTER__"])), "sizes": sizes}
 
 
-def object_answer(target, folder):
-    """The format of the object that rustc writes for a target, if it writes one."""
-    # A folder for each, since rustc takes what follows a dot in a file's name for its ending, as in `thumbv8m.main-none-eabi`.
-    path = f"{folder}/{target}/object"
-    os.mkdir(os.path.dirname(path))
-    command = ["rustc", "--target", target, "--crate-type", "lib", "--emit", "obj", "-C", "panic=abort", "-A", "warnings", "-o", path, f"{folder}/no_core.rs"]
-    if subprocess.run(command, env=UNSTABLE, capture_output=True).returncode:
-        return {}
-    with open(path, "rb") as file:
-        begin = file.read(4)
-    return {"format": next((name for magic, name in MAGIC.items() if begin.startswith(magic)), "-")}
+def rustc_answers():
+    """What rustc says of each target, by the name of the target and by that for LLVM."""
+    words = ["rustc", "-Z", "unstable-options", "--print", "all-target-specs-json"]
+    specs = json.loads(output(*words, env={**os.environ, "RUSTC_BOOTSTRAP": "1"}))
+    said = {name: {"order": it.get("target-endian", "little"), "width": str(it["target-pointer-width"])} for name, it in specs.items()}
+    by_llvm_name = {it["llvm-target"]: said[name] for name, it in specs.items()}
+    formats = {name: it.get("binary-format", "elf").replace("-", "") for name, it in specs.items()}
+    return {name: {**it, "format": formats[name]} for name, it in said.items()}, by_llvm_name
 
 
 def main(options, folder):
-    report, library = Report(options), Library(folder)
+    report = Report(options, folder)
     targets = output("rustc", "--print", "target-list").split()
-    ours = {target: meaning for target, meaning in library.meanings(targets, "parse").items() if meaning.triple != "-"}
-    print(f"{len(targets)} targets, {len(ours)} parsed; {output('rustc', '--version').strip()}", flush=True)
+    parsed = {target: triple for target, triple in zip(targets, map(report.parsed, targets)) if triple}
+    print(f"{len(targets)} targets, {len(parsed)} parsed; {output('rustc', '--version').strip()}", flush=True)
+
+    def compare(who, triples, theirs, **but):
+        """Compares each kind of answer that a tool has, if there are two; `but` has the known differences of a kind."""
+        ours = {name: our_answers(triple) for name, triple in triples.items() if triple}
+        for kind in dict.fromkeys(kind for answer in theirs.values() for kind in answer):
+            rows = [(name, answer[kind], theirs.get(name, {}).get(kind, "-")) for name, answer in ours.items()]
+            report.fact(f"{who} has the same {kind}", (row for row in rows if "-" not in row[1:]), but.get(kind))
+
     with concurrent.futures.ThreadPoolExecutor() as pool:
         if report.has("LLVM", shutil.which("llvm-config") and shutil.which("c++")):
-            theirs = llvm_answers(ours, folder)
-            compare(report, "LLVM", ours, theirs, "order")
-            compare(report, "LLVM", ours, theirs, "width", NARROW)
             # LLVM 14 knows neither UEFI nor visionOS.
-            compare(report, "LLVM", ours, theirs, "format", "uefi|visionos")
+            compare("LLVM", parsed, llvm_answers(parsed, folder), width=NARROW, format="uefi|visionos")
         if report.has("clang", shutil.which("clang")):
-            theirs = dict(zip(ours, pool.map(clang_answer, ours)))
-            compare(report, "clang", ours, theirs, "order")
-            compare(report, "clang", ours, theirs, "width", "gnu_ilp32")
-            compare(report, "clang", ours, theirs, "sizes", "gnu_ilp32")
+            compare("clang", parsed, dict(zip(parsed, pool.map(clang_answer, parsed))), width="gnu_ilp32", sizes="gnu_ilp32")
         report.has("rustc", True)
-        specs = json.loads(output("rustc", "-Z", "unstable-options", "--print", "all-target-specs-json", env=UNSTABLE))
-        theirs = {spec["llvm-target"]: {"order": spec.get("target-endian", "little"), "width": str(spec["target-pointer-width"])} for spec in specs.values()}
-        for which in "order", "width":
-            compare(report, "rustc, of its names for LLVM,", library.meanings(theirs), theirs, which)
-        upstream.write(f"{folder}/no_core.rs", NO_CORE)
-        theirs = dict(zip(ours, pool.map(lambda target: object_answer(target, folder), ours)))
-        compare(report, "rustc, in the objects that it writes,", ours, theirs, "format")
+        theirs, by_llvm_name = rustc_answers()
+        # rustc doesn't say that this target's objects are Wasm.
+        compare("rustc", parsed, theirs, format="wali")
+        compare("rustc, of its names for LLVM,", {name: report.read(name) for name in by_llvm_name}, by_llvm_name)
     return report.conclude()

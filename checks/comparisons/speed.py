@@ -13,8 +13,8 @@ import upstream
 
 LINES = 20000
 FIGURES = f"{built.ROOT}/docs/speed.tsv"
-# The lines, as docs/speed.tsv calls them, and the modes that are counted on them.
-ROWS = {"targets": ("parse", "print", "show", "settle", "matrix"), "with an `x`": ("parse", "print")}
+# The lines, as docs/speed.tsv calls them, their ends, and the modes that are counted on them.
+ROWS = {"targets": ("", ("parse", "print", "show", "settle", "matrix")), "with an `x`": ("x", ("parse", "print"))}
 # The part and the column of a program's figures.
 COLUMNS = {"the proved program": ("program", "kit"), "triples by cargo": ("program", "cargo"), "the Rust crate": ("Rust", "cargo")}
 
@@ -24,11 +24,13 @@ def add_arguments(parser):
 
 
 def instructions(command, path):
-    """The instructions a line, or None if the command doesn't have the mode."""
+    """The instructions a line."""
     with open(path, "rb") as given:
         ran = subprocess.run(["valgrind", "--tool=callgrind", "--callgrind-out-file=/dev/null", *command], stdin=given, capture_output=True)
     count = re.search(rb"Collected : (\d+)", ran.stderr)
-    return None if ran.returncode or not count else int(count[1]) / LINES
+    if ran.returncode or not count:
+        raise RuntimeError(f"valgrind doesn't run {command}")
+    return int(count[1]) / LINES
 
 
 def store(figures):
@@ -36,10 +38,9 @@ def store(figures):
     lines, columns = upstream.read(FIGURES).splitlines(), []
     for number, line in enumerate(lines):
         row = line.split("\t")
-        if row[0] == "part":
-            columns = row
-        elif columns and row[0] in ("program", "Rust"):
-            key = tuple(row[:2]) + (row[2].strip("`"),)
+        columns = row if row[0] == "part" else columns
+        if row[0] in ("program", "Rust"):
+            key = (*row[:2], row[2].strip("`"))
             lines[number] = "\t".join(figures.get((*key, column), old) for column, old in zip(columns, row))
     upstream.write(FIGURES, "\n".join(lines) + "\n")
 
@@ -47,23 +48,24 @@ def store(figures):
 def main(options, folder):
     targets = subprocess.run(["rustc", "--print", "target-list"], check=True, capture_output=True, text=True).stdout.splitlines()
     lines = (targets * (LINES // len(targets) + 1))[:LINES]
-    driver, programs, figures = upstream.build(options.upstream, folder), upstream.programs(options, folder), {}
-    for which, modes in ROWS.items():
-        path, end = f"{folder}/{len(which)}", "x" if "x" in which else ""
+    driver, programs, figures = upstream.rust_program(options.upstream, "lines_upstream"), upstream.programs(options, folder), {}
+    for which, (end, modes) in ROWS.items():
+        path = f"{folder}/lines{end}"
         upstream.write(path, "".join(f"{line}{end}\n" for line in lines))
         for mode in modes:
             writing, to_string = (instructions([driver, mode, how], path) for how in ("own", "to_string"))
             print(f"{which}, {mode}: upstream {writing:.0f}, with to_string {to_string:.0f}", flush=True)
             for program in programs:
+                if mode not in program.modes:
+                    continue
                 count = instructions([*program.command, mode], path)
-                if count:
-                    print(f"    {program.name}: {count:.0f}, ratio {count / writing:.3f}", flush=True)
-                    part, column = COLUMNS.get(program.name, ("", ""))
-                    figures[part, which, mode, column] = f"{count:.0f}"
-                    # Upstream has no canonical forms: what its program does for them is no figure of upstream's.
-                    if part and mode in ("parse", "print", "show"):
-                        figures[part, which, mode, "upstream"] = f"{writing:.0f}"
-                        figures[part, which, mode, "to_string"] = "-" if mode == "parse" else f"{to_string:.0f}"
+                print(f"    {program.name}: {count:.0f}, ratio {count / writing:.3f}", flush=True)
+                part, column = COLUMNS.get(program.name, ("", ""))
+                figures[part, which, mode, column] = f"{count:.0f}"
+                # Upstream has no canonical forms: what its program does for them is no figure of upstream's.
+                if mode in ("parse", "print", "show"):
+                    figures[part, which, mode, "upstream"] = f"{writing:.0f}"
+                    figures[part, which, mode, "to_string"] = "-" if mode == "parse" else f"{to_string:.0f}"
     if options.store:
         store(figures)
     return 0

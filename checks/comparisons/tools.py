@@ -1,52 +1,56 @@
-"""What the comparisons with other tools share: the library's answers, and a report of what was asked and what differs."""
-import collections
+"""What the comparisons with other tools share: the answers of the Python package, and a report of what was asked and what differs."""
+import os
 import re
 import subprocess
+import sys
 
-import upstream
-
-# What a string means; `-` is for no answer.
-Meaning = collections.namedtuple("Meaning", "triple order width format sizes", defaults=["-"] * 5)
+import built
 
 
-def output(*command, given=None, **more):
-    return subprocess.run(command, input=given, capture_output=True, text=True, errors="replace", **more).stdout
-
-
-class Library:
-    """The answers of the Rust crate."""
-
-    def __init__(self, folder):
-        crates = {"target-lexicon": upstream.RUST_CRATE}
-        self.program = upstream.cargo_program(folder, "elsewhere", "elsewhere.rs", crates, crate_features=["tool_names"])
-
-    def meanings(self, names, how="read"):
-        """What each name means. `how` is `parse`, `read`, or a dialect, a tab and `read`."""
-        names = list(dict.fromkeys(names))
-        answers = upstream.ask([self.program], [f"{how}\t{name}" for name in names])
-        return {name: Meaning() if answer == "-" else Meaning(*answer.split("\t")) for name, answer in zip(names, answers)}
-
-    def written(self, dialect, targets):
-        """The name of each target in a dialect, or `-`."""
-        targets = list(dict.fromkeys(targets))
-        return dict(zip(targets, upstream.ask([self.program], [f"{dialect}\twrite\t{target}" for target in targets])))
+def output(*command, **more):
+    return subprocess.run(command, capture_output=True, text=True, errors="replace", **more).stdout
 
 
 class Report:
-    def __init__(self, options):
+    def __init__(self, options, folder):
         self.asked, self.missing, self.failed, self.most = [], [], [], None if options.all else 5
+        tree = options.tree
+        if not os.path.exists(f"{tree}/lib/liblexicon.so"):
+            tree = f"{folder}/tree"
+            subprocess.run([f"{built.ROOT}/rust/lexicon-c/install", tree], check=True, stdout=subprocess.DEVNULL)
+        os.environ["LEXICON_LIBRARY"] = f"{tree}/lib/liblexicon.so"
+        sys.path.insert(0, f"{built.ROOT}/bindings/python/src")
+        import lexicon
+        self.lexicon = lexicon
+
+    def parsed(self, text):
+        """The triple that a string parses as, or None."""
+        try:
+            return self.lexicon.Triple(text)
+        except self.lexicon.ParseError:
+            return None
+
+    def read(self, name, dialect=None):
+        """The triple that a name of a dialect means, or a string that is spelled like a triple; or None."""
+        try:
+            return self.lexicon.Triple.read(name, dialect)
+        except self.lexicon.ParseError:
+            return None
 
     def has(self, name, there):
         """Notes whether a tool is there, and returns it."""
         (self.asked if there else self.missing).append(name)
         return there
 
-    def fact(self, what, wrong, of, but=None):
-        """A fact about so many answers, and those for which it doesn't hold; those that match `but` are known differences."""
-        wrong = list(wrong)
-        found = [it for it in wrong if not (but and re.search(but, str(it)))]
+    def fact(self, what, rows, but=None):
+        """A fact about rows, in each of which the last two values must be equal; a row that matches `but` is a known difference."""
+        rows = list(rows)
+        wrong = [row for row in rows if row[-2] != row[-1]]
+        found = [row for row in wrong if not (but and re.search(but, str(row)))]
         known = f", except {len(wrong) - len(found)} with {but.replace('|', ' or ')}" if but else ""
-        print(f"{'FAILED' if found else 'holds '} {what} ({of}{known})", *(f"    {it}" for it in found[:self.most]), sep="\n", flush=True)
+        print(f"{'FAILED' if found else 'holds '} {what} ({len(rows)}{known})", flush=True)
+        for row in found[:self.most]:
+            print("   ", *row)
         self.failed += [what] * bool(found)
 
     def conclude(self):
@@ -54,3 +58,8 @@ class Report:
         print(f"asked: {', '.join(self.asked)}; not installed: {', '.join(self.missing) or 'none'}")
         print(f"{len(self.failed)} facts don't hold")
         return 2 if not self.asked else 1 if self.failed else 0
+
+
+def order_and_width(triple):
+    """The byte order of a triple, and the width of its pointers."""
+    return triple and (str(triple.endianness), triple.pointer_width)

@@ -62,8 +62,8 @@ fn our_error_line(line: &str, error: &Error, out: &mut [u8]) {
 }
 
 /// Asks what lexicon_facts answers, but for the family, and the format that the others imply, which upstream doesn't export.
-fn upstream_facts(triple: &target_lexicon::Triple) {
-    use target_lexicon::{Architecture, Vendor};
+fn upstream_facts(triple: &upstream::Triple) {
+    use upstream::{Architecture, Vendor};
     let _ = black_box(triple.endianness());
     let _ = black_box(triple.pointer_width());
     let _ = black_box(triple.default_calling_convention());
@@ -92,14 +92,14 @@ fn with_ours(line: &str, triple: impl FnOnce(&Triple), error: impl FnOnce(&Error
 }
 
 /// Runs one of them over the lines, or the triples that they parse as.
-fn run(ours: bool, what: &str, lines: &[&str], our: &[Triple], upstream: &[target_lexicon::Triple], out: &mut [u8]) {
+fn run(ours: bool, what: &str, lines: &[&str], our: &[Triple], upstream: &[upstream::Triple], out: &mut [u8]) {
     match (ours, what) {
         (true, "facts") => our.iter().for_each(our_facts),
         (false, "facts") => upstream.iter().for_each(upstream_facts),
         (true, "parse+print") => lines.iter().for_each(|it| with_ours(it, |triple| our_print(triple, out), |_| ())),
         (true, "parse+facts") => lines.iter().for_each(|it| with_ours(it, our_facts, |_| ())),
         (true, _) => lines.iter().for_each(|it| with_ours(it, |_| (), |error| our_error_line(it, error, out))),
-        (false, _) => lines.iter().for_each(|it| match it.parse::<target_lexicon::Triple>() {
+        (false, _) => lines.iter().for_each(|it| match it.parse::<upstream::Triple>() {
             Ok(triple) if what == "parse+print" => copied(&triple.to_string(), out),
             Ok(triple) => upstream_facts(&triple),
             Err(error) => copied(&error.to_string(), out),
@@ -115,11 +115,11 @@ fn median(mut values: Vec<f64>) -> f64 {
 fn main() {
     let words: Vec<String> = std::env::args().collect();
     let text = std::fs::read_to_string(&words[1]).expect("a file of lines");
-    let (read, refused): (Vec<&str>, Vec<&str>) = text.lines().partition(|line| line.parse::<target_lexicon::Triple>().is_ok());
+    let (read, refused): (Vec<&str>, Vec<&str>) = text.lines().partition(|line| line.parse::<upstream::Triple>().is_ok());
     let parsed = |line: &&str| our_parse(line, &mut MaybeUninit::uninit(), &mut MaybeUninit::uninit()).ok().copied();
     let our: Vec<Triple> = read.iter().map(|it| parsed(it).expect("a line that parses")).collect();
     assert!(refused.iter().all(|it| parsed(it).is_none()));
-    let upstream: Vec<target_lexicon::Triple> = read.iter().map(|it| it.parse().unwrap()).collect();
+    let upstream: Vec<upstream::Triple> = read.iter().map(|it| it.parse().unwrap()).collect();
     let mut out = vec![0; 4096];
     let mut call = |ours, what: &str| run(ours, what, if what == "refused" { &refused } else { &read }, &our, &upstream, &mut out);
     if let [_, _, who, what, times] = words.as_slice() {
