@@ -135,9 +135,9 @@ def compare_all(options, folder, sets):
 
     A set has a name, the modes, and blocks: what makes the lines, and its arguments.
     """
-    begun = reported = time.monotonic()
     upstream, compared = rust_program(options.upstream, "lines_upstream"), programs(options, folder)
-    strings = differ = 0
+    strings, differ, begun = 0, 0, time.monotonic()
+    reported = begun
     with concurrent.futures.ProcessPoolExecutor() as pool:
         for name, modes, blocks in sets:
             runs = {mode: [pool.submit(compare, upstream, compared, mode, *block) for block in blocks] for mode in modes}
