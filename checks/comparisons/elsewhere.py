@@ -76,8 +76,6 @@ class Comparison(Report):
             said[name], gnu[name] = (it["DEB_HOST_ARCH_ENDIAN"], int(it["DEB_HOST_ARCH_BITS"])), it["DEB_HOST_GNU_TYPE"]
         self.fact("Debian's names have dpkg's byte order and width", (
             (name, order_and_width(it), said[name]) for name, it in meanings.items()))
-        self.fact("GNU types of dpkg are read as the name is", (
-            (name, self.read(gnu[name]), it) for name, it in meanings.items()), "hurd")
         self.fact("the name of GNU's compiler is dpkg's GNU type", (
             (name, it and it.name_in("gnu"), gnu[name]) for name, it in meanings.items()))
 
@@ -145,8 +143,7 @@ class Comparison(Report):
         if self.has("the crate cc", crate):
             text = upstream.read(crate[0])
             pairs = dict(re.findall(r'"([\w.-]+)" => Some\("([\w.-]+)"\)', text[text.index("fn prefix_for_target"):][:9000]))
-            triples = {name: self.parsed(name) for name in pairs}
-            written = {name: it.name_in("gnu") for name, it in triples.items() if it}
+            written = {name: it.name_in("gnu") for name, it in self.parsed(list(pairs)).items()}
             # cc takes GNU's compiler for musl and 32-bit PowerPC's for 64 bits; one name has a vendor, which the shape drops.
             self.fact("the crate cc's prefixes are the names of GNU's compilers", (
                 (name, it, pairs[name]) for name, it in written.items() if it), "musl|powerpc64|arm-frc")

@@ -28,28 +28,19 @@ PIECES = ['\\"', "\\\\", "\\/", "\\b", "\\n", "\\u0000", "\\u002d", "\\u00E9", "
           "\ufeff", "\xa0"]
 BYTES = [b"\xff", b"\x80", b"\xc0\x80", b"\xc3", b"\xe2\x82", b"\xed\xa0\xbd\xed\xb8\x80", b"\xf4\x90\x80\x80", b"\xf0\x80\x80\x80"]
 
-# Texts of JSON: strings that are well-formed, and such of arbitrary pieces; numbers; deep lists; lists and objects of all these.
+# What stands for the text HERE: strings of pieces, numbers, deep lists, and pieces. Around it, values as Python writes them.
+HERE = "HERE"
 TEXT = st.sampled_from(KNOWN) | st.text()
-STRING = st.builds(json.dumps, TEXT, ensure_ascii=st.booleans()) | st.lists(st.sampled_from(PIECES) | TEXT, max_size=4).map(
-    lambda pieces: f'"{"".join(pieces)}"')
+STRING = st.lists(st.sampled_from(PIECES) | TEXT, max_size=4).map(lambda pieces: f'"{"".join(pieces)}"')
 NUMBER = st.sampled_from(NUMBERS) | st.from_regex(r"-?(0|[1-9][0-9]{0,20})(\.[0-9]{1,20})?([eE][+-]?[0-9]{1,3})?", fullmatch=True)
 DEEP = st.builds(lambda deep, inner: "[" * deep + inner + "]" * deep, st.integers(124, 130), st.sampled_from(["", "1", '"x"', "{}"]))
-ATOM = STRING | STRING | NUMBER | DEEP | st.sampled_from(["null", "true", "false", "[]", "{}", *PIECES])
-COMMA = st.sampled_from([",", ",", ",\n", " , ", "\r\n\t,"])
-
-
-def joined(brackets, parts):
-    """The parts with commas and space between them, within brackets; of ten such texts one has a comma too many."""
-    ends = st.sampled_from([*[brackets[1]] * 9, f",{brackets[1]}"])
-    return st.builds(lambda comma, inner, end: brackets[0] + comma.join(inner) + end, COMMA, parts, ends)
-
-
-MEMBER = "{}:{}".format
-VALUE = st.recursive(ATOM, lambda inner: joined("[]", st.lists(inner, max_size=4)) | joined(
-    "{}", st.lists(st.builds(MEMBER, STRING, inner), max_size=4)), max_leaves=6)
-TRIPLES = st.lists(st.sampled_from(KNOWN).map(json.dumps), max_size=12)
-LIST = joined("[]", st.builds(lambda *lists: sum(lists, []), TRIPLES, st.lists(VALUE, max_size=1), TRIPLES))
-WHOLE = (LIST | LIST | VALUE).map(str.encode)
+KEY = st.just(HERE) | TEXT
+VALUE = st.recursive(KEY | st.none() | st.booleans(), lambda inner: st.lists(inner, max_size=4) | st.dictionaries(KEY, inner, max_size=4),
+                     max_leaves=6)
+TRIPLES = st.lists(st.sampled_from(KNOWN), max_size=12)
+LIST = st.builds(lambda before, value, after: before + value + after, TRIPLES, st.lists(VALUE, max_size=1), TRIPLES)
+WRITTEN = st.builds(json.dumps, LIST | LIST | VALUE, ensure_ascii=st.booleans(), indent=st.sampled_from([None, None, "\r\t "]))
+WHOLE = st.builds(lambda text, new: text.replace(f'"{HERE}"', new).encode(), WRITTEN, STRING | NUMBER | DEEP | st.sampled_from(PIECES))
 NEW = st.sampled_from([*BYTES, *(piece.encode() for piece in PIECES)]) | st.binary(max_size=2)
 CHANGED = st.builds(lambda given, at, cut, new: given[:at % (len(given) + 1)] + new + given[at % (len(given) + 1) + cut:],
                     WHOLE, st.integers(0, 500), st.integers(0, 3), NEW)

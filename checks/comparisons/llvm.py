@@ -57,7 +57,7 @@ def rustc_answers():
 def main(options, folder):
     report = Report(options, folder)
     targets = output("rustc", "--print", "target-list").split()
-    parsed = {target: triple for target, triple in zip(targets, map(report.parsed, targets)) if triple}
+    parsed = report.parsed(targets)
     print(f"{len(targets)} targets, {len(parsed)} parsed; {output('rustc', '--version').strip()}", flush=True)
 
     def compare(who, triples, theirs, **but):

@@ -23,12 +23,10 @@ class Report:
         import lexicon
         self.lexicon = lexicon
 
-    def parsed(self, text):
-        """The triple that a string parses as, or None."""
-        try:
-            return self.lexicon.Triple(text)
-        except self.lexicon.ParseError:
-            return None
+    def parsed(self, texts):
+        """The triples of those strings that parse."""
+        keys = zip(texts, self.lexicon.settle_all(texts))
+        return {text: self.lexicon.Triple(text) for text, key in keys if key}
 
     def read(self, name, dialect=None):
         """The triple that a name of a dialect means, or a string that is spelled like a triple; or None."""
