@@ -38,9 +38,9 @@ def read(path):
 # ---- building
 
 def cargo(crate, command, *words, flags=""):
-    """Runs a command of cargo for the package of comparisons/, with upstream's crate of a folder, if there is one. Returns its output."""
-    patch = ["--config", f'patch.crates-io.target-lexicon.path="{os.path.realpath(crate)}"'] if crate else []
-    words = [*built.CARGO, *patch, command, "--quiet", f"--manifest-path={SOURCES}/Cargo.toml", *words]
+    """Runs a command of cargo for the package of comparisons/. If upstream's crate is in a folder, nothing is fetched. Returns the output."""
+    patch = ["--offline", "--config", f'patch.crates-io.target-lexicon.path="{os.path.realpath(crate)}"'] if crate else []
+    words = ["cargo", *patch, command, "--quiet", f"--manifest-path={SOURCES}/Cargo.toml", *words]
     ran = subprocess.run(words, env={**os.environ, "RUSTFLAGS": f"--cap-lints allow {flags}"}, stdout=subprocess.PIPE, text=True)
     if ran.returncode:
         raise RuntimeError(f"that failed: {' '.join(words)}")
@@ -117,9 +117,9 @@ def compare(upstream, compared, mode, block, *arguments):
     """
     given = "".join([f"{line}\n" for line in block(*arguments)]).encode()
     theirs, found = answers([upstream, mode], given), []
-    count, refused = theirs.count(b"\n"), theirs.startswith(b"error: ") + theirs.count(b"\nerror: ")
-    if mode != "matrix" and count != given.count(b"\n"):
-        raise RuntimeError(f"upstream has {count} answers to {given.count(chr(10).encode())} lines")
+    asked, count, refused = given.count(b"\n"), theirs.count(b"\n"), len(re.findall(rb"(?m)^error: ", theirs))
+    if mode != "matrix" and count != asked:
+        raise RuntimeError(f"upstream has {count} answers to {asked} lines")
     for command, modes, who in compared:
         ours = answers([*command, mode], given) if mode in modes else theirs
         if ours != theirs:

@@ -61,9 +61,8 @@ def add_arguments(parser):
 
 
 def main(options, folder):
+    options.of = options.of or ["proved", "cargo"]
     compared = [program for program in upstream.programs(options, folder) if "json" in program.modes]
-    if len(compared) < 2:
-        raise RuntimeError("only one program has the mode json, and nothing to compare it with")
     kinds = collections.Counter()
 
     def compare(given):
