@@ -1,4 +1,4 @@
-"""What tools/erase changes besides ghost parts. Each rule must change something."""
+"""What tools/erase changes besides ghost parts. checks/erased.txt has what comes of it."""
 
 # The crates of each package of rust/, and the module below src/proved that each becomes. The files of a crate without a
 # module are in src/proved itself.
