@@ -43,7 +43,7 @@ WRITTEN = st.builds(json.dumps, LIST | LIST | VALUE, ensure_ascii=st.booleans(),
 WHOLE = st.builds(lambda text, new: text.replace(f'"{HERE}"', new).encode(), WRITTEN, STRING | NUMBER | DEEP | st.sampled_from(PIECES))
 NEW = st.sampled_from([*BYTES, *(piece.encode() for piece in PIECES)]) | st.binary(max_size=2)
 CHANGED = st.builds(lambda given, at, cut, new: given[:at % (len(given) + 1)] + new + given[at % (len(given) + 1) + cut:],
-                    WHOLE, st.integers(0, 500), st.integers(0, 3), NEW)
+                    WHOLE, st.just(0) | st.integers(0, 500), st.just(0) | st.integers(0, 3), NEW)
 
 
 class WrongAnswer(Exception):
