@@ -153,10 +153,11 @@ class Comparison(Report):
         self.has("Android and iOS by sysconfig", sys.version_info >= (3, 13))
         tags = {name: re.sub("[-.]", "_", name) for name in python_platforms.from_sysconfig()}
         said = {name: self.read(name, "python") for name in tags}
-        # Before Python 3.13 a deployment target without a second number gives a name without one.
-        self.fact("what sysconfig says is read", ((name, it is not None, True) for name, it in said.items()), "macosx-11-")
+        self.fact("what sysconfig says is read", ((name, it is not None, True) for name, it in said.items()))
+        # A deployment target may be one number. The tag that is written has two.
+        full = {name: re.sub(r"^(macosx|ios)_(\d+)_(?!\d+_)", r"\1_\2_0_", tag) for name, tag in tags.items()}
         self.fact("the tag of what sysconfig says is written", (
-            (name, it and it.name_in("python"), tags[name]) for name, it in said.items()), "android|macosx-11-")
+            (name, it and it.name_in("python"), full[name]) for name, it in said.items()), "android")
         made = []
         try:
             made = python_platforms.from_packaging()

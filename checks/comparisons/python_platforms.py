@@ -28,7 +28,7 @@ def from_sysconfig():
     if sys.version_info >= (3, 13):
         yield from (platform_of(machine, "android", ANDROID_API_LEVEL=21) for machine in ("aarch64", "armv7l", "i686", "x86_64"))
         for multiarch in ("arm64-iphoneos", "arm64-iphonesimulator", "x86_64-iphonesimulator"):
-            yield platform_of("arm64", "ios", multiarch=multiarch, IPHONEOS_DEPLOYMENT_TARGET="13.0")
+            yield from (platform_of("arm64", "ios", multiarch=multiarch, IPHONEOS_DEPLOYMENT_TARGET=it) for it in ("13.0", "17"))
 
 
 def from_packaging():

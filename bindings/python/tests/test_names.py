@@ -75,7 +75,9 @@ class Names(unittest.TestCase):
         self.assertEqual(Triple("arm64-apple-macosx11.7.10").name_in("python"), "macosx_11_7_arm64")
         for text in "arm64-apple-darwin", "arm64-apple-darwin22.5.0", "arm64-apple-macosx", "x86_64-unknown-freebsd":
             self.assertIsNone(Triple(text).name_in("python"))
-        for name in "macosx_011_0_arm64", "macosx_11_arm64", "macosx_11_0_1_arm64", "macosx_65536_0_arm64", "macosx_1_256_arm64", "linux__x86_64":
+        for name in "macosx-14-arm64", "macosx_14_arm64":
+            self.assertEqual(Triple.read(name, "python").name_in("python"), "macosx_14_0_arm64")
+        for name in "macosx_011_0_arm64", "macosx_014_arm64", "macosx_11_0_1_arm64", "macosx_65536_0_arm64", "macosx_1_256_arm64", "linux__x86_64":
             self.assertEqual(self.refusal(name, "python").line, UNKNOWN + name)
 
     def test_first_parts(self):

@@ -5,7 +5,7 @@ use target_lexicon::TripleRef;
 use tool_names::{Dialect, NameError};
 
 /// Names, what they mean, and the names of that.
-const ROWS: [(&str, &str, Option<&str>); 22] = [
+const ROWS: [(&str, &str, Option<&str>); 25] = [
     ("linux_x86_64", "x86_64-unknown-linux", Some("linux_x86_64")),
     ("linux-armv7l", "armv7-unknown-linux", Some("linux_armv7l")),
     (
@@ -49,6 +49,16 @@ const ROWS: [(&str, &str, Option<&str>); 22] = [
         Some("macosx_10_6_i386"),
     ),
     (
+        "macosx-14-arm64",
+        "aarch64-apple-macosx14.0.0",
+        Some("macosx_14_0_arm64"),
+    ),
+    (
+        "macosx_65535_x86_64",
+        "x86_64-apple-macosx65535.0.0",
+        Some("macosx_65535_0_x86_64"),
+    ),
+    (
         "macosx_0_0_ppc64",
         "powerpc64-apple-macosx0.0.0",
         Some("macosx_0_0_ppc64"),
@@ -70,6 +80,11 @@ const ROWS: [(&str, &str, Option<&str>); 22] = [
         "ios-13.0-arm64-iphonesimulator",
         "aarch64-apple-ios13.0.0-sim",
         Some("ios_13_0_arm64_iphonesimulator"),
+    ),
+    (
+        "ios-17-arm64-iphoneos",
+        "aarch64-apple-ios17.0.0",
+        Some("ios_17_0_arm64_iphoneos"),
     ),
     (
         "ios_65535_255_x86_64_iphonesimulator",
@@ -97,11 +112,15 @@ const WRITTEN: [(&str, Option<&str>); 10] = [
 ];
 
 /// Names that mean nothing.
-const UNKNOWN: [&str; 16] = [
+const UNKNOWN: [&str; 21] = [
     "",
     "macosx",
     "macosx_11_0",
-    "macosx_11_arm64",
+    "macosx_11",
+    "macosx-11.-arm64",
+    "macosx_011_arm64",
+    "macosx_65536_arm64",
+    "macosx_11_arm64_v8a",
     "macosx_11_0_0_arm64",
     "macosx_011_0_arm64",
     "macosx_11_00_arm64",
@@ -113,6 +132,7 @@ const UNKNOWN: [&str; 16] = [
     "macosx_*_arm64",
     "macosx_arm64",
     "android_21_0_x86",
+    "manylinux_2_x86_64",
     "manylinux_2_17_sparc",
 ];
 
@@ -130,6 +150,7 @@ fn names_of_python(rt: HostRuntime) {
     }
     let several = NameError::WithoutTriple("several machines");
     assert!(rt; Dialect::Python.read("macosx-10.9-universal2") == Err(several));
+    assert!(rt; Dialect::Python.read("macosx-14-universal2") == Err(several));
     assert!(rt; Dialect::Python.read("any") == Err(NameError::WithoutTriple("no machine")));
     assert!(rt; Dialect::Python.suggestion("linux_x86_46") == Some("linux_x86_64"));
     assert!(rt; Dialect::Python.suggestion("macosx_11_0_arm46") == None);

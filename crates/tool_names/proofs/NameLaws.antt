@@ -16,16 +16,16 @@ use Rattle.tool_names.specs.declared.dialect.Dialect.{Dialect}
 use Rattle.tool_names.specs.declared.dialect.Dialect.TheVariants.{Python}
 use Rattle.tool_names.specs.declared.platform.VersionedSystem.{VersionedSystem}
 use Rattle.tool_names.specs.declared.platform.VersionedSystem.TheVariants.{MacOs, Ios, Manylinux, Musllinux, Android}
-use Rattle.tool_names.specs.{Laws.IsCanonical, Laws.NamesAreCanonical, Laws.NamesKeepAnswers, Laws.NamesMeanTheShape, Laws.MeansTheShape, Laws.ReadsBack, Laws.NamesReadBack, Laws.NamesWithoutTripleAreRefused, Laws.TagsMeanTheSame}
+use Rattle.tool_names.specs.{Laws.IsCanonical, Laws.NamesAreCanonical, Laws.NamesKeepAnswers, Laws.NamesMeanTheShape, Laws.MeansTheShape, Laws.ReadsBack, Laws.NamesReadBack, Laws.NamesWithoutTripleAreRefused, Laws.OneNumberIsEnough, Laws.TagsMeanTheSame}
 use Rattle.tool_names.specs.{ObjectFormat.object_format, Shape.machine_in, Shape.shape, Shape.system_in, Shape.unversioned, Shape.with_two_numbers}
-use Rattle.tool_names.specs.Platform.{NameParts, has_two_numbers, keeps_version, kept_version, system_with, tag_of, triple_with, version_of_two, versioned_name_of, versioned_tag}
+use Rattle.tool_names.specs.Platform.{NameParts, keeps_version, kept_version, read_name_of, system_with, tag_of, triple_with, version_of_two, versioned_name_of, versioned_tag}
 use Rattle.tool_names.specs.Tables.{both_ways, machines, machines_without_a_triple, only_read, only_written, without_a_triple}
 use Rattle.tool_names.specs.ToolNames.{HasNoTriple, Unread, key_of, meaning_by_parts, meaning_of, name_by_version, name_meaning, name_of_text, name_with, read_or_unknown, triple_name, triple_text, unread_because, versioned_meaning, versioned_name_in, with_version}
 use Rattle.tool_names.proofs.MachineChecks.{gives_no_special_text, is_written_on, machines-back, machines-canonical, machines-seen, machines-unread}
 use Rattle.tool_names.proofs.NameTables.{swapped}
 use Rattle.tool_names.proofs.ObjectFormats.{given_kept}
 use Rattle.tool_names.proofs.RowChecks.{both_ways-back, both_ways-canonical, both_ways-seen, is_canonical, is_canonical_as, is_known_format, is_ordinary, is_own_key, is_ordinary_architecture, is_ordinary_system, is_this, is_written_as, only_read-canonical, only_written-seen, without_a_triple-unread}
-use Rattle.tool_names.proofs.PlatformLemmas.{parts-joined, parts-read, tag_of-again, tag_of-tag}
+use Rattle.tool_names.proofs.PlatformLemmas.{keeps-two, parts-joined, parts-read, read-range, short-read, tag_of-again, tag_of-short, tag_of-tag}
 use Rattle.tool_names.proofs.ShapeLemmas.{has_no_special_text, kept-is, kept-python, shape-endianness, shape-no_special, shape-width, unkept-range}
 
 -- what the test of a row says
@@ -186,7 +186,7 @@ names_canonical round_trip read_plain d name t means = by_parts (versioned_name_
         subst IsCanonical is_t (row-canonical round_trip read_plain text row.0 row.1)
 
     range : (e : Dialect) (k : List ℕ) (it : NameParts) → versioned_name_in e k ≡ Some it → IsVersionInRange it.version
-    range Python k it is = (parts-joined k it is).range
+    range Python k it is = read-range k it is
     range _ k it is = absurd cc
 
     by_parts : (o : Option NameParts) → versioned_name_in d key ≡ o → meaning_by_parts d key o ≡ Ok t → IsCanonical t
@@ -207,10 +207,6 @@ plain_read_back d name text found =
         written = is_this-same _ _ (subst (λ r. is_written_as d name r ≡ true) row.1.reads back.0);
       },
     )
-
-keeps-two : (s : VersionedSystem) → keeps_version s ≡ true → has_two_numbers s ≡ true
-keeps-two Android keeps = absurd cc
-keeps-two _ keeps = refl
 
 -- the name of a triple with a version that is kept
 written-with : (s : VersionedSystem) (v : DeploymentTarget) (u : Values) (machine : List ℕ) → keeps_version s ≡ true
@@ -247,7 +243,7 @@ plain_refused d name why found =
     let test = and_parts _ _ (value_named-all (λ pair. is_none (triple_text d pair.0) && is_own_key d pair.0) (without_a_triple d) name why (without_a_triple-unread d) found) in
     own-meaning d name test.1 ∙ rw (is_none-same (triple_text d name) test.0, found) refl
 
-versioned_refused : (name : List ℕ) (it : NameParts) (why : List ℕ) → versioned_name_of (tag_of name) ≡ Some it
+versioned_refused : (name : List ℕ) (it : NameParts) (why : List ℕ) → read_name_of (tag_of name) ≡ Some it
     → value_named (machines_without_a_triple it.system) it.machine ≡ Some why → name_meaning Python name ≡ Err (HasNoTriple why)
 unfolding name_meaning
 versioned_refused name it why parts found =
@@ -259,7 +255,18 @@ without_triple_refused = record { plain = plain_refused; versioned = versioned_r
 
 pub tags_mean_same : TagsMeanTheSame
 unfolding name_meaning
-tags_mean_same name = ap (λ tag. meaning_by_parts Python tag (versioned_name_of tag)) (tag_of-again name)
+tags_mean_same name = ap (λ tag. meaning_by_parts Python tag (read_name_of tag)) (tag_of-again name)
+
+pub one_number_enough : OneNumberIsEnough
+unfolding name_meaning
+one_number_enough s major machine keeps within own none =
+    let v = version_of_two major 0 in
+    rw (
+      tag_of-short s major machine (omega (arith, within)) own,
+      short-read s major machine keeps within none,
+      tag_of-tag s v machine (omega (arith, within)) (omega arith) own,
+      parts-read s v machine (keeps-two s keeps) (omega (arith, within)) (omega arith),
+    ) refl
 
 -- the shape without the version that a name keeps
 

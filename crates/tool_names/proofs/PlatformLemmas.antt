@@ -1,5 +1,6 @@
 -- Tags with a version: how they are split, and that a tag is what its parts make.
 use Rattle.std.proofs.Common.{◌≡◌, ◌∙◌, ℕ, zero, suc, ◌+◌, ◌^◌, ◌<◌, ◌≤◌, nat_eq, nat_lt, nat_le, List, [], ◌∷◌, ◌++◌, length, take, drop, get_or, Option, Some, None, Bool, true, false, not, ◌&&◌, ◌||◌, cond, refl, sym, ap, subst, arith, rules, add-one}
+use Rattle.std.specs.Option.{option_or}
 use Rattle.std.specs.Prelude.{option_map, option_and_then}
 use Rattle.std.specs.Bool.{Decides}
 use Rattle.std.specs.{Char.is_ascii_digit, Fmt.decimal, List.AllWithin, List.HoldsAt, List.list_all, Str.IsUtf8, Str.chars, Str.is_utf8, Str.Parse.digits_value, Str.Parse.without_leading_plus}
@@ -11,7 +12,7 @@ use Rattle.lexicon_fields.specs.{declared.deployment_target.DeploymentTarget.Dep
 use Rattle.lexicon_fields.proofs.{LookUpLemmas.test_apart, LookUpLemmas.value_named-named_values, VersionsReadBack.digits_model}
 use Rattle.tool_names.specs.declared.platform.VersionedSystem.{VersionedSystem}
 use Rattle.tool_names.specs.declared.platform.VersionedSystem.TheVariants.{MacOs, Ios, Manylinux, Musllinux, Android}
-use Rattle.tool_names.specs.Platform.{NameParts, has_two_numbers, is_plain, is_separator, minor_if_any, number_first, plain_number, split_tag, system_tag, tag_byte, tag_of, underscore, version_of_two, versioned_name_of, versioned_system_of, versioned_systems, versioned_tag}
+use Rattle.tool_names.specs.Platform.{NameParts, has_two_numbers, is_plain, is_separator, keeps_version, minor_if_any, number_first, plain_number, read_name_of, short_name_of, short_tag, split_tag, system_tag, tag_byte, tag_of, underscore, version_of_two, versioned_name_of, versioned_system_of, versioned_systems, versioned_tag}
 
 -- bytes of tags
 
@@ -196,6 +197,24 @@ parts-read s v machine two major minor =
       number_first-decimal 255 v.minor machine (omega (arith, minor)) (omega (arith, minor)),
     ) refl
 
+-- a version that is kept is two numbers, or one in a tag that is read
+pub keeps-two : (s : VersionedSystem) → keeps_version s ≡ true → has_two_numbers s ≡ true
+keeps-two Android keeps = absurd cc
+keeps-two _ keeps = refl
+
+pub short-read : (s : VersionedSystem) (major : ℕ) (machine : List ℕ) → keeps_version s ≡ true → major ≤ 65535 → number_first 255 machine ≡ None
+    → read_name_of (short_tag s major machine) ≡ Some (record { system = s; version = version_of_two major 0; machine = machine })
+unfolding versioned_name_of short_name_of
+short-read s major machine keeps within none =
+    rw (
+      split-system s (decimal major ++ (underscore ∷ machine)),
+      system-named s,
+      number_first-decimal 65535 major machine within (omega (arith, within)),
+      keeps-two s keeps,
+      none,
+      keeps,
+    ) refl
+
 -- a tag is made of its parts, if its version is two numbers, and the version is in range
 pub record AreParts (tag : List ℕ) (it : NameParts) : Type 0 where
   pub joined : has_two_numbers it.system ≡ true → versioned_tag it.system it.version it.machine ≡ tag
@@ -236,6 +255,31 @@ parts-joined tag it h =
     } in
     subst (AreParts tag) minor.2 of_made
 
+-- so is the version of a tag that is read
+short-range : (tag : List ℕ) (it : NameParts) → short_name_of tag ≡ Some it → IsVersionInRange it.version
+unfolding short_name_of
+short-range tag it h =
+    let parts = and_then-some _ (split_tag tag) it h in
+    let system = and_then-some _ (versioned_system_of parts.0.0) it parts.2 in
+    by_kept system.0 parts.0.1 (keeps_version system.0) system.2
+  where
+    made : VersionedSystem → ℕ × List ℕ → NameParts
+    made s major = record { system = s; version = version_of_two major.0 0; machine = major.1 }
+
+    by_kept : (s : VersionedSystem) (rest : List ℕ) (b : Bool) → cond b (option_map (made s) (number_first 65535 rest)) None ≡ Some it → IsVersionInRange it.version
+    by_kept s rest false h = absurd cc
+    by_kept s rest true h =
+        let major = map-some (made s) (number_first 65535 rest) it h in
+        let first = number_first-is 65535 rest major.0 (omega arith) major.1 in
+        subst (λ (found : NameParts). IsVersionInRange found.version) major.2 (omega (arith, first.1), omega arith, omega arith)
+
+pub read-range : (tag : List ℕ) (it : NameParts) → read_name_of tag ≡ Some it → IsVersionInRange it.version
+read-range tag it h = by_written (versioned_name_of tag) refl h
+  where
+    by_written : (o : Option NameParts) → versioned_name_of tag ≡ o → option_or o (short_name_of tag) ≡ Some it → IsVersionInRange it.version
+    by_written (Some other) is same = (parts-joined tag it (is ∙ same)).range
+    by_written None is h = short-range tag it h
+
 -- digits and systems are their own tags
 
 digits-tag : (ds : List ℕ) → list_all is_ascii_digit ds ≡ true → tag_of ds ≡ ds
@@ -272,6 +316,17 @@ tag_of-tag s v machine major minor own =
       decimal-tag v.major major,
       tag_of-append (decimal v.minor) last,
       decimal-tag v.minor minor,
+      own,
+    ) refl
+
+pub tag_of-short : (s : VersionedSystem) (major : ℕ) (machine : List ℕ) → major < 2 ^ 64 → tag_of machine ≡ machine → tag_of (short_tag s major machine) ≡ short_tag s major machine
+tag_of-short s major machine small own =
+    let last : List ℕ = underscore ∷ machine in
+    rw (
+      tag_of-append (system_tag s) (underscore ∷ decimal major ++ last),
+      system-tag s,
+      tag_of-append (decimal major) last,
+      decimal-tag major small,
       own,
     ) refl
 

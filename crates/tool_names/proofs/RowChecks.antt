@@ -11,7 +11,7 @@ use Rattle.target_lexicon.specs.Values.binary_format
 use Rattle.target_lexicon.specs.Printing.{shows_vendor, shows_operating_system, shows_environment, shows_binary_format, shown_names, text_of}
 use Rattle.tool_names.specs.declared.dialect.Dialect.{Dialect}
 use Rattle.tool_names.specs.declared.dialect.Dialect.TheVariants.{Debian, Go, Oci, Node, Gnu, Python}
-use Rattle.tool_names.specs.Platform.{versioned_name_of, versioned_system_of}
+use Rattle.tool_names.specs.Platform.{short_name_of, versioned_name_of, versioned_system_of}
 use Rattle.tool_names.specs.Shape.{shape}
 use Rattle.tool_names.specs.Tables.{both_ways, only_read, only_written, without_a_triple, debian_both_ways, go_both_ways, oci_both_ways, node_both_ways, oci_only_read, node_only_written, gnu_only_written, debian_without_a_triple, go_without_a_triple, oci_without_a_triple, node_without_a_triple, gnu_without_a_triple, python_both_ways, python_only_read, python_without_a_triple}
 use Rattle.tool_names.specs.ToolNames.{key_of, name_of_text, triple_name, triple_text, versioned_name_in}
@@ -79,7 +79,7 @@ only_read-canonical Python = refl
 
 -- a name that is written for a triple is read as it
 pub both_ways-seen : (d : Dialect) → list_all (λ pair. is_canonical pair.0 && is_this (triple_text d pair.1) pair.0 && is_own_key d pair.1) (swapped (both_ways d)) ≡ true
-unfolding versioned_name_of versioned_system_of debian_both_ways go_both_ways oci_both_ways node_both_ways python_both_ways oci_only_read python_only_read triple_text architecture_of known_vendor_of is_admitted vendor_of version_of fixed_operating_system_of operating_system_of environment_of binary_format_of implied_format special_values special_text shows_vendor shows_operating_system shows_environment shows_binary_format shown_names text_of reading
+unfolding versioned_name_of short_name_of versioned_system_of debian_both_ways go_both_ways oci_both_ways node_both_ways python_both_ways oci_only_read python_only_read triple_text architecture_of known_vendor_of is_admitted vendor_of version_of fixed_operating_system_of operating_system_of environment_of binary_format_of implied_format special_values special_text shows_vendor shows_operating_system shows_environment shows_binary_format shown_names text_of reading
 both_ways-seen Debian = refl
 both_ways-seen Go = refl
 both_ways-seen Oci = refl
@@ -89,7 +89,7 @@ both_ways-seen Python = refl
 
 -- a name that is only written isn't read
 pub only_written-seen : (d : Dialect) → list_all (λ pair. is_canonical pair.0 && is_none (triple_text d pair.1) && is_own_key d pair.1) (swapped (only_written d)) ≡ true
-unfolding versioned_name_of versioned_system_of debian_both_ways go_both_ways oci_both_ways node_both_ways python_both_ways oci_only_read python_only_read node_only_written gnu_only_written triple_text architecture_of known_vendor_of is_admitted vendor_of version_of fixed_operating_system_of operating_system_of environment_of binary_format_of implied_format special_values special_text shows_vendor shows_operating_system shows_environment shows_binary_format shown_names text_of reading
+unfolding versioned_name_of short_name_of versioned_system_of debian_both_ways go_both_ways oci_both_ways node_both_ways python_both_ways oci_only_read python_only_read node_only_written gnu_only_written triple_text architecture_of known_vendor_of is_admitted vendor_of version_of fixed_operating_system_of operating_system_of environment_of binary_format_of implied_format special_values special_text shows_vendor shows_operating_system shows_environment shows_binary_format shown_names text_of reading
 only_written-seen Debian = refl
 only_written-seen Go = refl
 only_written-seen Oci = refl
@@ -99,7 +99,7 @@ only_written-seen Python = refl
 
 -- a name that goes both ways is the name of its triple
 pub both_ways-back : (d : Dialect) → list_all (λ row. is_written_as d row.0 (reading row.1) && is_own_key d row.0) (both_ways d) ≡ true
-unfolding versioned_name_of versioned_system_of debian_both_ways go_both_ways oci_both_ways node_both_ways python_both_ways node_only_written gnu_only_written shape name_of_text architecture_of known_vendor_of is_admitted vendor_of version_of fixed_operating_system_of operating_system_of environment_of binary_format_of implied_format special_values special_text shows_vendor shows_operating_system shows_environment shows_binary_format shown_names text_of reading
+unfolding versioned_name_of short_name_of versioned_system_of debian_both_ways go_both_ways oci_both_ways node_both_ways python_both_ways node_only_written gnu_only_written shape name_of_text architecture_of known_vendor_of is_admitted vendor_of version_of fixed_operating_system_of operating_system_of environment_of binary_format_of implied_format special_values special_text shows_vendor shows_operating_system shows_environment shows_binary_format shown_names text_of reading
 both_ways-back Debian = refl
 both_ways-back Go = refl
 both_ways-back Oci = refl
@@ -109,7 +109,7 @@ both_ways-back Python = refl
 
 -- a name without a triple has none
 pub without_a_triple-unread : (d : Dialect) → list_all (λ row. is_none (triple_text d row.0) && is_own_key d row.0) (without_a_triple d) ≡ true
-unfolding debian_both_ways go_both_ways oci_both_ways node_both_ways python_both_ways oci_only_read python_only_read debian_without_a_triple go_without_a_triple oci_without_a_triple node_without_a_triple gnu_without_a_triple python_without_a_triple triple_text versioned_name_of versioned_system_of
+unfolding debian_both_ways go_both_ways oci_both_ways node_both_ways python_both_ways oci_only_read python_only_read debian_without_a_triple go_without_a_triple oci_without_a_triple node_without_a_triple gnu_without_a_triple python_without_a_triple triple_text versioned_name_of short_name_of versioned_system_of
 without_a_triple-unread Debian = refl
 without_a_triple-unread Go = refl
 without_a_triple-unread Oci = refl

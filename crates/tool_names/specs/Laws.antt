@@ -1,11 +1,12 @@
 -- Laws of the names in dialects.
-use Rattle.std.specs.Prelude.{◌≡◌, ◌≢◌, true, false, ℕ, List, Some, None, Ok, Err}
+use Rattle.std.specs.Prelude.{◌≡◌, ◌≢◌, ◌≤◌, true, false, ℕ, List, Some, None, Ok, Err}
 use Rattle.lexicon_fields.specs.{Laws.HasVersionInRange, Names.value_named, Vendor.is_custom, Vendor.VendorValue}
 use Rattle.target_lexicon.specs.{FixedPoints.settled_values, Laws.ComesBack, Printing.text_of, Queries.endianness, Queries.pointer_width, Values.Values}
 use Rattle.tool_names.specs.declared.dialect.Dialect.{Dialect}
 use Rattle.tool_names.specs.declared.dialect.Dialect.TheVariants.{Python}
 use Rattle.tool_names.specs.{ObjectFormat.object_format, Shape.shape}
-use Rattle.tool_names.specs.Platform.{NameParts, keeps_version, kept_version, tag_of, versioned_name_of}
+use Rattle.tool_names.specs.declared.platform.VersionedSystem.{VersionedSystem}
+use Rattle.tool_names.specs.Platform.{NameParts, keeps_version, kept_version, number_first, read_name_of, short_tag, tag_of, version_of_two, versioned_name_of, versioned_tag}
 use Rattle.tool_names.specs.Tables.{both_ways, machines, machines_without_a_triple, without_a_triple}
 use Rattle.tool_names.specs.ToolNames.{HasNoTriple, name_meaning, name_with, triple_name}
 
@@ -32,12 +33,19 @@ pub record NamesReadBack : Type 0 where
 -- a name without a triple isn't read, whatever its version, and the reason is given
 pub record NamesWithoutTripleAreRefused : Type 0 where
   pub plain : (d : Dialect) (name why : List ℕ) → value_named (without_a_triple d) name ≡ Some why → name_meaning d name ≡ Err (HasNoTriple why)
-  pub versioned : (name : List ℕ) (it : NameParts) (why : List ℕ) → versioned_name_of (tag_of name) ≡ Some it
+  pub versioned : (name : List ℕ) (it : NameParts) (why : List ℕ) → read_name_of (tag_of name) ≡ Some it
       → value_named (machines_without_a_triple it.system) it.machine ≡ Some why → name_meaning Python name ≡ Err (HasNoTriple why)
 
 -- a name of Python means what its tag means
 abbrev pub TagsMeanTheSame : Type 0
 TagsMeanTheSame = (name : List ℕ) → name_meaning Python (tag_of name) ≡ name_meaning Python name
+
+-- a tag of macOS or iOS whose version is one number means the same with 0 as the second number. The machine doesn't begin
+-- with a number
+abbrev pub OneNumberIsEnough : Type 0
+OneNumberIsEnough =
+    (system : VersionedSystem) (major : ℕ) (machine : List ℕ) → keeps_version system ≡ true → major ≤ 65535 → tag_of machine ≡ machine → number_first 255 machine ≡ None
+    → name_meaning Python (short_tag system major machine) ≡ name_meaning Python (versioned_tag system (version_of_two major 0) machine)
 
 -- the name of a triple means the shape of the triple, if it is read; and it is, if it goes both ways, as each name with a
 -- version does that is written

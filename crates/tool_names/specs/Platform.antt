@@ -1,7 +1,7 @@
 -- The names of Python's platforms. A tag is a name with `_` for each `-` and `.`, and a name is read by its tag. A tag with
 -- a version is a system, one number or two, and a machine, with `_` between them.
 use Rattle.std.specs.Prelude.{ℕ, Bool, true, false, not, ◌==◌, ◌&&◌, ◌||◌, List, [], ◌∷◌, ◌++◌, length, map, codes, Option, Some, None, option_map, option_and_then, if◌then◌else◌}
-use Rattle.std.specs.{Char.is_ascii_digit, Fmt.decimal}
+use Rattle.std.specs.{Char.is_ascii_digit, Fmt.decimal, Option.option_or}
 use Rattle.lexicon_fields.specs.{declared.deployment_target.DeploymentTarget.DeploymentTarget, Names.dash, Names.named_values, Names.value_named, Version.dot, Version.number_within}
 use Rattle.target_lexicon.specs.Values.{OperatingSystem, Values}
 use Rattle.target_lexicon.specs.Values.operating_system
@@ -63,6 +63,13 @@ abbrev pub has_two_numbers : VersionedSystem → Bool
 has_two_numbers Android = false
 has_two_numbers _ = true
 
+-- whether the version of a name is that of its triple: the deployment targets of Apple's systems are. Those of glibc, musl
+-- and Android aren't in a triple
+abbrev pub keeps_version : VersionedSystem → Bool
+keeps_version MacOs = true
+keeps_version Ios = true
+keeps_version _ = false
+
 -- a name with a version, in its parts
 pub record NameParts : Type 0 where
   pub system : VersionedSystem
@@ -82,20 +89,32 @@ after_system system tag =
     option_and_then (λ (major : ℕ × List ℕ). option_map (λ (minor : ℕ × List ℕ). record { system = system; version = version_of_two major.0 minor.0; machine = minor.1 })
     (minor_if_any system major.1)) (number_first 65535 tag)
 
--- the parts of a tag with a version
+-- the same with a version of one number, which only a deployment target may be; its second number is 0
+abbrev pub after_system_short : VersionedSystem → List ℕ → Option NameParts
+after_system_short system tag =
+    if keeps_version system
+    then option_map (λ (major : ℕ × List ℕ). record { system = system; version = version_of_two major.0 0; machine = major.1 }) (number_first 65535 tag)
+    else None
+
+-- the parts of a tag with a version as tags are written
 unfoldable pub versioned_name_of : List ℕ → Option NameParts
 versioned_name_of tag = option_and_then (λ (parts : List ℕ × List ℕ). option_and_then (λ system. after_system system parts.1) (versioned_system_of parts.0)) (split_tag tag)
+
+-- the parts of a tag of macOS or iOS whose version is one number, as Python says it if the deployment target was given so
+unfoldable pub short_name_of : List ℕ → Option NameParts
+short_name_of tag = option_and_then (λ (parts : List ℕ × List ℕ). option_and_then (λ system. after_system_short system parts.1) (versioned_system_of parts.0)) (split_tag tag)
+
+-- the parts of a tag with a version as tags are read
+abbrev pub read_name_of : List ℕ → Option NameParts
+read_name_of tag = option_or (versioned_name_of tag) (short_name_of tag)
 
 -- the tag with these parts, of a system whose version is two numbers
 abbrev pub versioned_tag : VersionedSystem → DeploymentTarget → List ℕ → List ℕ
 versioned_tag system version machine = system_tag system ++ (underscore ∷ decimal version.major ++ (underscore ∷ decimal version.minor ++ (underscore ∷ machine)))
 
--- whether the version of a name is that of its triple: the deployment targets of Apple's systems are. Those of glibc, musl
--- and Android aren't in a triple
-abbrev pub keeps_version : VersionedSystem → Bool
-keeps_version MacOs = true
-keeps_version Ios = true
-keeps_version _ = false
+-- the tag of a machine on a system, with a version of one number
+abbrev pub short_tag : VersionedSystem → ℕ → List ℕ → List ℕ
+short_tag system major machine = system_tag system ++ (underscore ∷ decimal major ++ (underscore ∷ machine))
 
 -- the system with this version in place of this one, if versions are kept; `None` drops it
 abbrev pub system_with : VersionedSystem → Option DeploymentTarget → OperatingSystem → OperatingSystem

@@ -1,11 +1,11 @@
 -- Definitions for the contracts of private functions; no public contract cites them.
-use Rattle.std.specs.Prelude.{ℕ, List, [], ◌∷◌, ◌++◌, Option, Some, None, map}
-use Rattle.std.specs.Borrow.{Bor}
+use Rattle.std.specs.Prelude.{ℕ, List, [], ◌∷◌, ◌++◌, Option, Some, None, map, if◌then◌else◌}
+use Rattle.std.specs.{Borrow.Bor, Option.option_or}
 use Rattle.lexicon_fields.specs.Names.{Pair}
 use Rattle.target_lexicon.specs.{GreedyReading.FieldReading, Placement.parts_of}
-use Rattle.tool_names.specs.{declared.names_left.Left.Left, declared.names_left.NameCursor.NameCursor, declared.platform.VersionedName.VersionedName}
+use Rattle.tool_names.specs.{declared.names_left.Left.Left, declared.names_left.NameCursor.NameCursor, declared.platform.VersionedName.VersionedName, declared.platform.VersionedSystem.VersionedSystem}
 use Rattle.tool_names.specs.Changes.{name_text, parts_after}
-use Rattle.tool_names.specs.Platform.{NameParts, tag_of}
+use Rattle.tool_names.specs.Platform.{NameParts, keeps_version, number_first, tag_of}
 use Rattle.tool_names.specs.Spelling.{SpelledName, later_names, name_texts, spelled_by}
 
 -- a table in the code as a list of pairs
@@ -28,6 +28,10 @@ field_reading_of value cursor = (value, cursor.last, name_texts (left_names curs
 -- a table of texts in the code as a list of pairs
 abbrev pub text_table : List (Bor (List ℕ) × Bor (List ℕ)) → List (Pair (List ℕ))
 text_table rows = map (λ (row : Bor (List ℕ) × Bor (List ℕ)). (row.0.now, row.1.now)) rows
+
+-- the second number of a version and the machine; 0 and all that is left if a deployment target is one number
+abbrev pub minor_or_zero : VersionedSystem → List ℕ → Option (ℕ × List ℕ)
+minor_or_zero system tag = option_or (number_first 255 tag) (if keeps_version system then Some (0, tag) else None)
 
 -- the parts of a name with a version, whose machine is read by its tag
 abbrev pub parts_seen : VersionedName → NameParts

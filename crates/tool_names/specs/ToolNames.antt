@@ -6,7 +6,7 @@ use Rattle.target_lexicon.specs.{declared.triple_ref.TripleRef.TripleRef, Greedy
 use Rattle.tool_names.specs.{declared.dialect.Dialect.Dialect, declared.name.Name.Name, declared.names.NameError.NameError, declared.platform.VersionedSystem.VersionedSystem, Shape.shape}
 use Rattle.tool_names.specs.declared.dialect.Dialect.TheVariants.{Python}
 use Rattle.tool_names.specs.declared.names.NameError.TheVariants as name_error
-use Rattle.tool_names.specs.Platform.{NameParts, kept_version, tag_of, triple_with, versioned_name_of, versioned_tag}
+use Rattle.tool_names.specs.Platform.{NameParts, kept_version, read_name_of, tag_of, triple_with, versioned_tag}
 use Rattle.tool_names.specs.Tables.{both_ways, machines, machines_without_a_triple, only_read, only_written, without_a_triple}
 
 -- why a name isn't read: it isn't known, or it has no triple, for this reason
@@ -61,7 +61,7 @@ versioned_meaning it =
 
 -- the parts of a name with a version, which only Python has
 abbrev pub versioned_name_in : Dialect → List ℕ → Option NameParts
-versioned_name_in Python key = versioned_name_of key
+versioned_name_in Python key = read_name_of key
 versioned_name_in _ key = None
 
 abbrev pub meaning_by_parts : Dialect → List ℕ → Option NameParts → Result Values Unread

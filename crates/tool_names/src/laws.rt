@@ -1,6 +1,6 @@
 //! Laws of the definitions. Each function's contract is a law; a call does nothing.
 ghost use Rattle.tool_names.specs.Changes.{ChangedPartsAreInTheString, KnownNamesStay, UnchangedStringsAreReadAsTheyParse};
-ghost use Rattle.tool_names.specs.Laws.{NamesAreCanonical, NamesKeepAnswers, NamesMeanTheShape, NamesReadBack, NamesWithoutTripleAreRefused, ShapesAreFixed, TagsMeanTheSame};
+ghost use Rattle.tool_names.specs.Laws.{NamesAreCanonical, NamesKeepAnswers, NamesMeanTheShape, NamesReadBack, NamesWithoutTripleAreRefused, OneNumberIsEnough, ShapesAreFixed, TagsMeanTheSame};
 ghost use Rattle.tool_names.specs.ObjectFormat.{GivenFormatsAreKept};
 ghost use Rattle.tool_names.specs.Spelling.{KnownNamesAreReadAsBefore, ListedPartsAreUnknown, OnceIsEnough, ReadingAgainIsTheSame, RefusalsAreAtTheRefusedName, RefusedPartsAreInTheString};
 
@@ -92,6 +92,12 @@ pub fn names_without_triple_are_refused()
 #[tactic(auto, using(crate::proofs::NameLaws::tags_mean_same))]
 pub fn tags_mean_the_same()
     ensures { TagsMeanTheSame }
+{}
+
+/// A tag of macOS or iOS whose version is one number means the same with 0 as the second number.
+#[tactic(auto, using(crate::proofs::NameLaws::one_number_enough))]
+pub fn one_number_is_enough()
+    ensures { OneNumberIsEnough }
 {}
 
 /// The name of a triple means the shape of the triple, if it is read. Names that go both ways, and those with a version,

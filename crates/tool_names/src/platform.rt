@@ -1,7 +1,7 @@
 //! The names of Python's platforms: tags, and names with a version.
 ghost use Rattle.std.specs.Prelude.{◌≡◌, option_map};
-ghost use Rattle.tool_names.specs.Platform.{has_two_numbers, is_plain, kept_version, number_first, plain_number, system_tag, system_with, tag_of, versioned_name_of, versioned_system_of};
-ghost use Rattle.tool_names.specs.Private.{parts_seen};
+ghost use Rattle.tool_names.specs.Platform.{has_two_numbers, is_plain, keeps_version, kept_version, number_first, plain_number, read_name_of, system_tag, system_with, tag_of, versioned_system_of};
+ghost use Rattle.tool_names.specs.Private.{minor_or_zero, parts_seen};
 
 use crate::spelling::look_up;
 use crate::tags::split_once;
@@ -63,6 +63,27 @@ impl VersionedSystem {
         !matches!(self, VersionedSystem::Android)
     }
 
+    /// Whether the version is that of a triple, a deployment target.
+    fn keeps_version(self) -> bool
+        ensures { result ≡ keeps_version self }
+    {
+        matches!(self, VersionedSystem::MacOs | VersionedSystem::Ios)
+    }
+
+    /// The second number of a version, and what follows it; 0 and the whole text if a deployment target is one number.
+    /// It isn't inlined: if it were, each other name would take longer.
+    #[inline(never)]
+    fn minor_or_zero(self, text: &str) -> Option<(u8, &str)>
+        ensures { option_map (λ found. (found.0, tag_of found.1.now)) result
+            ≡ minor_or_zero self (tag_of text.entry.now) }
+    {
+        match minor_first(text) {
+            Some(found) => Some(found),
+            None if self.keeps_version() => Some((0, text)),
+            None => None,
+        }
+    }
+
     /// The system with this version in place of a triple's; that of a triple on Linux or Android stays.
     pub(crate) fn with(
         self,
@@ -82,16 +103,16 @@ impl VersionedSystem {
 }
 
 impl<'a> VersionedName<'a> {
-    /// The parts of a name with a version.
-    #[tactic(auto, unfolding(crate::specs::Platform::versioned_name_of))]
+    /// The parts of a name with a version. A deployment target may be one number; the second is 0 then.
+    #[tactic(auto, unfolding(crate::specs::Platform::versioned_name_of, crate::specs::Platform::short_name_of))]
     pub(crate) fn of(name: &'a str) -> Option<VersionedName<'a>>
-        ensures { option_map parts_seen result ≡ versioned_name_of (tag_of name.entry.now) }
+        ensures { option_map parts_seen result ≡ read_name_of (tag_of name.entry.now) }
     {
         let (system, rest) = split_once(name)?;
         let system = VersionedSystem::of_word(system)?;
         let (major, rest) = major_first(rest)?;
         let (minor, machine) = if system.has_two_numbers() {
-            minor_first(rest)?
+            system.minor_or_zero(rest)?
         } else {
             (0, rest)
         };

@@ -54,6 +54,22 @@ impl VersionedSystem {
         !matches!(self, VersionedSystem::Android)
     }
 
+    /// Whether the version is that of a triple, a deployment target.
+    fn keeps_version(self) -> bool {
+        matches!(self, VersionedSystem::MacOs | VersionedSystem::Ios)
+    }
+
+    /// The second number of a version, and what follows it; 0 and the whole text if a deployment target is one number.
+    /// It isn't inlined: if it were, each other name would take longer.
+    #[inline(never)]
+    fn minor_or_zero(self, text: &str) -> Option<(u8, &str)> {
+        match minor_first(text) {
+            Some(found) => Some(found),
+            None if self.keeps_version() => Some((0, text)),
+            None => None,
+        }
+    }
+
     /// The system with this version in place of a triple's; that of a triple on Linux or Android stays.
     pub(crate) fn with(
         self,
@@ -71,13 +87,13 @@ impl VersionedSystem {
 }
 
 impl<'a> VersionedName<'a> {
-    /// The parts of a name with a version.
+    /// The parts of a name with a version. A deployment target may be one number; the second is 0 then.
     pub(crate) fn of(name: &'a str) -> Option<VersionedName<'a>> {
         let (system, rest) = split_once(name)?;
         let system = VersionedSystem::of_word(system)?;
         let (major, rest) = major_first(rest)?;
         let (minor, machine) = if system.has_two_numbers() {
-            minor_first(rest)?
+            system.minor_or_zero(rest)?
         } else {
             (0, rest)
         };
