@@ -48,7 +48,7 @@ LAST = [
     ("links, names, samples, counts and versions of the pages, and the pictures", "checks/pages", "cc cargo"),
     ("the programs, proved and by cargo: stored rows, unusual streams, large inputs, samples of the pages", "checks/rows/run", "cram3 cargo"),
     ("each allocation fails in turn", "checks/fail_allocations", "cc"),
-    ("the mode json: the proved program answers as the one over Rust's serde_json", "/usr/bin/python3 checks/compare json --inputs 200 --of proved cargo",
+    ("the mode json: the proved program and cargo's answer alike", "/usr/bin/python3 checks/compare json --inputs 200 --of proved cargo",
      "hypothesis cargo"),
 ]
 # Debian's packages of the tools.

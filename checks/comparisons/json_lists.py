@@ -63,6 +63,8 @@ def add_arguments(parser):
 def main(options, folder):
     options.of = options.of or ["proved", "cargo"]
     compared = [program for program in upstream.programs(options, folder) if "json" in program.modes]
+    if len(compared) < 2:
+        raise RuntimeError("two programs with the mode json are needed")
     kinds = collections.Counter()
 
     def compare(given):
