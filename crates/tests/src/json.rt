@@ -1,25 +1,10 @@
 //! JSON strings and lists, parsed and written.
 
-use crate::values::{is_answer, prints, shows};
+use crate::values::{is_answer, prints, writes};
 use serde_json::Value;
-use std::alloc::{AllocError, Global};
-use std::fmt::Display;
+use std::alloc::Global;
 use std::process::Abort;
 use target_lexicon::{JsonError, ListError, ParseError, Triple, list_from_json, list_to_json};
-
-/// Whether the value is written as this string.
-fn is_written(value: Result<Value, AllocError>, expected: &str) -> bool {
-    match value {
-        Ok(value) => prints(&value, expected),
-        Err(_) => false,
-    }
-}
-
-#[test]
-fn a_triple_is_the_string_of_its_text(rt: HostRuntime) {
-    let value = Triple::host().to_json(rt.alloc());
-    assert!(rt; is_written(value, "\"x86_64-unknown-linux-gnu\""));
-}
 
 /// A JSON value, and after `=` the five values of the triple that it parses as, or the line of the error.
 const VALUES: &str = "\
@@ -36,22 +21,6 @@ true=Not a text
 []=Not a text
 {}=Not a text
 [\"x86_64\"]=Not a text";
-
-/// Whether the JSON source is a value that parses with this result.
-fn is_value_answer(alloc: Global, text: &str, expected: &str) -> bool {
-    match Value::from_str(alloc, text) {
-        Ok(value) => is_answer(Triple::from_json(alloc, &value), expected),
-        Err(_) => false,
-    }
-}
-
-#[test]
-fn values_are_parsed_or_refused(rt: HostRuntime) {
-    for row in VALUES.lines() {
-        let (text, expected) = row.split_once('=').unwrap_or((row, ""));
-        assert!(rt; is_value_answer(rt.alloc(), text, expected), "{row}");
-    }
-}
 
 /// A JSON source, and after `=` its list of triples, or the line of the error.
 const LISTS: &str = "\
@@ -74,55 +43,42 @@ fn is_list_answer(alloc: Global, text: &str, expected: &str) -> bool {
         return false;
     };
     match list_from_json(alloc, &value) {
-        Ok(triples) => is_written(list_to_json(alloc, &triples), expected),
+        Ok(triples) => match list_to_json(alloc, &triples) {
+            Ok(list) => writes(&list, expected),
+            Err(_) => false,
+        },
         Err(error) => prints(&error, expected),
     }
 }
 
 #[test]
-fn lists_are_read_and_written_or_refused(rt: HostRuntime) {
+fn values_are_parsed_or_refused(rt: HostRuntime) {
+    for row in VALUES.lines() {
+        let (text, expected) = row.split_once('=').unwrap_or((row, ""));
+        match Value::from_str(rt.alloc(), text) {
+            Ok(value) => assert!(rt;
+                is_answer(Triple::from_json(rt.alloc(), &value), expected),
+                "{row}"
+            ),
+            Err(_) => panic!(rt; "{row}"),
+        }
+    }
     for row in LISTS.lines() {
         let (text, expected) = row.split_once('=').unwrap_or((row, ""));
         assert!(rt; is_list_answer(rt.alloc(), text, expected), "{row}");
     }
-}
-
-/// Whether the JSON source is no list of triples, for this reason, in the form of `{:?}`.
-fn is_refused_as(alloc: Global, text: &str, expected: &str) -> bool {
-    let Ok(value) = Value::from_str(alloc, text) else {
-        return false;
-    };
-    match list_from_json(alloc, &value) {
-        Ok(_) => false,
-        Err(error) => shows(&error, expected),
+    match Triple::host().to_json(rt.alloc()) {
+        Ok(value) => assert!(rt; writes(&value, "\"x86_64-unknown-linux-gnu\"")),
+        Err(_) => panic!(rt; "out of memory"),
     }
 }
 
 #[test]
-fn an_element_is_refused_with_its_place(rt: HostRuntime) {
-    let list = "[\"x86_64\",7,\"foo\"]";
-    assert!(rt; is_refused_as(rt.alloc(), list, "Element(1, NotText)"));
-    assert!(rt; is_refused_as(rt.alloc(), "{}", "NotList"));
-}
-
-/// The value prints this line.
-fn check_line<T: Display + Drop>(rt: &impl Abort, value: T, line: &str) {
-    assert!(rt; prints(&value, line), "{line}");
-}
-
-#[test]
 fn errors_have_their_lines(rt: HostRuntime) {
-    check_line(&rt, ParseError::OutOfMemory, "Out of memory");
-    check_line(
-        &rt,
-        JsonError::Parse(ParseError::OutOfMemory),
-        "Out of memory",
-    );
-    check_line(&rt, JsonError::NotText, "Not a text");
-    check_line(&rt, ListError::NotList, "Not a list");
-    check_line(&rt, ListError::OutOfMemory, "Out of memory");
+    assert!(rt; prints(&ParseError::OutOfMemory, "Out of memory"));
+    assert!(rt; prints(&ListError::OutOfMemory, "Out of memory"));
     let last = ListError::Element(usize::MAX, JsonError::NotText);
-    check_line(&rt, last, "Element 18446744073709551615: Not a text");
+    assert!(rt; prints(&last, "Element 18446744073709551615: Not a text"));
     let memory = ListError::Element(190, JsonError::Parse(ParseError::OutOfMemory));
-    check_line(&rt, memory, "Element 190: Out of memory");
+    assert!(rt; prints(&memory, "Element 190: Out of memory"));
 }

@@ -1,5 +1,5 @@
-//! Tests of the public calls of the libraries. They are a crate of their own, so that the libraries aren't proved a
-//! second time for them.
+//! Tests of the public calls of the libraries: what they print, that a failed write is reported, and that they return with
+//! ample memory. They are a crate of their own, so that the libraries aren't proved a second time for them.
 #![tactic(auto)]
 
 #[cfg(test)]
@@ -7,15 +7,11 @@ mod all_names;
 #[cfg(test)]
 mod callers;
 #[cfg(test)]
-mod defaults;
-#[cfg(test)]
-mod dialects;
-#[cfg(test)]
-mod explaining;
-#[cfg(test)]
 mod json;
 #[cfg(test)]
 mod names;
+#[cfg(test)]
+mod other_names;
 #[cfg(test)]
 mod printing;
 #[cfg(test)]
@@ -23,15 +19,7 @@ mod queries;
 #[cfg(test)]
 mod reading;
 #[cfg(test)]
-mod round_trips;
-#[cfg(test)]
-mod same_targets;
-#[cfg(test)]
-mod suggestions;
-#[cfg(test)]
 mod systems;
-#[cfg(test)]
-mod table;
 #[cfg(test)]
 mod values;
 #[cfg(test)]

@@ -1,35 +1,21 @@
-//! The printed strings of triples, parsed and built.
+//! The printed strings of triples, parsed and built, and what they parse as.
 
-use crate::reading::owned_parse;
-use crate::values::{ROOM, is_answer, is_written, prints, with_vendor, writes};
+use crate::values::{hash_alike, is_answer, prints};
 use std::alloc::Global;
 use std::process::Abort;
-use target_lexicon::{ParseError, Triple, default_binary_format};
+use target_lexicon::{CustomVendor, Triple, Vendor};
 
-/// Whether the triple and the borrowed one display this string, `to_text` returns it, and `write_to` writes it if it
-/// fits.
-pub(crate) fn is_printed(alloc: Global, triple: &Triple, text: &str) -> bool {
-    let mut out = [b'?'; ROOM];
-    let mut too_small = [b'?'; 1];
+/// Whether the triple and the borrowed one display this string, and `to_text` returns it.
+fn is_printed(alloc: Global, triple: &Triple, text: &str) -> bool {
     match triple.to_text(alloc) {
         Ok(printed) => printed.as_str() == text
             && prints(triple, text)
-            && prints(&triple.as_triple_ref(), text)
-            && is_written(triple.write_to(&mut out), &out, text)
-            && is_written(triple.write_to(&mut too_small), &too_small, text),
+            && prints(&triple.as_triple_ref(), text),
         Err(_) => false,
     }
 }
 
-/// Whether the parsed triple prints this string.
-fn is_parsed_and_printed(alloc: Global, parsed: Result<Triple, ParseError>, text: &str) -> bool {
-    match parsed {
-        Ok(triple) => is_printed(alloc, &triple, text),
-        Err(_) => false,
-    }
-}
-
-/// A string, and after `=` its triple, printed.
+/// A string, after `=` its triple, printed, and, if that differs, its canonical triple, printed.
 const READ: &str = "\
 unknown-unknown-unknown=unknown-unknown-unknown
 unknown-unknown-unknown-unknown=unknown-unknown-unknown
@@ -41,7 +27,7 @@ x86_64-apple-ios65535.255.255=x86_64-apple-ios65535.255.255
 x86_64-none-none=x86_64-unknown-none-none
 armv6k-nintendo-3ds=armv6k-nintendo-3ds
 armv6k-nintendo-horizon-gnu-coff=armv6k-nintendo-3ds
-aarch64-nintendo-horizon-newlib-unknown=aarch64-nintendo-horizon-unknown
+aarch64-nintendo-horizon-newlib-unknown=aarch64-nintendo-horizon-unknown aarch64-nintendo-horizon
 riscv32imc-esp-espidf=riscv32imc-esp-espidf
 x86_64-unknown-linux-unknown-unknown=x86_64-unknown-linux-unknown-unknown
 arm64-apple-ios=aarch64-apple-ios
@@ -69,43 +55,41 @@ armv6k-nintendo-horizon-newlib-elf=armv6k-nintendo-3ds
 riscv32imc-espressif-espidf-gnu-coff=riscv32imc-esp-espidf
 aarch64-nintendo-horizon-unknown-elf=aarch64-nintendo-horizon
 clever-unknown-unknown-none-elf=clever-unknown-none-elf
-x86_64-apple-ios-gnu-elf=x86_64-apple-ios-gnu-elf";
+x86_64-apple-ios-gnu-elf=x86_64-apple-ios-gnu-elf
+x86_64-apple-ios1.2-unknown-unknown=x86_64-apple-ios1.2.0-unknown-unknown
+aarch64-nintendo-horizon-newlib-coff=aarch64-nintendo-horizon-coff
+clever1.0-pc-unknown-none-coff=clever1.0-pc-none-coff";
+
+/// Whether the triple of the string prints this and comes back exactly if that parses as the triple; and the triple of the
+/// printed string is the next step and the canonical triple, and prints the last string.
+fn is_round_trip(alloc: Global, text: &str, print: &str, last: &str) -> bool {
+    match (
+        Triple::from_str(alloc, text),
+        Triple::from_str(alloc, text),
+        Triple::from_str(alloc, print),
+    ) {
+        (Ok(triple), Ok(same), Ok(back)) => is_printed(alloc, &triple, print)
+            && is_printed(alloc, &back, last)
+            && triple.comes_back() == (triple == back)
+            && triple.normal() == back
+            && same.settle() == back,
+        _ => false,
+    }
+}
 
 #[test]
 fn parsed_triples_print(rt: HostRuntime) {
     for row in READ.lines() {
-        let (text, expected) = row.split_once('=').unwrap_or((row, ""));
-        let parsed = Triple::from_str(rt.alloc(), text);
-        assert!(rt;
-            is_parsed_and_printed(rt.alloc(), parsed, expected),
-            "{row}"
-        );
-        let owned = owned_parse(rt.alloc(), text);
-        assert!(rt; is_parsed_and_printed(rt.alloc(), owned, expected), "{row}");
+        let (text, prints) = row.split_once('=').unwrap_or((row, ""));
+        let (print, last) = prints.split_once(' ').unwrap_or((prints, prints));
+        assert!(rt; is_round_trip(rt.alloc(), text, print, last), "{row}");
     }
 }
 
-/// Whether the triple of the string with this vendor prints this string, and comes back or doesn't.
-fn is_built(alloc: Global, text: &str, vendor: &'static str, print: &str, is_back: bool) -> bool {
-    match Triple::from_str(alloc, text) {
-        Ok(triple) => {
-            let triple = with_vendor(triple, vendor);
-            triple.comes_back() == is_back && is_printed(alloc, &triple, print)
-        }
-        Err(_) => false,
-    }
-}
-
-#[test]
-fn built_triples_print(rt: HostRuntime) {
-    let text = "x86_64-unknown-linux-unknown-elf";
-    let print = "x86_64-customvendor-linux";
-    assert!(rt; is_built(rt.alloc(), text, "customvendor", print, true));
-}
-
-/// A vendor that isn't plain, and a string; what the string's triple prints with that vendor; and the triple that this
-/// parses as, or why it is refused.
-const NOT_PLAIN: &str = "\
+/// A custom vendor and a string; what the string's triple prints with that vendor; and the triple that this parses as, or
+/// why it is refused. Only the first vendor is plain.
+const BUILT: &str = "\
+customvendor x86_64-unknown-linux-unknown-elf=x86_64-customvendor-linux=X86_64 Custom(Owned(\"customvendor\")) Linux Unknown Elf
 a-b x86_64-unknown-linux-unknown-elf=x86_64-a-b-linux=Unrecognized operating system: b
  x86_64-unknown-linux-unknown-elf=x86_64--linux=Unrecognized vendor:\u{20}
 apple x86_64-unknown-darwin-unknown-macho=x86_64-apple-darwin=X86_64 Apple Darwin(None) Unknown Macho
@@ -113,70 +97,33 @@ pc x86_64-unknown-windows-msvc-coff=x86_64-pc-windows-msvc=X86_64 Pc Windows Msv
 unknown-linux x86_64-unknown-unknown-unknown-elf=x86_64-unknown-linux-unknown-elf=X86_64 Unknown Linux Unknown Elf
 none x86_64-unknown-linux-unknown-elf=x86_64-none-linux=Unrecognized environment: linux";
 
+/// Whether the triple of the string with this vendor prints this string, which parses as that; and it comes back exactly if
+/// its vendor is plain.
+fn is_built(alloc: Global, text: &str, vendor: &'static str, print: &str, expected: &str) -> bool {
+    let Ok(parsed) = Triple::from_str(alloc, text) else {
+        return false;
+    };
+    let triple = Triple {
+        vendor: Vendor::Custom(CustomVendor::Static(vendor)),
+        ..parsed
+    };
+    let answer = Triple::from_str(alloc, print);
+    let is_back = matches!(&answer, Ok(back) if hash_alike(back, &triple));
+    triple.comes_back() == is_back
+        && triple.vendor.is_plain() == is_back
+        && is_printed(alloc, &triple, print)
+        && is_answer(answer, expected)
+}
+
 #[test]
-fn no_triple_comes_back_whose_vendor_is_not_plain(rt: HostRuntime) {
-    for row in NOT_PLAIN.lines() {
+fn built_triples_print(rt: HostRuntime) {
+    for row in BUILT.lines() {
         let (names, rest) = row.split_once('=').unwrap_or((row, ""));
         let (vendor, text) = names.split_once(' ').unwrap_or((names, ""));
         let (print, expected) = rest.split_once('=').unwrap_or((rest, ""));
-        assert!(rt; is_built(rt.alloc(), text, vendor, print, false), "{row}");
         assert!(rt;
-            is_answer(Triple::from_str(rt.alloc(), print), expected),
+            is_built(rt.alloc(), text, vendor, print, expected),
             "{row}"
         );
-    }
-}
-
-/// Whether the other fields of the triple imply this format.
-fn is_implied(alloc: Global, text: &str, format: &str) -> bool {
-    match Triple::from_str(alloc, text) {
-        Ok(triple) => writes(&default_binary_format(&triple), format),
-        Err(_) => false,
-    }
-}
-
-/// A string, and after `=` the format that its other fields imply, not the one that it has.
-const IMPLIED: &str = "\
-x86_64-unknown-linux-gnu-coff=elf
-x86_64-unknown-xros-gnu-coff=macho
-x86_64-unknown-none-gnu-coff=unknown
-x86_64-unknown-none-eabi-coff=elf";
-
-#[test]
-fn the_implied_format_is_of_the_other_fields(rt: HostRuntime) {
-    for row in IMPLIED.lines() {
-        let (text, expected) = row.split_once('=').unwrap_or((row, ""));
-        assert!(rt; is_implied(rt.alloc(), text, expected), "{row}");
-    }
-}
-
-/// Whether this is the string that upstream prints for the triple.
-fn is_printed_upstream(alloc: Global, text: &str, print: &str) -> bool {
-    let Ok(triple) = Triple::from_str(alloc, text) else {
-        return false;
-    };
-    let mut out = [b'?'; ROOM];
-    let size = triple.as_triple_ref().write_upstream_to(&mut out);
-    match triple.to_upstream_text(alloc) {
-        Ok(printed) => printed.as_str() == print && is_written(size, &out, print),
-        Err(_) => false,
-    }
-}
-
-/// A string, and after `=` the string that upstream prints for its triple.
-const UPSTREAM: &str = "\
-x86_64-unknown-linux-unknown-unknown=x86_64-unknown-linux-unknown
-wasm32-wasi-unknown-unknown=wasm32-wasi-unknown
-clever-unknown-unknown-unknown-unknown=clever-unknown-unknown
-armv6k-nintendo-horizon-unknown-unknown=armv6k-nintendo-3ds
-x86_64-unknown-none-unknown-unknown=x86_64-unknown-none
-x86_64-apple-darwin+023.6=x86_64-apple-darwin23.6.0
-x86_64-customvendor-linux=x86_64-customvendor-linux";
-
-#[test]
-fn upstream_prints_other_strings(rt: HostRuntime) {
-    for row in UPSTREAM.lines() {
-        let (text, expected) = row.split_once('=').unwrap_or((row, ""));
-        assert!(rt; is_printed_upstream(rt.alloc(), text, expected), "{row}");
     }
 }

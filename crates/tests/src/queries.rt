@@ -1,9 +1,8 @@
 //! The queries of triples.
 
-use crate::values::{convention_word, model_word, order_word, width_word, writes};
-use std::alloc::Global;
+use crate::values::writes;
 use std::process::Abort;
-use target_lexicon::{Architecture, OperatingSystem, Triple};
+use target_lexicon::{CDataModel, CallingConvention, Endianness, PointerWidth, Triple};
 
 /// A string, and after `=` the byte order, pointer width, calling convention and data model of its triple; `-` for no
 /// answer.
@@ -54,39 +53,35 @@ unknown-unknown-linux=- - SystemV -
 unknown-pc-windows=- - WindowsFastcall -
 unknown-apple-darwin=- - SystemV -
 unknown-pc-windows-gnu_ilp32=- 32 WindowsFastcall ILP32
-x86_64-customvendor-linux=little 64 SystemV LP64";
-
-/// Whether the queries of the triple have these answers.
-fn has_answers(triple: &Triple, expected: &str) -> bool {
-    let order = order_word(triple.endianness());
-    let width = width_word(triple.pointer_width());
-    let convention = convention_word(triple.default_calling_convention());
-    let model = model_word(triple.data_model());
-    writes(
-        &format_args!("{order} {width} {convention} {model}"),
-        expected,
-    )
-}
-
-/// Whether the string parses as a triple with these answers.
-fn is_answered(alloc: Global, text: &str, expected: &str) -> bool {
-    match Triple::from_str(alloc, text) {
-        Ok(triple) => has_answers(&triple, expected),
-        Err(_) => false,
-    }
-}
+x86_64-customvendor-linux=little 64 SystemV LP64
+thumbv8m.base=little 32 - -
+rabbit3000a=little 16 - -
+mips64=big 64 - -";
 
 #[test]
 fn triples_answer(rt: HostRuntime) {
     for row in ANSWERS.lines() {
         let (text, expected) = row.split_once('=').unwrap_or((row, ""));
-        assert!(rt; is_answered(rt.alloc(), text, expected), "{row}");
+        let Ok(triple) = Triple::from_str(rt.alloc(), text) else {
+            panic!(rt; "{row}");
+        };
+        let order = triple.endianness().ok().map(Endianness::name);
+        let width = triple.pointer_width().ok().map(PointerWidth::name);
+        let convention = triple.default_calling_convention().ok();
+        let convention = convention.map(CallingConvention::name);
+        let model = triple.data_model().ok().map(CDataModel::name);
+        assert!(rt;
+            writes(
+                &format_args!(
+                    "{} {} {} {}",
+                    order.unwrap_or("-"),
+                    width.unwrap_or("-"),
+                    convention.unwrap_or("-"),
+                    model.unwrap_or("-")
+                ),
+                expected
+            ),
+            "{row}"
+        );
     }
-    assert!(rt; has_answers(&Triple::unknown(), "- - - -"));
-}
-
-#[test]
-fn hosts_are_fixed(rt: HostRuntime) {
-    assert!(rt; matches!(OperatingSystem::host(), OperatingSystem::Linux));
-    assert_eq!(rt; width_word(Architecture::host().pointer_width()), "64");
 }

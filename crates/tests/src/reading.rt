@@ -1,30 +1,9 @@
 //! Strings that parse as a triple, and strings that are refused, misleading and very long ones too.
 
-use crate::values::{ROOM, has_values, is_answer, is_written, prints, reports_each_failure};
-use std::alloc::{AllocError, Global};
+use crate::values::{hash_alike, is_answer, prints};
+use std::alloc::Global;
 use std::process::Abort;
-use target_lexicon::{JsonError, ListError, ParseError, Triple, TripleRef, triple};
-
-/// The triple that the string parses as without an allocator, and then owns.
-pub(crate) fn owned_parse(alloc: Global, text: &str) -> Result<Triple, ParseError> {
-    match TripleRef::from_str(text) {
-        Ok(triple) => Ok(triple.to_triple(alloc)?),
-        Err(error) => Err(error.to_error(alloc)?),
-    }
-}
-
-/// Whether the parsed triple has these values, and so has a clone.
-fn is_read(alloc: Global, parsed: Result<Triple, ParseError>, expected: &str) -> bool {
-    match parsed {
-        Ok(triple) => match triple.clone(alloc) {
-            Ok(copy) => copy == triple
-                && has_values(&triple, expected)
-                && has_values(&copy, expected),
-            Err(_) => false,
-        },
-        Err(_) => false,
-    }
-}
+use target_lexicon::{ParseError, Triple, TripleRef};
 
 /// A string, and after `=` the five values of the triple that it parses as.
 const READ: &str = "\
@@ -67,61 +46,6 @@ x86_64-darwin23.0.0.0=X86_64 Custom(Owned(\"darwin23.0.0.0\")) Unknown Unknown E
 unknown-foo=Unknown Custom(Owned(\"foo\")) Unknown Unknown Unknown
 wasm32-wasip1=Wasm32 Unknown WasiP1 Unknown Elf
 wasm32-wasi=Wasm32 Unknown Wasi Unknown Wasm";
-
-#[test]
-fn strings_parse_as_triples(rt: HostRuntime) {
-    for row in READ.lines() {
-        let (text, expected) = row.split_once('=').unwrap_or((row, ""));
-        assert!(rt;
-            is_read(rt.alloc(), Triple::from_str(rt.alloc(), text), expected),
-            "{row}"
-        );
-        assert!(rt;
-            is_read(rt.alloc(), owned_parse(rt.alloc(), text), expected),
-            "{row}"
-        );
-    }
-}
-
-/// Whether the refusal prints this line, and so does a clone; and as the error of an element of a list it reports each
-/// failure of its target.
-fn is_error(alloc: Global, parsed: Result<Triple, ParseError>, line: &str) -> bool {
-    let Err(error) = parsed else {
-        return false;
-    };
-    match error.clone(alloc) {
-        Ok(copy) => copy == error
-            && prints(&copy, line)
-            && prints(&error, line)
-            && { reports_each_failure(&ListError::Element(190, JsonError::Parse(error))) },
-        Err(_) => false,
-    }
-}
-
-/// Whether the refusal that borrows its part prints this line, and writes it if it fits.
-fn is_borrowed_error(text: &str, line: &str) -> bool {
-    let mut out = [b'?'; ROOM];
-    let mut too_small = [b'?'; 1];
-    match TripleRef::from_str(text) {
-        Ok(_) => false,
-        Err(error) => prints(&error, line)
-            && is_written(error.write_to(&mut out), &out, line)
-            && is_written(error.write_to(&mut too_small), &too_small, line),
-    }
-}
-
-/// Each row is a string and the line of its refusal.
-fn check_refused(rt: &impl Abort, alloc: Global, rows: &str) {
-    for row in rows.lines() {
-        let (text, line) = row.split_once('=').unwrap_or((row, ""));
-        assert!(rt;
-            is_error(alloc, Triple::from_str(alloc, text), line),
-            "{row}"
-        );
-        assert!(rt; is_error(alloc, owned_parse(alloc, text), line), "{row}");
-        assert!(rt; is_borrowed_error(text, line), "{row}");
-    }
-}
 
 /// A string, and after `=` the line that says why it is refused. Some letters only look like those of a vendor.
 const REFUSED: &str = "\
@@ -191,67 +115,64 @@ x86_64-apple-ios1\u{2024}2=Unrecognized operating system: ios1\u{2024}2
 x86_64-apple-ios1\0=Unrecognized operating system: ios1\0
 armv6k-nintendo-3ds\0=Unrecognized operating system: 3ds\0";
 
-#[test]
-fn other_strings_are_refused(rt: HostRuntime) {
-    check_refused(&rt, rt.alloc(), REFUSED);
-    check_refused(&rt, rt.alloc(), MISLEADING);
-}
-
-/// Strings with a thousand of a character for each star, and the lines that say why they are refused.
-const LONG: &str = "\
+/// The same of strings with a thousand dashes for each star.
+const DASHES: &str = "\
 *****=Unrecognized architecture: 
 x86_64*****=Unrecognized vendor: 
 x86_64-unknown-linux-gnu-elf*****=Unrecognized field: ";
 
-/// Apple systems with a thousand nines for each star.
+/// The same of strings with a thousand nines for each star.
 const NINES: &str = "\
 x86_64-apple-ios*=Unrecognized operating system: ios*
 x86_64-apple-ios1.*=Unrecognized operating system: ios1.*
 x86_64-apple-ios1.0.*=Unrecognized operating system: ios1.0.*
 x86_64-apple-ios1.2.3.*=Unrecognized operating system: ios1.2.3.*";
 
-#[test]
-fn strings_may_be_long(rt: HostRuntime) -> Result<(), AllocError> {
-    let dashes = "-".repeat(rt.alloc(), 1000)?;
-    check_refused(
-        &rt,
-        rt.alloc(),
-        &LONG.replace(rt.alloc(), "*", dashes.as_str())?,
-    );
-    let nines = "9".repeat(rt.alloc(), 1000)?;
-    check_refused(
-        &rt,
-        rt.alloc(),
-        &NINES.replace(rt.alloc(), "*", nines.as_str())?,
-    );
-    let zeros = "0".repeat(rt.alloc(), 1000)?;
-    let text = "x86_64-apple-darwin*23.*".replace(rt.alloc(), "*", zeros.as_str())?;
-    let expected =
-        "X86_64 Apple Darwin(Some(DeploymentTarget { major: 23, minor: 0, patch: 0 })) Unknown Macho";
-    assert!(rt;
-        is_read(
-            rt.alloc(),
-            Triple::from_str(rt.alloc(), text.as_str()),
-            expected
-        )
-    );
-    Ok(())
+/// A string with a thousand zeros for each star, and the five values.
+const ZEROS: &str = "\
+x86_64-apple-darwin*23.*=X86_64 Apple Darwin(Some(DeploymentTarget { major: 23, minor: 0, patch: 0 })) Unknown Macho";
+
+/// Whether the string parses as a triple with these values, or is refused with this line; the same without an allocator
+/// and then owned; and so does a clone.
+fn is_parsed(alloc: Global, text: &str, expected: &str) -> bool {
+    match (Triple::from_str(alloc, text), TripleRef::from_str(text)) {
+        (Ok(triple), Ok(borrowed)) => match (triple.clone(alloc), borrowed.to_triple(alloc)) {
+            (Ok(copy), Ok(owned)) => hash_alike(&copy, &triple)
+                && owned == triple
+                && is_answer::<ParseError>(Ok(owned), expected),
+            _ => false,
+        },
+        (Err(error), Err(borrowed)) => match (error.clone(alloc), borrowed.to_error(alloc)) {
+            (Ok(copy), Ok(owned)) => copy == error
+                && owned == error
+                && prints(&borrowed, expected)
+                && is_answer(Err(owned), expected),
+            _ => false,
+        },
+        _ => false,
+    }
 }
 
 #[test]
-fn the_macro_parses_its_string(rt: HostRuntime) {
+fn strings_are_parsed_or_refused(rt: HostRuntime) {
     let alloc = rt.alloc();
-    assert!(rt;
-        is_answer(
-            triple!(alloc, "x86_64-unknown-linux-gnu"),
-            "X86_64 Unknown Linux Gnu Elf"
-        )
-    );
-    assert!(rt; is_answer(triple!(alloc, "foo"), "Unrecognized architecture: foo"));
-    assert!(rt;
-        is_answer(
-            triple!(rt.alloc(), "foo\n",),
-            "Unrecognized architecture: foo\n"
-        )
-    );
+    for (rows, star) in [
+        (READ, "*"),
+        (REFUSED, "*"),
+        (MISLEADING, "*"),
+        (DASHES, "-"),
+        (NINES, "9"),
+        (ZEROS, "0"),
+    ] {
+        let Ok(stars) = star.repeat(alloc, 1000) else {
+            panic!(rt; "out of memory");
+        };
+        let Ok(rows) = rows.replace(alloc, "*", stars.as_str()) else {
+            panic!(rt; "out of memory");
+        };
+        for row in rows.lines() {
+            let (text, expected) = row.split_once('=').unwrap_or((row, ""));
+            assert!(rt; is_parsed(alloc, text, expected), "{row}");
+        }
+    }
 }

@@ -1,123 +1,63 @@
-//! The end of the program: each status and closing line, over a writer that fails at each write, and errors printed
-//! over a target that fails at each piece.
+//! The end of the program: each status and closing line, over a writer that fails at each write, and errors printed.
 
-use super::faulty::{Fault, FaultyTarget, FaultyWriter, WriterCalls};
+use super::faulty::Faulty;
 use crate::run::conclude;
 use crate::run_error::RunError;
 use crate::streams::Counted;
-use std::alloc::Global;
 use std::fmt::Write as _;
 use std::io::ErrorKind;
 
-/// The status of an end, and the calls of the writer, which should write this line.
-fn conclusion(
-    end: Option<Result<(), RunError>>,
-    writer: FaultyWriter,
-    line: &str,
-) -> (u8, WriterCalls) {
-    let mut writer = Counted::new(writer);
-    let status = conclude(end, &mut writer);
-    (status, writer.into_inner().calls(line.as_bytes()))
-}
+/// Each end, its status, and its closing line.
+#[rattlefmt::skip]
+static ENDS: [(Option<Result<(), RunError>>, u8, &str); 8] = [
+    (None, 2, "usage: triples [MODE]\n"),
+    (Some(Ok(())), 0, ""),
+    (Some(Err(RunError::Read)), 1, "fault: Read failed\n"),
+    (Some(Err(RunError::Write)), 1, "fault: Write failed\n"),
+    (Some(Err(RunError::NotUtf8)), 1, "fault: Input is not UTF-8\n"),
+    (Some(Err(RunError::NotJson)), 1, "fault: Input is not JSON\n"),
+    (Some(Err(RunError::NotList)), 1, "fault: Input is not a JSON list\n"),
+    (Some(Err(RunError::OutOfMemory)), 1, "fault: Out of memory\n"),
+];
 
-/// Whether an end has this status, and its line is written up to write number `fault_at`, which has a fault, where each
-/// write takes one byte. The flush fails too; there is none if there is no line.
-fn concludes_at(
-    alloc: Global,
-    end: Option<Result<(), RunError>>,
-    status: u8,
-    line: &str,
-    fault_at: usize,
-) -> bool {
-    let mut writer = FaultyWriter::slow(alloc, fault_at, Fault::Nothing);
-    writer.flush = Err(ErrorKind::BrokenPipe);
-    let (found, calls) = conclusion(end, writer, line);
-    found == status
-        && calls
-            == WriterCalls {
-                writes: fault_at.saturating_add(1).min(line.len()),
-                flushes: u32::from(fault_at == line.len() && !line.is_empty()),
-                kept: fault_at,
-                is_beginning: true,
-            }
-}
-
-/// Whether an end has this status and line, also where a write has a fault, each in turn.
-fn is_concluded(alloc: Global, end: Option<Result<(), RunError>>, status: u8, line: &str) -> bool {
-    for fault_at in 0..line.len() + 1 {
-        if !concludes_at(alloc, end, status, line, fault_at) {
-            return false;
-        }
-    }
-    true
-}
-
-/// Each error, and the closing line for it.
-fn closing_lines() -> [(RunError, &'static str); 6] {
-    [
-        (RunError::Read, "fault: Read failed\n"),
-        (RunError::Write, "fault: Write failed\n"),
-        (RunError::NotUtf8, "fault: Input is not UTF-8\n"),
-        (RunError::NotJson, "fault: Input is not JSON\n"),
-        (RunError::NotList, "fault: Input is not a JSON list\n"),
-        (RunError::OutOfMemory, "fault: Out of memory\n"),
-    ]
-}
-
-/// Whether the line for an error is written whole to a writer without a fault.
-fn is_written_whole(alloc: Global, error: RunError, line: &str) -> bool {
-    let (_status, calls) = conclusion(Some(Err(error)), FaultyWriter::sound(alloc), line);
-    calls.kept == line.len() && calls.is_beginning && calls.flushes == 1
-}
-
+/// The line is written up to the write that has a fault, where each write takes one byte, and the status is the same. The
+/// flush fails too; there is none if there is no line.
 #[test]
 fn concludes(rt: HostRuntime) {
-    assert!(rt; is_concluded(rt.alloc(), None, 2, "usage: triples [MODE]\n"));
-    assert!(rt; is_concluded(rt.alloc(), Some(Ok(())), 0, ""));
-    for (error, line) in closing_lines() {
-        assert!(rt;
-            is_concluded(rt.alloc(), Some(Err(error)), 1, line),
-            "{line}"
-        );
-        assert!(rt; is_written_whole(rt.alloc(), error, line), "{line}");
-    }
-}
-
-/// Whether an error prints its closing line, also with a width and a fill.
-fn prints_as(alloc: Global, error: RunError, line: &str) -> bool {
-    let mut lines = String::new(alloc);
-    write!(lines, "fault: {error}\nfault: {error:*>40}\n").is_ok()
-        && lines.strip_prefix(line) == Some(line)
-}
-
-#[test]
-fn prints_errors(rt: HostRuntime) {
-    for (error, line) in closing_lines() {
-        assert!(rt; prints_as(rt.alloc(), error, line), "{line}");
-    }
-}
-
-/// Whether printing an error fails exactly if its target failed, and writes no piece after that.
-fn reports_each_failure(error: RunError) -> bool {
-    for fault_at in 0..100 {
-        let mut target = FaultyTarget {
-            fault_at,
-            pieces: 0,
-        };
-        let has_failed = write!(target, "{error}").is_err();
-        if target.pieces <= fault_at {
-            return !has_failed;
-        }
-        if !has_failed || target.pieces > fault_at + 1 {
-            return false;
+    for (end, status, line) in &ENDS {
+        for at in 0..line.len() + 1 {
+            let mut writer = Faulty::new(rt.alloc(), b"", at, None);
+            writer.flush = Err(ErrorKind::BrokenPipe);
+            let mut writer = Counted::new(writer);
+            let found = conclude(*end, &mut writer);
+            let writer = writer.into_inner();
+            let written = at.saturating_add(1).min(line.len());
+            let flushes = u32::from(at == line.len() && at > 0);
+            let is_expected = (found, writer.calls, writer.flushes) == (*status, written, flushes);
+            let beginning = line.as_bytes().get(..at);
+            assert!(rt;
+                is_expected && beginning == Some(writer.kept.as_slice()),
+                "{line}"
+            );
         }
     }
-    false
 }
 
+/// An error prints its line in one piece, also with a width and a fill, and fails if its target does.
 #[test]
-fn each_piece_of_an_error_fails_in_turn(rt: HostRuntime) {
-    for (error, _line) in closing_lines() {
-        assert!(rt; reports_each_failure(error), "{error}");
+fn errors_print_their_lines(rt: HostRuntime) {
+    for (end, _, line) in &ENDS {
+        if let Some(Err(error)) = end {
+            let mut target = Faulty::sound(rt.alloc(), b"");
+            let done = write!(target, "fault: {error}\nfault: {error:*>40}\n");
+            let second = target.kept.strip_prefix(line.as_bytes());
+            assert!(rt; done.is_ok() && second == Some(line.as_bytes()), "{line}");
+            for at in 0..2 {
+                let mut target = Faulty::sound(rt.alloc(), b"");
+                target.fault_at = at;
+                let is_done = write!(target, "{error}").is_ok();
+                assert!(rt; is_done == (at == 1) && target.calls == 1, "{line}");
+            }
+        }
     }
 }

@@ -1,10 +1,8 @@
 //! What `Counted` passes to its reader or writer, and what it passes back.
 
-use super::faulty::{Fault, FaultyReader, FaultyWriter, WriterCalls};
+use super::faulty::Faulty;
 use crate::streams::Counted;
-use std::alloc::{AllocError, Global};
-use std::io;
-use std::io::{ErrorKind, Write};
+use std::io::ErrorKind;
 
 /// Each kind of error.
 const KINDS: [ErrorKind; 42] = [
@@ -52,84 +50,45 @@ const KINDS: [ErrorKind; 42] = [
     ErrorKind::Uncategorized,
 ];
 
-/// Whether the outcome of a call is an error of this kind.
-fn is_of_kind<T: Drop>(outcome: io::Result<T>, kind: ErrorKind) -> bool {
-    match outcome {
-        Ok(_) => false,
-        Err(error) => error.kind() == kind,
-    }
-}
-
-/// Whether a failing read is passed back, after one read.
-fn passes_back_read(kind: ErrorKind) -> bool {
-    let mut reader = Counted::new(FaultyReader::new(b"a", 0, Fault::Error(kind)));
-    is_of_kind(reader.read(&mut [0u8; 4]), kind) && reader.into_inner().reads == 1
-}
-
-/// Whether a failing write and a failing flush are passed back, after one of each.
-fn passes_back_write(alloc: Global, kind: ErrorKind) -> bool {
-    let mut writer = FaultyWriter::slow(alloc, 0, Fault::Error(kind));
-    writer.flush = Err(kind);
-    let mut writer = Counted::new(writer);
-    let has_passed = is_of_kind(writer.write(b"a"), kind) && is_of_kind(writer.flush(), kind);
-    let writer = writer.into_inner();
-    has_passed && writer.writes == 1 && writer.flushes == 1
-}
-
 #[test]
 fn each_kind_of_error_is_passed_back(rt: HostRuntime) {
     for kind in KINDS {
-        assert!(rt; passes_back_read(kind), "{kind:?}");
-        assert!(rt; passes_back_write(rt.alloc(), kind), "{kind:?}");
+        let mut device = Faulty::new(rt.alloc(), b"", 0, Some(kind));
+        device.flush = Err(kind);
+        let mut device = Counted::new(device);
+        let mut reader = Counted::new(Faulty::new(rt.alloc(), b"a", 0, Some(kind)));
+        let is_passed_back = matches!(device.flush(), Err(error) if error.kind() == kind)
+            && matches!(device.write(b"a"), Err(error) if error.kind() == kind)
+            && matches!(reader.read(&mut [0u8; 4]), Err(error) if error.kind() == kind);
+        let calls = (device.into_inner().calls, reader.into_inner().calls);
+        assert!(rt; is_passed_back && calls == (1, 1), "{kind:?}");
     }
-}
-
-/// Whether a piece is passed on whole, by one write, and the result is passed back.
-fn is_passed_on(alloc: Global, piece: &[u8]) -> bool {
-    let mut writer = Counted::new(FaultyWriter::sound(alloc));
-    let count = writer.write(piece).unwrap_or(usize::MAX);
-    count == piece.len()
-        && writer.into_inner().calls(piece)
-            == WriterCalls {
-                writes: 1,
-                flushes: 0,
-                kept: piece.len(),
-                is_beginning: true,
-            }
 }
 
 /// A prime number of bytes, of which neighbours differ.
 const LETTERS: &str = "abcdefghijklmnopqrstuvwxyzABCDEFGHIJKLMNOPQRSTUVWXYZ.";
 
-/// No bytes, and lengths around those of usual buffers.
-const LENGTHS: [usize; 5] = [0, 53, 4097, 65537, 300_000];
-
+/// A piece is passed on whole, by one write, and a read has all the room. There are no bytes, and lengths around those of
+/// usual buffers.
 #[test]
-fn a_piece_of_any_length_is_passed_on_whole(rt: HostRuntime) -> Result<(), AllocError> {
-    let letters = LETTERS.repeat(rt.alloc(), 6000)?;
-    for length in LENGTHS {
-        match letters.as_bytes().get(..length) {
-            Some(piece) => assert!(rt; is_passed_on(rt.alloc(), piece), "{length}"),
-            None => assert!(rt; false, "no piece of {length}"),
-        }
+fn a_piece_of_any_length_is_passed_on_whole(rt: HostRuntime) {
+    let Ok(letters) = LETTERS.repeat(rt.alloc(), 6000) else {
+        panic!(rt; "out of memory");
+    };
+    for length in [0, 53, 4097, 65537, 300_000] {
+        let Some(piece) = letters.as_bytes().get(..length) else {
+            panic!(rt; "{length}");
+        };
+        let mut writer = Counted::new(Faulty::sound(rt.alloc(), b""));
+        let taken = writer.write(piece).unwrap_or(usize::MAX);
+        let writer = writer.into_inner();
+        let is_passed_on = (taken, writer.calls) == (length, 1) && writer.kept.as_slice() == piece;
+        let Ok(mut room) = vec![in rt.alloc(); 0u8; length] else {
+            panic!(rt; "out of memory");
+        };
+        let mut reader = Counted::new(Faulty::sound(rt.alloc(), letters.as_bytes()));
+        let given = reader.read(&mut room).unwrap_or(usize::MAX);
+        let has_all = (given, reader.into_inner().calls) == (length, 1) && room.as_slice() == piece;
+        assert!(rt; is_passed_on && has_all, "{length}");
     }
-    Ok(())
-}
-
-/// Whether a read is one read of the reader, which has all of this room and gives one byte.
-fn is_whole_room(room: &mut [u8]) -> bool {
-    let length = room.len();
-    let mut reader = Counted::new(FaultyReader::sound(b"ab"));
-    let count = reader.read(room).unwrap_or(usize::MAX);
-    let reader = reader.into_inner();
-    count == length.min(1) && reader.reads == 1 && reader.room == length
-}
-
-#[test]
-fn a_read_has_all_the_room(rt: HostRuntime) -> Result<(), AllocError> {
-    for length in LENGTHS {
-        let mut room = vec![in rt.alloc(); 0u8; length]?;
-        assert!(rt; is_whole_room(&mut room), "{length}");
-    }
-    Ok(())
 }

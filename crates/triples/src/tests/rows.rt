@@ -3,11 +3,9 @@
 use crate::mode::Mode;
 use crate::run_error::RunError;
 
-/// A mode, an input, and the output for it.
-pub(super) type Row = (Mode, &'static str, &'static str);
-
+/// Modes, inputs, and the outputs for these.
 #[rattlefmt::skip]
-pub(super) static ROWS: [Row; 21] = [
+pub(super) static ROWS: [(Mode, &str, &str); 21] = [
     (Mode::Print, "", ""),
     (Mode::Print,
         "x86_64-unknown-linux\nx86_64-unknown-unknown\nwasm32-unknown-wasi\nmsp430-unknown-none\n",
@@ -57,11 +55,9 @@ pub(super) static ROWS: [Row; 21] = [
         "x86_64-apple-ios1.0.0\nx86_64-apple-ios\n"),
 ];
 
-/// A mode, an input without an output, and why.
-pub(super) type RefusedRow = (Mode, &'static [u8], RunError);
-
+/// Modes, inputs without an output, and why.
 #[rattlefmt::skip]
-pub(super) static REFUSED_ROWS: [RefusedRow; 12] = [
+pub(super) static REFUSED_ROWS: [(Mode, &[u8], RunError); 12] = [
     (Mode::Print, b"\xff", RunError::NotUtf8),
     (Mode::Print, b"avr-pc-none\n\xff", RunError::NotUtf8),
     (Mode::Show, b"avr-pc-none\n\xff", RunError::NotUtf8),

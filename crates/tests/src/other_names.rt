@@ -1,0 +1,163 @@
+//! Suggestions, and names of Python's platforms.
+
+use crate::values::prints;
+use lexicon_names::names;
+use std::process::Abort;
+use target_lexicon::{Field, TripleRef};
+use tool_names::{Dialect, NameError, suggestion};
+
+/// For each field strings, and after `=` the name that should be suggested, or nothing.
+const OPERATING_SYSTEMS: &str = "\
+linx=linux
+darwim=darwin
+widows=windows
+plan9=
+w64=";
+
+const ARCHITECTURES: &str = "\
+x86-64=x86_64
+=
+arm64e=arm64
+riscv64im=riscv64
+mips32el=mipsel
+arm6j=armv6j
+i368=i386
+amd64=x86_64
+armv7hl=armv7
+wasm=
+x86=
+x86_32=
+mipsel64=
+s390=";
+
+const VENDORS: &str = "\
+linxu=linux
+aple=apple
+freebsd13.2=freebsd
+mingw32=windows-gnu
+macos13=macosx
+w64=pc";
+
+const ENVIRONMENTS: &str = "\
+android21=android
+mingw32=
+gnuabi=gnueabi
+musl=musl
+msul=musl
+glibc=
+gnuabi32=
+ela=elf";
+
+const BINARY_FORMATS: &str = "\
+mach0=macho
+nothing of the kind=";
+
+#[test]
+fn suggestions(rt: HostRuntime) {
+    for (field, rows) in [
+        (Field::OperatingSystem, OPERATING_SYSTEMS),
+        (Field::Architecture, ARCHITECTURES),
+        (Field::Vendor, VENDORS),
+        (Field::Environment, ENVIRONMENTS),
+        (Field::BinaryFormat, BINARY_FORMATS),
+    ] {
+        for row in rows.lines() {
+            let (text, name) = row.split_once('=').unwrap_or((row, ""));
+            assert!(rt; suggestion(field, text).unwrap_or("") == name, "{row}");
+        }
+        for name in names(field) {
+            assert!(rt; suggestion(field, name) == Some(*name), "{name}");
+        }
+    }
+}
+
+/// A name, what it means, and the name that is written for that. A row without a name is only written, one without a meaning
+/// means nothing, and one without a last name has none.
+const PYTHON: &str = "\
+linux_x86_64=x86_64-unknown-linux=linux_x86_64
+linux-armv7l=armv7-unknown-linux=linux_armv7l
+manylinux1_i686=i686-unknown-linux-gnu=linux_i686
+manylinux2014_ppc64le=powerpc64le-unknown-linux-gnu=linux_ppc64le
+manylinux_2_17_x86_64=x86_64-unknown-linux-gnu=linux_x86_64
+manylinux_2_31_armv7l=armv7-unknown-linux-gnueabihf=linux_armv7l
+musllinux_1_2_aarch64=aarch64-unknown-linux-musl=linux_aarch64
+macosx_11_0_arm64=aarch64-apple-macosx11.0.0=macosx_11_0_arm64
+macosx-10.9-x86_64=x86_64-apple-macosx10.9.0=macosx_10_9_x86_64
+macosx.10_6-i386=i686-apple-macosx10.6.0=macosx_10_6_i386
+macosx-14-arm64=aarch64-apple-macosx14.0.0=macosx_14_0_arm64
+macosx_65535_x86_64=x86_64-apple-macosx65535.0.0=macosx_65535_0_x86_64
+macosx_0_0_ppc64=powerpc64-apple-macosx0.0.0=macosx_0_0_ppc64
+macosx_65535_255_arm64=aarch64-apple-macosx65535.255.0=macosx_65535_255_arm64
+win32=i686-pc-windows=win32
+win-amd64=x86_64-pc-windows=win_amd64
+win_arm32=armv7-pc-windows=win_arm32
+ios_13_0_arm64_iphoneos=aarch64-apple-ios13.0.0=ios_13_0_arm64_iphoneos
+ios-13.0-arm64-iphonesimulator=aarch64-apple-ios13.0.0-sim=ios_13_0_arm64_iphonesimulator
+ios-17-arm64-iphoneos=aarch64-apple-ios17.0.0=ios_17_0_arm64_iphoneos
+ios_65535_255_x86_64_iphonesimulator=x86_64-apple-ios65535.255.0-sim=ios_65535_255_x86_64_iphonesimulator
+android_21_arm64_v8a=aarch64-linux-android=
+android-21-armeabi_v7a=armv7-linux-androideabi=
+android_5_x86=i686-linux-android=
+android_5_x86_64=x86_64-linux-android=
+=x86_64-unknown-linux-musl=linux_x86_64
+=i386-apple-macosx10.6.8=macosx_10_6_i386
+=aarch64-apple-macosx13=macosx_13_0_arm64
+=thumbv7a-pc-windows-msvc=win_arm32
+=aarch64-apple-macosx=
+=aarch64-apple-darwin=
+=aarch64-apple-darwin22.5.0=
+=aarch64-apple-ios=
+=aarch64-apple-ios13.1-macabi=
+=aarch64-apple-tvos17.0=
+macosx==
+macosx_11_0==
+macosx_11==
+macosx-11.-arm64==
+macosx_011_arm64==
+macosx_65536_arm64==
+macosx_11_arm64_v8a==
+macosx_11_0_0_arm64==
+macosx_011_0_arm64==
+macosx_11_00_arm64==
+macosx_+11_0_arm64==
+macosx_65536_0_arm64==
+macosx_11_256_arm64==
+macosx__0_arm64==
+macosx_11_0_arm64_==
+macosx_*_arm64==
+macosx_arm64==
+android_21_0_x86==
+manylinux_2_x86_64==
+manylinux_2_17_sparc==
+==";
+
+#[test]
+fn names_of_python(rt: HostRuntime) {
+    for row in PYTHON.lines() {
+        let (name, rest) = row.split_once('=').unwrap_or((row, ""));
+        let (meaning, written) = rest.split_once('=').unwrap_or((rest, ""));
+        match TripleRef::from_str(meaning) {
+            Ok(triple) => {
+                assert!(rt;
+                    name.is_empty() || Dialect::Python.read(name) == Ok(triple),
+                    "{row}"
+                );
+                match Dialect::Python.write(&triple) {
+                    Some(found) => assert!(rt; prints(&found, written), "{row}"),
+                    None => assert!(rt; written.is_empty(), "{row}"),
+                }
+            }
+            Err(_) => assert!(rt;
+                Dialect::Python.read(name) == Err(NameError::Unknown),
+                "{row}"
+            ),
+        }
+    }
+    let several = NameError::WithoutTriple("several machines");
+    assert!(rt; Dialect::Python.read("macosx-10.9-universal2") == Err(several));
+    assert!(rt; Dialect::Python.read("macosx-14-universal2") == Err(several));
+    assert!(rt; Dialect::Python.read("any") == Err(NameError::WithoutTriple("no machine")));
+    assert!(rt; Dialect::Python.suggestion("linux_x86_46") == Some("linux_x86_64"));
+    assert!(rt; Dialect::Python.suggestion("macosx_11_0_arm46") == None);
+    assert!(rt; "python".parse() == Ok(Dialect::Python) && prints(&Dialect::Python, "python"));
+}
