@@ -50,9 +50,9 @@ class Comparison(Report):
     def rows_of(self, dialect, ways=("rw", "r", "w")):
         return [row for row in self.rows if row.dialect == dialect and row.ways in ways]
 
-    def meanings(self, dialect, ways=("rw", "r")):
+    def meanings(self, dialect):
         """What each name of a dialect means that is read."""
-        return {row.name: self.read(row.name, dialect) for row in self.rows_of(dialect, ways)}
+        return {row.name: self.read(row.name, dialect) for row in self.rows_of(dialect, ("rw", "r"))}
 
     def check_systems(self):
         for dialect in ("debian", "go", "oci", "node", "python"):
