@@ -63,6 +63,8 @@ PACKAGES = {
 # The tools that are modules of Debian's Python, or of the python3 on the path.
 MODULES = {**dict.fromkeys(("hypothesis", "selenium", "pandas", "distributed"), "/usr/bin/python3"), **dict.fromkeys(("pip", "venv", "ensurepip"), "python3")}
 
+GIGABYTES_FOR_A_PROOF = 5
+
 running, passed, left_out, left_out_within, failed = set(), [], [], [], []
 lock = threading.Lock()
 
@@ -171,6 +173,11 @@ def beside(environment):
 
 def main():
     environment = {**os.environ, "BUILT": BUILT, "PYTHONDONTWRITEBYTECODE": "1"}
+    with open("/proc/meminfo", encoding="utf-8") as file:
+        memory = next(int(line.split()[1]) // 1000000 for line in file if line.startswith("MemAvailable"))
+    if memory >= GIGABYTES_FOR_A_PROOF * os.cpu_count():
+        # rt expects a proof to take some 10 GB, and would leave processors idle.
+        environment["RT_JOBS"] = str(os.cpu_count())
     os.makedirs(f"{BUILT}/bin")
     install(environment)
     debian_crates(environment)
