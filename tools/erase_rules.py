@@ -22,7 +22,7 @@ OUTSIDE = "target_lexicon::internals::"
 MODULES = {"laws", "steps", "json", "json_error", "list_error", "macros", "host", "parse_error"}
 # Types and functions that are left out. The proved host is fixed; the layer has the others in Rust's form.
 ITEMS = {
-    "host", "VendorError", "ParseError::as_parse_error_ref", "versions_are_in_range",
+    "host", "VendorError", "versions_are_in_range", "Refusal::to_error",
     "Triple::normal", "Triple::settle", "TripleRef::normal", "TripleRef::settle",
 }
 
@@ -34,13 +34,12 @@ NON_EXHAUSTIVE = set(
 
 # Methods that only the crates above need, of which documentation doesn't speak.
 HIDDEN = {
-    "DeploymentTarget::from_text", "OperatingSystem::parse_darwin_like", "ParseErrorRef::new", "ParseErrorRef::prefix",
-    "ParseErrorRef::write_to", "TripleRef::write_upstream_to",
+    "DeploymentTarget::from_text", "Refusal::write_to", "TripleRef::write_upstream_to",
 }
 
 # Long functions that few programs call: rustc compiles them only where they are called, which saves a fifth of a build.
 INLINE = {
-    "parse_or_locate", "suggestion", "Triple::settles_as", "Triple::write_to", "TripleRef::settles_as",
+    "TripleRef::from_str", "suggestion", "Triple::settles_as", "Triple::write_to", "TripleRef::settles_as",
     "TripleRef::write_to", "TripleRef::write_upstream_to",
 }
 

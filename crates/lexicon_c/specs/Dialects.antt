@@ -2,18 +2,14 @@
 use Rattle.std.specs.Prelude.{◌≡◌, ℕ, List, [], ◌∷◌, length, Option, Some, None, Result, Ok, Err}
 use Rattle.lexicon_names.specs.Nearest.{IsNearestOf}
 use Rattle.target_lexicon.specs.Values.{Values}
-use Rattle.tool_names.specs.{Spelling.PartRefusal, Spelling.spelled_reading, ToolNames.Unread, ToolNames.IsUnknown, ToolNames.HasNoTriple, ToolNames.name_meaning, ToolNames.names_that_are_read}
+use Rattle.tool_names.specs.{Spelling.spelled_reading, ToolNames.Unread, ToolNames.IsUnknown, ToolNames.HasNoTriple, ToolNames.name_meaning, ToolNames.names_that_are_read}
 use Rattle.tool_names.specs.declared.dialect.Dialect.{Dialect}
 use Rattle.tool_names.specs.declared.dialect.Dialect.TheVariants.{Debian, Go, Oci, Node, Gnu, Python}
-use Rattle.lexicon_c.specs.{Parsing.refusal_status, Triple.AreNumbersOf, declared.error.TextError.TextError, declared.triple.NumberedTriple.NumberedTriple}
+use Rattle.lexicon_c.specs.{Parsing.refusal_numbers, Triple.AreNumbersOf, declared.error.TextError.TextError, declared.triple.NumberedTriple.NumberedTriple}
 
 -- the dialects by number. The first is none: strings that are spelled like triples. A number never changes its meaning
 abbrev pub dialects_by_number : List (Option Dialect)
 dialects_by_number = None ∷ Some Debian ∷ Some Go ∷ Some Oci ∷ Some Node ∷ Some Gnu ∷ Some Python ∷ []
-
--- the refusal of a part
-abbrev pub part_error : PartRefusal → TextError
-part_error it = record { status = refusal_status it.refusal.expected; start = it.start; end = it.end }
 
 -- the status of a name that isn't read
 abbrev pub unread_status : Unread → ℕ
@@ -31,7 +27,7 @@ with_error error (Err it) = Err (error it)
 
 -- what a string means: as a name of the dialect, or, with none, as it is spelled
 abbrev pub dialect_reading : Option Dialect → List ℕ → Result Values TextError
-dialect_reading None text = with_error part_error (spelled_reading text)
+dialect_reading None text = with_error refusal_numbers (spelled_reading text)
 dialect_reading (Some d) name = with_error (name_error name) (name_meaning d name)
 
 -- the result has the numbers of the triple, or is the error

@@ -1,8 +1,8 @@
 -- What is answered of a string that is parsed: the triple, where its fields come from, and the refused part.
-use Rattle.std.specs.Prelude.{◌≡◌, ℕ, suc, List, Option, Some, None, Result, Ok, Err}
-use Rattle.target_lexicon.specs.Explanation.{AreInText, AreSourcesOf, FromPart, Implied, IsInText, IsRefusedAfter, NotGiven, PlacedPart, SourceValue, SourceValues}
+use Rattle.std.specs.Prelude.{◌≡◌, ◌<◌, ◌^◌, ℕ, suc, List, Option, Some, None, Result, Ok, Err}
+use Rattle.target_lexicon.specs.Explanation.{AreInText, AreSourcesOf, FromPart, Implied, IsInText, IsRefusedAfter, NotGiven, PlacedPart, SourceValue, SourceValues, part_end}
 use Rattle.target_lexicon.specs.{Field.Field, Field.field_number, Reading.ReadsAs, Reading.IsRefusedAs, Values.Values}
-use Rattle.target_lexicon.specs.Refusal.{Refusal}
+use Rattle.target_lexicon.specs.{Refusal.Refusal, ValuesRef.PlacedRefusal}
 use Rattle.lexicon_c.specs.{declared.error.TextError.TextError, declared.sources.FieldSource.FieldSource, declared.sources.FieldSources.FieldSources}
 
 -- the string parses as a triple of which this holds, or it is refused, and that holds of the refusal
@@ -18,8 +18,17 @@ refusal_status None = 6
 -- a source as numbers: 0 is no part, 1 a part with its range, 2 the other fields
 abbrev pub source_numbers : SourceValue → FieldSource
 source_numbers NotGiven = record { origin = 0; start = 0; end = 0 }
-source_numbers (FromPart part) = record { origin = 1; start = part.start; end = part.end }
+source_numbers (FromPart part) = record { origin = 1; start = part.start; end = part_end part }
 source_numbers Implied = record { origin = 2; start = 0; end = 0 }
+
+-- the range of a source is one of numbers of the machine
+abbrev pub HasRange : SourceValue → Type 0
+HasRange (FromPart part) = part_end part < 2 ^ 64
+HasRange NotGiven = Unit {0}
+HasRange Implied = Unit {0}
+
+abbrev pub HaveRanges : SourceValues → Type 0
+HaveRanges s = HasRange s.architecture × HasRange s.vendor × HasRange s.operating_system × HasRange s.environment × HasRange s.binary_format
 
 abbrev pub sources_numbers : SourceValues → FieldSources
 sources_numbers s = record {
@@ -35,9 +44,8 @@ abbrev pub ExplainsTriple : List ℕ → FieldSources → Type 0
 ExplainsTriple text sources = (s : SourceValues) × AreSourcesOf text s × AreInText text s × (sources ≡ sources_numbers s)
 
 -- what was expected, and the range of the refused part
-abbrev pub IsErrorAt : Refusal → PlacedPart → TextError → Type 0
-IsErrorAt refusal part error =
-    error ≡ record { status = refusal_status refusal.expected; start = part.start; end = part.end }
+abbrev pub refusal_numbers : PlacedRefusal → TextError
+refusal_numbers it = record { status = refusal_status it.expected; start = it.part.start; end = part_end it.part }
 
 -- the string is refused at the part of the error, after parts that fill fields of which this holds
 pub record IsErrorAfter (text : List ℕ) (holds : SourceValues → Type 0) (refusal : Refusal) (error : TextError) : Type 0 where
@@ -45,5 +53,5 @@ pub record IsErrorAfter (text : List ℕ) (holds : SourceValues → Type 0) (ref
   pub part : PlacedPart
   pub refused_after : IsRefusedAfter text refusal sources part
   pub in_text : IsInText text part
-  pub is_error : IsErrorAt refusal part error
+  pub is_error : error ≡ refusal_numbers (record { expected = refusal.expected; part = part })
   pub sources_hold : holds sources

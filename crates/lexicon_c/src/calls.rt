@@ -12,17 +12,17 @@ use crate::error::{TextError, error_of};
 use crate::sources::{FieldSources, sources_numbers};
 use crate::triple::{Fault, NumberedTriple, are_equal, numbers_of, triple_in};
 use crate::triple_facts::{TripleFacts, facts_of};
+use target_lexicon::TripleRef;
 use target_lexicon::laws::read_vendors_are_plain;
-use target_lexicon::parse_or_locate;
 
 /// The triple that a string parses as, or why it is refused.
 pub fn parse(text: &str) -> Result<NumberedTriple<'_>, TextError>
     ensures { Parses text.entry.now AreNumbersOf (IsErrorAfter text.entry.now (λ _. ⊤)) result }
 {
     read_vendors_are_plain();
-    match parse_or_locate(text) {
+    match TripleRef::from_str(text) {
         Ok(parsed) => Ok(numbers_of(&parsed)),
-        Err((refusal, part)) => Err(error_of(&refusal, &part)),
+        Err(refusal) => Err(error_of(&refusal)),
     }
 }
 
@@ -34,15 +34,11 @@ pub fn explain(text: &str) -> (Result<NumberedTriple<'_>, TextError>, FieldSourc
         result.0 }
 {
     read_vendors_are_plain();
-    match target_lexicon::explain(text) {
-        Ok(explanation) => (
-            Ok(numbers_of(&explanation.triple)),
-            sources_numbers(&explanation.sources),
-        ),
-        Err(refused) => (
-            Err(error_of(&refused.error, &refused.part)),
-            sources_numbers(&refused.sources),
-        ),
+    let explanation = target_lexicon::explain(text);
+    let sources = sources_numbers(&explanation.sources);
+    match explanation.triple {
+        Ok(triple) => (Ok(numbers_of(&triple)), sources),
+        Err(refusal) => (Err(error_of(&refusal)), sources),
     }
 }
 

@@ -1,14 +1,14 @@
 //! Names of targets in other tools.
 ghost use Rattle.std.specs.Prelude.{◌≡◌, option_map, slice_get};
-ghost use Rattle.tool_names.specs.Spelling.{part_refusal, spelled_reading};
+ghost use Rattle.tool_names.specs.Spelling.{spelled_reading};
 ghost use Rattle.tool_names.specs.ToolNames.{name_bytes, name_meaning, triple_name, unread_of};
-ghost use Rattle.lexicon_c.specs.Dialects.{GivesTriple, IsNameSuggestion, dialect_reading, dialects_by_number, name_error, part_error, reason_of};
+ghost use Rattle.lexicon_c.specs.Dialects.{GivesTriple, IsNameSuggestion, dialect_reading, dialects_by_number, name_error, reason_of};
 ghost use Rattle.lexicon_c.specs.Triple.{Answers, OnTriple};
 
-use crate::error::{TextError, refusal_status};
+use crate::error::{TextError, error_of};
 use crate::triple::{Fault, NumberedTriple, numbers_of, triple_in};
-use tool_names::laws::names_are_canonical;
-use tool_names::{Dialect, Name, NameError, ReadError};
+use tool_names::laws::{names_are_canonical, refused_parts_are_in_the_string};
+use tool_names::{Dialect, Name, NameError};
 
 /// The dialect with this number. 0 is no dialect: that of strings that are spelled like triples.
 pub fn dialect_at(number: u32) -> Option<Option<Dialect>>
@@ -38,10 +38,13 @@ pub fn read(dialect: Option<Dialect>, text: &str) -> Result<NumberedTriple<'_>, 
                 Err(error) => Err(name_error(error, text)),
             }
         }
-        None => match tool_names::read(text) {
-            Ok(triple) => Ok(numbers_of(&triple)),
-            Err(error) => Err(part_error(&error)),
-        },
+        None => {
+            refused_parts_are_in_the_string();
+            match tool_names::read(text) {
+                Ok(triple) => Ok(numbers_of(&triple)),
+                Err(refusal) => Err(error_of(&refusal)),
+            }
+        }
     }
 }
 
@@ -73,17 +76,6 @@ pub fn name_suggestion(dialect: Dialect, name: &str) -> Option<&'static str>
     match dialect.read(name) {
         Err(NameError::Unknown) => dialect.suggestion(name),
         _ => None,
-    }
-}
-
-/// The refusal of a part of a string, as numbers.
-fn part_error(error: &ReadError<'_>) -> TextError
-    ensures { result ≡ part_error (part_refusal error.now) }
-{
-    TextError {
-        status: refusal_status(&error.error),
-        start: error.start,
-        end: error.end,
     }
 }
 

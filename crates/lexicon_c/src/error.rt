@@ -1,11 +1,11 @@
 //! Why a string is refused, as numbers.
-ghost use Rattle.std.specs.Prelude.{◌≡◌, ◌≢◌, Option, MatchOption};
-ghost use Rattle.target_lexicon.specs.Explanation.{part_value};
+ghost use Rattle.std.specs.Prelude.{◌≡◌, ◌≢◌, ◌^◌, ◌<◌, Option, MatchOption};
+ghost use Rattle.target_lexicon.specs.Explanation.{part_end, part_value};
 ghost use Rattle.target_lexicon.specs.Field.{Field};
-ghost use Rattle.target_lexicon.specs.ValuesRef.{refusal_of_ref};
-ghost use Rattle.lexicon_c.specs.Parsing.{IsErrorAt, refusal_status};
+ghost use Rattle.target_lexicon.specs.ValuesRef.{placed_refusal};
+ghost use Rattle.lexicon_c.specs.Parsing.{refusal_numbers, refusal_status};
 
-use target_lexicon::{Field, ParseErrorRef, TextPart};
+use target_lexicon::{Field, Refusal};
 
 /// Why a string is refused, and the range of the refused part in bytes.
 #[repr(C)]
@@ -17,22 +17,24 @@ pub struct TextError {
     pub end: usize,
 }
 
-/// A refusal and the refused part as numbers.
-pub(crate) fn error_of(refusal: &ParseErrorRef<'_>, part: &TextPart<'_>) -> TextError
-    ensures { IsErrorAt (refusal_of_ref refusal.now) (part_value part.now) result }
+/// A refusal as numbers.
+pub(crate) fn error_of(refusal: &Refusal<'_>) -> TextError
+    requires { part_end (part_value refusal.now.part) < 2 ^ 64 }
+    ensures { result ≡ refusal_numbers (placed_refusal refusal.now) }
 {
+    let range = refusal.range();
     TextError {
-        status: refusal_status(refusal),
-        start: part.start,
-        end: part.end,
+        status: refusal_status(refusal.expected),
+        start: range.start,
+        end: range.end,
     }
 }
 
 /// The status of a refusal.
-pub(crate) fn refusal_status(refusal: &ParseErrorRef<'_>) -> u32
-    ensures { result ≡ refusal_status (refusal_of_ref refusal.now).expected }
+fn refusal_status(expected: Option<Field>) -> u32
+    ensures { result ≡ refusal_status expected }
 {
-    match refusal.expected() {
+    match expected {
         Some(Field::Architecture) => 1,
         Some(Field::Vendor) => 2,
         Some(Field::OperatingSystem) => 3,
@@ -42,21 +44,19 @@ pub(crate) fn refusal_status(refusal: &ParseErrorRef<'_>) -> u32
     }
 }
 
-/// The refusal of a part with this status, if there is one.
-pub fn refusal_with(status: u32, part: &str) -> Option<ParseErrorRef<'_>>
+/// What was expected where a refusal has this status, if one has. `None` in it is no field.
+pub fn expected_at(status: u32) -> Option<Option<Field>>
     ensures { MatchOption result
         ((expected : Option Field) → refusal_status expected ≢ status)
-        (λ refusal. (refusal_status (refusal_of_ref refusal).expected ≡ status)
-        × ((refusal_of_ref refusal).part ≡ part.entry.now)) }
+        (λ expected. refusal_status expected ≡ status) }
 {
-    let expected = match status {
-        1 => Some(Field::Architecture),
-        2 => Some(Field::Vendor),
-        3 => Some(Field::OperatingSystem),
-        4 => Some(Field::Environment),
-        5 => Some(Field::BinaryFormat),
-        6 => None,
-        _ => return None,
-    };
-    Some(ParseErrorRef::new(expected, part))
+    match status {
+        1 => Some(Some(Field::Architecture)),
+        2 => Some(Some(Field::Vendor)),
+        3 => Some(Some(Field::OperatingSystem)),
+        4 => Some(Some(Field::Environment)),
+        5 => Some(Some(Field::BinaryFormat)),
+        6 => Some(None),
+        _ => None,
+    }
 }

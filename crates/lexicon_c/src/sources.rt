@@ -1,7 +1,7 @@
 //! Where the fields of a triple come from in the string, as numbers.
 ghost use Rattle.std.specs.Prelude.{◌≡◌};
 ghost use Rattle.target_lexicon.specs.Explanation.{source_value, sources_of};
-ghost use Rattle.lexicon_c.specs.Parsing.{source_numbers, sources_numbers};
+ghost use Rattle.lexicon_c.specs.Parsing.{HasRange, HaveRanges, source_numbers, sources_numbers};
 
 use target_lexicon::{Source, Sources};
 
@@ -28,6 +28,7 @@ pub struct FieldSources {
 
 /// A source as numbers.
 fn source_numbers(source: Source<'_>) -> FieldSource
+    requires { HasRange (source_value source) }
     ensures { result ≡ source_numbers (source_value source.entry) }
 {
     match source {
@@ -36,11 +37,14 @@ fn source_numbers(source: Source<'_>) -> FieldSource
             start: 0,
             end: 0,
         },
-        Source::Part(part) => FieldSource {
-            origin: 1,
-            start: part.start,
-            end: part.end,
-        },
+        Source::Part(part) => {
+            let range = part.range();
+            FieldSource {
+                origin: 1,
+                start: range.start,
+                end: range.end,
+            }
+        }
         Source::Implied => FieldSource {
             origin: 2,
             start: 0,
@@ -51,6 +55,7 @@ fn source_numbers(source: Source<'_>) -> FieldSource
 
 /// The sources of a triple as numbers.
 pub(crate) fn sources_numbers(sources: &Sources<'_>) -> FieldSources
+    requires { HaveRanges (sources_of sources.now) }
     ensures { result ≡ sources_numbers (sources_of sources.now) }
 {
     FieldSources {

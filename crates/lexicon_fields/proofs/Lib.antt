@@ -1,4 +1,4 @@
--- RowTexts, PrefixKeyLemmas, FirstBytes, Halving, RowLemmas, RowReads: the table of names is in order, the search finds
+-- RowTexts, PrefixKeyLemmas, Halving, RowLemmas, RowReads: the table of names is in order, the search finds
 -- each row, and a row has the values that the lists of names give. LookUpLemmas: what a look-up in a list gives, and
 -- how to show that names parse back. NamesReadBack, VersionsReadBack, OperatingSystemsReadBack, ParsedSystems,
 -- VendorsReadBack: the names of each type parse back and have no dash, and a parsed version is in range. Variants:
@@ -8,7 +8,6 @@ pub mod EqualByValue
 pub mod HashInputs
 pub mod PrefixKeyLemmas
 pub mod Halving
-pub mod FirstBytes
 pub mod LookUpLemmas
 pub mod NameLengths
 pub mod NamesReadBack

@@ -1,8 +1,17 @@
 -- Definitions for the contracts of private functions; no public contract cites them.
-use Rattle.std.specs.Prelude.{ℕ, zero, suc, ◌+◌, ◌*◌, ◌^◌, ◌&&◌, ◌||◌, not, Bool, true, false, nat_eq, nat_lt, nat_le, List, [], ◌∷◌, Option, Some, None, option_map, option_and_then}
+use Rattle.std.specs.Prelude.{ℕ, zero, suc, ◌+◌, ◌*◌, ◌^◌, List, [], ◌∷◌, Option, Some, None, option_map, option_and_then}
 use Rattle.std.specs.Borrow.{Bor}
 use Rattle.std.specs.Option.{option_or}
 use Rattle.lexicon_fields.specs.{declared.deployment_target.DeploymentTarget.DeploymentTarget, declared.operating_system.OperatingSystem.OperatingSystem, Names.Pair}
+use Rattle.lexicon_fields.specs.{declared.architecture.Architecture.Architecture, declared.known_vendor.KnownVendor.KnownVendor, declared.environment.Environment.Environment, declared.binary_format.BinaryFormat.BinaryFormat}
+use Rattle.lexicon_fields.specs.{declared.table.FixedRow.FixedRow, declared.table.Meaning.Meaning}
+use Rattle.lexicon_fields.specs.declared.architecture.Architecture.TheVariants as architecture
+use Rattle.lexicon_fields.specs.declared.known_vendor.KnownVendor.TheVariants as known_vendor
+use Rattle.lexicon_fields.specs.declared.operating_system.OperatingSystem.TheVariants as operating_system
+use Rattle.lexicon_fields.specs.declared.environment.Environment.TheVariants as environment
+use Rattle.lexicon_fields.specs.declared.binary_format.BinaryFormat.TheVariants as binary_format
+use Rattle.lexicon_fields.specs.declared.table.Meaning.TheVariants as meaning
+use Rattle.lexicon_fields.specs.{Architecture.architecture_of, Vendor.known_vendor_of, OperatingSystem.fixed_operating_system_of, Environment.environment_of, BinaryFormat.binary_format_of}
 use Rattle.lexicon_fields.specs.OperatingSystem.{optional_version_of, text_after_prefix}
 use Rattle.lexicon_fields.specs.Version.{pieces_of}
 
@@ -26,16 +35,22 @@ prefix_key_of zero text = 0
 prefix_key_of (suc k) [] = 0
 prefix_key_of (suc k) (c ∷ cs) = c * 256 ^ k + prefix_key_of k cs
 
--- whether this is the first byte of the string, which has none if it is empty
-abbrev pub is_first_byte : Option ℕ → List ℕ → Bool
-is_first_byte (Some byte) (c ∷ cs) = nat_eq c byte
-is_first_byte (Some byte) [] = false
-is_first_byte None (c ∷ cs) = false
-is_first_byte None [] = true
+-- a value of each field, if any
+abbrev pub FieldValues : Type 0
+FieldValues = Option Architecture × Option KnownVendor × Option OperatingSystem × Option Environment × Option BinaryFormat
 
--- whether each of the strings with this first byte has an index from `start` on and before `end`; the first of the list has
--- index `i`
-abbrev pub are_within : Option ℕ → ℕ → ℕ → ℕ → List (List ℕ) → Bool
-are_within byte start end i [] = true
-are_within byte start end i (text ∷ texts) =
-    ((nat_le start i && nat_lt i end) || not (is_first_byte byte text)) && are_within byte start end (suc i) texts
+-- what a string parses as in each field by its fixed names
+abbrev pub name_values : List ℕ → FieldValues
+name_values text = (architecture_of text, known_vendor_of text, fixed_operating_system_of text, environment_of text, binary_format_of text)
+
+abbrev pub row_values : FixedRow → FieldValues
+row_values row = (row.architecture, row.vendor, row.operating_system, row.environment, row.binary_format)
+
+abbrev pub values_meant : Meaning → FieldValues
+values_meant (meaning.Architecture it) = (Some it, None, None, None, None)
+values_meant (meaning.Vendor it) = (None, Some it, None, None, None)
+values_meant (meaning.OperatingSystem it) = (None, None, Some it, None, None)
+values_meant (meaning.Environment it) = (None, None, None, Some it, None)
+values_meant (meaning.BinaryFormat it) = (None, None, None, None, Some it)
+values_meant meaning.None = (None, None, Some operating_system.None_, Some environment.None, None)
+values_meant meaning.Unknown = (Some architecture.Unknown, Some known_vendor.Unknown, Some operating_system.Unknown, Some environment.Unknown, Some binary_format.Unknown)

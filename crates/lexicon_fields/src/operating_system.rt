@@ -1,9 +1,8 @@
 //! The operating systems.
-// Hints of inlining: `from_row` takes a row, which is wide; those of `parse_by_prefix` and `version_after` save 2 % of mode
-// `print`'s instructions.
-ghost use Rattle.std.specs.Prelude.{◌≡◌, ◌++◌, false, Some, None, IfOk, MatchOption, IsNone, IsOkAnd};
+// The hints of inlining save 2 % of mode `print`'s instructions.
+ghost use Rattle.std.specs.Prelude.{◌≡◌, ◌++◌, false, Some, None, IfOk, IsNone, IsOkAnd};
 ghost use Rattle.std.specs.Cow.{cow_str_bytes, IsBorrowedStr};
-ghost use Rattle.lexicon_fields.specs.FixedRow.{IsRowOf, has_row};
+ghost use Rattle.lexicon_fields.specs.FixedRow.{has_row};
 ghost use Rattle.lexicon_fields.specs.Names.{MatchesLookup};
 ghost use Rattle.lexicon_fields.specs.Version.{version_name};
 ghost use Rattle.lexicon_fields.specs.Private.{version_after, first_system};
@@ -11,7 +10,7 @@ ghost use Rattle.lexicon_fields.specs.OperatingSystem.{operating_system_name, op
 
 use crate::deployment_target::{DeploymentTarget, MAX_VERSION_LENGTH, version_text};
 use crate::steps::Steps;
-use crate::table::{FixedRow, fixed_row};
+use crate::table::fixed_row;
 use std::alloc::{AllocError, Global};
 use std::borrow::CowStr;
 use std::fmt;
@@ -119,26 +118,19 @@ impl OperatingSystem {
     pub fn from_str(s: &str) -> Result<Self, ()>
         ensures { MatchesLookup (operating_system_of s.now) result }
     {
-        OperatingSystem::from_row(s, fixed_row(s, &mut Steps::new())).ok_or(())
-    }
-
-    /// The system that a string parses as, given its row in the table of names. A string without a row may be a system
-    /// like Darwin with a version.
-    #[inline(always)]
-    pub fn from_row(text: &str, row: Option<FixedRow>) -> Option<Self>
-        requires { MatchOption row (has_row text.now ≡ false) (IsRowOf text.now) }
-        ensures { result ≡ operating_system_of text.now }
-    {
-        match row {
-            Some(row) => row.operating_system,
-            None => OperatingSystem::parse_darwin_like(text),
+        match OperatingSystem::parse_darwin_like(s) {
+            Some(system) => Ok(system),
+            None => match fixed_row(s, &mut Steps::new()) {
+                Some(row) => row.operating_system.ok_or(()),
+                None => Err(()),
+            },
         }
     }
 
     /// The system like Darwin that the string parses as, if any: one with an optional version. Most other strings are
     /// refused by their first letter.
     #[tactic(auto, using(crate::proofs::RowLemmas::without_row_is_darwin_like))]
-    pub fn parse_darwin_like(s: &str) -> Option<Self>
+    pub(crate) fn parse_darwin_like(s: &str) -> Option<Self>
         ensures like { result ≡ darwin_like_system darwin_prefixes s.now }
         ensures without_row { has_row s.now ≡ false → result ≡ operating_system_of s.now }
     {

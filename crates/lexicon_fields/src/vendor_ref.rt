@@ -1,16 +1,13 @@
 //! The vendors, of which a custom one borrows its string.
-// Hint of inlining: `from_row` takes a row, which is wide.
-ghost use Rattle.std.specs.Prelude.{◌≡◌, false, None, Some, IfOk, MatchOption, OnErr, option_map};
+ghost use Rattle.std.specs.Prelude.{◌≡◌, None, Some, IfOk, OnErr};
 ghost use Rattle.std.specs.List.{list_all};
-ghost use Rattle.lexicon_fields.specs.FixedRow.{IsRowOf, has_row};
-ghost use Rattle.lexicon_fields.specs.OperatingSystem.{operating_system_of};
 ghost use Rattle.lexicon_fields.specs.Vendor.{IsCustom, OwnsCustomText, is_custom, is_plain, has_vendor_form, is_vendor_character, vendor_name, vendor_of, vendor_value};
 ghost use Rattle.lexicon_fields.specs.VendorRef.{ref_value};
 
 use crate::known_vendor::KnownVendor;
 use crate::operating_system::OperatingSystem;
 use crate::steps::Steps;
-use crate::table::{FixedRow, fixed_row};
+use crate::table::fixed_row;
 use crate::vendor::{CustomVendor, Vendor};
 use std::alloc::{AllocError, Global};
 use std::fmt;
@@ -31,33 +28,16 @@ impl<'a> VendorRef<'a> {
         ensures ok { IfOk result (λ vendor. vendor_of text.entry.now ≡ Some (ref_value vendor)) }
         ensures err { OnErr result (vendor_of text.entry.now ≡ None) }
     {
-        let row = fixed_row(text, &mut Steps::new());
-        let system = OperatingSystem::from_row(text, row);
-        VendorRef::from_row(text, row, system).ok_or(())
-    }
-
-    /// The vendor that a string parses as, given its row in the table of names and the system that it parses as. A
-    /// string without a row that is no system may be a custom vendor.
-    #[inline(always)]
-    pub fn from_row(
-        text: &'a str,
-        row: Option<FixedRow>,
-        system: Option<OperatingSystem>,
-    ) -> Option<VendorRef<'a>>
-        requires row { MatchOption row (has_row text.now ≡ false) (IsRowOf text.now) }
-        requires system { system ≡ operating_system_of text.now }
-        ensures { option_map ref_value result ≡ vendor_of text.entry.now }
-    {
-        match row {
+        match fixed_row(text, &mut Steps::new()) {
             Some(row) => match row.vendor {
-                Some(known) => Some(VendorRef::Known(known)),
-                None => None,
+                Some(known) => Ok(VendorRef::Known(known)),
+                None => Err(()),
             },
             None => {
-                if system.is_none() && has_vendor_form(text) {
-                    Some(VendorRef::Custom(text))
+                if has_vendor_form(text) && OperatingSystem::parse_darwin_like(text).is_none() {
+                    Ok(VendorRef::Custom(text))
                 } else {
-                    None
+                    Err(())
                 }
             }
         }

@@ -45,7 +45,7 @@ fn report_parsing(rt: &impl Print, alloc: Global, text: &str, memory: &str) {
     match TripleRef::from_str(text) {
         Ok(triple) => report_borrowed(rt, alloc, text, memory, triple),
         Err(error) => {
-            begin(rt, "", "ParseErrorRef::to_error", text);
+            begin(rt, "", "Refusal::to_error", text);
             let _ = end(rt, error.to_error(alloc));
         }
     }

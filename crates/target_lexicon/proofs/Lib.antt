@@ -1,4 +1,3 @@
--- Parsing: PartLemmas, RowLookUps, Vendors (the parts of a string and their values); NamesAcross (the names
 -- of one field, parsed as an earlier field); GreedyPlacement, RefusalLemmas, UniqueReading, ComputedReading (from
 -- parsing as a function to the least placement); SourceLemmas, TakenParts (the source of each field); ReadValues (facts about
 -- all parsed triples). Printing: PrintingLemmas, Upstream, Lengths (how much longer than the text). Round trips:
@@ -6,10 +5,8 @@
 -- QueriesKept; Elements. SameValues: equality of triples. HashInputPairs: what fields feed a hasher.
 pub mod ComputedReading
 pub mod PartLemmas
-pub mod RowLookUps
 pub mod Elements
 pub mod SourceLemmas
-pub mod TakenParts
 pub mod HashInputPairs
 pub mod FixedPointLemmas
 pub mod GreedyPlacement
@@ -21,10 +18,12 @@ pub mod PrintingLemmas
 pub mod QueriesKept
 pub mod ReadValues
 pub mod RefusalLemmas
+pub mod ResumedLemmas
 pub mod RoundTrips
 pub mod SameValues
 pub mod SettleLemmas
 pub mod StepCases
+pub mod SystemNames
 pub mod TextRoundTrips
 pub mod UniqueReading
 pub mod Upstream

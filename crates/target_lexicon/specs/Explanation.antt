@@ -6,18 +6,21 @@ use Rattle.target_lexicon.specs.{Field.Field, Placement.ArePartsOf, Placement.Is
 use Rattle.target_lexicon.specs.declared.explanation.Source.TheVariants as source
 use Rattle.target_lexicon.specs.Field as field
 
--- a part of a string: its bytes, from one index of the string up to another
+-- a part of a string: its bytes, and the index of the string at which it begins
 pub record PlacedPart : Type 0 where
   pub text : List ℕ
   pub start : ℕ
-  pub end : ℕ
 
 abbrev pub part_value : TextPart → PlacedPart
-part_value part = record { text = part.text.now; start = part.start; end = part.end }
+part_value part = record { text = part.text.now; start = part.start }
 
 -- the part that begins at this index
 abbrev pub part_from : ℕ → List ℕ → PlacedPart
-part_from start text = record { text = text; start = start; end = start + length text }
+part_from start text = record { text = text; start = start }
+
+-- the index after the part
+abbrev pub part_end : PlacedPart → ℕ
+part_end part = part.start + length part.text
 
 -- parts with a dash between them, of which the first begins at this index
 abbrev pub placed_from : ℕ → List (List ℕ) → List PlacedPart
@@ -99,9 +102,9 @@ IsRefusedAfter text refusal s part = (parts : List (List ℕ)) × ArePartsOf tex
 abbrev pub IsRefusedAt : List ℕ → Refusal → PlacedPart → Type 0
 IsRefusedAt text refusal part = (s : SourceValues) × IsRefusedAfter text refusal s part
 
--- the bytes of the string in this range are the part
+-- the bytes of the string in the range of the part are the part
 abbrev pub IsInText : List ℕ → PlacedPart → Type 0
-IsInText text part = (part.end ≤ length text) × (slice_range text part.start part.end ≡ part.text)
+IsInText text part = (part_end part ≤ length text) × (slice_range text part.start (part_end part) ≡ part.text)
 
 -- the part from which the value comes, if it comes from one, is in the string
 abbrev pub IsSourceInText : List ℕ → SourceValue → Type 0

@@ -18,6 +18,7 @@ pub mod QueryLaws
 pub mod Reading
 pub mod GreedyReading
 pub mod Refusal
+pub mod Resumed
 pub mod SpecialTexts
 pub mod Values
 pub mod ValuesRef

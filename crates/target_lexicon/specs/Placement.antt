@@ -1,5 +1,6 @@
 -- The parts of a text between its dashes, and the assignment of parts to fields.
-use Rattle.std.specs.Prelude.{◌≡◌, ◌≢◌, ℕ, ◌==◌, List, [], Some, true, ◌≤◌, map, slice_get}
+use Rattle.std.specs.Prelude.{◌≡◌, ◌≢◌, ℕ, ◌==◌, List, [], Option, Some, None, true, ◌≤◌, map, slice_get}
+use Rattle.std.specs.Borrow.{Bor}
 use Rattle.std.specs.{List.AllZip, List.join_with_byte, List.list_all, List.slice_split, List.Sorted.IsStrictlyIncreasing}
 use Rattle.lexicon_fields.specs.Names.{dash}
 use Rattle.lexicon_fields.specs.Names.{is_dash_free}
@@ -15,6 +16,11 @@ pub record ArePartsOf (text : List ℕ) (parts : List (List ℕ)) : Type 0 where
 -- the parts of a text, which is cut at each dash
 abbrev pub parts_of : List ℕ → List (List ℕ)
 parts_of text = slice_split (λ b. b == dash) text
+
+-- the parts of what follows a dash, if there is one
+abbrev pub parts_after : Option (Bor (List ℕ)) → List (List ℕ)
+parts_after None = []
+parts_after (Some rest) = parts_of rest.now
 
 -- each part parses as its field; the first field is the architecture, and each other one comes after the one before it
 pub record IsPlacement (parts : List (List ℕ)) (fields : List Field) : Type 0 where

@@ -10,6 +10,7 @@ use Rattle.lexicon_fields.specs.declared.pointer_width.PointerWidth.TheVariants.
 use Rattle.target_lexicon.specs.Values.architecture
 use Rattle.target_lexicon.specs.Values.operating_system
 use Rattle.target_lexicon.specs.Values.environment
+pub use Rattle.lexicon_fields.specs.{Endianness.endianness_name, PointerWidth.width_name}
 
 -- the environments whose pointers have 32 bits on every architecture
 abbrev pub is_ilp32 : Environment → Bool

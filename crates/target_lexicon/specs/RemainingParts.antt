@@ -1,36 +1,12 @@
 -- What is left of a string while it is parsed, for the contracts of private functions, which no public contract cites.
-use Rattle.std.specs.Prelude.{ℕ, Bool, List, [], ◌∷◌, Option, Some, None, Result, Ok, Err, is_some, map, if◌then◌else◌}
+use Rattle.std.specs.Prelude.{ℕ, List, [], ◌∷◌, Option, Some, None, Result, Ok, Err, is_some, map, if◌then◌else◌}
 use Rattle.lexicon_fields.specs.{Architecture.architecture_of, Vendor.vendor_of, OperatingSystem.operating_system_of, Environment.environment_of, BinaryFormat.binary_format_of}
-use Rattle.target_lexicon.specs.{declared.read.Part.Part, Field.Field, Private.parts_of_rest, Values.Architecture}
-use Rattle.target_lexicon.specs.{declared.explanation.Explanation.Explanation, declared.explanation.ExplainedError.ExplainedError, Refusal.Refusal, Values.Values, ValuesRef.refusal_of_ref, ValuesRef.values_of_ref}
-use Rattle.target_lexicon.specs.Explanation.{PlacedPart, part_value, SourceValue, FromPart, NotGiven, Implied, SourceValues, source_values, same_sources}
-
--- the parts that are left, of which the first is cut off
-abbrev pub remaining_parts : Option Part → List PlacedPart
-remaining_parts None = []
-remaining_parts (Some part) = part_value part.place ∷ parts_of_rest part.rest
+use Rattle.target_lexicon.specs.{Values.Architecture}
+use Rattle.target_lexicon.specs.{declared.triple_ref.TripleRef.TripleRef, declared.refusal.Refusal.Refusal as BorrowedRefusal, Refusal.Refusal, Values.Values, ValuesRef.refusal_value, ValuesRef.values_of_ref}
+use Rattle.target_lexicon.specs.Explanation.{PlacedPart, SourceValue, FromPart, NotGiven, Implied, SourceValues, source_values, same_sources}
 
 abbrev pub texts_of : List PlacedPart → List (List ℕ)
 texts_of parts = map (λ (part : PlacedPart). part.text) parts
-
--- what the first part parses as, if one is left
-abbrev pub first_value : {A : Type 0} → (List ℕ → Option A) → List PlacedPart → Option A
-first_value find [] = None
-first_value find (p ∷ ps) = find p.text
-
--- a field takes the first part if it is a value of the field: the field's source, the last field that took a part, and
--- the parts that are left then
-abbrev pub source_if : SourceValue → Bool → List PlacedPart → SourceValue
-source_if without_part is_value [] = without_part
-source_if without_part is_value (p ∷ ps) = if is_value then FromPart p else NotGiven
-
-abbrev pub last_taken : Bool → Field → Field → List PlacedPart → Field
-last_taken is_value f last [] = last
-last_taken is_value f last (p ∷ ps) = if is_value then f else last
-
-abbrev pub left_if : Bool → List PlacedPart → List PlacedPart
-left_if is_value [] = []
-left_if is_value (p ∷ ps) = if is_value then ps else p ∷ ps
 
 -- the source of a field that takes the first part that is left, if that parses as a value of the field
 abbrev pub taken_source : {A : Type 0} → SourceValue → (List ℕ → Option A) → List PlacedPart → SourceValue
@@ -77,6 +53,6 @@ left_by_fields [] = []
 left_by_fields (p ∷ ps) = left_after_architecture (architecture_of p.text) p ps
 
 -- the values or the refusal of a result
-abbrev pub outcome_of : Result Explanation ExplainedError → Result Values Refusal
-outcome_of (Ok explained) = Ok (values_of_ref explained.triple)
-outcome_of (Err refused) = Err (refusal_of_ref refused.error)
+abbrev pub outcome_of : Result TripleRef BorrowedRefusal → Result Values Refusal
+outcome_of (Ok triple) = Ok (values_of_ref triple)
+outcome_of (Err refusal) = Err (refusal_value refusal)

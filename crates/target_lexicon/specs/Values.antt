@@ -11,6 +11,7 @@ pub use Rattle.lexicon_fields.specs.declared.operating_system.OperatingSystem.Th
 pub use Rattle.lexicon_fields.specs.declared.environment.Environment.TheVariants as environment
 pub use Rattle.lexicon_fields.specs.declared.binary_format.BinaryFormat.TheVariants as binary_format
 use Rattle.target_lexicon.specs.declared.triple.Triple.{Triple}
+pub use Rattle.lexicon_fields.specs.Names.{value_named}
 
 -- a value for each field; that of a custom vendor is its string
 pub record Values : Type 0 where

@@ -1,19 +1,25 @@
--- The values of a triple that borrows its vendor, and the refusal of an error that borrows the refused part.
-use Rattle.std.specs.Prelude.{Some, None}
+-- The values of a triple that borrows its vendor, and the refusal of a part that is borrowed.
+use Rattle.std.specs.Prelude.{Option, Result, Ok, Err}
 use Rattle.lexicon_fields.specs.VendorRef.{ref_value}
-use Rattle.target_lexicon.specs.{declared.triple_ref.TripleRef.TripleRef, declared.parse_error_ref.ParseErrorRef.ParseErrorRef, Refusal.Refusal, Refusal.refusal_with, Values.Values, Values.values}
-use Rattle.target_lexicon.specs.declared.parse_error_ref.ParseErrorRef.TheVariants as error
-use Rattle.target_lexicon.specs.Field as field
+use Rattle.target_lexicon.specs.{declared.triple_ref.TripleRef.TripleRef, declared.refusal.Refusal.Refusal as BorrowedRefusal, Explanation.PlacedPart, Explanation.part_value, Field.Field, Refusal.Refusal, Refusal.refusal_with, Values.Values, Values.values}
 
 -- the values of a triple
 abbrev pub values_of_ref : TripleRef → Values
 values_of_ref t = values t.architecture (ref_value t.vendor) t.operating_system t.environment t.binary_format
 
--- the refusal of an error
-abbrev pub refusal_of_ref : ParseErrorRef → Refusal
-refusal_of_ref (error.UnrecognizedArchitecture part) = refusal_with (Some field.Architecture) part.now
-refusal_of_ref (error.UnrecognizedVendor part) = refusal_with (Some field.Vendor) part.now
-refusal_of_ref (error.UnrecognizedOperatingSystem part) = refusal_with (Some field.OperatingSystem) part.now
-refusal_of_ref (error.UnrecognizedEnvironment part) = refusal_with (Some field.Environment) part.now
-refusal_of_ref (error.UnrecognizedBinaryFormat part) = refusal_with (Some field.BinaryFormat) part.now
-refusal_of_ref (error.UnrecognizedField part) = refusal_with None part.now
+-- the refusal
+abbrev pub refusal_value : BorrowedRefusal → Refusal
+refusal_value it = refusal_with it.expected it.part.text.now
+
+-- a refusal, and where its part begins
+pub record PlacedRefusal : Type 0 where
+  pub expected : Option Field
+  pub part : PlacedPart
+
+abbrev pub placed_refusal : BorrowedRefusal → PlacedRefusal
+placed_refusal it = record { expected = it.expected; part = part_value it.part }
+
+-- the triple or the refusal of a result
+abbrev pub placed_outcome : Result TripleRef BorrowedRefusal → Result Values PlacedRefusal
+placed_outcome (Ok triple) = Ok (values_of_ref triple)
+placed_outcome (Err refusal) = Err (placed_refusal refusal)

@@ -1,17 +1,30 @@
 //! Where the value of each field comes from.
 
-use crate::parse_error_ref::ParseErrorRef;
+use crate::refusal::Refusal;
 use crate::triple_ref::TripleRef;
+use std::ops::Range;
 
-/// A part of a string, and its range in bytes.
+/// A part of a string, and where it begins there.
 #[derive(Clone, Copy, Debug, PartialEq, Eq)]
 pub struct TextPart<'a> {
-    /// The bytes from `start` up to `end`.
+    /// The bytes of the part.
     pub text: &'a str,
-    /// The index of the first byte.
+    /// The index of its first byte in the string.
     pub start: usize,
-    /// The index of the byte after the last.
-    pub end: usize,
+}
+
+impl<'a> TextPart<'a> {
+    ghost use Rattle.std.specs.Prelude.{◌≡◌, ◌^◌, ◌<◌};
+    ghost use Rattle.target_lexicon.specs.Explanation.{part_end, part_value};
+
+    /// The range of the part in the string, in bytes.
+    pub fn range(&self) -> Range<usize>
+        ensures start { result.start ≡ self.now.start }
+        ensures end { part_end (part_value self.now) < 2 ^ 64
+            → result.end ≡ part_end (part_value self.now) }
+    {
+        self.start..self.start.saturating_add(self.text.len())
+    }
 }
 
 /// Where the value of a field comes from.
@@ -40,23 +53,13 @@ pub struct Sources<'a> {
     pub binary_format: Source<'a>,
 }
 
-/// A triple, and where each of its fields comes from.
+/// What a string parses as, or why it is refused; and where each field comes from.
 #[derive(Clone, Copy, Debug, PartialEq, Eq)]
 pub struct Explanation<'a> {
-    /// The triple that the string parses as.
-    pub triple: TripleRef<'a>,
-    /// The source of each field.
-    pub sources: Sources<'a>,
-}
-
-/// Why a string is refused.
-#[derive(Clone, Copy, Debug, PartialEq, Eq)]
-pub struct ExplainedError<'a> {
-    /// The refusal. Its kind says what was expected.
-    pub error: ParseErrorRef<'a>,
-    /// The refused part.
-    pub part: TextPart<'a>,
-    /// Which parts before the refused one are of which field. Every other field is `NotGiven`.
+    /// The triple that the string parses as, or why it is refused.
+    pub triple: Result<TripleRef<'a>, Refusal<'a>>,
+    /// The source of each field. If the string is refused, it says which parts before the refused one are of which field,
+    /// and every other field is `NotGiven`.
     pub sources: Sources<'a>,
 }
 

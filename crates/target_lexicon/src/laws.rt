@@ -11,10 +11,9 @@ ghost use Rattle.target_lexicon.specs.QueryLaws.{ModelWidth, IntegersGrow, Queri
 ghost use Rattle.target_lexicon.specs.Refusal.{refusal_of};
 ghost use Rattle.target_lexicon.specs.Printing.{OnlyUnknownsDifferFromUpstream};
 ghost use Rattle.target_lexicon.specs.Values.{Values, values_of};
-ghost use Rattle.target_lexicon.specs.ValuesRef.{values_of_ref, refusal_of_ref};
+ghost use Rattle.target_lexicon.specs.ValuesRef.{values_of_ref, placed_outcome, placed_refusal};
 ghost use Rattle.target_lexicon.specs.declared.data_model.CDataModel.{CDataModel};
 ghost use Rattle.target_lexicon.specs.Explanation.{part_value, source_value, sources_of};
-ghost use Rattle.target_lexicon.specs.declared.explanation.ExplainedError.{ExplainedError};
 ghost use Rattle.target_lexicon.specs.declared.explanation.Explanation.{Explanation};
 ghost use Rattle.target_lexicon.specs.declared.explanation.Source.{Source};
 ghost use Rattle.target_lexicon.specs.declared.explanation.Sources.{Sources};
@@ -22,7 +21,7 @@ ghost use Rattle.target_lexicon.specs.declared.explanation.TextPart.{TextPart};
 ghost use Rattle.target_lexicon.specs.declared.json_error.JsonError.{JsonError};
 ghost use Rattle.target_lexicon.specs.declared.list_error.ListError.{ListError};
 ghost use Rattle.target_lexicon.specs.declared.parse_error.ParseError.{ParseError};
-ghost use Rattle.target_lexicon.specs.declared.parse_error_ref.ParseErrorRef.{ParseErrorRef};
+ghost use Rattle.target_lexicon.specs.declared.refusal.Refusal.{Refusal};
 ghost use Rattle.target_lexicon.specs.declared.triple.Triple.{Triple};
 ghost use Rattle.target_lexicon.specs.declared.triple_ref.TripleRef.{TripleRef};
 ghost use Rattle.target_lexicon.specs.declared.defaults.DefaultToHost.{DefaultToHost};
@@ -31,11 +30,11 @@ ghost use Rattle.target_lexicon.specs.declared.defaults.DefaultToUnknown.{Defaul
 use crate::calling_convention::CallingConvention;
 use crate::data_model::{CDataModel, Size};
 use crate::defaults::{DefaultToHost, DefaultToUnknown};
-use crate::explanation::{ExplainedError, Explanation, Source, Sources, TextPart};
+use crate::explanation::{Explanation, Source, Sources, TextPart};
 use crate::json_error::JsonError;
 use crate::list_error::ListError;
 use crate::parse_error::ParseError;
-use crate::parse_error_ref::ParseErrorRef;
+use crate::refusal::Refusal;
 use crate::triple::Triple;
 use crate::triple_ref::TripleRef;
 pub use lexicon_fields::laws::{
@@ -130,11 +129,10 @@ pub fn errors_are_equal_by_value()
         IsTrue (⟦<ParseError as PartialEq>⟧.eq x y) ↔ (refusal_of x ≡ refusal_of y) }
 {}
 
-/// Two borrowed errors are equal exactly if they are the same refusal.
-pub fn error_refs_are_equal_by_value()
-    ensures { (x y : ParseErrorRef) →
-        IsTrue (⟦<ParseErrorRef<'static> as PartialEq>⟧.eq x y)
-        ↔ (refusal_of_ref x ≡ refusal_of_ref y) }
+/// Two refusals are equal exactly if they expected the same field, and their parts and where these begin are the same.
+pub fn refusals_are_equal_by_value()
+    ensures { (x y : Refusal) →
+        IsTrue (⟦<Refusal<'static> as PartialEq>⟧.eq x y) ↔ (placed_refusal x ≡ placed_refusal y) }
 {}
 
 /// If a triple has a data model, the pointers of the model have as many bits as those of the triple.
@@ -254,9 +252,9 @@ pub fn list_errors_are_equal_by_value()
         IsTrue (⟦<ListError as PartialEq>⟧.eq x y) ↔ (list_error_value x ≡ list_error_value y) }
 {}
 
-/// Two parts are equal exactly if their bytes and ranges are. Two sources are equal exactly if they are the same
-/// variant, with equal parts. Two explanations are equal exactly if their triples and sources are; two explained
-/// errors, exactly if their refusals, parts and sources are.
+/// Two parts are equal exactly if their bytes are and they begin at the same index. Two sources are equal exactly if they
+/// are the same variant, with equal parts. Two explanations are equal exactly if their triples or refusals are, and their
+/// sources.
 pub fn explanations_are_equal_by_value()
     ensures part { (x y : TextPart) →
         IsTrue (⟦<TextPart<'static> as PartialEq>⟧.eq x y) ↔ (part_value x ≡ part_value y) }
@@ -266,16 +264,11 @@ pub fn explanations_are_equal_by_value()
         IsTrue (⟦<Sources<'static> as PartialEq>⟧.eq x y) ↔ (sources_of x ≡ sources_of y) }
     ensures explanation { (x y : Explanation) →
         IsTrue (⟦<Explanation<'static> as PartialEq>⟧.eq x y)
-        ↔ ((values_of_ref x.triple ≡ values_of_ref y.triple)
-        × (sources_of x.sources ≡ sources_of y.sources)) }
-    ensures error { (x y : ExplainedError) →
-        IsTrue (⟦<ExplainedError<'static> as PartialEq>⟧.eq x y)
-        ↔ ((refusal_of_ref x.error ≡ refusal_of_ref y.error)
-        × (part_value x.part ≡ part_value y.part)
+        ↔ ((placed_outcome x.triple ≡ placed_outcome y.triple)
         × (sources_of x.sources ≡ sources_of y.sources)) }
 {
     triple_refs_are_equal_by_value();
-    error_refs_are_equal_by_value();
+    refusals_are_equal_by_value();
 }
 
 /// A copy of a value is that value, and copying allocates nothing.
@@ -288,8 +281,8 @@ pub fn copies_equal_their_sources()
         ⟦<CallingConvention as Clone>⟧.is_infallible }
     ensures triple_ref { CopiesEqualTheirSources ⟦<TripleRef<'static> as Clone>⟧.is_clone
         ⟦<TripleRef<'static> as Clone>⟧.is_infallible }
-    ensures error_ref { CopiesEqualTheirSources ⟦<ParseErrorRef<'static> as Clone>⟧.is_clone
-        ⟦<ParseErrorRef<'static> as Clone>⟧.is_infallible }
+    ensures refusal { CopiesEqualTheirSources ⟦<Refusal<'static> as Clone>⟧.is_clone
+        ⟦<Refusal<'static> as Clone>⟧.is_infallible }
     ensures part { CopiesEqualTheirSources ⟦<TextPart<'static> as Clone>⟧.is_clone
         ⟦<TextPart<'static> as Clone>⟧.is_infallible }
     ensures source { CopiesEqualTheirSources ⟦<Source<'static> as Clone>⟧.is_clone
@@ -298,8 +291,6 @@ pub fn copies_equal_their_sources()
         ⟦<Sources<'static> as Clone>⟧.is_infallible }
     ensures explanation { CopiesEqualTheirSources ⟦<Explanation<'static> as Clone>⟧.is_clone
         ⟦<Explanation<'static> as Clone>⟧.is_infallible }
-    ensures explained_error { CopiesEqualTheirSources ⟦<ExplainedError<'static> as Clone>⟧.is_clone
-        ⟦<ExplainedError<'static> as Clone>⟧.is_infallible }
 {}
 
 /// Sizes, data models and calling conventions feed a hasher the same exactly if their variants are the same.
@@ -331,10 +322,3 @@ pub fn triple_refs_hash_by_value()
     values_hash_by_variant_and_fields();
     vendor_refs_hash_by_value();
 }
-
-/// Two borrowed errors feed a hasher the same exactly if they are the same refusal, and what is fed after an error can
-/// be distinguished from what it feeds.
-pub fn error_refs_hash_by_value()
-    ensures { HashInjectiveOn (λ (e : ParseErrorRef). Unit {0}) refusal_of_ref
-        ⟦<ParseErrorRef<'static> as Hash>⟧.hash_input }
-{}

@@ -5,8 +5,8 @@
 //! `queries` (byte order, pointer width, calling convention, data model), `settle` (`comes_back`, `normal`,
 //! `settle`), `settles_as`, `json`. Most of them call the same of [`TripleRef`], a borrowed triple (`triple_ref`).
 //!
-//! To parse, `read` finds each part of a string, looks it up, and gives it to a field. `explanation` has the types of what
-//! was found, `default_format` the implied format, and `parse_error_ref` the borrowed error.
+//! To parse, `read` gives each part of a string to a `reading`, which looks it up and fills a field. `explanation` has the types of what
+//! was found, `default_format` the implied format, and `refusal` why a string is refused.
 #![tactic(auto)]
 
 mod calling_convention;
@@ -22,9 +22,10 @@ pub mod laws;
 mod list_error;
 mod macros;
 mod parse_error;
-mod parse_error_ref;
 mod queries;
 mod read;
+mod reading;
+mod refusal;
 mod settle;
 mod settles_as;
 mod special;
@@ -35,7 +36,7 @@ pub use calling_convention::CallingConvention;
 pub use data_model::{CDataModel, Size};
 pub use default_format::default_binary_format;
 pub use defaults::{DefaultToHost, DefaultToUnknown};
-pub use explanation::{ExplainedError, Explanation, Source, Sources, TextPart};
+pub use explanation::{Explanation, Source, Sources, TextPart};
 pub use json::{list_from_json, list_to_json};
 pub use json_error::JsonError;
 pub use lexicon_fields::{
@@ -48,8 +49,9 @@ pub use lexicon_fields::{
 };
 pub use list_error::ListError;
 pub use parse_error::ParseError;
-pub use parse_error_ref::ParseErrorRef;
-pub use read::{expected_after, explain, parse_or_locate};
+pub use read::{expected_after, explain, first_part};
+pub use reading::Reading;
+pub use refusal::{Refusal, refusal_prefix};
 pub use settle::versions_are_in_range;
 pub use triple::Triple;
 pub use triple_ref::TripleRef;

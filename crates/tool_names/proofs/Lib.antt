@@ -9,6 +9,7 @@ pub mod LookUps
 pub mod MachineChecks
 pub mod MacosNames
 pub mod NameLaws
+pub mod NamesRead
 pub mod NameTables
 pub mod NearestNames
 pub mod ObjectFormats

@@ -1,6 +1,6 @@
 -- `macosx` and a version parses as the system with this version, and in no other field.
-use Rattle.std.proofs.Common.{◌≡◌, ℕ, List, [], ◌∷◌, Some, None, refl}
-use Rattle.lexicon_fields.specs.{Architecture.architecture_of, BinaryFormat.binary_format_of, Environment.environment_of, OperatingSystem.operating_system_of, OperatingSystem.fixed_operating_system_of, Vendor.vendor_of, Vendor.known_vendor_of, Vendor.is_admitted, Version.version_of}
+use Rattle.std.proofs.Common.{◌≡◌, ℕ, List, [], ◌∷◌, Some, false, refl}
+use Rattle.lexicon_fields.specs.{Architecture.architecture_of, BinaryFormat.binary_format_of, FixedRow.has_row, Environment.environment_of, OperatingSystem.operating_system_of, OperatingSystem.fixed_operating_system_of, Vendor.known_vendor_of, Version.version_of}
 use Rattle.lexicon_fields.specs.declared.deployment_target.DeploymentTarget.{DeploymentTarget}
 use Rattle.lexicon_fields.specs.declared.operating_system.OperatingSystem.TheVariants.{MacOSX}
 use Rattle.tool_names.specs.Spelling.{macosx_name}
@@ -14,14 +14,7 @@ unfolding operating_system_of fixed_operating_system_of
 is_macosx [] version is = absurd (no_version version is)
 is_macosx (c ∷ cs) version is = rw is refl
 
-pub no_vendor : (text : List ℕ) (version : DeploymentTarget) → version_of text ≡ Some version → vendor_of (macosx_name text) ≡ None
-unfolding vendor_of known_vendor_of is_admitted architecture_of environment_of binary_format_of
-no_vendor text version is = rw (is_macosx text version is) refl
-
-pub no_environment : (text : List ℕ) → environment_of (macosx_name text) ≡ None
-unfolding environment_of
-no_environment text = refl
-
-pub no_binary_format : (text : List ℕ) → binary_format_of (macosx_name text) ≡ None
-unfolding binary_format_of
-no_binary_format text = refl
+pub no_row : (text : List ℕ) (version : DeploymentTarget) → version_of text ≡ Some version → has_row (macosx_name text) ≡ false
+unfolding architecture_of known_vendor_of fixed_operating_system_of environment_of binary_format_of
+no_row [] version is = absurd (no_version version is)
+no_row (c ∷ cs) version is = refl

@@ -8,7 +8,8 @@ use Rattle.lexicon_fields.specs.{Architecture.architecture_of, BinaryFormat.bina
 use Rattle.target_lexicon.proofs.{PartLemmas.parts_of-are, SourceLemmas.part-in}
 use Rattle.target_lexicon.specs.{Explanation.IsInText, GreedyReading.reading_of_parts, Placement.parts_of, Refusal.Refusal, SpecialTexts.special_values, Values.Values}
 use Rattle.tool_names.specs.Changes.{AreInTheString, ChangedPartsAreInTheString, changes, changes_of, is_only}
-use Rattle.tool_names.specs.Spelling.{PartRefusal, RefusedPartsAreInTheString, SpelledName, SpelledPart, first_at_end, later_parts, located, name_texts, names_left, names_of, other_parts, reading_unless_special, refusal_of_first, refused_part, spelled_by, spelled_names, spelled_parts, spelled_reading, unread_names}
+use Rattle.target_lexicon.specs.ValuesRef.{PlacedRefusal}
+use Rattle.tool_names.specs.Spelling.{RefusedPartsAreInTheString, SpelledName, SpelledPart, first_at_end, later_parts, located, name_texts, names_left, names_of, other_parts, reading_unless_special, refusal_of_first, spelled_by, spelled_names, spelled_parts, spelled_reading, unread_names}
 
 -- these parts end the string
 abbrev EndText : List ℕ → List (List ℕ) → Type 0
@@ -85,7 +86,7 @@ unread-end text (it ∷ others) all =
       | inr skips ↦ rw skips all
     ]
 
-refused-in : (text : List ℕ) (refusal : Refusal) (left : List SpelledName) → NamesEnd text left → IsInText text (refused_part (refusal_of_first text refusal left))
+refused-in : (text : List ℕ) (refusal : Refusal) (left : List SpelledName) → NamesEnd text left → IsInText text (refusal_of_first text refusal left).part
 refused-in text refusal [] all = first-in text [] (text, sym (append-nil text))
 refused-in text refusal (it ∷ others) all = first-in text it.from all.0
 
@@ -96,14 +97,14 @@ refused_in_string text it is = by_special (special_values text) is
     left : List SpelledName
     left = unread_names (spelled_names (parts_of text))
 
-    by_result : (r : Result Values Refusal) → located text r left ≡ Err it → IsInText text (refused_part it)
+    by_result : (r : Result Values Refusal) → located text r left ≡ Err it → IsInText text it.part
     by_result (Ok t) h = absurd cc
     by_result (Err refusal) h =
         let same : refusal_of_first text refusal left ≡ it = cc in
-        subst (λ (found : PartRefusal). IsInText text (refused_part found)) same
+        subst (λ (found : PlacedRefusal). IsInText text found.part) same
         (refused-in text refusal left (unread-end text (spelled_names (parts_of text)) (names-end text (spelled_parts (parts_of text)) (parts-end text))))
 
-    by_special : (o : Option Values) → reading_unless_special o text ≡ Err it → IsInText text (refused_part it)
+    by_special : (o : Option Values) → reading_unless_special o text ≡ Err it → IsInText text it.part
     by_special (Some t) h = absurd cc
     by_special None h = by_result (reading_of_parts (name_texts (spelled_names (parts_of text)))) h
 

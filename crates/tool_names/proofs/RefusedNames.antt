@@ -7,7 +7,8 @@ use Rattle.lexicon_fields.specs.{Architecture.architecture_of, BinaryFormat.bina
 use Rattle.target_lexicon.proofs.{ComputedReading.vendor-left, GreedyPlacement.after_architecture, GreedyPlacement.filled, GreedyPlacement.unread, PartLemmas.parts_of-some, RefusalLemmas.refused-at, RefusalLemmas.refused_first, RefusalLemmas.stop}
 use Rattle.target_lexicon.specs.{Field.Field, Field.Architecture, Field.Vendor, Field.OperatingSystem, Field.Environment, Field.BinaryFormat, Field.parses_as, GreedyReading.reading_after_architecture, GreedyReading.reading_from_vendor, GreedyReading.reading_of_parts, Placement.parts_of, Reading.IsRefusal, Reading.expected_after, Reading.last_field, Refusal.Refusal, Refusal.refusal_with, SpecialTexts.special_values, Values.Values}
 use Rattle.target_lexicon.specs.Values.{Architecture as AnyArchitecture}
-use Rattle.tool_names.specs.Spelling.{IsRefusedName, PartRefusal, RefusalsAreAtTheRefusedName, SpelledName, located, name_texts, names_left, reading_unless_special, refusal_at, refusal_of_first, spelled_names, spelled_reading, unread_names}
+use Rattle.target_lexicon.specs.ValuesRef.{PlacedRefusal}
+use Rattle.tool_names.specs.Spelling.{IsRefusedName, RefusalsAreAtTheRefusedName, SpelledName, located, name_texts, names_left, reading_unless_special, refusal_at, refusal_of_first, spelled_names, spelled_reading, unread_names}
 
 -- the names that a field leaves
 unread-step : {A : Type 0} (f : Field) (find : List ℕ → Option A) (is_read : (p : List ℕ) → parses_as f p ≡ is_some (find p)) (fs : List Field) (names : List SpelledName)
@@ -93,7 +94,7 @@ refused-later first names a x (it ∷ rest) takes read some =
     let got = ap (λ ns. slice_get ns (length s.prefix)) end.1 ∙ get-after end.0 it rest (length s.prefix) here in
     (it, rest, refl, subst (λ z. IsRefusedName (first ∷ names) z it) same (after-others first names it y (length s.prefix) whole got))
 
-module _ (text : List ℕ) (found : PartRefusal) where
+module _ (text : List ℕ) (found : PlacedRefusal) where
   -- the refusal of names, at the part of one of them
   abbrev AtName : List SpelledName → Type 0
   AtName names = (refusal : Refusal) × (it : SpelledName) × IsRefusedName names refusal it × (found ≡ refusal_at text refusal it.from)

@@ -47,12 +47,11 @@ pub no_architecture : (text name : List ℕ) (from : List (List ℕ)) (names : L
 no_architecture text name from names none = rw none refl
 
 -- the part with which the end of a string begins
-pub first_at_end-is : (text from part : List ℕ) (others : List (List ℕ)) (start end : ℕ) → parts_of from ≡ part ∷ others
-    → start ≡ length text - length from → end ≡ start + length part
-    → (let found : PlacedPart = record { text = part; start = start; end = end } in found ≡ first_at_end text (parts_of from))
-first_at_end-is text from part others start end are starts ends =
+pub first_at_end-is : (text from part : List ℕ) (others : List (List ℕ)) (start : ℕ) → parts_of from ≡ part ∷ others
+    → start ≡ length text - length from → record { text = part; start = start } ≡ first_at_end text (parts_of from)
+first_at_end-is text from part others start are starts =
     let joined : join_with_byte dash (part ∷ others) ≡ from = ap (join_with_byte dash) (sym are) ∙ (parts_of-are from).joined in
-    rw (are, joined, ends, starts) refl
+    rw (are, joined, starts) refl
 
 -- a string that isn't special is read by its names
 pub ordinary-is : (text : List ℕ) → special_values text ≡ None → spelled_reading text ≡ reading_of_names text (spelled_names (parts_of text))

@@ -5,7 +5,7 @@ use Rattle.std.specs.Borrow.{Bor}
 use Rattle.std.specs.List.{join_with_byte}
 use Rattle.std.specs.Str.{bytes_eq}
 use Rattle.lexicon_fields.specs.{Names.dash, Vendor.is_custom}
-use Rattle.target_lexicon.specs.{Explanation.IsInText, Explanation.PlacedPart, Explanation.part_value, Placement.parts_of, Reading.ReadsAs, Values.Values}
+use Rattle.target_lexicon.specs.{Explanation.IsInText, Explanation.PlacedPart, Explanation.part_value, Placement.parts_after, Placement.parts_of, Reading.ReadsAs, Values.Values}
 use Rattle.tool_names.specs.{declared.change.Change.Change, declared.change.ChangedParts.ChangedParts, declared.change.Position.Position, declared.spelling.Name.Name, declared.spelling.Spelling.Spelling}
 use Rattle.tool_names.specs.declared.change.Position.TheVariants.{First, Second, Later}
 use Rattle.tool_names.specs.declared.spelling.Name.TheVariants.{Text, MacOs}
@@ -50,11 +50,6 @@ AreInTheString text (it ∷ others) = IsInText text it.part × AreInTheString te
 
 abbrev pub ChangedPartsAreInTheString : Type 0
 ChangedPartsAreInTheString = (text : List ℕ) → AreInTheString text (changes text)
-
--- the parts of what follows a dash, if there is one
-abbrev pub parts_after : Option (Bor (List ℕ)) → List (List ℕ)
-parts_after None = []
-parts_after (Some rest) = parts_of rest.now
 
 abbrev pub name_text : Name → List ℕ
 name_text (Text text) = text.now

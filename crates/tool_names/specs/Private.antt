@@ -1,12 +1,13 @@
 -- Definitions for the contracts of private functions; no public contract cites them.
+use Rattle.target_lexicon.specs.Placement.{parts_after}
 use Rattle.std.specs.Prelude.{ℕ, List, [], ◌∷◌, ◌++◌, Option, Some, None, map, if◌then◌else◌}
 use Rattle.std.specs.{Borrow.Bor, Option.option_or}
 use Rattle.lexicon_fields.specs.Names.{Pair}
-use Rattle.target_lexicon.specs.{GreedyReading.FieldReading, Placement.parts_of}
-use Rattle.tool_names.specs.{declared.names_left.Left.Left, declared.names_left.NameCursor.NameCursor, declared.platform.VersionedName.VersionedName, declared.platform.VersionedSystem.VersionedSystem}
-use Rattle.tool_names.specs.Changes.{name_text, parts_after}
+use Rattle.target_lexicon.specs.{Placement.parts_of}
+use Rattle.tool_names.specs.{declared.names_left.Left.Left, declared.platform.VersionedName.VersionedName, declared.platform.VersionedSystem.VersionedSystem}
+use Rattle.tool_names.specs.Changes.{name_text}
 use Rattle.tool_names.specs.Platform.{NameParts, keeps_version, number_first, tag_of}
-use Rattle.tool_names.specs.Spelling.{SpelledName, later_names, name_texts, spelled_by}
+use Rattle.tool_names.specs.Spelling.{SpelledName, later_names, spelled_by}
 
 -- a table in the code as a list of pairs
 abbrev pub table_of : {T : Type 0} → List (Bor (List ℕ) × T) → List (Pair T)
@@ -20,10 +21,6 @@ parts_table rows = map (λ (row : Bor (List ℕ) × Bor (List ℕ)). (row.0.now,
 abbrev pub left_names : Option Left → List SpelledName
 left_names None = []
 left_names (Some left) = spelled_by (parts_of left.from.now) (name_text left.name ∷ parts_after left.others) ++ later_names (parts_after left.rest)
-
--- the value of a field, and what is left then
-abbrev pub field_reading_of : {A : Type 0} → A → NameCursor → FieldReading A
-field_reading_of value cursor = (value, cursor.last, name_texts (left_names cursor.left))
 
 -- a table of texts in the code as a list of pairs
 abbrev pub text_table : List (Bor (List ℕ) × Bor (List ℕ)) → List (Pair (List ℕ))

@@ -6,8 +6,7 @@ use Rattle.std.specs.List.{list_all, join_with_byte}
 use Rattle.std.specs.Option.{option_or, option_map_or}
 use Rattle.std.specs.Str.{bytes_eq}
 use Rattle.lexicon_fields.specs.{Architecture.architecture_of, BinaryFormat.binary_format_of, Environment.environment_of, FixedRow.has_row, Names.Pair, Names.dash, Names.value_named, OperatingSystem.operating_system_of, OperatingSystem.text_after_prefix, Vendor.is_custom, Vendor.vendor_of, Version.dot, Version.version_of}
-use Rattle.target_lexicon.specs.{Explanation.IsInText, Explanation.PlacedPart, Explanation.part_from, Field.Field, FixedPoints.canonical_text, FixedPoints.settled_values, GreedyReading.reading_of_parts, Placement.parts_of, Printing.text_of, Reading.IsRefusal, Reading.ReadsAs, Refusal.Refusal, Refusal.refusal_with, SpecialTexts.special_values, Values.Values, ValuesRef.refusal_of_ref, ValuesRef.values_of_ref, declared.triple_ref.TripleRef.TripleRef}
-use Rattle.tool_names.specs.declared.reading.ReadError.{ReadError}
+use Rattle.target_lexicon.specs.{Explanation.IsInText, Explanation.PlacedPart, Explanation.part_from, Field.Field, FixedPoints.canonical_text, FixedPoints.settled_values, GreedyReading.reading_of_parts, Placement.parts_of, Printing.text_of, Reading.IsRefusal, Reading.ReadsAs, Refusal.Refusal, Refusal.refusal_with, SpecialTexts.special_values, Values.Values, ValuesRef.PlacedRefusal}
 
 -- other spellings of architectures, for the first part
 unfoldable pub first_spellings : List (Pair (List ℕ))
@@ -189,57 +188,38 @@ unread_names (it ∷ others) =
     then names_left binary_format_of (names_left environment_of (names_left operating_system_of (names_left vendor_of others)))
     else it ∷ others
 
--- how a string is refused: what was expected, the part of the string that spells the refused name, and its range
-pub record PartRefusal : Type 0 where
-  pub refusal : Refusal
-  pub start : ℕ
-  pub end : ℕ
-
--- the refusal of an error
-abbrev pub part_refusal : ReadError → PartRefusal
-part_refusal it = record { refusal = refusal_of_ref it.error; start = it.start; end = it.end }
-
--- the triple or the refusal of a result
-abbrev pub read_outcome : Result TripleRef ReadError → Result Values PartRefusal
-read_outcome (Ok triple) = Ok (values_of_ref triple)
-read_outcome (Err error) = Err (part_refusal error)
-
--- the first of these parts, which end the string, and its range there
+-- the first of these parts, which end the string
 abbrev pub first_at_end : List ℕ → List (List ℕ) → PlacedPart
 first_at_end text [] = part_from (length text) []
 first_at_end text (part ∷ others) = part_from (length text - length (join_with_byte dash (part ∷ others))) part
 
--- the refusal of a part
-abbrev pub refusal_of_part : Option Field → PlacedPart → PartRefusal
-refusal_of_part expected part = record { refusal = refusal_with expected part.text; start = part.start; end = part.end }
-
--- the refused part and its range
-abbrev pub refused_part : PartRefusal → PlacedPart
-refused_part it = record { text = it.refusal.part; start = it.start; end = it.end }
+-- the refusal of a part of the string, which spells the refused name
+abbrev pub refusal_of_part : Option Field → PlacedPart → PlacedRefusal
+refusal_of_part expected part = record { expected = expected; part = part }
 
 -- the refusal of the first of these parts, which end the string
-abbrev pub refusal_at : List ℕ → Refusal → List (List ℕ) → PartRefusal
+abbrev pub refusal_at : List ℕ → Refusal → List (List ℕ) → PlacedRefusal
 refusal_at text refusal from = refusal_of_part refusal.expected (first_at_end text from)
 
-abbrev pub refusal_of_first : List ℕ → Refusal → List SpelledName → PartRefusal
+abbrev pub refusal_of_first : List ℕ → Refusal → List SpelledName → PlacedRefusal
 refusal_of_first text refusal [] = refusal_at text refusal []
 refusal_of_first text refusal (it ∷ others) = refusal_at text refusal it.from
 
 -- a result with the refused part of the string instead of the refused name, which is the first that is left
-abbrev pub located : List ℕ → Result Values Refusal → List SpelledName → Result Values PartRefusal
+abbrev pub located : List ℕ → Result Values Refusal → List SpelledName → Result Values PlacedRefusal
 located text (Ok t) left = Ok t
 located text (Err refusal) left = Err (refusal_of_first text refusal left)
 
 -- what a string with these names reads as
-abbrev pub reading_of_names : List ℕ → List SpelledName → Result Values PartRefusal
+abbrev pub reading_of_names : List ℕ → List SpelledName → Result Values PlacedRefusal
 reading_of_names text names = located text (reading_of_parts (name_texts names)) (unread_names names)
 
-abbrev pub reading_unless_special : Option Values → List ℕ → Result Values PartRefusal
+abbrev pub reading_unless_special : Option Values → List ℕ → Result Values PlacedRefusal
 reading_unless_special (Some t) text = Ok t
 reading_unless_special None text = reading_of_names text (spelled_names (parts_of text))
 
 -- what a string that is spelled like a triple reads as, or how it is refused
-unfoldable pub spelled_reading : List ℕ → Result Values PartRefusal
+unfoldable pub spelled_reading : List ℕ → Result Values PlacedRefusal
 spelled_reading text = reading_unless_special (special_values text) text
 
 -- a string that parses without a custom vendor is read as it parses
@@ -253,12 +233,12 @@ pub record IsRefusedName (names : List SpelledName) (refusal : Refusal) (it : Sp
 
 -- a string is refused at the part that spells the name at which its names are refused, and there the same is expected
 abbrev pub RefusalsAreAtTheRefusedName : Type 0
-RefusalsAreAtTheRefusedName = (text : List ℕ) (found : PartRefusal) → spelled_reading text ≡ Err found
+RefusalsAreAtTheRefusedName = (text : List ℕ) (found : PlacedRefusal) → spelled_reading text ≡ Err found
     → (refusal : Refusal) × (it : SpelledName) × IsRefusedName (spelled_names (parts_of text)) refusal it × (found ≡ refusal_at text refusal it.from)
 
 -- the range of a refusal holds the refused part
 abbrev pub RefusedPartsAreInTheString : Type 0
-RefusedPartsAreInTheString = (text : List ℕ) (it : PartRefusal) → spelled_reading text ≡ Err it → IsInText text (refused_part it)
+RefusedPartsAreInTheString = (text : List ℕ) (it : PlacedRefusal) → spelled_reading text ≡ Err it → IsInText text it.part
 
 -- no part that is listed is a known name; those with a version aren't with the version `1`
 pub record ListedPartsAreUnknown : Type 0 where

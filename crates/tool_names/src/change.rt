@@ -1,9 +1,10 @@
 //! What is changed in a string that is spelled like a triple.
 ghost use Rattle.std.specs.Prelude.{◌≡◌};
-ghost use Rattle.tool_names.specs.Changes.{change_value, changes, changes_left, next_position, parts_after, spelling_at, spelling_names};
+ghost use Rattle.target_lexicon.specs.Placement.{parts_after};
+ghost use Rattle.tool_names.specs.Changes.{change_value, changes, changes_left, next_position, spelling_at, spelling_names};
 
-use crate::spelling::{Spelling, first_at_end, first_part, first_spelling};
-use target_lexicon::TextPart;
+use crate::spelling::{Spelling, first_at_end, first_spelling};
+use target_lexicon::{TextPart, first_part};
 
 /// A part of a string that is another spelling of known names, or a second part that states no vendor.
 #[derive(Clone, Copy, Debug, PartialEq, Eq)]

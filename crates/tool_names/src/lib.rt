@@ -23,6 +23,6 @@ pub use dialect::Dialect;
 pub use formats::object_format;
 pub use name::Name;
 pub use names::NameError;
-pub use reading::{ReadError, read};
+pub use reading::read;
 pub use spelling::Spelling;
 pub use suggestions::suggestion;

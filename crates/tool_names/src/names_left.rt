@@ -1,22 +1,12 @@
 //! The names of a string that are left while it is read.
-ghost use Rattle.std.specs.Prelude.{◌≡◌, ◌∷◌, ◌++◌, [], Some, unwrap_or};
-ghost use Rattle.lexicon_fields.specs.declared.known_vendor.KnownVendor.TheVariants.{Unknown};
-ghost use Rattle.lexicon_fields.specs.BinaryFormat.{binary_format_of};
-ghost use Rattle.lexicon_fields.specs.Environment.{environment_of};
-ghost use Rattle.lexicon_fields.specs.OperatingSystem.{operating_system_of};
-ghost use Rattle.lexicon_fields.specs.Vendor.{Known, vendor_of};
-ghost use Rattle.lexicon_fields.specs.VendorRef.{ref_value};
-ghost use Rattle.target_lexicon.specs.GreedyReading.{field_reading};
-ghost use Rattle.target_lexicon.specs.Field as field;
+ghost use Rattle.std.specs.Prelude.{◌≡◌, ◌++◌, Some};
 ghost use Rattle.target_lexicon.specs.Placement.{parts_of};
-ghost use Rattle.target_lexicon.specs.Values.operating_system;
-ghost use Rattle.target_lexicon.specs.Values.environment;
-ghost use Rattle.tool_names.specs.Changes.{parts_after};
-ghost use Rattle.tool_names.specs.Private.{field_reading_of, left_names};
-ghost use Rattle.tool_names.specs.Spelling.{later_names, name_texts, names_after_first, names_left, spelled_by};
+ghost use Rattle.target_lexicon.specs.Placement.{parts_after};
+ghost use Rattle.tool_names.specs.Private.{left_names};
+ghost use Rattle.tool_names.specs.Spelling.{later_names, names_after_first, spelled_by};
 
-use crate::spelling::{Name, Spelling, first_part};
-use target_lexicon::{BinaryFormat, Environment, Field, KnownVendor, OperatingSystem, VendorRef};
+use crate::spelling::{Name, Spelling};
+use target_lexicon::first_part;
 
 /// The first name that is left, the others of its part, and what follows the part.
 #[derive(Clone, Copy)]
@@ -26,13 +16,6 @@ pub(crate) struct Left<'a> {
     pub name: Name<'a>,
     pub others: Option<&'static str>,
     pub rest: Option<&'a str>,
-}
-
-/// The names that are left, and the last field that took one.
-#[derive(Clone, Copy)]
-pub(crate) struct NameCursor<'a> {
-    pub last: Field,
-    pub left: Option<Left<'a>>,
 }
 
 impl<'a> Left<'a> {
@@ -65,7 +48,7 @@ impl<'a> Left<'a> {
     }
 
     /// The names that are left after the first.
-    fn next(&self) -> Option<Left<'a>>
+    pub(crate) fn next(&self) -> Option<Left<'a>>
         ensures { left_names result
             ≡ spelled_by (parts_of self.now.from.now) (parts_after self.now.others)
             ++ later_names (parts_after self.now.rest) }
@@ -85,79 +68,5 @@ impl<'a> Left<'a> {
                 None => None,
             },
         }
-    }
-}
-
-impl<'a> NameCursor<'a> {
-    /// Takes the first name that is left, if it parses as a vendor.
-    pub(crate) fn take_vendor(&mut self) -> VendorRef<'a>
-        ensures value { field_reading_of (ref_value result) self.new
-            ≡ field_reading field.Vendor vendor_of (Known Unknown) self.old.last
-            (name_texts (left_names self.old.left)) }
-        ensures left { left_names self.new.left ≡ names_left vendor_of (left_names self.old.left) }
-    {
-        if let Some(left) = self.left {
-            if let Some(vendor) = left.name.vendor() {
-                self.last = Field::Vendor;
-                self.left = left.next();
-                return vendor;
-            }
-        }
-        VendorRef::Known(KnownVendor::Unknown)
-    }
-
-    /// Takes the first name that is left, if it parses as an operating system.
-    pub(crate) fn take_operating_system(&mut self) -> OperatingSystem
-        ensures value { field_reading_of result self.new
-            ≡ field_reading field.OperatingSystem operating_system_of operating_system.Unknown
-            self.old.last (name_texts (left_names self.old.left)) }
-        ensures left { left_names self.new.left
-            ≡ names_left operating_system_of (left_names self.old.left) }
-    {
-        if let Some(left) = self.left {
-            if let Some(operating_system) = left.name.operating_system() {
-                self.last = Field::OperatingSystem;
-                self.left = left.next();
-                return operating_system;
-            }
-        }
-        OperatingSystem::Unknown
-    }
-
-    /// Takes the first name that is left, if it parses as an environment.
-    pub(crate) fn take_environment(&mut self) -> Environment
-        ensures value { field_reading_of result self.new
-            ≡ field_reading field.Environment environment_of environment.Unknown
-            self.old.last (name_texts (left_names self.old.left)) }
-        ensures left { left_names self.new.left
-            ≡ names_left environment_of (left_names self.old.left) }
-    {
-        if let Some(left) = self.left {
-            if let Some(environment) = left.name.environment() {
-                self.last = Field::Environment;
-                self.left = left.next();
-                return environment;
-            }
-        }
-        Environment::Unknown
-    }
-
-    /// Takes the first name that is left, if it parses as a binary format.
-    pub(crate) fn take_binary_format(&mut self) -> Option<BinaryFormat>
-        ensures value { (unfilled : BinaryFormat) →
-            field_reading_of (unwrap_or result unfilled) self.new
-            ≡ field_reading field.BinaryFormat binary_format_of unfilled
-            self.old.last (name_texts (left_names self.old.left)) }
-        ensures left { left_names self.new.left
-            ≡ names_left binary_format_of (left_names self.old.left) }
-    {
-        if let Some(left) = self.left {
-            if let Some(binary_format) = left.name.binary_format() {
-                self.last = Field::BinaryFormat;
-                self.left = left.next();
-                return Some(binary_format);
-            }
-        }
-        None
     }
 }

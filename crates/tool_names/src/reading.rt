@@ -1,23 +1,14 @@
 //! Reading a string that is spelled like a triple.
 ghost use Rattle.std.specs.Prelude.{◌≡◌};
+ghost use Rattle.target_lexicon.specs.Explanation.{part_value};
 ghost use Rattle.target_lexicon.specs.Placement.{parts_of};
 ghost use Rattle.target_lexicon.specs.SpecialTexts.{special_values};
-ghost use Rattle.tool_names.specs.Spelling.{part_refusal, read_outcome, first_at_end, reading_of_names, refusal_of_part, spelled_names, spelled_reading};
+ghost use Rattle.target_lexicon.specs.ValuesRef.{placed_outcome};
+ghost use Rattle.tool_names.specs.Spelling.{first_at_end, reading_of_names, refusal_of_part, spelled_names, spelled_reading};
 
-use crate::names_left::{Left, NameCursor};
-use crate::spelling::{first_at_end, first_part, first_spelling};
-use target_lexicon::{Architecture, BinaryFormat, Field, ParseErrorRef, TripleRef, expected_after};
-
-/// Why a string that is spelled like a triple is refused, and where.
-#[derive(Clone, Copy, Debug, PartialEq, Eq)]
-pub struct ReadError<'a> {
-    /// The part of the string that is refused, or that spells a refused name, and what was expected there.
-    pub error: ParseErrorRef<'a>,
-    /// The index of the part's first byte.
-    pub start: usize,
-    /// The index of the byte after the part.
-    pub end: usize,
-}
+use crate::names_left::Left;
+use crate::spelling::{first_at_end, first_spelling};
+use target_lexicon::{Reading, Refusal, TripleRef, first_part};
 
 /// The triple that a string means which is spelled like a triple, as the tools of GNU and LLVM print them. Nothing is
 /// allocated.
@@ -30,8 +21,8 @@ pub struct ReadError<'a> {
 /// # Errors
 ///
 /// The first part that has no place, as it is in the string, and what was expected there.
-pub fn read(text: &str) -> Result<TripleRef<'_>, ReadError<'_>>
-    ensures { read_outcome result ≡ spelled_reading text.entry.now }
+pub fn read(text: &str) -> Result<TripleRef<'_>, Refusal<'_>>
+    ensures { placed_outcome result ≡ spelled_reading text.entry.now }
 {
     match TripleRef::from_str(text) {
         Ok(triple) => {
@@ -46,54 +37,22 @@ pub fn read(text: &str) -> Result<TripleRef<'_>, ReadError<'_>>
 }
 
 /// What a string means by the names that its parts spell.
-fn read_names(text: &str) -> Result<TripleRef<'_>, ReadError<'_>>
-    ensures { read_outcome result
+fn read_names(text: &str) -> Result<TripleRef<'_>, Refusal<'_>>
+    ensures { placed_outcome result
         ≡ reading_of_names text.entry.now (spelled_names (parts_of text.entry.now)) }
 {
-    let (part, rest) = first_part(text);
-    let Ok(architecture) = Architecture::from_str(first_spelling(part)) else {
-        return Err(error_at(text, text, Some(Field::Architecture)));
-    };
-    let left = match rest {
+    let mut reading = Reading::start();
+    let (first, rest) = first_part(text);
+    let part = first_at_end(text, text);
+    reading.take(first_spelling(first), part)?;
+    let mut left = match rest {
         Some(rest) => Some(Left::of_second(rest)),
         None => None,
     };
-    let mut cursor = NameCursor {
-        last: Field::Architecture,
-        left,
-    };
-    let vendor = cursor.take_vendor();
-    let operating_system = cursor.take_operating_system();
-    let environment = cursor.take_environment();
-    let binary_format = cursor.take_binary_format();
-    if let Some(left) = cursor.left {
-        return Err(error_at(text, left.from, expected_after(cursor.last)));
+    while let Some(name) = left {
+        let part = first_at_end(text, name.from);
+        name.name.give(&mut reading, part)?;
+        left = name.next();
     }
-    let triple = TripleRef {
-        architecture,
-        vendor,
-        operating_system,
-        environment,
-        binary_format: BinaryFormat::Unknown,
-    };
-    Ok(TripleRef {
-        binary_format: match binary_format {
-            Some(given) => given,
-            None => triple.default_binary_format(),
-        },
-        ..triple
-    })
-}
-
-/// The error at the first part of the end of a string, where this field was expected.
-fn error_at<'a>(text: &str, end: &'a str, expected: Option<Field>) -> ReadError<'a>
-    ensures { part_refusal result
-        ≡ refusal_of_part expected (first_at_end text.now (parts_of end.entry.now)) }
-{
-    let part = first_at_end(text, end);
-    ReadError {
-        error: ParseErrorRef::new(expected, part.text),
-        start: part.start,
-        end: part.end,
-    }
+    Ok(reading.finish().0)
 }

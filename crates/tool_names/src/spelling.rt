@@ -1,45 +1,31 @@
 //! Other spellings of the parts of a triple.
-ghost use Rattle.std.specs.Prelude.{◌≡◌, ◌∷◌, [], Some, option_map};
+ghost use Rattle.std.specs.Prelude.{◌≡◌, ◌∷◌, [], ℕ, List, Err, IfErr, IfOk, Some, option_map};
 ghost use Rattle.std.specs.List.{list_all};
-ghost use Rattle.lexicon_fields.specs.BinaryFormat.{binary_format_of};
-ghost use Rattle.lexicon_fields.specs.Environment.{environment_of};
 ghost use Rattle.lexicon_fields.specs.Names.{value_named};
-ghost use Rattle.lexicon_fields.specs.OperatingSystem.{operating_system_of};
-ghost use Rattle.lexicon_fields.specs.Vendor.{vendor_of};
-ghost use Rattle.lexicon_fields.specs.VendorRef.{ref_value};
 ghost use Rattle.std.specs.Str.{bytes_eq};
 ghost use Rattle.target_lexicon.specs.Explanation.{part_value};
-ghost use Rattle.target_lexicon.specs.Placement.{parts_of};
-ghost use Rattle.tool_names.specs.Changes.{is_only, name_text, parts_after, spelling_names, spelling_text};
+ghost use Rattle.target_lexicon.specs.Placement.{parts_after, parts_of};
+ghost use Rattle.target_lexicon.specs.Refusal.{refusal_with};
+ghost use Rattle.target_lexicon.specs.Resumed.{NamedPart, named, resumed, resumed_left};
+ghost use Rattle.target_lexicon.specs.ValuesRef.{values_of_ref};
+ghost use Rattle.tool_names.specs.Changes.{is_only, name_text, spelling_names, spelling_text};
 ghost use Rattle.tool_names.specs.Private.{parts_table, table_of};
 ghost use Rattle.tool_names.specs.Spelling.{first_at_end, first_spelling, first_spellings, has_dropped_version, is_digit_or_dot, is_dropped_version, is_known_name, is_unstated, later_spelling, later_spellings, listed_spelling, second_spelling, versioned_spelling, versioned_spellings};
 
 use crate::macos::{MacOsVersion, macos_version};
 use std::fmt;
 use target_lexicon::{
-    Architecture, BinaryFormat, Environment, OperatingSystem, Steps, TextPart, VendorRef, fixed_row,
+    Architecture, OperatingSystem, Reading, Refusal, Steps, TextPart, first_part, fixed_row,
 };
 
-/// A part of a string, and what follows its dash, if it has one.
-pub(crate) fn first_part(text: &str) -> (&str, Option<&str>)
-    ensures { parts_of text.now ≡ result.0.now ∷ parts_after result.1 }
-{
-    match text.split_once('-') {
-        Some((part, rest)) => (part, Some(rest)),
-        None => (text, None),
-    }
-}
-
-/// The first part of the end of a string, and its range in the string.
+/// The first part of the end of a string, and where it begins in the string.
 pub(crate) fn first_at_end<'a>(text: &str, end: &'a str) -> TextPart<'a>
     ensures { part_value result ≡ first_at_end text.now (parts_of end.entry.now) }
 {
     let part = first_part(end).0;
-    let start = text.len().saturating_sub(end.len());
     TextPart {
         text: part,
-        start,
-        end: start + part.len(),
+        start: text.len().saturating_sub(end.len()),
     }
 }
 
@@ -47,8 +33,7 @@ pub(crate) fn first_at_end<'a>(text: &str, end: &'a str) -> TextPart<'a>
 fn is_known_name(part: &str) -> bool
     ensures { result ≡ is_known_name part.now }
 {
-    let row = fixed_row(part, &mut Steps::new());
-    row.is_some() || OperatingSystem::from_row(part, row).is_some()
+    fixed_row(part, &mut Steps::new()).is_some() || OperatingSystem::from_str(part).is_ok()
 }
 
 /// The value of the first row with this name.
@@ -103,44 +88,34 @@ pub struct Spelling<'a> {
 }
 
 impl<'a> Name<'a> {
-    /// What the name parses as in each field.
-    #[tactic(auto, using(crate::proofs::MacosNames::no_vendor))]
-    pub(crate) fn vendor(&self) -> Option<VendorRef<'a>>
-        ensures { option_map ref_value result ≡ vendor_of (name_text self.now) }
+    /// Gives the name, which this part spells, to a reading.
+    #[tactic(auto, using(crate::proofs::MacosNames::is_macosx, crate::proofs::MacosNames::no_row))]
+    pub(crate) fn give(
+        &self,
+        reading: &mut Reading<'a>,
+        part: TextPart<'a>,
+    ) -> Result<(), Refusal<'a>>
+        ensures taken { IfOk result (λ _. (names : List (List ℕ)) →
+            resumed reading.old.expected (values_of_ref reading.old.triple)
+            (name_text self.now ∷ names)
+            ≡ resumed reading.new.expected (values_of_ref reading.new.triple) names) }
+        ensures refused { IfErr result (λ it. (names : List (List ℕ)) →
+            resumed reading.old.expected (values_of_ref reading.old.triple)
+            (name_text self.now ∷ names)
+            ≡ Err (refusal_with it.expected (name_text self.now))) }
+        ensures taken_left { IfOk result (λ _. (others : List NamedPart) →
+            resumed_left reading.old.expected (named (name_text self.now) part.entry ∷ others)
+            ≡ resumed_left reading.new.expected others) }
+        ensures refused_left { IfErr result (λ _. (others : List NamedPart) →
+            resumed_left reading.old.expected (named (name_text self.now) part.entry ∷ others)
+            ≡ named (name_text self.now) part.entry ∷ others) }
+        ensures part { IfErr result (λ it. part_value it.part ≡ part_value part.entry) }
     {
         match *self {
-            Name::Text(text) => VendorRef::from_str(text).ok(),
-            Name::MacOs(_) => None,
-        }
-    }
-
-    #[tactic(auto, using(crate::proofs::MacosNames::is_macosx))]
-    pub(crate) fn operating_system(&self) -> Option<OperatingSystem>
-        ensures { result ≡ operating_system_of (name_text self.now) }
-    {
-        match *self {
-            Name::Text(text) => OperatingSystem::from_str(text).ok(),
-            Name::MacOs(it) => Some(OperatingSystem::MacOSX(Some(it.version))),
-        }
-    }
-
-    #[tactic(auto, using(crate::proofs::MacosNames::no_environment))]
-    pub(crate) fn environment(&self) -> Option<Environment>
-        ensures { result ≡ environment_of (name_text self.now) }
-    {
-        match *self {
-            Name::Text(text) => Environment::from_str(text).ok(),
-            Name::MacOs(_) => None,
-        }
-    }
-
-    #[tactic(auto, using(crate::proofs::MacosNames::no_binary_format))]
-    pub(crate) fn binary_format(&self) -> Option<BinaryFormat>
-        ensures { result ≡ binary_format_of (name_text self.now) }
-    {
-        match *self {
-            Name::Text(text) => BinaryFormat::from_str(text).ok(),
-            Name::MacOs(_) => None,
+            Name::Text(name) => reading.take(name, part),
+            Name::MacOs(it) => {
+                reading.take_system(OperatingSystem::MacOSX(Some(it.version)), part)
+            }
         }
     }
 

@@ -1,8 +1,7 @@
 -- What mode `show` writes of a triple: the triple, printed, and four words.
 use Rattle.std.specs.Prelude.{ℕ, List, ◌++◌, codes, Option, option_map, unwrap_or}
-use Rattle.lexicon_fields.specs.{Endianness.endianness_name, PointerWidth.width_name}
 use Rattle.target_lexicon.specs.{CallingConvention.convention_name, DataModel.model_name, Printing.text_of, Values.Values}
-use Rattle.target_lexicon.specs.Queries.{endianness, pointer_width, calling_convention, data_model}
+use Rattle.target_lexicon.specs.Queries.{endianness_name, width_name, endianness, pointer_width, calling_convention, data_model}
 
 -- a space and the word, `-` for none
 abbrev pub spaced_word : Option (List ℕ) → List ℕ

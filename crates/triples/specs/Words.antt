@@ -1,6 +1,6 @@
 -- The words of the modes, and the end of the program.
 use Rattle.std.specs.Prelude.{ℕ, List, [], ◌∷◌, Option, Some, None, codes, Result, Ok, Err}
-use Rattle.lexicon_fields.specs.Names.{value_named}
+use Rattle.target_lexicon.specs.Values.{value_named}
 use Rattle.triples.specs.{declared.run_error.RunError.RunError, Faults.fault_line}
 use Rattle.triples.specs.declared.mode.Mode.{Mode}
 use Rattle.triples.specs.declared.mode.Mode.TheVariants.{Print, Show, Settle, Json, Matrix}

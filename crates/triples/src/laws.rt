@@ -1,6 +1,6 @@
 //! Laws of the definitions. Each function's contract is a law; a call does nothing.
 ghost use Rattle.std.specs.Prelude.{List};
-ghost use Rattle.lexicon_fields.specs.Laws.{ComparesByValue, CopiesEqualTheirSources};
+ghost use Rattle.target_lexicon.specs.Laws.{ComparesByValue, CopiesEqualTheirSources};
 ghost use Rattle.triples.specs.MatrixLaws.{EntriesAreSettledTriples, KeepsEntriesOnce, FirstEntriesStayInOrder, EachSettledTripleHasAnEntry, MatricesAreTheirOwn};
 ghost use Rattle.triples.specs.Output.{Answer};
 ghost use Rattle.triples.specs.declared.mode.Mode.{Mode};

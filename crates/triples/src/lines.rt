@@ -1,16 +1,15 @@
 //! The modes that answer each line by itself.
 ghost use Rattle.std.specs.Prelude.{◌≡◌, ◌<◌, ◌++◌, ◌∷◌, codes, length, option_map, string_bytes, IfOk, OnOk, OnErr};
 ghost use Rattle.target_lexicon.specs.Refusal.{refusal_line};
-ghost use Rattle.target_lexicon.specs.ValuesRef.{values_of_ref, refusal_of_ref};
+ghost use Rattle.target_lexicon.specs.ValuesRef.{values_of_ref, refusal_value};
 ghost use Rattle.triples.specs.Facts.{spaced_word, text_with_facts};
 ghost use Rattle.triples.specs.Lines.{lines_of};
 ghost use Rattle.triples.specs.Output.{IsLineOutput};
 ghost use Rattle.triples.specs.Private.{AddsAnswer, shown_text};
 
-use memchr::memchr;
 use std::alloc::{AllocError, Global};
 use target_lexicon::{
-    CDataModel, CallingConvention, Endianness, ParseErrorRef, PointerWidth, TripleRef,
+    CDataModel, CallingConvention, Endianness, PointerWidth, Refusal, TripleRef, refusal_prefix,
 };
 
 /// What a mode that answers each line by itself shows of a triple.
@@ -44,14 +43,14 @@ pub(crate) fn answers(alloc: Global, mode: LineMode, input: &str) -> Result<Stri
 }
 
 /// The first line of an input that isn't empty, without its line feed, and what follows it. Without a line feed, the
-/// whole input is the line. (`split_once` would take 88 instructions a line more than `memchr`.)
+/// whole input is the line.
 pub(crate) fn first_line(input: &str) -> (&str, &str)
     requires { 0 < length input.now }
     ensures lines { lines_of input.now ≡ result.0.now ∷ lines_of result.1.now }
     ensures shorter { length result.1.now < length input.now }
 {
-    match memchr(b'\n', input.as_bytes()) {
-        Some(end) => (&input[..end], &input[end + 1..]),
+    match input.split_once('\n') {
+        Some((line, others)) => (line, others),
         None => (input, ""),
     }
 }
@@ -74,18 +73,15 @@ fn push_answer(output: &mut String, mode: LineMode, line: &str) -> Result<(), Al
 }
 
 /// Appends `error: ` and the line of the refusal.
-pub(crate) fn push_refusal(
-    output: &mut String,
-    refusal: &ParseErrorRef<'_>,
-) -> Result<(), AllocError>
+pub(crate) fn push_refusal(output: &mut String, refusal: &Refusal<'_>) -> Result<(), AllocError>
     ensures { OnOk result
         (string_bytes output.new
         ≡ string_bytes output.old
-        ++ (codes "error: " ++ refusal_line (refusal_of_ref refusal.now))) }
+        ++ (codes "error: " ++ refusal_line (refusal_value refusal.now))) }
 {
     output.push_str("error: ")?;
-    output.push_str(refusal.prefix())?;
-    output.push_str(refusal.part())
+    output.push_str(refusal_prefix(refusal.expected))?;
+    output.push_str(refusal.part.text)
 }
 
 /// Appends the printed triple, and the words for its byte order, pointer width, calling convention and data model.

@@ -6,10 +6,10 @@ ghost use Rattle.std.specs.Io.KnownBytes.{Appends, Consumes, IsAtEnd, Keeps, Rea
 ghost use Rattle.triples.specs.Streams.{inner, failures, failures_of, write_failures_of, AppendsBeginning, ConsumesSome};
 
 use crate::run_error::RunError;
-use lexicon_fields::Steps;
 use std::alloc::Global;
 use std::io;
 use std::io::{Read, Write};
+use target_lexicon::Steps;
 
 /// A reader or writer, and the number of its failed calls. Only contracts see the count; it takes no memory and has no
 /// upper limit. Each call makes the same call of the reader or writer and returns its result.

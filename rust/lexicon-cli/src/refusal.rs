@@ -33,14 +33,9 @@ pub fn explanation(text: &str, is_strict: bool) -> Result<Explanation<'_>, Refus
 pub fn read(text: &str, dialect: Option<Dialect>) -> Result<TripleRef<'_>, Refusal<'_>> {
     match dialect {
         None => tool_names::read(text).map_err(|refusal| {
-            let (start, end) = (refusal.start, refusal.end);
             Refusal::of_part(
-                refusal.error,
-                TextPart {
-                    text: &text[start..end],
-                    start,
-                    end,
-                },
+                target_lexicon::ParseErrorRef::new(refusal.expected, refusal.part.text),
+                refusal.part,
             )
         }),
         Some(dialect) => dialect.read(text).map_err(|refusal| match refusal {

@@ -1,23 +1,7 @@
 //! The errors as those of Rust: `Display` where the proved source has none, and `Error`.
 #[cfg(feature = "tool_names")]
-use crate::tool_names::{NameError, ReadError};
-use crate::ExplainedError;
+use crate::tool_names::NameError;
 use core::fmt;
-
-/// The line of the refusal, which is that of [`ParseError`](crate::ParseError). The fields say where the part is.
-impl fmt::Display for ExplainedError<'_> {
-    fn fmt(&self, f: &mut fmt::Formatter<'_>) -> fmt::Result {
-        self.error.fmt(f)
-    }
-}
-
-/// The line of the refusal, which is that of [`ParseError`](crate::ParseError).
-#[cfg(feature = "tool_names")]
-impl fmt::Display for ReadError<'_> {
-    fn fmt(&self, f: &mut fmt::Formatter<'_>) -> fmt::Result {
-        self.error.fmt(f)
-    }
-}
 
 #[cfg(feature = "tool_names")]
 impl fmt::Display for NameError {
@@ -37,12 +21,9 @@ mod impls {
     #[cfg(not(core_error))]
     use std::error::Error;
 
-    impl Error for crate::ExplainedError<'_> {}
     impl Error for crate::NotPlain {}
     impl Error for crate::ParseError {}
-    impl Error for crate::ParseErrorRef<'_> {}
+    impl Error for crate::Refusal<'_> {}
     #[cfg(feature = "tool_names")]
     impl Error for crate::tool_names::NameError {}
-    #[cfg(feature = "tool_names")]
-    impl Error for crate::tool_names::ReadError<'_> {}
 }

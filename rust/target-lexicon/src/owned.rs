@@ -1,8 +1,8 @@
 //! The calls that allocate.
-use crate::proved::{explain, parse_or_locate};
+use crate::proved::explain;
 use crate::{
-    CustomVendor, ExplainedError, Explanation, KnownVendor, OperatingSystem, ParseError,
-    ParseErrorRef, TextPart, Triple, TripleRef, Vendor, VendorRef,
+    CustomVendor, Explanation, KnownVendor, OperatingSystem, ParseError, Refusal, Triple, TripleRef,
+    Vendor, VendorRef,
 };
 use alloc::borrow::Cow;
 use alloc::boxed::Box;
@@ -47,7 +47,7 @@ impl FromStr for Triple {
     fn from_str(text: &str) -> Result<Self, ParseError> {
         match TripleRef::from_str(text) {
             Ok(triple) => Ok(triple.to_triple()),
-            Err(error) => Err(error.to_error()),
+            Err(refusal) => Err(refusal.to_error()),
         }
     }
 }
@@ -73,46 +73,27 @@ impl OperatingSystem {
 }
 
 impl<'a> TripleRef<'a> {
-    /// The triple that a text parses as; or why it is refused, and the refused part. Nothing is allocated.
-    /// [`explain`](TripleRef::explain) answers this too, and where each field comes from.
-    ///
-    /// # Examples
-    ///
-    /// ```
-    /// use target_lexicon::{ParseErrorRef, TextPart, TripleRef};
-    ///
-    /// let part = TextPart { text: "bar", start: 11, end: 14 };
-    /// let refusal = (ParseErrorRef::UnrecognizedOperatingSystem("bar"), part);
-    /// assert_eq!(TripleRef::parse_or_locate("x86_64-foo-bar"), Err(refusal));
-    /// ```
-    #[inline]
-    pub fn parse_or_locate(
-        text: &'a str,
-    ) -> Result<TripleRef<'a>, (ParseErrorRef<'a>, TextPart<'a>)> {
-        parse_or_locate(text)
-    }
-
-    /// The triple that a text parses as, and where in the text each of its fields comes from; or why the text is refused,
-    /// where, and which fields the parts before the refused one filled. Nothing is allocated.
+    /// What a string parses as, or why it is refused; and where in the string each field comes from. Nothing is allocated.
     ///
     /// A part is of the first field that it parses as, of those after the field of the part before it. So `nuttx` in
-    /// `armv7a-nuttx-eabi` is the vendor, since it is the name of no field. The whole of a special text gives all five
-    /// fields; its parts have none of their own.
+    /// `armv7a-nuttx-eabi` is the vendor, since it is the name of no field. The whole of a special string gives all five
+    /// fields; its parts have none of their own. Of a refused string it says which fields the parts before the refused one
+    /// filled.
     ///
     /// # Examples
     ///
     /// ```
     /// use target_lexicon::{Source, TextPart, TripleRef};
     ///
-    /// let explanation = TripleRef::explain("armv7a-nuttx-eabi").unwrap();
-    /// let part = TextPart { text: "nuttx", start: 7, end: 12 };
+    /// let explanation = TripleRef::explain("armv7a-nuttx-eabi");
+    /// let part = TextPart { text: "nuttx", start: 7 };
     /// assert_eq!(explanation.sources.vendor, Source::Part(part));
     /// assert_eq!(explanation.sources.operating_system, Source::NotGiven);
-    /// let error = TripleRef::explain("x86_64-foo-bar").unwrap_err();
-    /// assert_eq!((error.part.start, error.part.end), (11, 14));
+    /// let refusal = TripleRef::explain("x86_64-foo-bar").triple.unwrap_err();
+    /// assert_eq!(refusal.range(), 11..14);
     /// ```
     #[inline]
-    pub fn explain(text: &'a str) -> Result<Explanation<'a>, ExplainedError<'a>> {
+    pub fn explain(text: &'a str) -> Explanation<'a> {
         explain(text)
     }
 
@@ -168,34 +149,20 @@ fn custom_vendor(text: &str) -> Vendor {
     Vendor::Custom(CustomVendor::Owned(Box::new(text.into())))
 }
 
-impl ParseErrorRef<'_> {
-    /// The same refusal with a copy of the part.
+impl Refusal<'_> {
+    /// The same refusal as upstream's error, with a copy of the part.
     ///
     /// # Examples
     ///
     /// ```
     /// use target_lexicon::{Triple, TripleRef};
     ///
-    /// let error = TripleRef::from_str("x86_64-foo-bar").unwrap_err();
-    /// assert_eq!("x86_64-foo-bar".parse::<Triple>(), Err(error.to_error()));
+    /// let refusal = TripleRef::from_str("x86_64-foo-bar").unwrap_err();
+    /// assert_eq!("x86_64-foo-bar".parse::<Triple>(), Err(refusal.to_error()));
     /// ```
     #[inline(never)]
     pub fn to_error(&self) -> ParseError {
-        let part = String::from(self.part());
-        match self {
-            ParseErrorRef::UnrecognizedArchitecture(_) => {
-                ParseError::UnrecognizedArchitecture(part)
-            }
-            ParseErrorRef::UnrecognizedVendor(_) => ParseError::UnrecognizedVendor(part),
-            ParseErrorRef::UnrecognizedOperatingSystem(_) => {
-                ParseError::UnrecognizedOperatingSystem(part)
-            }
-            ParseErrorRef::UnrecognizedEnvironment(_) => ParseError::UnrecognizedEnvironment(part),
-            ParseErrorRef::UnrecognizedBinaryFormat(_) => {
-                ParseError::UnrecognizedBinaryFormat(part)
-            }
-            ParseErrorRef::UnrecognizedField(_) => ParseError::UnrecognizedField(part),
-        }
+        ParseError::new(self.expected, String::from(self.part.text))
     }
 }
 

@@ -1,5 +1,6 @@
 //! Why a string doesn't parse as a triple.
-use crate::ParseErrorRef;
+use crate::proved::refusal::refusal_prefix;
+use crate::Field;
 use alloc::string::String;
 use core::fmt;
 
@@ -31,38 +32,62 @@ pub enum ParseError {
 }
 
 impl ParseError {
-    /// The same refusal, with the part borrowed.
+    /// The error for a part that is refused where this field was expected; `None` is no field.
+    pub(crate) fn new(expected: Option<Field>, part: String) -> ParseError {
+        match expected {
+            Some(Field::Architecture) => ParseError::UnrecognizedArchitecture(part),
+            Some(Field::Vendor) => ParseError::UnrecognizedVendor(part),
+            Some(Field::OperatingSystem) => ParseError::UnrecognizedOperatingSystem(part),
+            Some(Field::Environment) => ParseError::UnrecognizedEnvironment(part),
+            Some(Field::BinaryFormat) => ParseError::UnrecognizedBinaryFormat(part),
+            None => ParseError::UnrecognizedField(part),
+        }
+    }
+
+    /// The field that was expected: this one or a later one. After a binary format none was, and it is `None`.
     ///
     /// # Examples
     ///
     /// ```
-    /// use target_lexicon::{ParseError, ParseErrorRef};
+    /// use target_lexicon::{Field, Triple};
     ///
-    /// let error = ParseError::UnrecognizedField("foo".to_string());
-    /// assert_eq!(error.as_parse_error_ref(), ParseErrorRef::UnrecognizedField("foo"));
+    /// let error = "x86_64-foo-bar".parse::<Triple>().unwrap_err();
+    /// assert_eq!(error.expected(), Some(Field::OperatingSystem));
     /// ```
-    pub fn as_parse_error_ref(&self) -> ParseErrorRef<'_> {
+    pub fn expected(&self) -> Option<Field> {
         match self {
-            ParseError::UnrecognizedArchitecture(part) => {
-                ParseErrorRef::UnrecognizedArchitecture(part)
-            }
-            ParseError::UnrecognizedVendor(part) => ParseErrorRef::UnrecognizedVendor(part),
-            ParseError::UnrecognizedOperatingSystem(part) => {
-                ParseErrorRef::UnrecognizedOperatingSystem(part)
-            }
-            ParseError::UnrecognizedEnvironment(part) => {
-                ParseErrorRef::UnrecognizedEnvironment(part)
-            }
-            ParseError::UnrecognizedBinaryFormat(part) => {
-                ParseErrorRef::UnrecognizedBinaryFormat(part)
-            }
-            ParseError::UnrecognizedField(part) => ParseErrorRef::UnrecognizedField(part),
+            ParseError::UnrecognizedArchitecture(_) => Some(Field::Architecture),
+            ParseError::UnrecognizedVendor(_) => Some(Field::Vendor),
+            ParseError::UnrecognizedOperatingSystem(_) => Some(Field::OperatingSystem),
+            ParseError::UnrecognizedEnvironment(_) => Some(Field::Environment),
+            ParseError::UnrecognizedBinaryFormat(_) => Some(Field::BinaryFormat),
+            ParseError::UnrecognizedField(_) => None,
+        }
+    }
+
+    /// The refused part.
+    ///
+    /// # Examples
+    ///
+    /// ```
+    /// let error = "x86_64-foo-bar".parse::<target_lexicon::Triple>().unwrap_err();
+    /// assert_eq!(error.part(), "bar");
+    /// ```
+    pub fn part(&self) -> &str {
+        match self {
+            ParseError::UnrecognizedArchitecture(part)
+            | ParseError::UnrecognizedVendor(part)
+            | ParseError::UnrecognizedOperatingSystem(part)
+            | ParseError::UnrecognizedEnvironment(part)
+            | ParseError::UnrecognizedBinaryFormat(part)
+            | ParseError::UnrecognizedField(part) => part,
         }
     }
 }
 
 impl fmt::Display for ParseError {
     fn fmt(&self, f: &mut fmt::Formatter<'_>) -> fmt::Result {
-        self.as_parse_error_ref().fmt(f)
+        f.write_str(refusal_prefix(self.expected()))?;
+        f.write_str(self.part())
     }
 }

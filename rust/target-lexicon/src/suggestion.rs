@@ -1,7 +1,7 @@
 //! The known names of a field, and the one that was perhaps meant.
 use crate::names;
 use crate::tool_names;
-use crate::{ExplainedError, Field, ParseError, ParseErrorRef};
+use crate::{Field, ParseError, Refusal};
 
 impl Field {
     /// The known names of the field, each once. A system like Darwin has its name without a version.
@@ -19,7 +19,7 @@ impl Field {
     }
 }
 
-impl ParseErrorRef<'_> {
+impl Refusal<'_> {
     /// The name that was perhaps meant. If other tools spell a known name as the refused part, it is that name. Otherwise it
     /// is the nearest one of the expected field or of a later one, if the part may be a misspelling of it. It never changes
     /// the family of the architecture or the number of bits.
@@ -29,20 +29,20 @@ impl ParseErrorRef<'_> {
     /// ```
     /// use target_lexicon::TripleRef;
     ///
-    /// let error = TripleRef::from_str("x86_64-pc-linxu").unwrap_err();
-    /// assert_eq!(error.suggestion(), Some("linux"));
+    /// let refusal = TripleRef::from_str("x86_64-pc-linxu").unwrap_err();
+    /// assert_eq!(refusal.suggestion(), Some("linux"));
     ///
-    /// let error = TripleRef::from_str("amd64-linux").unwrap_err();
-    /// assert_eq!(error.suggestion(), Some("x86_64"));
+    /// let refusal = TripleRef::from_str("amd64-linux").unwrap_err();
+    /// assert_eq!(refusal.suggestion(), Some("x86_64"));
     /// ```
     #[inline]
     pub fn suggestion(&self) -> Option<&'static str> {
-        tool_names::suggestion(self.expected()?, self.part())
+        tool_names::suggestion(self.expected?, self.part.text)
     }
 }
 
 impl ParseError {
-    /// The name that was perhaps meant, as [`ParseErrorRef::suggestion`] says.
+    /// The name that was perhaps meant, as [`Refusal::suggestion`] says.
     ///
     /// # Examples
     ///
@@ -54,24 +54,6 @@ impl ParseError {
     /// ```
     #[inline]
     pub fn suggestion(&self) -> Option<&'static str> {
-        self.as_parse_error_ref().suggestion()
-    }
-}
-
-impl ExplainedError<'_> {
-    /// The name that was perhaps meant, as [`ParseErrorRef::suggestion`] says.
-    ///
-    /// # Examples
-    ///
-    /// ```
-    /// use target_lexicon::TripleRef;
-    ///
-    /// let error = TripleRef::explain("x86_64-pc-linxu").unwrap_err();
-    /// assert_eq!(error.to_string(), "Unrecognized operating system: linxu");
-    /// assert_eq!(error.suggestion(), Some("linux"));
-    /// ```
-    #[inline]
-    pub fn suggestion(&self) -> Option<&'static str> {
-        self.error.suggestion()
+        tool_names::suggestion(self.expected()?, self.part())
     }
 }

@@ -3,7 +3,8 @@
 
 use crate::error::{refusal_status, TextError};
 use crate::triple::{numbers_of, triple_in, Fault, NumberedTriple};
-use target_lexicon::internals::tool_names::{Dialect, Name, NameError, ReadError};
+use target_lexicon::internals::tool_names::{Dialect, Name, NameError};
+use target_lexicon::internals::Refusal;
 
 /// The dialect with this number. 0 is no dialect: that of strings that are spelled like triples.
 pub fn dialect_at(number: u32) -> Option<Option<Dialect>> {
@@ -58,11 +59,11 @@ pub fn name_suggestion(dialect: Dialect, name: &str) -> Option<&'static str> {
 }
 
 /// The refusal of a part of a string, as numbers.
-fn part_error(error: &ReadError<'_>) -> TextError {
+fn part_error(error: &Refusal<'_>) -> TextError {
     TextError {
-        status: refusal_status(&error.error),
-        start: error.start,
-        end: error.end,
+        status: refusal_status(error.expected),
+        start: error.part.start,
+        end: error.part.end,
     }
 }
 

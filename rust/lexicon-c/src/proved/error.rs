@@ -16,15 +16,15 @@ pub struct TextError {
 /// A refusal and the refused part as numbers.
 pub(crate) fn error_of(refusal: &ParseErrorRef<'_>, part: &TextPart<'_>) -> TextError {
     TextError {
-        status: refusal_status(refusal),
+        status: refusal_status(refusal.expected()),
         start: part.start,
         end: part.end,
     }
 }
 
 /// The status of a refusal.
-pub(crate) fn refusal_status(refusal: &ParseErrorRef<'_>) -> u32 {
-    match refusal.expected() {
+pub(crate) fn refusal_status(expected: Option<Field>) -> u32 {
+    match expected {
         Some(Field::Architecture) => 1,
         Some(Field::Vendor) => 2,
         Some(Field::OperatingSystem) => 3,

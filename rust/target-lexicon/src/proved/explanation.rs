@@ -1,10 +1,11 @@
 // Erased from crates/target_lexicon/src/explanation.rt by tools/erase. Don't edit it here.
 //! Where the value of each field comes from.
 
-use crate::parse_error_ref::ParseErrorRef;
+use crate::refusal::Refusal;
 use crate::triple_ref::TripleRef;
+use core::ops::Range;
 
-/// A part of a string, and its range in bytes.
+/// A part of a string, and where it begins there.
 ///
 /// # Examples
 ///
@@ -12,17 +13,30 @@ use crate::triple_ref::TripleRef;
 /// use target_lexicon::TripleRef;
 ///
 /// let text = "x86_64-linux-foo";
-/// let part = TripleRef::explain(text).unwrap_err().part;
-/// assert_eq!(&text[part.start..part.end], part.text);
+/// let part = TripleRef::from_str(text).unwrap_err().part;
+/// assert_eq!(&text[part.range()], part.text);
 /// ```
 #[derive(Clone, Copy, Debug, PartialEq, Eq)]
 pub struct TextPart<'a> {
-    /// The bytes from `start` up to `end`.
+    /// The bytes of the part.
     pub text: &'a str,
-    /// The index of the first byte.
+    /// The index of its first byte in the string.
     pub start: usize,
-    /// The index of the byte after the last.
-    pub end: usize,
+}
+
+impl<'a> TextPart<'a> {
+    /// The range of the part in the string, in bytes.
+    ///
+    /// # Examples
+    ///
+    /// ```
+    /// use target_lexicon::TextPart;
+    ///
+    /// assert_eq!(TextPart { text: "foo", start: 13 }.range(), 13..16);
+    /// ```
+    pub fn range(&self) -> Range<usize> {
+        self.start..self.start.saturating_add(self.text.len())
+    }
 }
 
 /// Where the value of a field comes from.
@@ -32,7 +46,7 @@ pub struct TextPart<'a> {
 /// ```
 /// use target_lexicon::{Source, TripleRef};
 ///
-/// let explanation = TripleRef::explain("x86_64-linux").unwrap();
+/// let explanation = TripleRef::explain("x86_64-linux");
 /// assert_eq!(explanation.sources.environment, Source::NotGiven);
 /// ```
 #[derive(Clone, Copy, Debug, PartialEq, Eq)]
@@ -52,7 +66,7 @@ pub enum Source<'a> {
 /// ```
 /// use target_lexicon::{Source, TripleRef};
 ///
-/// match TripleRef::explain("x86_64-linux").unwrap().sources.architecture {
+/// match TripleRef::explain("x86_64-linux").sources.architecture {
 ///     Source::Part(part) => assert_eq!(part.text, "x86_64"),
 ///     other => panic!("{other:?}"),
 /// }
@@ -71,42 +85,23 @@ pub struct Sources<'a> {
     pub binary_format: Source<'a>,
 }
 
-/// A triple, and where each of its fields comes from.
+/// What a string parses as, or why it is refused; and where each field comes from.
 ///
 /// # Examples
 ///
 /// ```
 /// use target_lexicon::{BinaryFormat, Source, TripleRef};
 ///
-/// let explanation = TripleRef::explain("x86_64-linux").unwrap();
-/// assert_eq!(explanation.triple.binary_format, BinaryFormat::Elf);
+/// let explanation = TripleRef::explain("x86_64-linux");
+/// assert_eq!(explanation.triple.unwrap().binary_format, BinaryFormat::Elf);
 /// assert_eq!(explanation.sources.binary_format, Source::Implied);
 /// ```
 #[derive(Clone, Copy, Debug, PartialEq, Eq)]
 pub struct Explanation<'a> {
-    /// The triple that the string parses as.
-    pub triple: TripleRef<'a>,
-    /// The source of each field.
-    pub sources: Sources<'a>,
-}
-
-/// Why a string is refused.
-///
-/// # Examples
-///
-/// ```
-/// use target_lexicon::TripleRef;
-///
-/// let error = TripleRef::explain("x86_64-linux-foo").unwrap_err();
-/// assert_eq!((error.part.text, error.error.to_string().as_str()), ("foo", "Unrecognized environment: foo"));
-/// ```
-#[derive(Clone, Copy, Debug, PartialEq, Eq)]
-pub struct ExplainedError<'a> {
-    /// The refusal. Its kind says what was expected.
-    pub error: ParseErrorRef<'a>,
-    /// The refused part.
-    pub part: TextPart<'a>,
-    /// Which parts before the refused one are of which field. Every other field is `NotGiven`.
+    /// The triple that the string parses as, or why it is refused.
+    pub triple: Result<TripleRef<'a>, Refusal<'a>>,
+    /// The source of each field. If the string is refused, it says which parts before the refused one are of which field,
+    /// and every other field is `NotGiven`.
     pub sources: Sources<'a>,
 }
 

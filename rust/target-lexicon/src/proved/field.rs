@@ -8,8 +8,8 @@
 /// ```
 /// use target_lexicon::{Field, TripleRef};
 ///
-/// let error = TripleRef::from_str("x86_64-unknown-foo").unwrap_err();
-/// assert_eq!(error.expected(), Some(Field::OperatingSystem));
+/// let refusal = TripleRef::from_str("x86_64-unknown-foo").unwrap_err();
+/// assert_eq!(refusal.expected, Some(Field::OperatingSystem));
 /// ```
 #[derive(Clone, Copy, Debug, PartialEq, Eq)]
 pub enum Field {

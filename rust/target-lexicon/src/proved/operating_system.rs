@@ -1,10 +1,9 @@
 // Erased from crates/lexicon_fields/src/operating_system.rt by tools/erase. Don't edit it here.
 //! The operating systems.
-// Hints of inlining: `from_row` takes a row, which is wide; those of `parse_by_prefix` and `version_after` save 2 % of mode
-// `print`'s instructions.
+// The hints of inlining save 2 % of mode `print`'s instructions.
 
 use crate::deployment_target::{version_text, DeploymentTarget, MAX_VERSION_LENGTH};
-use crate::table::{fixed_row, FixedRow};
+use crate::table::fixed_row;
 use core::fmt;
 use core::str::FromStr;
 
@@ -112,23 +111,18 @@ impl OperatingSystem {
     /// A string is a fixed name, or the prefix of a system like Darwin with nothing or a version after it: one to three
     /// pieces between dots, each an optional plus and digits, the first at most 65535, the others at most 255.
     pub(crate) fn from_str(s: &str) -> Result<Self, ()> {
-        OperatingSystem::from_row(s, fixed_row(s)).ok_or(())
-    }
-
-    /// The system that a string parses as, given its row in the table of names. A string without a row may be a system
-    /// like Darwin with a version.
-    #[inline(always)]
-    pub(crate) fn from_row(text: &str, row: Option<FixedRow>) -> Option<Self> {
-        match row {
-            Some(row) => row.operating_system,
-            None => OperatingSystem::parse_darwin_like(text),
+        match OperatingSystem::parse_darwin_like(s) {
+            Some(system) => Ok(system),
+            None => match fixed_row(s) {
+                Some(row) => row.operating_system.ok_or(()),
+                None => Err(()),
+            },
         }
     }
 
     /// The system like Darwin that the string parses as, if any: one with an optional version. Most other strings are
     /// refused by their first letter.
-    #[doc(hidden)]
-    pub fn parse_darwin_like(s: &str) -> Option<Self> {
+    pub(crate) fn parse_darwin_like(s: &str) -> Option<Self> {
         match s.as_bytes().first() {
             Some(b'd' | b'i' | b'm' | b't' | b'v' | b'w' | b'x') => {
                 OperatingSystem::parse_by_prefix(s)

@@ -15,7 +15,7 @@ use crate::{Architecture, BinaryFormat, Environment, KnownVendor, OperatingSyste
 /// let triple = TripleRef::from_str("x86_64-acme-linux")?;
 /// assert_eq!(triple.vendor, VendorRef::Custom("acme"));
 /// assert_eq!(triple.operating_system, OperatingSystem::Linux);
-/// # Ok::<(), target_lexicon::ParseErrorRef<'static>>(())
+/// # Ok::<(), target_lexicon::Refusal<'static>>(())
 /// ```
 #[derive(Clone, Copy, Debug, PartialEq, Eq, Hash)]
 pub struct TripleRef<'a> {

@@ -1,10 +1,9 @@
 // Erased from crates/lexicon_fields/src/vendor_ref.rt by tools/erase. Don't edit it here.
 //! The vendors, of which a custom one borrows its string.
-// Hint of inlining: `from_row` takes a row, which is wide.
 
 use crate::known_vendor::KnownVendor;
 use crate::operating_system::OperatingSystem;
-use crate::table::{fixed_row, FixedRow};
+use crate::table::fixed_row;
 use crate::vendor::Vendor;
 use core::fmt;
 
@@ -37,29 +36,16 @@ impl<'a> VendorRef<'a> {
     /// assert_eq!(VendorRef::from_str("ACME"), Err(()));
     /// ```
     pub fn from_str(text: &'a str) -> Result<VendorRef<'a>, ()> {
-        let row = fixed_row(text);
-        let system = OperatingSystem::from_row(text, row);
-        VendorRef::from_row(text, row, system).ok_or(())
-    }
-
-    /// The vendor that a string parses as, given its row in the table of names and the system that it parses as. A
-    /// string without a row that is no system may be a custom vendor.
-    #[inline(always)]
-    pub(crate) fn from_row(
-        text: &'a str,
-        row: Option<FixedRow>,
-        system: Option<OperatingSystem>,
-    ) -> Option<VendorRef<'a>> {
-        match row {
+        match fixed_row(text) {
             Some(row) => match row.vendor {
-                Some(known) => Some(VendorRef::Known(known)),
-                None => None,
+                Some(known) => Ok(VendorRef::Known(known)),
+                None => Err(()),
             },
             None => {
-                if system.is_none() && has_vendor_form(text) {
-                    Some(VendorRef::Custom(text))
+                if has_vendor_form(text) && OperatingSystem::parse_darwin_like(text).is_none() {
+                    Ok(VendorRef::Custom(text))
                 } else {
-                    None
+                    Err(())
                 }
             }
         }

@@ -11,22 +11,6 @@ pub returns-clause-prefix_keys : goal.returns-clause-prefix_keys
 unfolding row_texts
 returns-clause-prefix_keys c = refl
 
-pub returns-clause-architectures : goal.returns-clause-architectures
-unfolding row_texts architecture_of
-returns-clause-architectures c = refl
-
-pub returns-clause-vendors : goal.returns-clause-vendors
-unfolding row_texts known_vendor_of
-returns-clause-vendors c = refl
-
-pub returns-clause-operating_systems : goal.returns-clause-operating_systems
-unfolding row_texts fixed_operating_system_of
-returns-clause-operating_systems c = refl
-
-pub returns-clause-environments : goal.returns-clause-environments
-unfolding row_texts environment_of
-returns-clause-environments c = refl
-
-pub returns-clause-binary_formats : goal.returns-clause-binary_formats
-unfolding row_texts binary_format_of
-returns-clause-binary_formats c = refl
+pub returns-clause-meanings : goal.returns-clause-meanings
+unfolding row_texts architecture_of known_vendor_of fixed_operating_system_of environment_of binary_format_of
+returns-clause-meanings c = refl

@@ -1,5 +1,9 @@
-use Rattle.std.proofs.Common.{rules, ◌≡◌, ap}
+use Rattle.std.proofs.Common.{rules, ◌≡◌, ◌↔◌, Bool, Result, Ok, Err, ap}
+use Rattle.std.specs.Prelude.{IsTrue}
+use Rattle.std.specs.Result.{result_eq}
 use Rattle.std.proofs.lemmas.Bool.Decides.{Decides-like, Decides-and}
+use Rattle.target_lexicon.specs.{declared.refusal.Refusal.Refusal, declared.triple_ref.TripleRef.TripleRef, Values.Values}
+use Rattle.target_lexicon.specs.ValuesRef.{PlacedRefusal, placed_outcome, placed_refusal, values_of_ref}
 use Rattle.target_lexicon.specs.Explanation.{SourceValues, source_values, sources_of}
 use Rattle.target_lexicon.proofs.laws.explanations_are_equal_by_value.Goals as goal
 
@@ -25,12 +29,24 @@ returns-clause-sources c x y =
     (Decides-and _ _ (source x.environment y.environment)
     (source x.binary_format y.binary_format)))))
 
+abbrev ok_value : Values → Result Values PlacedRefusal → Values
+ok_value v (Ok w) = w
+ok_value v (Err w) = v
+
+abbrev err_value : PlacedRefusal → Result Values PlacedRefusal → PlacedRefusal
+err_value v (Ok w) = v
+err_value v (Err w) = w
+
+module _ (eq_triple : TripleRef → TripleRef → Bool) (eq_refusal : Refusal → Refusal → Bool)
+    (triples : (x y : TripleRef) → IsTrue (eq_triple x y) ↔ (values_of_ref x ≡ values_of_ref y))
+    (refusals : (x y : Refusal) → IsTrue (eq_refusal x y) ↔ (placed_refusal x ≡ placed_refusal y)) where
+  outcomes : (x y : Result TripleRef Refusal) → IsTrue (result_eq eq_triple eq_refusal x y) ↔ (placed_outcome x ≡ placed_outcome y)
+  outcomes (Ok x) (Ok y) = Decides-like _ (λ same. ap Ok same) (λ same. ap (ok_value (values_of_ref x)) same) (triples x y)
+  outcomes (Err x) (Err y) = Decides-like _ (λ same. ap Err same) (λ same. ap (err_value (placed_refusal x)) same) (refusals x y)
+  outcomes (Ok x) (Err y) = ((λ same. cc), (λ same. cc))
+  outcomes (Err x) (Ok y) = ((λ same. cc), (λ same. cc))
+
 pub returns-clause-explanation : goal.returns-clause-explanation
 returns-clause-explanation c x y =
-    Decides-and _ _ (c.triple_refs_are_equal_by_value.ensures x.triple y.triple) (returns-clause-sources c x.sources y.sources)
-
-pub returns-clause-error : goal.returns-clause-error
-returns-clause-error c x y =
-    Decides-like _ (λ same. (same.0, same.1.0, same.1.1)) (λ same. (same.0, (same.1, same.2)))
-    (Decides-and _ _ (c.error_refs_are_equal_by_value.ensures x.error y.error)
-    (Decides-and _ _ (returns-clause-part c x.part y.part) (returns-clause-sources c x.sources y.sources)))
+    Decides-and _ _ (outcomes _ _ c.triple_refs_are_equal_by_value.ensures c.refusals_are_equal_by_value.ensures x.triple y.triple)
+    (returns-clause-sources c x.sources y.sources)

@@ -1,6 +1,6 @@
 -- The answer to a line is what is shown of its triple, or its refusal.
 use Rattle.std.proofs.Common.{◌≡◌, ◌++◌, ◌∙◌, ap, refl, codes, string_bytes, rules}
-use Rattle.target_lexicon.specs.{Printing.text_of, Refusal.refusal_line, Values.Values, ValuesRef.values_of_ref, ValuesRef.refusal_of_ref}
+use Rattle.target_lexicon.specs.{Printing.text_of, Refusal.refusal_line, Values.Values, ValuesRef.values_of_ref, ValuesRef.refusal_value}
 use Rattle.triples.specs.Output.{Answer, Shown, Refused, IsAnswer, answer_bytes}
 use Rattle.triples.specs.Private.{shown_text}
 use Rattle.triples.proofs.AnswerLemmas.{answer-adds}
@@ -26,7 +26,7 @@ returns c =
             ap string_bytes w.output-is ∙ rw w.in-Settle.is (w.in_ok-write-in-Settle.ensures.bytes ∙ ap (λ (u : Values). old ++ text_of u) w.settle.ensures.steps),
           )
       | in-Err+in_ok-push_refusal-in-Err w ↦
-          let refusal = refusal_of_ref w.in-Err.refusal in (
+          let refusal = refusal_value w.in-Err.refusal in (
             Refused (codes "error: " ++ refusal_line refusal),
             (refusal, w.in-Err.ensures.err, refl),
             ap string_bytes w.output-is ∙ w.in_ok-push_refusal-in-Err.ensures,

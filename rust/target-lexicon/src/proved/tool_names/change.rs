@@ -1,8 +1,8 @@
 // Erased from crates/tool_names/src/change.rt by tools/erase. Don't edit it here.
 //! What is changed in a string that is spelled like a triple.
 
-use crate::tool_names::spelling::{first_at_end, first_part, first_spelling, Spelling};
-use crate::TextPart;
+use crate::tool_names::spelling::{first_at_end, first_spelling, Spelling};
+use crate::{first_part, TextPart};
 
 /// A part of a string that is another spelling of known names, or a second part that states no vendor.
 ///

@@ -39,6 +39,6 @@ pub use name::Name;
 #[cfg(feature = "tool_names")]
 pub use names::NameError;
 #[cfg(feature = "tool_names")]
-pub use reading::{read, ReadError};
+pub use reading::read;
 pub use spelling::Spelling;
 pub use suggestions::suggestion;

@@ -1,8 +1,8 @@
 // Erased from crates/tool_names/src/names_left.rt by tools/erase. Don't edit it here.
 //! The names of a string that are left while it is read.
 
-use crate::tool_names::spelling::{first_part, Name, Spelling};
-use crate::{BinaryFormat, Environment, Field, KnownVendor, OperatingSystem, VendorRef};
+use crate::first_part;
+use crate::tool_names::spelling::{Name, Spelling};
 
 /// The first name that is left, the others of its part, and what follows the part.
 #[derive(Clone, Copy)]
@@ -12,13 +12,6 @@ pub(crate) struct Left<'a> {
     pub name: Name<'a>,
     pub others: Option<&'static str>,
     pub rest: Option<&'a str>,
-}
-
-/// The names that are left, and the last field that took one.
-#[derive(Clone, Copy)]
-pub(crate) struct NameCursor<'a> {
-    pub last: Field,
-    pub left: Option<Left<'a>>,
 }
 
 impl<'a> Left<'a> {
@@ -47,7 +40,7 @@ impl<'a> Left<'a> {
     }
 
     /// The names that are left after the first.
-    fn next(&self) -> Option<Left<'a>> {
+    pub(crate) fn next(&self) -> Option<Left<'a>> {
         match self.others {
             Some(names) => {
                 let (name, others) = first_part(names);
@@ -63,55 +56,5 @@ impl<'a> Left<'a> {
                 None => None,
             },
         }
-    }
-}
-
-impl<'a> NameCursor<'a> {
-    /// Takes the first name that is left, if it parses as a vendor.
-    pub(crate) fn take_vendor(&mut self) -> VendorRef<'a> {
-        if let Some(left) = self.left {
-            if let Some(vendor) = left.name.vendor() {
-                self.last = Field::Vendor;
-                self.left = left.next();
-                return vendor;
-            }
-        }
-        VendorRef::Known(KnownVendor::Unknown)
-    }
-
-    /// Takes the first name that is left, if it parses as an operating system.
-    pub(crate) fn take_operating_system(&mut self) -> OperatingSystem {
-        if let Some(left) = self.left {
-            if let Some(operating_system) = left.name.operating_system() {
-                self.last = Field::OperatingSystem;
-                self.left = left.next();
-                return operating_system;
-            }
-        }
-        OperatingSystem::Unknown
-    }
-
-    /// Takes the first name that is left, if it parses as an environment.
-    pub(crate) fn take_environment(&mut self) -> Environment {
-        if let Some(left) = self.left {
-            if let Some(environment) = left.name.environment() {
-                self.last = Field::Environment;
-                self.left = left.next();
-                return environment;
-            }
-        }
-        Environment::Unknown
-    }
-
-    /// Takes the first name that is left, if it parses as a binary format.
-    pub(crate) fn take_binary_format(&mut self) -> Option<BinaryFormat> {
-        if let Some(left) = self.left {
-            if let Some(binary_format) = left.name.binary_format() {
-                self.last = Field::BinaryFormat;
-                self.left = left.next();
-                return Some(binary_format);
-            }
-        }
-        None
     }
 }

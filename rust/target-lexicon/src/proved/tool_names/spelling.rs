@@ -2,34 +2,21 @@
 //! Other spellings of the parts of a triple.
 
 use crate::tool_names::macos::{macos_version, MacOsVersion};
-use crate::{
-    fixed_row, Architecture, BinaryFormat, Environment, OperatingSystem, TextPart, VendorRef,
-};
+use crate::{first_part, fixed_row, Architecture, OperatingSystem, Reading, Refusal, TextPart};
 use core::fmt;
 
-/// A part of a string, and what follows its dash, if it has one.
-pub(crate) fn first_part(text: &str) -> (&str, Option<&str>) {
-    match text.split_once('-') {
-        Some((part, rest)) => (part, Some(rest)),
-        None => (text, None),
-    }
-}
-
-/// The first part of the end of a string, and its range in the string.
+/// The first part of the end of a string, and where it begins in the string.
 pub(crate) fn first_at_end<'a>(text: &str, end: &'a str) -> TextPart<'a> {
     let part = first_part(end).0;
-    let start = text.len().saturating_sub(end.len());
     TextPart {
         text: part,
-        start,
-        end: start + part.len(),
+        start: text.len().saturating_sub(end.len()),
     }
 }
 
 /// Whether a part is a name of some field, other than a custom vendor.
 fn is_known_name(part: &str) -> bool {
-    let row = fixed_row(part);
-    row.is_some() || OperatingSystem::from_row(part, row).is_some()
+    fixed_row(part).is_some() || OperatingSystem::from_str(part).is_ok()
 }
 
 /// The value of the first row with this name.
@@ -85,32 +72,15 @@ pub struct Spelling<'a> {
 }
 
 impl<'a> Name<'a> {
-    /// What the name parses as in each field.
-    pub(crate) fn vendor(&self) -> Option<VendorRef<'a>> {
+    /// Gives the name, which this part spells, to a reading.
+    pub(crate) fn give(
+        &self,
+        reading: &mut Reading<'a>,
+        part: TextPart<'a>,
+    ) -> Result<(), Refusal<'a>> {
         match *self {
-            Name::Text(text) => VendorRef::from_str(text).ok(),
-            Name::MacOs(_) => None,
-        }
-    }
-
-    pub(crate) fn operating_system(&self) -> Option<OperatingSystem> {
-        match *self {
-            Name::Text(text) => OperatingSystem::from_str(text).ok(),
-            Name::MacOs(it) => Some(OperatingSystem::MacOSX(Some(it.version))),
-        }
-    }
-
-    pub(crate) fn environment(&self) -> Option<Environment> {
-        match *self {
-            Name::Text(text) => Environment::from_str(text).ok(),
-            Name::MacOs(_) => None,
-        }
-    }
-
-    pub(crate) fn binary_format(&self) -> Option<BinaryFormat> {
-        match *self {
-            Name::Text(text) => BinaryFormat::from_str(text).ok(),
-            Name::MacOs(_) => None,
+            Name::Text(name) => reading.take(name, part),
+            Name::MacOs(it) => reading.take_system(OperatingSystem::MacOSX(Some(it.version)), part),
         }
     }
 

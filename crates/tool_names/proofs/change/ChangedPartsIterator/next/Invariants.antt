@@ -1,5 +1,6 @@
+use Rattle.target_lexicon.specs.Placement.{parts_after}
 use Rattle.std.proofs.Common.{◌≡◌, length}
-use Rattle.tool_names.specs.Changes.{changes_left, parts_after}
+use Rattle.tool_names.specs.Changes.{changes_left}
 use Rattle.tool_names.proofs.change.ChangedPartsIterator.next.Given as goal
 
 abbrev pub invariant-loop-self : goal.invariant-loop-self

@@ -1,0 +1,204 @@
+//! Reading: a state that takes one name after the other, each spelled by a part of the string.
+ghost use Rattle.std.specs.Prelude.{◌≡◌, ◌∷◌, [], ℕ, List, Some, Ok, Err, IfOk, IfErr, option_map};
+ghost use Rattle.std.specs.Option.{option_map_or};
+ghost use Rattle.target_lexicon.specs.Explanation.{SourceValue, FromPart, part_value, same_sources, source_value, sources_of, NotGiven, Implied};
+ghost use Rattle.target_lexicon.specs.Reading.{expected_after};
+ghost use Rattle.target_lexicon.specs.Refusal.{refusal_with};
+ghost use Rattle.target_lexicon.specs.Resumed.{HasOpenFormat, IsSystemName, NamedPart, named, resumed, resumed_left, resumed_sources, with_source};
+ghost use Rattle.target_lexicon.specs.Field as field;
+ghost use Rattle.target_lexicon.specs.Values.{unknown_values};
+ghost use Rattle.target_lexicon.specs.ValuesRef.{values_of_ref};
+
+use crate::explanation::{Source, Sources, TextPart};
+use crate::read::expected_after;
+use crate::refusal::Refusal;
+use crate::triple_ref::TripleRef;
+use lexicon_fields::{Architecture, Field, OperatingSystem, Steps, VendorRef, fixed_row};
+
+/// The fields that the names so far fill, the others `Unknown`; and the first field that is still open.
+#[derive(Clone, Copy)]
+pub struct Reading<'a> {
+    pub expected: Option<Field>,
+    pub triple: TripleRef<'a>,
+    pub sources: Sources<'a>,
+}
+
+impl<'a> Reading<'a> {
+    pub fn start() -> Reading<'a>
+        ensures expected { result.expected ≡ Some field.Architecture }
+        ensures values { values_of_ref result.triple ≡ unknown_values }
+        ensures sources { sources_of result.sources ≡ same_sources NotGiven }
+    {
+        Reading {
+            expected: Some(Field::Architecture),
+            triple: TripleRef::unknown(),
+            sources: Sources::all(Source::NotGiven),
+        }
+    }
+
+    /// Notes that this part fills a field.
+    #[inline(always)]
+    fn fill(&mut self, field: Field, part: TextPart<'a>)
+        ensures expected { self.new.expected ≡ expected_after field }
+        ensures triple { self.new.triple ≡ self.old.triple }
+        ensures sources { sources_of self.new.sources
+            ≡ with_source field (FromPart (part_value part.entry)) (sources_of self.old.sources) }
+    {
+        self.expected = expected_after(field);
+        let source = Source::Part(part);
+        match field {
+            Field::Architecture => self.sources.architecture = source,
+            Field::Vendor => self.sources.vendor = source,
+            Field::OperatingSystem => self.sources.operating_system = source,
+            Field::Environment => self.sources.environment = source,
+            Field::BinaryFormat => self.sources.binary_format = source,
+        }
+    }
+
+    /// Takes a name into the first field that is open and that it parses as. `Err` if there is none; nothing changes then. A
+    /// name that has a row in the table of names is looked up once, and the comparisons aren't counted.
+    #[inline(always)]
+    pub fn take(&mut self, name: &'a str, part: TextPart<'a>) -> Result<(), Refusal<'a>>
+        ensures taken { IfOk result (λ _. (names : List (List ℕ)) →
+            resumed self.old.expected (values_of_ref self.old.triple) (name.entry.now ∷ names)
+            ≡ resumed self.new.expected (values_of_ref self.new.triple) names) }
+        ensures refused { IfErr result (λ it. (names : List (List ℕ)) →
+            resumed self.old.expected (values_of_ref self.old.triple) (name.entry.now ∷ names)
+            ≡ Err (refusal_with it.expected name.entry.now)) }
+        ensures taken_left { IfOk result (λ _. (others : List NamedPart) →
+            resumed_left self.old.expected (named name.entry.now part.entry ∷ others)
+            ≡ resumed_left self.new.expected others) }
+        ensures refused_left { IfErr result (λ _. (others : List NamedPart) →
+            resumed_left self.old.expected (named name.entry.now part.entry ∷ others)
+            ≡ named name.entry.now part.entry ∷ others) }
+        ensures taken_sources { IfOk result (λ _. (unfilled : SourceValue)
+            (others : List NamedPart) →
+            resumed_sources unfilled self.old.expected
+            (sources_of self.old.sources) (named name.entry.now part.entry ∷ others)
+            ≡ resumed_sources unfilled self.new.expected
+            (sources_of self.new.sources) others) }
+        ensures refused_sources { IfErr result (λ _. (others : List NamedPart)
+            → HasOpenFormat self.old.expected (sources_of self.old.sources)
+            → resumed_sources NotGiven self.old.expected (sources_of self.old.sources)
+            (named name.entry.now part.entry ∷ others) ≡ sources_of self.old.sources) }
+        ensures format { HasOpenFormat self.old.expected (sources_of self.old.sources)
+            → HasOpenFormat self.new.expected (sources_of self.new.sources) }
+        ensures same { IfErr result (λ _. self.new ≡ self.old) }
+        ensures part { IfErr result (λ it. part_value it.part ≡ part_value part.entry) }
+    {
+        match self.expected {
+            Some(Field::Architecture) => {
+                if let Ok(architecture) = Architecture::from_str(name) {
+                    self.triple.architecture = architecture;
+                    self.fill(Field::Architecture, part);
+                    return Ok(());
+                }
+            }
+            Some(expected) => match fixed_row(name, &mut Steps::new()) {
+                Some(row) => {
+                    if expected == Field::Vendor {
+                        if let Some(vendor) = row.vendor {
+                            self.triple.vendor = VendorRef::Known(vendor);
+                            self.fill(Field::Vendor, part);
+                            return Ok(());
+                        }
+                    }
+                    if matches!(expected, Field::Vendor | Field::OperatingSystem) {
+                        if let Some(operating_system) = row.operating_system {
+                            self.triple.operating_system = operating_system;
+                            self.fill(Field::OperatingSystem, part);
+                            return Ok(());
+                        }
+                    }
+                    if !matches!(expected, Field::BinaryFormat) {
+                        if let Some(environment) = row.environment {
+                            self.triple.environment = environment;
+                            self.fill(Field::Environment, part);
+                            return Ok(());
+                        }
+                    }
+                    if let Some(binary_format) = row.binary_format {
+                        self.triple.binary_format = binary_format;
+                        self.fill(Field::BinaryFormat, part);
+                        return Ok(());
+                    }
+                }
+                None => {
+                    if expected == Field::Vendor {
+                        if let Ok(vendor) = VendorRef::from_str(name) {
+                            self.triple.vendor = vendor;
+                            self.fill(Field::Vendor, part);
+                            return Ok(());
+                        }
+                    }
+                    if matches!(expected, Field::Vendor | Field::OperatingSystem) {
+                        if let Ok(operating_system) = OperatingSystem::from_str(name) {
+                            self.triple.operating_system = operating_system;
+                            self.fill(Field::OperatingSystem, part);
+                            return Ok(());
+                        }
+                    }
+                }
+            },
+            None => {}
+        }
+        Err(Refusal {
+            expected: self.expected,
+            part,
+        })
+    }
+
+    /// Takes a system that a part spells, as [`take`](Reading::take) takes the system's name. The name is in no string: it
+    /// has no row, and parses as the system.
+    #[tactic(auto, using(crate::proofs::SystemNames::system_no_vendor))]
+    pub fn take_system(
+        &mut self,
+        system: OperatingSystem,
+        part: TextPart<'a>,
+    ) -> Result<(), Refusal<'a>>
+        ensures taken { IfOk result (λ _. (name : List ℕ) (names : List (List ℕ)) →
+            IsSystemName system name →
+            resumed self.old.expected (values_of_ref self.old.triple) (name ∷ names)
+            ≡ resumed self.new.expected (values_of_ref self.new.triple) names) }
+        ensures refused { IfErr result (λ it. (name : List ℕ) (names : List (List ℕ)) →
+            IsSystemName system name →
+            resumed self.old.expected (values_of_ref self.old.triple) (name ∷ names)
+            ≡ Err (refusal_with it.expected name)) }
+        ensures taken_left { IfOk result (λ _. (it : NamedPart) (others : List NamedPart) →
+            IsSystemName system it.name →
+            resumed_left self.old.expected (it ∷ others)
+            ≡ resumed_left self.new.expected others) }
+        ensures refused_left { IfErr result (λ _. (it : NamedPart) (others : List NamedPart) →
+            IsSystemName system it.name →
+            resumed_left self.old.expected (it ∷ others) ≡ it ∷ others) }
+        ensures same { IfErr result (λ _. self.new ≡ self.old) }
+        ensures part { IfErr result (λ it. part_value it.part ≡ part_value part.entry) }
+    {
+        if matches!(self.expected, Some(Field::Vendor | Field::OperatingSystem)) {
+            self.triple.operating_system = system;
+            self.fill(Field::OperatingSystem, part);
+            return Ok(());
+        }
+        Err(Refusal {
+            expected: self.expected,
+            part,
+        })
+    }
+
+    /// The triple of the names so far, and its sources. Without a binary format it has the implied one.
+    #[inline(always)]
+    pub fn finish(self) -> (TripleRef<'a>, Sources<'a>)
+        ensures triple { resumed self.entry.expected (values_of_ref self.entry.triple) []
+            ≡ Ok (values_of_ref result.0) }
+        ensures sources { resumed_sources Implied self.entry.expected
+            (sources_of self.entry.sources) [] ≡ sources_of result.1 }
+    {
+        let mut triple = self.triple;
+        let mut sources = self.sources;
+        if self.expected.is_some() {
+            triple.binary_format = triple.default_binary_format();
+            sources.binary_format = Source::Implied;
+        }
+        (triple, sources)
+    }
+}
