@@ -10,8 +10,7 @@ mod parse_error;
 #[path = "src/proved/mod.rs"]
 mod proved;
 
-use parse_error::ParseError;
-use proved::*;
+use proved::{Architecture, Triple, TripleRef, VendorRef};
 use std::{env, fs, mem, path::Path, time::Duration};
 
 fn main() {

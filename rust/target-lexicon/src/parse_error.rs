@@ -1,5 +1,5 @@
 //! Why a string doesn't parse as a triple.
-use crate::ParseErrorRef;
+use crate::proved::ParseErrorRef;
 use alloc::string::String;
 use core::fmt;
 

@@ -1,9 +1,9 @@
 // Erased from crates/lexicon_c/src/dialects.rt by tools/erase. Don't edit it here.
 //! Names of targets in other tools.
 
-use crate::error::{refusal_status, TextError};
-use crate::triple::{numbers_of, triple_in, Fault, NumberedTriple};
-use target_lexicon::internals::tool_names::{Dialect, Name, NameError, ReadError};
+use crate::proved::error::{refusal_status, TextError};
+use crate::proved::triple::{numbers_of, triple_in, Fault, NumberedTriple};
+use target_lexicon::proved::tool_names::{Dialect, Name, NameError, ReadError};
 
 /// The dialect with this number. 0 is no dialect: that of strings that are spelled like triples.
 pub fn dialect_at(number: u32) -> Option<Option<Dialect>> {
@@ -26,7 +26,7 @@ pub fn read(dialect: Option<Dialect>, text: &str) -> Result<NumberedTriple<'_>, 
             Ok(triple) => Ok(numbers_of(&triple)),
             Err(error) => Err(name_error(error, text)),
         },
-        None => match target_lexicon::internals::tool_names::read(text) {
+        None => match target_lexicon::proved::tool_names::read(text) {
             Ok(triple) => Ok(numbers_of(&triple)),
             Err(error) => Err(part_error(&error)),
         },

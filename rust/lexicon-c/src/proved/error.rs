@@ -1,7 +1,7 @@
 // Erased from crates/lexicon_c/src/error.rt by tools/erase. Don't edit it here.
 //! Why a string is refused, as numbers.
 
-use target_lexicon::internals::{Field, ParseErrorRef, TextPart};
+use target_lexicon::proved::{Field, ParseErrorRef, TextPart};
 
 /// Why a string is refused, and the range of the refused part in bytes.
 #[repr(C)]

@@ -1,7 +1,7 @@
 // Erased from crates/lexicon_c/src/sources.rt by tools/erase. Don't edit it here.
 //! Where the fields of a triple come from in the string, as numbers.
 
-use target_lexicon::internals::{Source, Sources};
+use target_lexicon::proved::{Source, Sources};
 
 /// Where the value of a field comes from: 0 is no part of the string, 1 the part in this range of bytes, 2 the other
 /// fields.

@@ -1,8 +1,8 @@
 // Erased from crates/target_lexicon/src/explanation.rt by tools/erase. Don't edit it here.
 //! Where the value of each field comes from.
 
-use crate::parse_error_ref::ParseErrorRef;
-use crate::triple_ref::TripleRef;
+use crate::proved::parse_error_ref::ParseErrorRef;
+use crate::proved::triple_ref::TripleRef;
 
 /// A part of a string, and its range in bytes.
 ///

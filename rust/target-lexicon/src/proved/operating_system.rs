@@ -3,8 +3,8 @@
 // Hints of inlining: `from_row` takes a row, which is wide; those of `parse_by_prefix` and `version_after` save 2 % of mode
 // `print`'s instructions.
 
-use crate::deployment_target::{version_text, DeploymentTarget, MAX_VERSION_LENGTH};
-use crate::table::{fixed_row, FixedRow};
+use crate::proved::deployment_target::{version_text, DeploymentTarget, MAX_VERSION_LENGTH};
+use crate::proved::table::{fixed_row, FixedRow};
 use core::fmt;
 use core::str::FromStr;
 

@@ -1,9 +1,9 @@
 // Erased from crates/target_lexicon/src/parse_error_ref.rt by tools/erase. Don't edit it here.
 //! Why a string doesn't parse as a triple, with the refused part borrowed.
 
-use crate::display::put;
 use crate::parse_error::ParseError;
-use crate::Field;
+use crate::proved::display::put;
+use crate::proved::Field;
 use core::fmt;
 
 /// Why a string doesn't parse as a triple: the first part that has no place, and the field that was expected there. The

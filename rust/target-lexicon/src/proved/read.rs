@@ -2,10 +2,10 @@
 //! Parsing: the triple of a string, or why it is refused, and the part that each field takes.
 //! Functions are inlined if they return a wide value, so that a caller that drops the sources doesn't compute them.
 
-use crate::explanation::{ExplainedError, Explanation, Source, Sources, TextPart};
-use crate::parse_error_ref::ParseErrorRef;
-use crate::triple_ref::TripleRef;
-use crate::{
+use crate::proved::explanation::{ExplainedError, Explanation, Source, Sources, TextPart};
+use crate::proved::parse_error_ref::ParseErrorRef;
+use crate::proved::triple_ref::TripleRef;
+use crate::proved::{
     fixed_row, Architecture, BinaryFormat, Environment, Field, FixedRow, KnownVendor,
     OperatingSystem, VendorRef,
 };

@@ -2,10 +2,10 @@
 //! The vendors, of which a custom one borrows its string.
 // Hint of inlining: `from_row` takes a row, which is wide.
 
-use crate::known_vendor::KnownVendor;
-use crate::operating_system::OperatingSystem;
-use crate::table::{fixed_row, FixedRow};
-use crate::vendor::Vendor;
+use crate::proved::known_vendor::KnownVendor;
+use crate::proved::operating_system::OperatingSystem;
+use crate::proved::table::{fixed_row, FixedRow};
+use crate::proved::vendor::Vendor;
 use core::fmt;
 
 /// The vendor of a target, of which a custom one borrows its string. It is copied freely and never allocates.

@@ -1,9 +1,9 @@
 // Erased from crates/tool_names/src/reading.rt by tools/erase. Don't edit it here.
 //! Reading a string that is spelled like a triple.
 
-use crate::tool_names::names_left::{Left, NameCursor};
-use crate::tool_names::spelling::{first_at_end, first_part, first_spelling};
-use crate::{expected_after, Architecture, BinaryFormat, Field, ParseErrorRef, TripleRef};
+use crate::proved::tool_names::names_left::{Left, NameCursor};
+use crate::proved::tool_names::spelling::{first_at_end, first_part, first_spelling};
+use crate::proved::{expected_after, Architecture, BinaryFormat, Field, ParseErrorRef, TripleRef};
 
 /// Why a string that is spelled like a triple is refused, and where.
 ///

@@ -1,8 +1,8 @@
 // Erased from crates/tool_names/src/spelling.rt by tools/erase. Don't edit it here.
 //! Other spellings of the parts of a triple.
 
-use crate::tool_names::macos::{macos_version, MacOsVersion};
-use crate::{
+use crate::proved::tool_names::macos::{macos_version, MacOsVersion};
+use crate::proved::{
     fixed_row, Architecture, BinaryFormat, Environment, OperatingSystem, TextPart, VendorRef,
 };
 use core::fmt;
