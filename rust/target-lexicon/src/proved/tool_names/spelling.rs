@@ -72,10 +72,12 @@ pub(crate) enum Name<'a> {
 /// # Examples
 ///
 /// ```
+/// # #[cfg(feature = "tool_names")] {
 /// use target_lexicon::tool_names::changes;
 ///
 /// let spelled = |text| changes(text).map(|it| it.names.to_string()).collect::<Vec<_>>();
 /// assert_eq!(spelled("aarch64-apple-macos13"), ["macosx13"]);
+/// # }
 /// ```
 #[derive(Clone, Copy, Debug, PartialEq, Eq)]
 pub struct Spelling<'a> {
