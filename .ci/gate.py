@@ -53,7 +53,7 @@ LAST = [
 ]
 # Debian's packages of the tools.
 PACKAGES = {
-    "shellcheck": "shellcheck", "pyflakes3": "pyflakes3", "cram3": "python3-cram", "hypothesis": "python3-hypothesis", "cc": "gcc", "c++": "g++",
+    "rustfmt": "rustfmt", "shellcheck": "shellcheck", "pyflakes3": "pyflakes3", "cram3": "python3-cram", "hypothesis": "python3-hypothesis", "cc": "gcc", "c++": "g++",
     "cmake": "cmake", "pkg-config": "pkg-config", "dpkg-deb": "dpkg", "pip": "python3-pip", "ensurepip": "python3-venv", "chromium": "chromium",
     "chromedriver": "chromium-driver", "selenium": "python3-selenium", "mypy": "mypy", "pandas": "python3-pandas",
     "distributed": "python3-distributed", "node": "nodejs", "tsc": "node-typescript", "esbuild": "esbuild", "pypy3": "pypy3",

@@ -11,12 +11,12 @@ PACKAGES = {
     },
     "rust/lexicon-c": {"lexicon_c": ""},
 }
-# What is compiled only with the feature of a module's name: these modules of it. Suggestions need the others.
-FEATURES = {
-    "tool_names": {"change", "dialect", "formats", "name", "names", "names_left", "platform", "reading", "shape", "tables", "tags"},
-}
+# The modules that are compiled only with a feature of their name, and what of each is always compiled: suggestions need it.
+FEATURES = {"tool_names": {"macos", "spelling", "suggestions"}}
+# Modules of the layer that proved files name: what older versions of Rust lack, and the error that owns its text.
+LAYER = {"compat", "parse_error"}
 # Where one package finds the crates of another.
-OUTSIDE = "target_lexicon::internals::"
+OUTSIDE = "target_lexicon::proved::"
 
 # Modules that are left out: laws, the counter of steps, JSON, the host, and the error that has an allocation's failure.
 MODULES = {"laws", "steps", "json", "json_error", "list_error", "macros", "host", "parse_error"}

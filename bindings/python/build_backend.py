@@ -136,7 +136,7 @@ def native_files():
             folders.sort()
             below = os.path.relpath(folder, native()).replace(os.sep, "/")
             yield from (f"{below}/{name}" for name in sorted(names))
-    yield "rust/lexicon-c/Cargo.lock"
+    yield from ("Cargo.toml", "Cargo.lock")
 
 
 def given_library():

@@ -10,8 +10,7 @@ mod parse_error;
 #[path = "src/proved/mod.rs"]
 mod proved;
 
-use parse_error::ParseError;
-use proved::*;
+use proved::{Architecture, Triple, TripleRef, VendorRef};
 use std::{env, fs, mem, path::Path, time::Duration};
 
 fn main() {
@@ -26,8 +25,8 @@ fn main() {
         .expect("cargo sets TARGET");
     let host = TripleRef::from_str(&target).unwrap_or_else(|error| {
         panic!(
-            "the target {target} doesn't parse: {error}. For a target of your own, set TARGET_LEXICON_HOST to the \
-             target whose triple HOST shall be"
+            "the target {target} doesn't parse: {error}. To build for it, set TARGET_LEXICON_HOST to a target that parses, \
+             whose triple HOST shall be"
         )
     });
     let out = env::var_os("OUT_DIR").expect("cargo sets OUT_DIR");

@@ -123,7 +123,8 @@ class Built(Folder):
         ignored = shutil.ignore_patterns("target", "__pycache__", NAME)
         for part in "bindings/python", "rust/lexicon-c", "rust/target-lexicon":
             shutil.copytree(os.path.join(lists.ROOT, part), os.path.join(top, part), ignore=ignored)
-        shutil.copy(os.path.join(lists.ROOT, "LICENSE"), top)
+        for name in "Cargo.toml", "Cargo.lock", "LICENSE":
+            shutil.copy(os.path.join(lists.ROOT, name), top)
         git = ["git", "-C", top, "-c", "user.name=test", "-c", "user.email=test@example.invalid"]
         for words in ["init", "--quiet"], ["add", "."], ["commit", "--quiet", "-m", "sources"]:
             self.assertEqual(run(*git, *words).returncode, 0)

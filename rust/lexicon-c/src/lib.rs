@@ -16,7 +16,7 @@ mod error_text;
 mod header_tests;
 mod lines;
 mod names;
-#[allow(unused_imports)] // the proved files find each other here
+#[allow(unused_imports)] // the proved crate exports more
 mod proved;
 #[cfg(not(test))]
 mod runtime;
@@ -28,8 +28,11 @@ use error_text::{line, line_and_caret, suggestion};
 use lines::settle_lines;
 use names::{c_name, c_reason};
 use proved::triple::CUSTOM_VENDOR;
-use proved::*;
-use target_lexicon::internals::names::field_at;
+use proved::{
+    dialect_at, explain, name_at, name_in, name_suggestion, number_in, parse, print, read, reason, same_target, settle, Fault,
+    FieldSource, FieldSources, NumberedTriple, TextError, TripleFacts, TripleNumbers,
+};
+use target_lexicon::proved::names::field_at;
 use target_lexicon::ParseErrorRef;
 use text::{write_all, write_text, Text};
 

@@ -106,7 +106,7 @@ mod tests {
     use super::*;
     use crate::proved::{name_at, reason};
     use std::ffi::CStr;
-    use target_lexicon::internals::names::{field_at, names};
+    use target_lexicon::proved::names::{field_at, names};
     use target_lexicon::tool_names::{suggestion, Dialect};
     use target_lexicon::Field;
 

@@ -39,13 +39,16 @@ mod owned;
 mod parse_error;
 #[allow(dead_code, unused_imports, unused_variables)]
 // callers in crates/ need more of it, and so do clauses
+#[cfg(not(feature = "internals"))]
 mod proved;
+/// The proved crates, for the packages of the same repository.
+#[allow(dead_code, unused_imports, unused_variables)]
+#[cfg(feature = "internals")]
+#[doc(hidden)]
+pub mod proved;
 #[cfg(feature = "serde_support")]
 mod serde;
 mod suggestion;
-
-#[allow(unused_imports)] // the proved files find each other here
-use proved::*;
 
 pub use canonical::NotPlain;
 pub use host::HOST;
@@ -66,13 +69,6 @@ pub use proved::tool_names;
 #[cfg(doctest)]
 #[doc = include_str!("../README.md")]
 struct Readme;
-
-/// The proved crates, for the packages of the same repository.
-#[cfg(feature = "internals")]
-#[doc(hidden)]
-pub mod internals {
-    pub use crate::proved::*;
-}
 
 /// The triple of a string. Panics if the string is refused.
 ///

@@ -1,6 +1,5 @@
 //! Why a string doesn't parse as a triple.
-use crate::proved::refusal::refusal_prefix;
-use crate::Field;
+use crate::proved::{refusal_prefix, Field};
 use alloc::string::String;
 use core::fmt;
 

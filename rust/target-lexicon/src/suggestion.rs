@@ -1,6 +1,5 @@
 //! The known names of a field, and the one that was perhaps meant.
-use crate::names;
-use crate::tool_names;
+use crate::proved::{names, tool_names};
 use crate::{Field, ParseError, Refusal};
 
 impl Field {

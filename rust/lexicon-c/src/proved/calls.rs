@@ -1,31 +1,27 @@
 // Erased from crates/lexicon_c/src/calls.rt by tools/erase. Don't edit it here.
 //! The calls.
 
-use crate::error::{error_of, TextError};
-use crate::sources::{sources_numbers, FieldSources};
-use crate::triple::{are_equal, numbers_of, triple_in, Fault, NumberedTriple};
-use crate::triple_facts::{facts_of, TripleFacts};
-use target_lexicon::internals::parse_or_locate;
+use crate::proved::error::{error_of, TextError};
+use crate::proved::sources::{sources_numbers, FieldSources};
+use crate::proved::triple::{are_equal, numbers_of, triple_in, Fault, NumberedTriple};
+use crate::proved::triple_facts::{facts_of, TripleFacts};
+use target_lexicon::proved::TripleRef;
 
 /// The triple that a string parses as, or why it is refused.
 pub fn parse(text: &str) -> Result<NumberedTriple<'_>, TextError> {
-    match parse_or_locate(text) {
+    match TripleRef::from_str(text) {
         Ok(parsed) => Ok(numbers_of(&parsed)),
-        Err((refusal, part)) => Err(error_of(&refusal, &part)),
+        Err(refusal) => Err(error_of(&refusal)),
     }
 }
 
 /// The triple that a string parses as, or why it is refused, and where each field comes from.
 pub fn explain(text: &str) -> (Result<NumberedTriple<'_>, TextError>, FieldSources) {
-    match target_lexicon::internals::explain(text) {
-        Ok(explanation) => (
-            Ok(numbers_of(&explanation.triple)),
-            sources_numbers(&explanation.sources),
-        ),
-        Err(refused) => (
-            Err(error_of(&refused.error, &refused.part)),
-            sources_numbers(&refused.sources),
-        ),
+    let explanation = target_lexicon::proved::explain(text);
+    let sources = sources_numbers(&explanation.sources);
+    match explanation.triple {
+        Ok(triple) => (Ok(numbers_of(&triple)), sources),
+        Err(refusal) => (Err(error_of(&refusal)), sources),
     }
 }
 

@@ -1,10 +1,9 @@
 // Erased from crates/lexicon_c/src/dialects.rt by tools/erase. Don't edit it here.
 //! Names of targets in other tools.
 
-use crate::error::{refusal_status, TextError};
-use crate::triple::{numbers_of, triple_in, Fault, NumberedTriple};
-use target_lexicon::internals::tool_names::{Dialect, Name, NameError};
-use target_lexicon::internals::Refusal;
+use crate::proved::error::{error_of, TextError};
+use crate::proved::triple::{numbers_of, triple_in, Fault, NumberedTriple};
+use target_lexicon::proved::tool_names::{Dialect, Name, NameError};
 
 /// The dialect with this number. 0 is no dialect: that of strings that are spelled like triples.
 pub fn dialect_at(number: u32) -> Option<Option<Dialect>> {
@@ -27,9 +26,9 @@ pub fn read(dialect: Option<Dialect>, text: &str) -> Result<NumberedTriple<'_>, 
             Ok(triple) => Ok(numbers_of(&triple)),
             Err(error) => Err(name_error(error, text)),
         },
-        None => match target_lexicon::internals::tool_names::read(text) {
+        None => match target_lexicon::proved::tool_names::read(text) {
             Ok(triple) => Ok(numbers_of(&triple)),
-            Err(error) => Err(part_error(&error)),
+            Err(refusal) => Err(error_of(&refusal)),
         },
     }
 }
@@ -55,15 +54,6 @@ pub fn name_suggestion(dialect: Dialect, name: &str) -> Option<&'static str> {
     match dialect.read(name) {
         Err(NameError::Unknown) => dialect.suggestion(name),
         _ => None,
-    }
-}
-
-/// The refusal of a part of a string, as numbers.
-fn part_error(error: &Refusal<'_>) -> TextError {
-    TextError {
-        status: refusal_status(error.expected),
-        start: error.part.start,
-        end: error.part.end,
     }
 }
 

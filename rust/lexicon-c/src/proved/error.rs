@@ -1,7 +1,7 @@
 // Erased from crates/lexicon_c/src/error.rt by tools/erase. Don't edit it here.
 //! Why a string is refused, as numbers.
 
-use target_lexicon::internals::{Field, ParseErrorRef, TextPart};
+use target_lexicon::proved::{Field, Refusal};
 
 /// Why a string is refused, and the range of the refused part in bytes.
 #[repr(C)]
@@ -13,17 +13,18 @@ pub struct TextError {
     pub end: usize,
 }
 
-/// A refusal and the refused part as numbers.
-pub(crate) fn error_of(refusal: &ParseErrorRef<'_>, part: &TextPart<'_>) -> TextError {
+/// A refusal as numbers.
+pub(crate) fn error_of(refusal: &Refusal<'_>) -> TextError {
+    let range = refusal.range();
     TextError {
-        status: refusal_status(refusal.expected()),
-        start: part.start,
-        end: part.end,
+        status: refusal_status(refusal.expected),
+        start: range.start,
+        end: range.end,
     }
 }
 
 /// The status of a refusal.
-pub(crate) fn refusal_status(expected: Option<Field>) -> u32 {
+fn refusal_status(expected: Option<Field>) -> u32 {
     match expected {
         Some(Field::Architecture) => 1,
         Some(Field::Vendor) => 2,
@@ -34,16 +35,15 @@ pub(crate) fn refusal_status(expected: Option<Field>) -> u32 {
     }
 }
 
-/// The refusal of a part with this status, if there is one.
-pub fn refusal_with(status: u32, part: &str) -> Option<ParseErrorRef<'_>> {
-    let expected = match status {
-        1 => Some(Field::Architecture),
-        2 => Some(Field::Vendor),
-        3 => Some(Field::OperatingSystem),
-        4 => Some(Field::Environment),
-        5 => Some(Field::BinaryFormat),
-        6 => None,
-        _ => return None,
-    };
-    Some(ParseErrorRef::new(expected, part))
+/// What was expected where a refusal has this status, if one has. `None` in it is no field.
+pub fn expected_at(status: u32) -> Option<Option<Field>> {
+    match status {
+        1 => Some(Some(Field::Architecture)),
+        2 => Some(Some(Field::Vendor)),
+        3 => Some(Some(Field::OperatingSystem)),
+        4 => Some(Some(Field::Environment)),
+        5 => Some(Some(Field::BinaryFormat)),
+        6 => Some(None),
+        _ => None,
+    }
 }

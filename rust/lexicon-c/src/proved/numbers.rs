@@ -1,13 +1,13 @@
 // Erased from crates/lexicon_c/src/numbers.rt by tools/erase. Don't edit it here.
 //! The number of a string in one field, and the name of a number.
 
-use crate::triple::vendor_number;
+use crate::proved::triple::vendor_number;
 use core::str::FromStr as _;
-use target_lexicon::internals::names::{
+use target_lexicon::proved::names::{
     architecture_at, architecture_number, binary_format_at, binary_format_number, environment_at,
     environment_number, known_vendor_at, operating_system_at, operating_system_number,
 };
-use target_lexicon::internals::{
+use target_lexicon::proved::{
     Architecture, BinaryFormat, Environment, Field, OperatingSystem, VendorRef,
 };
 

@@ -1,7 +1,7 @@
 // Erased from crates/lexicon_c/src/sources.rt by tools/erase. Don't edit it here.
 //! Where the fields of a triple come from in the string, as numbers.
 
-use target_lexicon::internals::{Source, Sources};
+use target_lexicon::proved::{Source, Sources};
 
 /// Where the value of a field comes from: 0 is no part of the string, 1 the part in this range of bytes, 2 the other
 /// fields.
@@ -32,11 +32,14 @@ fn source_numbers(source: Source<'_>) -> FieldSource {
             start: 0,
             end: 0,
         },
-        Source::Part(part) => FieldSource {
-            origin: 1,
-            start: part.start,
-            end: part.end,
-        },
+        Source::Part(part) => {
+            let range = part.range();
+            FieldSource {
+                origin: 1,
+                start: range.start,
+                end: range.end,
+            }
+        }
         Source::Implied => FieldSource {
             origin: 2,
             start: 0,

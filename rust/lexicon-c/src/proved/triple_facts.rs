@@ -2,11 +2,9 @@
 //! The facts of a triple, as numbers.
 // Hint of inlining: `facts_of` returns a wide value.
 
-use target_lexicon::internals::names::{binary_format_number, family_number};
-use target_lexicon::internals::tool_names::object_format;
-use target_lexicon::internals::{
-    Architecture, CDataModel, CallingConvention, Endianness, TripleRef,
-};
+use target_lexicon::proved::names::{binary_format_number, family_number};
+use target_lexicon::proved::tool_names::object_format;
+use target_lexicon::proved::{Architecture, CDataModel, CallingConvention, Endianness, TripleRef};
 
 /// The sizes of C's types in bytes, by the data model; all 0 if there is none.
 #[repr(C)]

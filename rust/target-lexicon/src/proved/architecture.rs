@@ -10,9 +10,9 @@ mod riscv;
 mod x86_32;
 mod z80;
 
-use crate::endianness::Endianness;
-use crate::pointer_width::PointerWidth;
-use crate::table::fixed_row;
+use crate::proved::endianness::Endianness;
+use crate::proved::pointer_width::PointerWidth;
+use crate::proved::table::fixed_row;
 pub use aarch64::Aarch64Architecture;
 use alloc::borrow::Cow;
 pub use arm::ArmArchitecture;

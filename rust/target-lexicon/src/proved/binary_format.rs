@@ -1,7 +1,7 @@
 // Erased from crates/lexicon_fields/src/binary_format.rt by tools/erase. Don't edit it here.
 //! The binary formats.
 
-use crate::table::fixed_row;
+use crate::proved::table::fixed_row;
 use alloc::borrow::Cow;
 use core::fmt;
 use core::str::FromStr;

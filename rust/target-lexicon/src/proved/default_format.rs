@@ -1,9 +1,9 @@
 // Erased from crates/target_lexicon/src/default_format.rt by tools/erase. Don't edit it here.
 //! The binary format that the other fields imply.
 
-use crate::triple::Triple;
-use crate::triple_ref::TripleRef;
-use crate::{Architecture, BinaryFormat, Environment, OperatingSystem};
+use crate::proved::triple::Triple;
+use crate::proved::triple_ref::TripleRef;
+use crate::proved::{Architecture, BinaryFormat, Environment, OperatingSystem};
 
 /// The binary format that the architecture, the operating system and the environment imply. The triple's own format
 /// doesn't matter.

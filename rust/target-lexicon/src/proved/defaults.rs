@@ -1,7 +1,7 @@
 // Erased from crates/target_lexicon/src/defaults.rt by tools/erase. Don't edit it here.
 //! Triples with a default.
 
-use crate::triple::Triple;
+use crate::proved::triple::Triple;
 
 /// A triple whose default is the host.
 ///

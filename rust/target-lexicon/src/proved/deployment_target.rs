@@ -1,7 +1,7 @@
 // Erased from crates/lexicon_fields/src/deployment_target.rt by tools/erase. Don't edit it here.
 //! The versions of deployment targets.
 
-use crate::decimal::{put_byte, put_decimal};
+use crate::proved::decimal::{put_byte, put_decimal};
 use core::str::from_utf8;
 
 /// The length of the longest version in decimal.

@@ -2,9 +2,9 @@
 //! Printing: what is shown of a triple, as pieces, and how these are written. Functions are inlined if they return a wide
 //! value, or if that saves a hundredth of printing.
 
-use crate::triple::Triple;
-use crate::triple_ref::TripleRef;
-use crate::{
+use crate::proved::triple::Triple;
+use crate::proved::triple_ref::TripleRef;
+use crate::proved::{
     version_text, Architecture, ArmArchitecture, BinaryFormat, DeploymentTarget, Environment,
     KnownVendor, OperatingSystem, VendorRef, MAX_VERSION_LENGTH,
 };

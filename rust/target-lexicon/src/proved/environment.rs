@@ -1,7 +1,7 @@
 // Erased from crates/lexicon_fields/src/environment.rt by tools/erase. Don't edit it here.
 //! The environments.
 
-use crate::table::fixed_row;
+use crate::proved::table::fixed_row;
 use alloc::borrow::Cow;
 use core::fmt;
 use core::str::FromStr;

@@ -1,8 +1,8 @@
 // Erased from crates/target_lexicon/src/explanation.rt by tools/erase. Don't edit it here.
 //! Where the value of each field comes from.
 
-use crate::refusal::Refusal;
-use crate::triple_ref::TripleRef;
+use crate::proved::refusal::Refusal;
+use crate::proved::triple_ref::TripleRef;
 use core::ops::Range;
 
 /// A part of a string, and where it begins there.

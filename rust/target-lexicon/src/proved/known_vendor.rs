@@ -1,7 +1,7 @@
 // Erased from crates/lexicon_fields/src/known_vendor.rt by tools/erase. Don't edit it here.
 //! The known vendors.
 
-use crate::vendor::Vendor;
+use crate::proved::vendor::Vendor;
 
 /// A vendor that has a fixed name.
 ///

@@ -2,8 +2,8 @@
 //! The operating systems.
 // The hints of inlining save 2 % of mode `print`'s instructions.
 
-use crate::deployment_target::{version_text, DeploymentTarget, MAX_VERSION_LENGTH};
-use crate::table::fixed_row;
+use crate::proved::deployment_target::{version_text, DeploymentTarget, MAX_VERSION_LENGTH};
+use crate::proved::table::fixed_row;
 use core::fmt;
 use core::str::FromStr;
 

@@ -1,11 +1,11 @@
 // Erased from crates/target_lexicon/src/queries.rt by tools/erase. Don't edit it here.
 //! Queries for code generators.
 
-use crate::calling_convention::CallingConvention;
-use crate::data_model::CDataModel;
-use crate::triple::Triple;
-use crate::triple_ref::TripleRef;
-use crate::{Architecture, Endianness, Environment, OperatingSystem, PointerWidth};
+use crate::proved::calling_convention::CallingConvention;
+use crate::proved::data_model::CDataModel;
+use crate::proved::triple::Triple;
+use crate::proved::triple_ref::TripleRef;
+use crate::proved::{Architecture, Endianness, Environment, OperatingSystem, PointerWidth};
 
 impl TripleRef<'_> {
     /// The byte order, as [`Triple::endianness`] says.

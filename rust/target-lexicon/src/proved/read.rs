@@ -2,11 +2,11 @@
 //! Parsing: the triple of a string, or why it is refused, and the part that each field takes.
 //! Functions are inlined if they return a wide value, so that a caller that drops the sources doesn't compute them.
 
-use crate::explanation::{Explanation, Source, Sources, TextPart};
-use crate::reading::Reading;
-use crate::refusal::Refusal;
-use crate::triple_ref::TripleRef;
-use crate::Field;
+use crate::proved::explanation::{Explanation, Source, Sources, TextPart};
+use crate::proved::reading::Reading;
+use crate::proved::refusal::Refusal;
+use crate::proved::triple_ref::TripleRef;
+use crate::proved::Field;
 
 /// The first part of a string, and what follows its dash, if it has one.
 #[inline(always)]

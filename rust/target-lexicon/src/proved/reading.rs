@@ -1,11 +1,11 @@
 // Erased from crates/target_lexicon/src/reading.rt by tools/erase. Don't edit it here.
 //! Reading: a state that takes one name after the other, each spelled by a part of the string.
 
-use crate::explanation::{Source, Sources, TextPart};
-use crate::read::expected_after;
-use crate::refusal::Refusal;
-use crate::triple_ref::TripleRef;
-use crate::{fixed_row, Architecture, Field, OperatingSystem, VendorRef};
+use crate::proved::explanation::{Source, Sources, TextPart};
+use crate::proved::read::expected_after;
+use crate::proved::refusal::Refusal;
+use crate::proved::triple_ref::TripleRef;
+use crate::proved::{fixed_row, Architecture, Field, OperatingSystem, VendorRef};
 
 /// The fields that the names so far fill, the others `Unknown`; and the first field that is still open.
 #[derive(Clone, Copy)]

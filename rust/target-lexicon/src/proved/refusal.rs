@@ -1,9 +1,9 @@
 // Erased from crates/target_lexicon/src/refusal.rt by tools/erase. Don't edit it here.
 //! Why a string doesn't parse as a triple.
 
-use crate::display::put;
-use crate::explanation::TextPart;
-use crate::Field;
+use crate::proved::display::put;
+use crate::proved::explanation::TextPart;
+use crate::proved::Field;
 use core::fmt;
 use core::ops::Range;
 

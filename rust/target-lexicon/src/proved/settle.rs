@@ -1,9 +1,9 @@
 // Erased from crates/target_lexicon/src/settle.rt by tools/erase. Don't edit it here.
 //! Round trips of a triple: the five families that don't come back, the normal step, and the canonical form.
 
-use crate::triple::Triple;
-use crate::triple_ref::TripleRef;
-use crate::{
+use crate::proved::triple::Triple;
+use crate::proved::triple_ref::TripleRef;
+use crate::proved::{
     Architecture, BinaryFormat, Environment, KnownVendor, OperatingSystem, Riscv32Architecture,
     Vendor, VendorRef,
 };

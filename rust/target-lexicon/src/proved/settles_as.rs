@@ -1,8 +1,8 @@
 // Erased from crates/target_lexicon/src/settles_as.rt by tools/erase. Don't edit it here.
 //! Whether two borrowed triples have the same canonical form.
 
-use crate::triple::Triple;
-use crate::triple_ref::TripleRef;
+use crate::proved::triple::Triple;
+use crate::proved::triple_ref::TripleRef;
 
 impl Triple {
     /// Whether both triples have the same canonical form. Nothing is moved, copied or allocated. The cases that

@@ -1,8 +1,8 @@
 // Erased from crates/target_lexicon/src/special.rt by tools/erase. Don't edit it here.
 //! The two texts that have a triple of their own.
 
-use crate::triple_ref::TripleRef;
-use crate::{
+use crate::proved::triple_ref::TripleRef;
+use crate::proved::{
     Architecture, ArmArchitecture, BinaryFormat, Environment, KnownVendor, OperatingSystem,
     Riscv32Architecture, VendorRef,
 };

@@ -1,17 +1,17 @@
 // Erased from crates/lexicon_fields/src/table.rt by tools/erase. Don't edit it here.
 //! The table of the fixed names, and of the alias `arm64`. A function is inlined if it returns a wide value.
 
-use crate::architecture::{
+#[allow(unused_imports)]
+use crate::compat::Chunks as _;
+use crate::proved::architecture::{
     Aarch64Architecture, Architecture, ArmArchitecture, CleverArchitecture, Mips32Architecture,
     Mips64Architecture, Riscv32Architecture, Riscv64Architecture, X86_32Architecture,
     Z80Architecture,
 };
-use crate::binary_format::BinaryFormat;
-#[allow(unused_imports)]
-use crate::compat::Chunks as _;
-use crate::environment::Environment;
-use crate::known_vendor::KnownVendor;
-use crate::operating_system::OperatingSystem;
+use crate::proved::binary_format::BinaryFormat;
+use crate::proved::environment::Environment;
+use crate::proved::known_vendor::KnownVendor;
+use crate::proved::operating_system::OperatingSystem;
 use core::cmp::Ordering;
 
 /// The number of rows.

@@ -1,7 +1,7 @@
 // Erased from crates/target_lexicon/src/triple.rt by tools/erase. Don't edit it here.
 //! The type [`Triple`].
 
-use crate::{Architecture, BinaryFormat, Environment, OperatingSystem, Vendor};
+use crate::proved::{Architecture, BinaryFormat, Environment, OperatingSystem, Vendor};
 
 /// A target triple, such as `x86_64-unknown-linux-gnu`. It has five fields, of which its text shows some.
 ///

@@ -1,8 +1,10 @@
 // Erased from crates/target_lexicon/src/triple_ref.rt by tools/erase. Don't edit it here.
 //! The type [`TripleRef`].
 
-use crate::triple::Triple;
-use crate::{Architecture, BinaryFormat, Environment, KnownVendor, OperatingSystem, VendorRef};
+use crate::proved::triple::Triple;
+use crate::proved::{
+    Architecture, BinaryFormat, Environment, KnownVendor, OperatingSystem, VendorRef,
+};
 
 /// A target triple whose custom vendor, if it has one, borrows its string. It is copied freely, and only the calls that
 /// make an owned value need an allocator. The fields are those of [`Triple`].

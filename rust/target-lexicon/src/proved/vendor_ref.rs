@@ -1,10 +1,10 @@
 // Erased from crates/lexicon_fields/src/vendor_ref.rt by tools/erase. Don't edit it here.
 //! The vendors, of which a custom one borrows its string.
 
-use crate::known_vendor::KnownVendor;
-use crate::operating_system::OperatingSystem;
-use crate::table::fixed_row;
-use crate::vendor::Vendor;
+use crate::proved::known_vendor::KnownVendor;
+use crate::proved::operating_system::OperatingSystem;
+use crate::proved::table::fixed_row;
+use crate::proved::vendor::Vendor;
 use core::fmt;
 
 /// The vendor of a target, of which a custom one borrows its string. It is copied freely and never allocates.

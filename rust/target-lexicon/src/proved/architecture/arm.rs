@@ -1,9 +1,9 @@
 // Erased from crates/lexicon_fields/src/architecture/arm.rt by tools/erase. Don't edit it here.
 //! The 32-bit Arm architectures.
 
-use crate::architecture::Architecture;
-use crate::endianness::Endianness;
-use crate::pointer_width::PointerWidth;
+use crate::proved::architecture::Architecture;
+use crate::proved::endianness::Endianness;
+use crate::proved::pointer_width::PointerWidth;
 use alloc::borrow::Cow;
 use core::fmt;
 use core::str::FromStr;

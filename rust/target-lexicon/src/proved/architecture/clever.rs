@@ -1,7 +1,7 @@
 // Erased from crates/lexicon_fields/src/architecture/clever.rt by tools/erase. Don't edit it here.
 //! The Clever architectures.
 
-use crate::architecture::Architecture;
+use crate::proved::architecture::Architecture;
 use alloc::borrow::Cow;
 use core::fmt;
 use core::str::FromStr;

@@ -1,7 +1,7 @@
 // Erased from crates/lexicon_fields/src/architecture/z80.rt by tools/erase. Don't edit it here.
 //! The architectures of the Z80 family.
 
-use crate::architecture::Architecture;
+use crate::proved::architecture::Architecture;
 use alloc::borrow::Cow;
 use core::fmt;
 use core::str::FromStr;

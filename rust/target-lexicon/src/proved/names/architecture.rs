@@ -1,8 +1,8 @@
 // Erased from crates/lexicon_names/src/architecture.rt by tools/erase. Don't edit it here.
 //! The numbers of architectures, and of their families.
 
-use crate::names::value::value_at;
-use crate::{
+use crate::proved::names::value::value_at;
+use crate::proved::{
     Aarch64Architecture, Architecture, ArmArchitecture, CleverArchitecture, Mips32Architecture,
     Mips64Architecture, Riscv32Architecture, Riscv64Architecture, X86_32Architecture,
     Z80Architecture,

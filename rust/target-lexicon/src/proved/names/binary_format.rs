@@ -1,8 +1,8 @@
 // Erased from crates/lexicon_names/src/binary_format.rt by tools/erase. Don't edit it here.
 //! The numbers of binary formats.
 
-use crate::names::value::value_at;
-use crate::BinaryFormat;
+use crate::proved::names::value::value_at;
+use crate::proved::BinaryFormat;
 
 /// The number of a binary format.
 pub fn binary_format_number(binary_format: BinaryFormat) -> u8 {

@@ -1,8 +1,8 @@
 // Erased from crates/lexicon_names/src/environment.rt by tools/erase. Don't edit it here.
 //! The numbers of environments.
 
-use crate::names::value::value_at;
-use crate::Environment;
+use crate::proved::names::value::value_at;
+use crate::proved::Environment;
 
 /// The number of an environment.
 pub fn environment_number(environment: Environment) -> u8 {

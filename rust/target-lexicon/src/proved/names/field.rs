@@ -1,7 +1,7 @@
 // Erased from crates/lexicon_names/src/field.rt by tools/erase. Don't edit it here.
 //! The numbers of the fields.
 
-use crate::Field;
+use crate::proved::Field;
 
 /// The field of this number.
 pub fn field_at(number: u32) -> Option<Field> {

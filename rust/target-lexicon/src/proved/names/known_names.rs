@@ -1,7 +1,7 @@
 // Erased from crates/lexicon_names/src/known_names.rt by tools/erase. Don't edit it here.
 //! The known names of each field.
 
-use crate::Field;
+use crate::proved::Field;
 
 /// The known names of a field, in the order of the values: of the vendors those that are known, and last of the
 /// operating systems those like Darwin, without a version.

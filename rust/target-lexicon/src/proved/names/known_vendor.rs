@@ -1,8 +1,8 @@
 // Erased from crates/lexicon_names/src/known_vendor.rt by tools/erase. Don't edit it here.
 //! The numbers of known vendors.
 
-use crate::names::value::value_at;
-use crate::KnownVendor;
+use crate::proved::names::value::value_at;
+use crate::proved::KnownVendor;
 
 /// The number of a known vendor.
 pub fn known_vendor_number(known_vendor: KnownVendor) -> u8 {

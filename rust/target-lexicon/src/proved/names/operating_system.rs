@@ -1,8 +1,8 @@
 // Erased from crates/lexicon_names/src/operating_system.rt by tools/erase. Don't edit it here.
 //! The numbers of operating systems.
 
-use crate::names::value::value_at;
-use crate::{DeploymentTarget, OperatingSystem};
+use crate::proved::names::value::value_at;
+use crate::proved::{DeploymentTarget, OperatingSystem};
 
 /// The number of an operating system, whatever its version.
 pub fn operating_system_number(system: OperatingSystem) -> u8 {

@@ -1,8 +1,8 @@
 // Erased from crates/tool_names/src/change.rt by tools/erase. Don't edit it here.
 //! What is changed in a string that is spelled like a triple.
 
-use crate::tool_names::spelling::{first_at_end, first_spelling, Spelling};
-use crate::{first_part, TextPart};
+use crate::proved::tool_names::spelling::{first_at_end, first_spelling, Spelling};
+use crate::proved::{first_part, TextPart};
 
 /// A part of a string that is another spelling of known names, or a second part that states no vendor.
 ///
@@ -59,7 +59,7 @@ pub struct ChangedParts<'a> {
     position: Position,
 }
 
-/// What [`read`](crate::tool_names::read) changes in a string: the parts that are other spellings of known names, and these names.
+/// What [`read`](crate::proved::tool_names::read) changes in a string: the parts that are other spellings of known names, and these names.
 /// Nothing is allocated.
 ///
 /// A string that parses without a custom vendor has no changes. A string that is refused has its changes too, since

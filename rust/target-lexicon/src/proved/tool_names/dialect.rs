@@ -1,7 +1,7 @@
 // Erased from crates/tool_names/src/dialect.rt by tools/erase. Don't edit it here.
 //! The dialects: whose names are read and written.
 
-use crate::tool_names::spelling::look_up;
+use crate::proved::tool_names::spelling::look_up;
 use core::fmt;
 use core::str::FromStr;
 
@@ -28,7 +28,7 @@ pub enum Dialect {
     /// `process.platform` and `process.arch` of Node, as packages of npm join them: `linux-x64`. A C library follows in
     /// npm's words: `linux-x64-musl`.
     Node,
-    /// Prefixes of GNU's cross compilers: `x86_64-w64-mingw32`. They are only written; [`read`](crate::tool_names::read) reads them.
+    /// Prefixes of GNU's cross compilers: `x86_64-w64-mingw32`. They are only written; [`read`](crate::proved::tool_names::read) reads them.
     Gnu,
     /// Platforms of Python, as tags of wheels: `manylinux_2_17_x86_64`, `macosx_11_0_arm64`. What
     /// `sysconfig.get_platform()` prints is read too: `macosx-11.0-arm64` means the same as its tag.

@@ -1,7 +1,7 @@
 // Erased from crates/tool_names/src/formats.rt by tools/erase. Don't edit it here.
 //! The object format that toolchains write.
 
-use crate::{Architecture, BinaryFormat, OperatingSystem, TripleRef};
+use crate::proved::{Architecture, BinaryFormat, OperatingSystem, TripleRef};
 
 /// The format of the object files that rustc and LLVM write for a target. It differs from the field `binary_format`,
 /// which is upstream's answer, in these cases:

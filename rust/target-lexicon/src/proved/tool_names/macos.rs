@@ -1,7 +1,7 @@
 // Erased from crates/tool_names/src/macos.rt by tools/erase. Don't edit it here.
 //! The version of macOS after `macos`.
 
-use crate::DeploymentTarget;
+use crate::proved::DeploymentTarget;
 
 /// A version of macOS.
 #[derive(Clone, Copy, Debug, PartialEq, Eq)]

@@ -1,8 +1,8 @@
 // Erased from crates/tool_names/src/name.rt by tools/erase. Don't edit it here.
 //! A name of a target in a dialect.
 
-use crate::tool_names::platform::VersionedSystem;
-use crate::{decimal_text, DeploymentTarget, MAX_DECIMAL_LENGTH};
+use crate::proved::tool_names::platform::VersionedSystem;
+use crate::proved::{decimal_text, DeploymentTarget, MAX_DECIMAL_LENGTH};
 use core::fmt;
 use core::str::from_utf8;
 

@@ -1,15 +1,15 @@
 // Erased from crates/tool_names/src/names.rt by tools/erase. Don't edit it here.
 //! Reading and writing the names of a dialect.
 
-use crate::names::misspelling::{misspelling, TOO_MANY_EDITS};
-use crate::names::nearest::nearer;
-use crate::tool_names::dialect::Dialect;
-use crate::tool_names::name::Name;
-use crate::tool_names::platform::{kept_version, VersionedName, VersionedSystem};
-use crate::tool_names::spelling::look_up;
-use crate::tool_names::tables::Row;
-use crate::tool_names::tags::look_up_tag;
-use crate::TripleRef;
+use crate::proved::names::misspelling::{misspelling, TOO_MANY_EDITS};
+use crate::proved::names::nearest::nearer;
+use crate::proved::tool_names::dialect::Dialect;
+use crate::proved::tool_names::name::Name;
+use crate::proved::tool_names::platform::{kept_version, VersionedName, VersionedSystem};
+use crate::proved::tool_names::spelling::look_up;
+use crate::proved::tool_names::tables::Row;
+use crate::proved::tool_names::tags::look_up_tag;
+use crate::proved::TripleRef;
 
 /// Why a name isn't read.
 ///

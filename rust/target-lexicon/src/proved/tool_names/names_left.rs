@@ -1,8 +1,8 @@
 // Erased from crates/tool_names/src/names_left.rt by tools/erase. Don't edit it here.
 //! The names of a string that are left while it is read.
 
-use crate::first_part;
-use crate::tool_names::spelling::{Name, Spelling};
+use crate::proved::first_part;
+use crate::proved::tool_names::spelling::{Name, Spelling};
 
 /// The first name that is left, the others of its part, and what follows the part.
 #[derive(Clone, Copy)]

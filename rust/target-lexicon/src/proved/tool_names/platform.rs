@@ -1,9 +1,9 @@
 // Erased from crates/tool_names/src/platform.rt by tools/erase. Don't edit it here.
 //! The names of Python's platforms: tags, and names with a version.
 
-use crate::tool_names::spelling::look_up;
-use crate::tool_names::tags::split_once;
-use crate::{DeploymentTarget, OperatingSystem};
+use crate::proved::tool_names::spelling::look_up;
+use crate::proved::tool_names::tags::split_once;
+use crate::proved::{DeploymentTarget, OperatingSystem};
 
 /// A system of Python whose names have a version.
 #[derive(Clone, Copy, Debug, PartialEq, Eq)]

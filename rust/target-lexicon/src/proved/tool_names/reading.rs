@@ -1,9 +1,9 @@
 // Erased from crates/tool_names/src/reading.rt by tools/erase. Don't edit it here.
 //! Reading a string that is spelled like a triple.
 
-use crate::tool_names::names_left::Left;
-use crate::tool_names::spelling::{first_at_end, first_spelling};
-use crate::{first_part, Reading, Refusal, TripleRef};
+use crate::proved::tool_names::names_left::Left;
+use crate::proved::tool_names::spelling::{first_at_end, first_spelling};
+use crate::proved::{first_part, Reading, Refusal, TripleRef};
 
 /// The triple that a string means which is spelled like a triple, as the tools of GNU and LLVM print them. Nothing is
 /// allocated.

@@ -1,8 +1,8 @@
 // Erased from crates/tool_names/src/shape.rt by tools/erase. Don't edit it here.
 //! The shape of a triple in a dialect.
 
-use crate::tool_names::dialect::Dialect;
-use crate::{
+use crate::proved::tool_names::dialect::Dialect;
+use crate::proved::{
     Architecture, ArmArchitecture, DeploymentTarget, Environment, KnownVendor, OperatingSystem,
     Riscv32Architecture, Riscv64Architecture, TripleRef, VendorRef, X86_32Architecture,
 };

@@ -1,8 +1,10 @@
 // Erased from crates/tool_names/src/spelling.rt by tools/erase. Don't edit it here.
 //! Other spellings of the parts of a triple.
 
-use crate::tool_names::macos::{macos_version, MacOsVersion};
-use crate::{first_part, fixed_row, Architecture, OperatingSystem, Reading, Refusal, TextPart};
+use crate::proved::tool_names::macos::{macos_version, MacOsVersion};
+use crate::proved::{
+    first_part, fixed_row, Architecture, OperatingSystem, Reading, Refusal, TextPart,
+};
 use core::fmt;
 
 /// The first part of the end of a string, and where it begins in the string.
@@ -59,10 +61,12 @@ pub(crate) enum Name<'a> {
 /// # Examples
 ///
 /// ```
+/// # #[cfg(feature = "tool_names")] {
 /// use target_lexicon::tool_names::changes;
 ///
 /// let spelled = |text| changes(text).map(|it| it.names.to_string()).collect::<Vec<_>>();
 /// assert_eq!(spelled("aarch64-apple-macos13"), ["macosx13"]);
+/// # }
 /// ```
 #[derive(Clone, Copy, Debug, PartialEq, Eq)]
 pub struct Spelling<'a> {

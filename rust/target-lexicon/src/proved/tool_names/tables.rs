@@ -1,8 +1,8 @@
 // Erased from crates/tool_names/src/tables.rt by tools/erase. Don't edit it here.
 //! The tables of the dialects' names.
 
-use crate::tool_names::dialect::Dialect;
-use crate::tool_names::platform::VersionedSystem;
+use crate::proved::tool_names::dialect::Dialect;
+use crate::proved::tool_names::platform::VersionedSystem;
 
 /// A name and a canonical triple, or a name and why it has no triple.
 pub(crate) type Row = (&'static str, &'static str);
