@@ -19,9 +19,11 @@
    the caller's buffer, with a zero byte after it. `length` may be null; otherwise *length becomes the length of the whole
    string without the zero byte, even if the buffer is too small for it.
 
-   A string or a buffer of size 0 may be null, as with snprintf, and so may `length`; no other pointer may. What a call writes
-   may not overlap any other argument. No call allocates, waits, or stops the program, and nothing is kept or shared between
-   calls. So threads and signal handlers may make calls at any time.
+   A string or a buffer of size 0 may be null, as with snprintf, and so may `length` and `error`; no other pointer may. What a
+   call writes may not overlap any other argument, and no other byte is changed: of a buffer, only the string and its zero byte
+   are written. No memory has more than PTRDIFF_MAX bytes, so a larger size is a mistake: the status is LEXICON_TOO_LARGE
+   whatever else is wrong, or the returned string is null. No call allocates, waits, or stops the program, and nothing is kept
+   or shared between calls. So threads and signal handlers may make calls at any time.
 
    Most calls return a status. Except where a call says otherwise, it writes nothing if the status is not LEXICON_OK. A struct
    with a number that names no value gives LEXICON_NO_SUCH_VALUE, and one with a custom vendor that no string parses as gives
@@ -73,7 +75,8 @@ enum lexicon_status {
   LEXICON_UNKNOWN_NAME = 12,        /* the dialect has no such name */
   LEXICON_NAME_WITHOUT_TRIPLE = 13, /* the dialect has the name, but no triple means the same; lexicon_reason says why */
   LEXICON_TRIPLE_WITHOUT_NAME = 14, /* the dialect has no name for the triple */
-  LEXICON_NO_SUCH_DIALECT = 15      /* the number of a dialect is above 6; for lexicon_write also 0 */
+  LEXICON_NO_SUCH_DIALECT = 15,     /* the number of a dialect is above 6; for lexicon_write also 0 */
+  LEXICON_TOO_LARGE = 16            /* a size is above PTRDIFF_MAX; that of a custom vendor gives LEXICON_NO_SUCH_VENDOR */
 };
 
 /* A tool, or a group of tools, that names targets in its own way. */
@@ -406,7 +409,8 @@ struct lexicon_triple {
 
 /* Why a string is refused: the status, from 1 to 7 or one that lexicon_read names, and where the refused part is. Here and
    below, start and end are byte indices: of the part's first byte, and of the byte after its last. They are equal for an empty
-   part, which may be at the end of the string. In a string that isn't UTF-8, the part is the first bytes that are no character. */
+   part, which may be at the end of the string. In a string that isn't UTF-8, the part is the first bytes that are no character.
+   At LEXICON_TOO_LARGE both are 0. */
 struct lexicon_error {
   uint32_t status; /* enum lexicon_status */
   size_t start, end;
@@ -445,13 +449,14 @@ struct lexicon_triple_facts {
    string parses as, and for its canonical form. arm64 prints as aarch64-unknown-unknown-elf, and no string grows by more. */
 #define LEXICON_MAX_GROWTH 22
 
-/* Parses a string. At LEXICON_OK the triple is written. At any other status, from 1 to 7, the error is written. */
-LEXICON_CHECKED LEXICON_NONNULL(3, 4)
+/* Parses a string. At LEXICON_OK the triple is written. At any other status, from 1 to 7 or LEXICON_TOO_LARGE, the error is
+   written, unless it is null: whoever only asks whether a string parses needs none. */
+LEXICON_CHECKED LEXICON_NONNULL(3)
 enum lexicon_status lexicon_parse(const char *text, size_t text_size, struct lexicon_triple *triple, struct lexicon_error *error);
 
 /* Parses a string, and says where each field comes from. The sources are written at each status; those from the refused part
    on are LEXICON_ORIGIN_NOT_GIVEN. */
-LEXICON_CHECKED LEXICON_NONNULL(3, 4, 5)
+LEXICON_CHECKED LEXICON_NONNULL(3, 4)
 enum lexicon_status lexicon_explain(const char *text, size_t text_size, struct lexicon_triple *triple,
                                     struct lexicon_sources *sources, struct lexicon_error *error);
 
@@ -484,7 +489,8 @@ enum lexicon_status lexicon_same_target(const struct lexicon_triple *first, cons
 LEXICON_CHECKED LEXICON_NONNULL(1, 2)
 enum lexicon_status lexicon_facts(const struct lexicon_triple *triple, struct lexicon_triple_facts *facts);
 
-/* Reads what another tool calls a target. At LEXICON_OK the triple is written. At any other status the error is.
+/* Reads what another tool calls a target. At LEXICON_OK the triple is written. At any other status the error is, unless it is
+   null.
 
    With LEXICON_DIALECT_NONE, the string is spelled like a triple, such as what cc -dumpmachine prints. Some parts are other
    spellings of known names: amd64 is x86_64, w64 is pc, mingw32 is windows-gnu, macos13 is macosx13. Versions of systems other
@@ -495,7 +501,7 @@ enum lexicon_status lexicon_facts(const struct lexicon_triple *triple, struct le
    doesn't state is unknown: linux/arm64 is aarch64-unknown-linux. The status is then LEXICON_OK, LEXICON_UNKNOWN_NAME,
    LEXICON_NAME_WITHOUT_TRIPLE or LEXICON_NOT_UTF8; of the first two refusals, the range is that of the whole name. At
    LEXICON_NO_SUCH_DIALECT it is empty. */
-LEXICON_CHECKED LEXICON_NONNULL(4, 5)
+LEXICON_CHECKED LEXICON_NONNULL(4)
 enum lexicon_status lexicon_read(uint32_t dialect, const char *text, size_t text_size, struct lexicon_triple *triple,
                                  struct lexicon_error *error);
 
@@ -523,16 +529,13 @@ const char *lexicon_name_suggestion(uint32_t dialect, const char *name, size_t n
                    ^^^^ did you mean `linux`?
 
    If the buffer is too small, the status is LEXICON_TOO_SMALL, and the first characters of it are written. An error that
-   isn't one of this string gives LEXICON_NO_SUCH_VALUE, and so does that of LEXICON_NO_SUCH_DIALECT. */
-LEXICON_NONNULL(3)
+   isn't one of this string gives LEXICON_NO_SUCH_VALUE, and so does that of LEXICON_NO_SUCH_DIALECT, and none. */
 enum lexicon_status lexicon_error_line(const char *text, size_t text_size, const struct lexicon_error *error, char *out,
                                        size_t out_size, size_t *length);
-LEXICON_NONNULL(3)
 enum lexicon_status lexicon_error_text(const char *text, size_t text_size, const struct lexicon_error *error, char *out,
                                        size_t out_size, size_t *length);
 
 /* The name that may have been meant by the refused part, of the expected field or a later one; null if there is none. */
-LEXICON_NONNULL(3)
 const char *lexicon_suggestion(const char *text, size_t text_size, const struct lexicon_error *error);
 
 /* The name that may have been meant by a custom vendor, of the vendors and the later fields: linux in x86_64-linx. Null if there
@@ -542,7 +545,8 @@ const char *lexicon_vendor_suggestion(const struct lexicon_triple *triple);
 
 /* The number of the value that a string names in one field, outside any triple. An alias gives the number of its value, a
    custom vendor LEXICON_VENDOR_CUSTOM, and a version is parsed and dropped. If the string names no value of the field, the
-   status is the number of the field plus 1. Otherwise it is LEXICON_OK, LEXICON_NOT_UTF8 or LEXICON_NO_SUCH_FIELD. */
+   status is the number of the field plus 1. Otherwise it is LEXICON_OK, LEXICON_NOT_UTF8, LEXICON_NO_SUCH_FIELD or
+   LEXICON_TOO_LARGE. */
 LEXICON_CHECKED LEXICON_NONNULL(4)
 enum lexicon_status lexicon_number(uint32_t field, const char *text, size_t text_size, uint32_t *number);
 
