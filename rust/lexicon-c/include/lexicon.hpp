@@ -7,8 +7,9 @@
 //       std::cerr << error << '\n';
 //     }
 //
-// A Triple is a value: it owns the name of a custom vendor, can be copied, compared, printed and hashed. A query without an
-// answer is std::nullopt.
+// A Triple is a value: it owns the name of a custom vendor, can be copied, compared, printed and hashed. Each is one of the
+// library's triples: what would make another, such as a number that is no enumerator, gives std::nullopt. So does a query without
+// an answer. Nothing here throws an exception of its own.
 //
 // SPDX-License-Identifier: Apache-2.0 WITH LLVM-exception
 #ifndef LEXICON_HPP
@@ -130,6 +131,11 @@ template <> struct FieldOf<OperatingSystem> { static constexpr Field field = Fie
 template <> struct FieldOf<Environment> { static constexpr Field field = Field::Environment; };
 template <> struct FieldOf<BinaryFormat> { static constexpr Field field = Field::BinaryFormat; };
 
+// The name of a number, empty for a number that has none.
+template <std::size_t Size> constexpr std::string_view name_at(const char* const (&names)[Size], std::size_t number) {
+  return number < Size ? names[number] : "";
+}
+
 template <class Value> std::optional<Value> answer(std::uint8_t number) {
   return number == 0 ? std::nullopt : std::optional<Value>(static_cast<Value>(number));
 }
@@ -146,7 +152,8 @@ template <class Call> std::string written(Call call) {
 
 }  // namespace detail
 
-// The name of a value, such as "x86_64"; empty for Vendor::Custom, whose name is Triple::vendor_name.
+// The name of a value, such as "x86_64"; empty for Vendor::Custom, whose name is Triple::vendor_name. Here and below, that of a
+// number that is no enumerator is empty.
 template <class Value, class = decltype(detail::FieldOf<Value>::field)> std::string_view name(Value value) {
   const char* found = lexicon_name(static_cast<std::uint32_t>(detail::FieldOf<Value>::field), static_cast<std::uint32_t>(value));
   return found ? std::string_view(found) : std::string_view();
@@ -162,20 +169,23 @@ template <class Value> std::optional<Value> value_of(std::string_view text) {
 
 inline std::string_view name(Field field) {
   constexpr const char* names[] = {"architecture", "vendor", "operating system", "environment", "binary format"};
-  return names[static_cast<std::size_t>(field)];
+  return detail::name_at(names, static_cast<std::size_t>(field));
 }
 inline std::string_view name(Dialect value) {
   constexpr const char* names[] = {"", "debian", "go", "oci", "node", "gnu", "python"};
-  return names[static_cast<std::size_t>(value)];
+  return detail::name_at(names, static_cast<std::size_t>(value));
 }
-inline std::string_view name(Endianness value) { return value == Endianness::Little ? "little" : "big"; }
+inline std::string_view name(Endianness value) {
+  constexpr const char* names[] = {"", "little", "big"};
+  return detail::name_at(names, static_cast<std::size_t>(value));
+}
 inline std::string_view name(CallingConvention value) {
   constexpr const char* names[] = {"", "SystemV", "WasmBasicCAbi", "WindowsFastcall", "AppleAarch64"};
-  return names[static_cast<std::size_t>(value)];
+  return detail::name_at(names, static_cast<std::size_t>(value));
 }
 inline std::string_view name(DataModel value) {
   constexpr const char* names[] = {"", "LP32", "ILP32", "LLP64", "LP64", "ILP64"};
-  return names[static_cast<std::size_t>(value)];
+  return detail::name_at(names, static_cast<std::size_t>(value));
 }
 
 // Each value is written by its name.
@@ -216,7 +226,7 @@ class Triple {
   // What is compared.
   auto key() const {
     const auto& it = numbers_;
-    return std::make_tuple(it.architecture, it.vendor, std::string_view(custom_vendor_), it.operating_system, it.has_version, it.major,
+    return std::make_tuple(it.architecture, vendor(), std::string_view(custom_vendor_), it.operating_system, it.has_version, it.major,
                            it.minor, it.patch, it.environment, it.binary_format);
   }
 
@@ -224,14 +234,24 @@ class Triple {
   // The unknown triple.
   Triple() = default;
 
-  // The triple of these values. The binary format is the implied one unless it is given.
-  Triple(Architecture architecture, lexicon::Vendor vendor, OperatingSystem operating_system,
-         Environment environment = Environment::Unknown, std::optional<BinaryFormat> binary_format = std::nullopt) {
-    numbers_.architecture = static_cast<std::uint16_t>(architecture);
-    numbers_.vendor = static_cast<std::uint8_t>(vendor == Vendor::Custom ? Vendor::Unknown : vendor);
-    numbers_.operating_system = static_cast<std::uint8_t>(operating_system);
-    numbers_.environment = static_cast<std::uint8_t>(environment);
-    numbers_.binary_format = static_cast<std::uint8_t>(binary_format ? *binary_format : implied_format());
+  // The triple of these values. The binary format is the implied one unless it is given. If a value is no enumerator, there is
+  // none, and none for Vendor::Custom: then the vendor is given by its name, custom or known.
+  static std::optional<Triple> of(Architecture architecture, lexicon::Vendor vendor, OperatingSystem operating_system,
+                                  Environment environment = Environment::Unknown,
+                                  std::optional<BinaryFormat> binary_format = std::nullopt) {
+    return of_numbers(architecture, vendor, {}, operating_system, environment, binary_format);
+  }
+  static std::optional<Triple> of(Architecture architecture, std::string_view vendor, OperatingSystem operating_system,
+                                  Environment environment = Environment::Unknown,
+                                  std::optional<BinaryFormat> binary_format = std::nullopt) {
+    auto number = value_of<lexicon::Vendor>(vendor);
+    return number ? of_numbers(architecture, *number, vendor, operating_system, environment, binary_format) : std::nullopt;
+  }
+
+  // The triple of a struct of lexicon.h, if it is one.
+  static std::optional<Triple> from_c(const lexicon_triple& triple) {
+    lexicon_triple_facts facts;
+    return lexicon_facts(&triple, &facts) == LEXICON_OK ? std::optional<Triple>(Triple(triple)) : std::nullopt;
   }
 
   // The triple that a string parses as. If it is refused, `error` says why.
@@ -264,7 +284,7 @@ class Triple {
 
   // The five fields, in order.
   Architecture architecture() const { return static_cast<Architecture>(numbers_.architecture); }
-  Vendor vendor() const { return static_cast<Vendor>(numbers_.vendor); }
+  Vendor vendor() const { return has_custom_vendor() ? Vendor::Custom : static_cast<Vendor>(numbers_.vendor); }
   OperatingSystem operating_system() const { return static_cast<OperatingSystem>(numbers_.operating_system); }
   Environment environment() const { return static_cast<Environment>(numbers_.environment); }
   BinaryFormat binary_format() const { return static_cast<BinaryFormat>(numbers_.binary_format); }
@@ -301,7 +321,7 @@ class Triple {
   Family family() const { return static_cast<Family>(facts().family); }
   bool is_thumb() const { return facts().is_thumb; }
   bool is_like_darwin() const { return facts().is_like_darwin; }
-  bool has_custom_vendor() const { return numbers_.vendor == LEXICON_VENDOR_CUSTOM; }
+  bool has_custom_vendor() const { return !custom_vendor_.empty(); }
 
   // All of these at once.
   lexicon_triple_facts facts() const {
@@ -338,6 +358,7 @@ class Triple {
   lexicon_triple c_triple() const {
     lexicon_triple triple = numbers_;
     if (has_custom_vendor()) {
+      triple.vendor = LEXICON_VENDOR_CUSTOM;
       triple.custom_vendor = custom_vendor_.data();
       triple.custom_vendor_size = custom_vendor_.size();
     }
@@ -358,10 +379,35 @@ class Triple {
   }
 
  private:
-  explicit Triple(const lexicon_triple& triple) : numbers_(triple) {
-    if (has_custom_vendor()) custom_vendor_.assign(triple.custom_vendor, triple.custom_vendor_size);
-    numbers_.custom_vendor = nullptr;
-    numbers_.custom_vendor_size = 0;
+  // The triple of a struct that is one. What isn't read of it may have any value.
+  explicit Triple(const lexicon_triple& it) {
+    numbers_.architecture = it.architecture;
+    if (it.vendor == LEXICON_VENDOR_CUSTOM) custom_vendor_.assign(it.custom_vendor, it.custom_vendor_size);
+    else numbers_.vendor = it.vendor;
+    numbers_.operating_system = it.operating_system;
+    numbers_.environment = it.environment;
+    numbers_.binary_format = it.binary_format;
+    if (!it.has_version) return;
+    numbers_.has_version = it.has_version;
+    numbers_.major = it.major;
+    numbers_.minor = it.minor;
+    numbers_.patch = it.patch;
+  }
+
+  static std::optional<Triple> of_numbers(Architecture architecture, lexicon::Vendor vendor, std::string_view custom_vendor,
+                                          OperatingSystem operating_system, Environment environment,
+                                          std::optional<BinaryFormat> binary_format) {
+    lexicon_triple it = {};
+    it.architecture = static_cast<std::uint16_t>(architecture);
+    it.vendor = static_cast<std::uint8_t>(vendor);
+    it.operating_system = static_cast<std::uint8_t>(operating_system);
+    it.environment = static_cast<std::uint8_t>(environment);
+    it.binary_format = static_cast<std::uint8_t>(binary_format.value_or(BinaryFormat::Unknown));
+    it.custom_vendor = custom_vendor.data();
+    it.custom_vendor_size = custom_vendor.size();
+    auto triple = from_c(it);
+    if (triple && !binary_format) triple->numbers_.binary_format = triple->facts().implied_format;
+    return triple;
   }
 
   static std::optional<Triple> read_in(std::uint32_t dialect, std::string_view text, ParseError* error) {
@@ -397,6 +443,7 @@ class Triple {
     return error;
   }
 
+  // The numbers, without a custom vendor, which is this text: a triple that was moved from is one too.
   lexicon_triple numbers_ = {};
   std::string custom_vendor_;
 };
