@@ -347,13 +347,13 @@ static void try_lines(void) {
   expect(is_filled(out + 1, sizeof out - 1), "a long line", "unchanged");
 }
 
-/* Sizes that no memory has: PTRDIFF_MAX + 1, and the greatest. What is there isn't looked at, and nothing is written. */
+/* Sizes that no memory has, of which one is 4 with a bit more. What is there isn't looked at, and nothing is written. */
 static void try_too_large(void) {
   static const char text[] = "x86_64-linux";
-  const size_t sizes[] = {(size_t)PTRDIFF_MAX + 1, SIZE_MAX};
+  const size_t sizes[] = {(size_t)PTRDIFF_MAX + 1, (size_t)PTRDIFF_MAX + 5, SIZE_MAX};
   const struct lexicon_error why = {LEXICON_UNRECOGNIZED_ARCHITECTURE, 0, 1};
   const struct lexicon_triple known = triple_of(text);
-  for (size_t i = 0; i < 2; i++) {
+  for (size_t i = 0; i < sizeof sizes / sizeof *sizes; i++) {
     struct lexicon_triple triple, bad = known;
     struct lexicon_error errors[3];
     struct lexicon_sources sources;

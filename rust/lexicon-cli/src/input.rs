@@ -2,10 +2,9 @@
 use crate::refusal::visible;
 use crate::Fault;
 use clap::ArgMatches;
-use lexicon_cli::{each_block, Stop};
+use lexicon_cli::{each_block, streams, Stop};
 use std::fmt;
-use std::fs::File;
-use std::io::{self, Read};
+use std::io::{self, ErrorKind};
 use std::path::{Path, PathBuf};
 
 pub const STANDARD_INPUT: &str = "<stdin>";
@@ -70,14 +69,19 @@ pub fn each_target(arguments: &ArgMatches, answers: &mut impl Answers) -> Result
 }
 
 fn each_line(path: &Path, skips_comments: bool, answers: &mut impl Answers) -> Result<(), Fault> {
-    let (name, input): (String, Box<dyn Read>) = if path == Path::new("-") {
-        (STANDARD_INPUT.into(), Box::new(io::stdin().lock()))
+    let (name, opened) = if path == Path::new("-") {
+        (STANDARD_INPUT.to_string(), streams::standard_input())
     } else {
-        let name = path.display().to_string();
-        match File::open(path) {
-            Ok(file) => (name, Box::new(file)),
-            Err(why) => return Err(Fault::Stream { name, why }),
+        (path.display().to_string(), streams::file(path))
+    };
+    let input = match opened {
+        Ok(input) if input.is_output => {
+            // What is written would be read, for ever.
+            let why = io::Error::new(ErrorKind::Other, "input file is also the output");
+            return Err(Fault::Stream { name, why });
         }
+        Ok(input) => input.reader,
+        Err(why) => return Err(Fault::Stream { name, why }),
     };
     let mut number = 0;
     let read = each_block(input, |block| {

@@ -1,5 +1,7 @@
-//! What both commands read: lines, as they come.
-#![forbid(unsafe_code)]
+//! What both commands read and write: lines, as they come, and the standard streams.
+#![deny(unsafe_code)] // except where `streams` looks before the runtime starts
+
+pub mod streams;
 
 use std::io::{self, ErrorKind, Read};
 use std::str;
@@ -24,6 +26,9 @@ pub fn each_block<E>(
     let (mut bytes, mut filled) = (vec![0; 1 << 16], 0);
     loop {
         if filled == bytes.len() {
+            bytes
+                .try_reserve_exact(filled)
+                .map_err(|_| Stop::Read(ErrorKind::OutOfMemory.into()))?;
             bytes.resize(2 * filled, 0);
         }
         let begin = filled;

@@ -18,7 +18,8 @@ use input::{each_target, Answers, Place, Target};
 use json::{Json, Object};
 use matrix::Matrix;
 use output::Outputs;
-use refusal::Refusal;
+use refusal::{visible, Refusal};
+use std::env;
 use std::io::{self, Write};
 use std::path::Path;
 use std::process;
@@ -201,7 +202,7 @@ impl Run {
             Place::Argument(_) => (!text.is_empty() && Path::new(text).is_file()).then(|| {
                 format!(
                     "there is a file of that name: `-f {}` answers for its lines",
-                    refusal::visible(text)
+                    visible(text)
                 )
             }),
             Place::Line { .. } => (!self.skips_comments && (text.is_empty() || text.contains('#')))
@@ -211,7 +212,11 @@ impl Run {
 
     /// Answers for all targets. Returns the status.
     fn finish(mut self, arguments: &ArgMatches) -> Result<i32, Fault> {
-        each_target(arguments, &mut self)?;
+        if let Err(fault) = each_target(arguments, &mut self) {
+            // What was answered is whole; if it can't be written either, the first fault is the one to show.
+            let _ = self.outputs.end(self.call != Call::Matrix);
+            return Err(fault);
+        }
         if self.call == Call::Matrix && !self.is_refused {
             let matrix = std::mem::take(&mut self.matrix);
             if self.has_json {
@@ -299,19 +304,39 @@ fn run(arguments: &ArgMatches) -> Result<i32, Fault> {
     Run::new(call, arguments).finish(arguments)
 }
 
+/// What clap says of the arguments, without a control character of theirs: it is asked about the escaped ones.
+fn usage_text(error: &clap::Error) -> String {
+    let shown = env::args_os().map(|word| visible(&word.to_string_lossy()));
+    let text = match arguments::command().try_get_matches_from(shown) {
+        Err(again) if again.kind() == error.kind() => again.render().to_string(),
+        _ => error.render().to_string(),
+    };
+    text.split('\n').map(visible).collect::<Vec<_>>().join("\n")
+}
+
 /// Help, the version, or what is wrong with the arguments. Returns the status.
 fn usage(error: &clap::Error) -> Result<i32, Fault> {
-    error
-        .print()
-        .map_err(|why| Fault::of_output("standard output", why))?;
+    let mut outputs = Outputs::plain();
+    let text = usage_text(error) + &target_note(error);
+    let is_wrong = error.use_stderr();
+    match is_wrong {
+        true => outputs.refuse(|out, _| out.write_all(text.as_bytes()))?,
+        false => outputs.write(|out| out.write_all(text.as_bytes()))?,
+    }
+    outputs.flush()?;
+    Ok(if is_wrong { 2 } else { 0 })
+}
+
+/// What the user may have meant by a subcommand that is none.
+fn target_note(error: &clap::Error) -> String {
     if let (ErrorKind::InvalidSubcommand, Some(ContextValue::String(word))) =
         (error.kind(), error.get(ContextKind::InvalidSubcommand))
     {
         if TripleRef::from_str(word).is_ok() {
-            eprintln!("\nA target follows a command: lexicon explain {word}");
+            return format!("\nA target follows a command: lexicon explain {word}\n");
         }
     }
-    Ok(if error.use_stderr() { 2 } else { 0 })
+    String::new()
 }
 
 fn main() {
@@ -322,8 +347,8 @@ fn main() {
     let status = ended.unwrap_or_else(|fault| {
         let why = match fault {
             Fault::Closed => process::exit(CLOSED),
-            Fault::Stream { name, why } => format!("{}: {why}", refusal::visible(&name)),
-            Fault::NotUtf8 { place } => format!("{}: not UTF-8", refusal::visible(&place)),
+            Fault::Stream { name, why } => format!("{}: {why}", visible(&name)),
+            Fault::NotUtf8 { place } => format!("{}: not UTF-8", visible(&place)),
         };
         let _ = io::stderr().write_all(format!("lexicon: {why}\n").as_bytes());
         3

@@ -2,6 +2,7 @@
 use crate::json::{Json, Object};
 use crate::Fault;
 use clap::ArgMatches;
+use lexicon_cli::streams;
 use std::env;
 use std::io::{self, BufWriter, ErrorKind, Write};
 
@@ -25,7 +26,7 @@ enum Layout {
 }
 
 pub struct Outputs {
-    out: BufWriter<io::Stdout>,
+    out: BufWriter<Box<dyn Write>>,
     errors: BufWriter<io::Stderr>,
     layout: Option<Layout>,
     has_object: bool,
@@ -47,7 +48,7 @@ fn is_colorful_terminal() -> bool {
 impl Outputs {
     pub fn plain() -> Self {
         Outputs {
-            out: BufWriter::with_capacity(1 << 16, io::stdout()),
+            out: BufWriter::with_capacity(1 << 16, streams::standard_output()),
             errors: BufWriter::with_capacity(1 << 16, io::stderr()),
             layout: None,
             has_object: false,

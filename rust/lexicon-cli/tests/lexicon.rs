@@ -128,6 +128,36 @@ fn hostile_targets_do_not_reach_the_terminal() {
 }
 
 #[test]
+fn hostile_arguments_do_not_reach_the_terminal() {
+    let hostile = "\u{1b}]0;x\u{7}\n\u{202e}\u{9b}";
+    let shown = r"\u{1b}]0;x\u{7}\n\u{202e}\u{9b}";
+    let option = format!("--{hostile}");
+    let value = format!("--json={hostile}");
+    for words in [
+        &["check", &option] as &[&str],
+        &["check", "z80", &option, "z80"],
+        &["check", &value],
+        &["settle", "--color", hostile],
+        &["write", "--to", hostile],
+        &["names", hostile],
+        &["completions", hostile],
+        &["manual", hostile],
+        &["names", "vendor", hostile],
+        &[hostile],
+        &[&option],
+    ] {
+        let (out, errors, status) = answers(words);
+        assert_eq!((out.as_str(), status), ("", 2), "{words:?}");
+        assert!(errors.contains(shown), "{errors:?}");
+        // With plain words it has as many lines.
+        let plain: Vec<String> = words.iter().map(|it| it.replace(hostile, "#")).collect();
+        let plain: Vec<&str> = plain.iter().map(String::as_str).collect();
+        assert_eq!(errors.lines().count(), answers(&plain).1.lines().count());
+        assert!(!errors.contains(|c: char| c.is_control() && c != '\n' || c == '\u{202e}'));
+    }
+}
+
+#[test]
 fn long_targets_are_shortened_where_they_are_shown() {
     let long = "a".repeat(10_000_000);
     let (_, errors, status) = answers_on(&["check"], &format!("x86_64-{long}-{long}-b\n"));
@@ -218,6 +248,26 @@ fn json_is_an_array_or_lines() {
         objects[2],
         json!({ "target": "x86_64-linux", "file": "<stdin>", "line": 3, "canonical": "x86_64-unknown-linux" })
     );
+    // It is whole where the run ends early, too.
+    for (words, input, count) in [
+        (&["settle", "z80", "-f", "nowhere"] as &[&str], b"" as &[u8], 1),
+        (&["settle", "-f", "nowhere"], b"", 0),
+        (&["check", "foo", "bar", "-f", "nowhere"], b"", 2),
+        (&["explain"], b"z80\nfoo\nx\xff\n", 2),
+    ] {
+        for layout in ["--json", "--json-lines"] {
+            let (out, _, status) = texts(&run_on(&[words, &[layout]].concat(), input));
+            assert_eq!(status, 3);
+            let objects: Vec<Value> = match layout {
+                "--json" => serde_json::from_str(&out).unwrap(),
+                _ => out.lines().map(|it| serde_json::from_str(it).unwrap()).collect(),
+            };
+            assert_eq!(objects.len(), count, "{words:?}");
+        }
+    }
+    let (out, errors, status) = answers(&["matrix", "--json", "z80", "-f", "nowhere"]);
+    assert_eq!((out.as_str(), status), ("", 3));
+    assert!(errors.starts_with("lexicon: nowhere: "));
     // Of `check` there are only those that are refused.
     let (lines, _, status) = answers_on(&["check", "--json-lines"], input);
     assert_eq!((lines.lines().count(), status), (1, 1));
