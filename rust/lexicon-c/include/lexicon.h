@@ -5,9 +5,9 @@
 
        struct lexicon_triple triple;
        struct lexicon_error error;
-       if (lexicon_parse(text, strlen(text), &triple, &error) != LEXICON_OK) {
+       if (lexicon_parse_z(text, &triple, &error) != LEXICON_OK) {
          char why[256];
-         lexicon_error_text(text, strlen(text), &error, why, sizeof why, NULL);
+         lexicon_error_text_z(text, &error, why, sizeof why, NULL);
          fprintf(stderr, "%s\n", why);
        }
 
@@ -15,8 +15,9 @@
    toolchains differ: UEFI and Cygwin imply ELF. It is proved that the calls follow this repository's definitions, and tested
    that these are upstream's, except for one rule of printing (docs/DIFFERENCES.md).
 
-   A string goes in as a pointer and a size. It needs no zero byte at its end, and need not be UTF-8. A string comes out into
-   the caller's buffer, with a zero byte after it. `length` may be null; otherwise *length becomes the length of the whole
+   A string goes in as a pointer and a size. It needs no zero byte at its end, and need not be UTF-8. For strings that end in a
+   zero byte there are calls without a size, whose names end in _z. A string comes out into the caller's buffer, with a zero byte
+   after it. `length` may be null; otherwise *length becomes the length of the whole
    string without the zero byte, even if the buffer is too small for it.
 
    A string or a buffer of size 0 may be null, as with snprintf, and so may `length` and `error`; no other pointer may. What a
@@ -40,6 +41,7 @@
 #include <stdbool.h>
 #include <stddef.h>
 #include <stdint.h>
+#include <string.h>
 
 /* The version of this header. lexicon_version() is that of the library. */
 #define LEXICON_VERSION_MAJOR 0
@@ -556,6 +558,52 @@ const char *lexicon_name(uint32_t field, uint32_t number);
 
 /* The version of the library, and the commit that it was built from if that is known: "0.4.0 (3f1877d0c1e2)". */
 const char *lexicon_version(void);
+
+/* The calls above for a string that ends in a zero byte, and isn't null. */
+LEXICON_CHECKED LEXICON_NONNULL(1, 2)
+static inline enum lexicon_status lexicon_parse_z(const char *text, struct lexicon_triple *triple, struct lexicon_error *error) {
+  return lexicon_parse(text, strlen(text), triple, error);
+}
+LEXICON_CHECKED LEXICON_NONNULL(1, 2, 3)
+static inline enum lexicon_status lexicon_explain_z(const char *text, struct lexicon_triple *triple, struct lexicon_sources *sources,
+                                                    struct lexicon_error *error) {
+  return lexicon_explain(text, strlen(text), triple, sources, error);
+}
+LEXICON_CHECKED LEXICON_NONNULL(1)
+static inline enum lexicon_status lexicon_settle_lines_z(const char *text, char *out, size_t out_size, size_t *length) {
+  return lexicon_settle_lines(text, strlen(text), out, out_size, length);
+}
+LEXICON_CHECKED LEXICON_NONNULL(2, 3)
+static inline enum lexicon_status lexicon_read_z(uint32_t dialect, const char *text, struct lexicon_triple *triple,
+                                                 struct lexicon_error *error) {
+  return lexicon_read(dialect, text, strlen(text), triple, error);
+}
+LEXICON_NONNULL(2)
+static inline const char *lexicon_reason_z(uint32_t dialect, const char *name) {
+  return lexicon_reason(dialect, name, strlen(name));
+}
+LEXICON_NONNULL(2)
+static inline const char *lexicon_name_suggestion_z(uint32_t dialect, const char *name) {
+  return lexicon_name_suggestion(dialect, name, strlen(name));
+}
+LEXICON_NONNULL(1)
+static inline enum lexicon_status lexicon_error_line_z(const char *text, const struct lexicon_error *error, char *out, size_t out_size,
+                                                       size_t *length) {
+  return lexicon_error_line(text, strlen(text), error, out, out_size, length);
+}
+LEXICON_NONNULL(1)
+static inline enum lexicon_status lexicon_error_text_z(const char *text, const struct lexicon_error *error, char *out, size_t out_size,
+                                                       size_t *length) {
+  return lexicon_error_text(text, strlen(text), error, out, out_size, length);
+}
+LEXICON_NONNULL(1)
+static inline const char *lexicon_suggestion_z(const char *text, const struct lexicon_error *error) {
+  return lexicon_suggestion(text, strlen(text), error);
+}
+LEXICON_CHECKED LEXICON_NONNULL(2, 3)
+static inline enum lexicon_status lexicon_number_z(uint32_t field, const char *text, uint32_t *number) {
+  return lexicon_number(field, text, strlen(text), number);
+}
 
 #ifdef __cplusplus
 }

@@ -15,6 +15,7 @@
 #ifndef LEXICON_HPP
 #define LEXICON_HPP
 
+#include <algorithm>
 #include <cstddef>
 #include <cstdint>
 #include <functional>
@@ -254,6 +255,34 @@ class Triple {
     return lexicon_facts(&triple, &facts) == LEXICON_OK ? std::optional<Triple>(Triple(triple)) : std::nullopt;
   }
 
+  // The triple with another value in one field, if that is one. A binary format that the fields imply becomes the one that the new
+  // fields imply; another one stays. A new operating system has no version, unless it is given.
+  std::optional<Triple> with_architecture(Architecture value) const {
+    return changed([&](lexicon_triple& it) { it.architecture = static_cast<std::uint16_t>(value); });
+  }
+  std::optional<Triple> with_vendor(lexicon::Vendor value) const { return with_vendor(value, {}); }
+  std::optional<Triple> with_vendor(std::string_view vendor) const {
+    auto number = value_of<lexicon::Vendor>(vendor);
+    return number ? with_vendor(*number, vendor) : std::nullopt;
+  }
+  std::optional<Triple> with_operating_system(OperatingSystem value, std::optional<Version> version = std::nullopt) const {
+    return changed([&](lexicon_triple& it) {
+      it.operating_system = static_cast<std::uint8_t>(value);
+      set_version(it, version);
+    });
+  }
+  std::optional<Triple> with_version(std::optional<Version> version) const {
+    return changed([&](lexicon_triple& it) { set_version(it, version); });
+  }
+  std::optional<Triple> with_environment(Environment value) const {
+    return changed([&](lexicon_triple& it) { it.environment = static_cast<std::uint8_t>(value); });
+  }
+  std::optional<Triple> with_binary_format(BinaryFormat value) const {
+    lexicon_triple it = c_triple();
+    it.binary_format = static_cast<std::uint8_t>(value);
+    return from_c(it);
+  }
+
   // The triple that a string parses as. If it is refused, `error` says why.
   static std::optional<Triple> parse(std::string_view text, ParseError* error = nullptr) {
     lexicon_triple triple;
@@ -405,9 +434,36 @@ class Triple {
     it.binary_format = static_cast<std::uint8_t>(binary_format.value_or(BinaryFormat::Unknown));
     it.custom_vendor = custom_vendor.data();
     it.custom_vendor_size = custom_vendor.size();
+    return finished(it, !binary_format);
+  }
+
+  // The triple of a struct, perhaps with the format that its other fields imply.
+  static std::optional<Triple> finished(const lexicon_triple& it, bool is_implied) {
     auto triple = from_c(it);
-    if (triple && !binary_format) triple->numbers_.binary_format = triple->facts().implied_format;
+    if (triple && is_implied) triple->numbers_.binary_format = triple->facts().implied_format;
     return triple;
+  }
+
+  template <class Change> std::optional<Triple> changed(Change change) const {
+    lexicon_triple it = c_triple();
+    change(it);
+    return finished(it, binary_format() == implied_format());
+  }
+
+  std::optional<Triple> with_vendor(lexicon::Vendor number, std::string_view custom_vendor) const {
+    return changed([&](lexicon_triple& it) {
+      it.vendor = static_cast<std::uint8_t>(number);
+      it.custom_vendor = custom_vendor.data();
+      it.custom_vendor_size = custom_vendor.size();
+    });
+  }
+
+  static void set_version(lexicon_triple& it, std::optional<Version> version) {
+    it.has_version = version.has_value();
+    if (!version) return;
+    it.major = version->major;
+    it.minor = version->minor;
+    it.patch = version->patch;
   }
 
   static std::optional<Triple> read_in(std::uint32_t dialect, std::string_view text, ParseError* error) {
@@ -447,6 +503,15 @@ class Triple {
   lexicon_triple numbers_ = {};
   std::string custom_vendor_;
 };
+
+// The canonical form of each line of a string, with a line feed after it; of a line that is refused, only the line feed.
+inline std::string settle_lines(std::string_view text) {
+  std::size_t lines = 1 + static_cast<std::size_t>(std::count(text.begin(), text.end(), '\n')), length = 0;
+  std::string settled(text.size() + lines * LEXICON_MAX_GROWTH + 1, '\0');
+  if (lexicon_settle_lines(text.data(), text.size(), settled.data(), settled.size() + 1, &length) != LEXICON_OK) length = 0;
+  settled.resize(length);
+  return settled;
+}
 
 // The version and the commit of the library.
 inline std::string_view version() { return lexicon_version(); }

@@ -532,6 +532,45 @@ static void try_dialects(void) {
   expect(length == 77 && is_filled(out, sizeof out), "write", "unchanged");
 }
 
+/* The calls without a size do the same as those with one. */
+static void try_zero_ended(void) {
+  for (size_t i = 0; i < sizeof refused / sizeof *refused; i++) {
+    const char *text = refused[i].text;
+    size_t size = strlen(text), length = 0, same = 0;
+    struct lexicon_triple triple;
+    struct lexicon_error error, other;
+    struct lexicon_sources sources;
+    char out[256], expected[256];
+    expect(lexicon_parse_z(text, &triple, &error) == refused[i].status && error.end == refused[i].end, "parse_z", text);
+    expect(lexicon_explain_z(text, &triple, &sources, &other) == refused[i].status && other.start == error.start, "explain_z", text);
+    expect(lexicon_parse_z(text, &triple, NULL) == refused[i].status, "parse_z without an error", text);
+    expect(lexicon_error_line_z(text, &error, out, sizeof out, &length) == LEXICON_OK && strcmp(out, refused[i].line) == 0, "error_line_z", text);
+    expect(lexicon_error_text_z(text, &error, out, sizeof out, &length) == LEXICON_OK, "error_text_z", text);
+    expect(lexicon_error_text(text, size, &error, expected, sizeof expected, &same) == LEXICON_OK, "error_text", text);
+    expect(length == same && strcmp(out, expected) == 0, "error_text_z", text);
+    expect(lexicon_suggestion_z(text, &error) == lexicon_suggestion(text, size, &error), "suggestion_z", text);
+  }
+  for (size_t i = 0; i < sizeof unread / sizeof *unread; i++) {
+    struct lexicon_triple triple;
+    struct lexicon_error error;
+    const char *name = unread[i].name;
+    expect(lexicon_read_z(unread[i].dialect, name, &triple, &error) == unread[i].status && error.end == unread[i].end, "read_z", name);
+    expect(lexicon_reason_z(unread[i].dialect, name) == lexicon_reason(unread[i].dialect, name, strlen(name)), "reason_z", name);
+    expect(lexicon_name_suggestion_z(unread[i].dialect, name) == lexicon_name_suggestion(unread[i].dialect, name, strlen(name)), "name_suggestion_z", name);
+  }
+  struct lexicon_triple triple;
+  struct lexicon_sources sources;
+  char out[64];
+  size_t length = 0;
+  uint32_t number = 0;
+  expect(lexicon_parse_z("arm64-linux", &triple, NULL) == LEXICON_OK && triple.architecture == LEXICON_ARCHITECTURE_AARCH64, "parse_z", "arm64-linux");
+  expect(lexicon_explain_z("arm64-linux", &triple, &sources, NULL) == LEXICON_OK && sources.operating_system.end == 11, "explain_z", "arm64-linux");
+  expect(lexicon_read_z(LEXICON_DIALECT_GO, "linux/arm64", &triple, NULL) == LEXICON_OK, "read_z", "linux/arm64");
+  expect(lexicon_number_z(LEXICON_FIELD_ARCHITECTURE, "arm64", &number) == LEXICON_OK && number == LEXICON_ARCHITECTURE_AARCH64, "number_z", "arm64");
+  expect(lexicon_settle_lines_z("arm64-linux\nfoo\n", out, sizeof out, &length) == LEXICON_OK && length == 23, "settle_lines_z", "arm64-linux");
+  expect(strcmp(out, "aarch64-unknown-linux\n\n") == 0, "settle_lines_z", out);
+}
+
 int main(void) {
   try_parsed();
   try_refused();
@@ -545,6 +584,7 @@ int main(void) {
   try_sources();
   try_names();
   try_dialects();
+  try_zero_ended();
   fprintf(stderr, "calls: %u right, %u wrong\n", count - failures, failures);
   return failures ? 1 : 0;
 }

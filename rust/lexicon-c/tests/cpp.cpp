@@ -95,6 +95,40 @@ static void try_c() {
   EXPECT(!Triple::from_c(it));
 }
 
+// Each field is another value, and no other field changes, except a format that is implied and the version of another system.
+static void try_changes() {
+  Triple gnu = parsed("x86_64-unknown-linux-gnu"), ios = parsed("arm64-apple-ios17.2"), acme = parsed("x86_64-acme-linux");
+  EXPECT(gnu.with_architecture(Architecture::Aarch64) == parsed("aarch64-unknown-linux-gnu"));
+  EXPECT(gnu.with_vendor(Vendor::Pc) == parsed("x86_64-pc-linux-gnu") && gnu.with_vendor("pc") == gnu.with_vendor(Vendor::Pc));
+  EXPECT(gnu.with_vendor("acme") == parsed("x86_64-acme-linux-gnu") && acme.with_vendor("unknown") == parsed("x86_64-linux"));
+  EXPECT(acme.with_environment(Environment::Musl) == parsed("x86_64-acme-linux-musl"));
+  EXPECT(gnu.with_environment(Environment::Musl) == parsed("x86_64-unknown-linux-musl"));
+  EXPECT(gnu.with_operating_system(OperatingSystem::Windows) == parsed("x86_64-unknown-windows-gnu"));
+  EXPECT(gnu.with_operating_system(OperatingSystem::Windows)->binary_format() == BinaryFormat::Coff);
+  EXPECT(gnu.with_binary_format(BinaryFormat::Coff) == parsed("x86_64-unknown-linux-gnu-coff"));
+  EXPECT(gnu.with_binary_format(BinaryFormat::Macho)->with_operating_system(OperatingSystem::Windows)->binary_format() == BinaryFormat::Macho);
+  EXPECT(ios.with_version(Version{18, 1, 2}) == parsed("arm64-apple-ios18.1.2") && ios.with_version(std::nullopt) == parsed("arm64-apple-ios"));
+  EXPECT(ios.with_operating_system(OperatingSystem::TvOS) == parsed("arm64-apple-tvos"));
+  EXPECT(ios.with_operating_system(OperatingSystem::TvOS, Version{9}) == parsed("arm64-apple-tvos9"));
+  EXPECT(ios.with_environment(Environment::Sim) == parsed("arm64-apple-ios17.2-sim"));
+  EXPECT(!gnu.with_version(Version{6}) && !gnu.with_operating_system(OperatingSystem::Linux, Version{6}) && gnu.with_version(std::nullopt) == gnu);
+  EXPECT(!gnu.with_vendor(Vendor::Custom) && !acme.with_vendor(Vendor::Custom) && !gnu.with_vendor("PC") && !gnu.with_vendor(""));
+  for (bool greatest : {false, true}) {
+    EXPECT(!gnu.with_architecture(no_enumerator<Architecture>(greatest)) && !gnu.with_vendor(no_enumerator<Vendor>(greatest)));
+    EXPECT(!gnu.with_operating_system(no_enumerator<OperatingSystem>(greatest)));
+    EXPECT(!gnu.with_environment(no_enumerator<Environment>(greatest)));
+    EXPECT(!gnu.with_binary_format(no_enumerator<BinaryFormat>(greatest)));
+  }
+}
+
+static void try_lines() {
+  EXPECT(settle_lines("arm64-linux\nfoo\n\nx86_64-acme-linux") == "aarch64-unknown-linux\n\n\nx86_64-acme-linux\n");
+  EXPECT(settle_lines("") == "" && settle_lines({}) == "" && settle_lines("\n") == "\n");
+  std::string text, settled;
+  for (int i = 0; i < 1000; i++) text += "arm64\n", settled += "aarch64-unknown-unknown-elf\n";  // no string grows by more
+  EXPECT(settle_lines(text) == settled);
+}
+
 // The sample of the repository's README.
 static void try_sample() {
   std::ostringstream out;
@@ -203,6 +237,8 @@ int main() {
   try_triple();
   try_values();
   try_c();
+  try_changes();
+  try_lines();
   try_sample();
   try_ownership();
   try_containers();
