@@ -3,10 +3,11 @@
 use std::fs;
 use std::process::{Command, Output, Stdio};
 
-/// Runs a line of the shell, where `lexicon` and `triples` are the commands. A run that doesn't end is stopped.
+/// Runs a line of the shell, where `lexicon` and `triples` are the commands. A run that doesn't end is stopped, and so is one that
+/// writes a file of more than a megabyte.
 fn shell(line: &str) -> (String, String, i32) {
     let commands = format!(
-        "lexicon() {{ timeout 20 '{}' \"$@\"; }}; triples() {{ timeout 20 '{}' \"$@\"; }}",
+        "ulimit -f 1000; lexicon() {{ timeout 20 '{}' \"$@\"; }}; triples() {{ timeout 20 '{}' \"$@\"; }}",
         env!("CARGO_BIN_EXE_lexicon"),
         env!("CARGO_BIN_EXE_triples")
     );
