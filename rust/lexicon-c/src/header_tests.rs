@@ -131,10 +131,10 @@ fn the_statuses_are_those_of_the_calls() {
     });
     let mut statuses: BTreeMap<u32, String> = declared.collect();
     for (status, (field, _)) in (1..).zip(FIELDS) {
-        assert!(refusal_with(status, "").is_some_and(|it| it.expected() == field_at(status - 1)));
+        assert_eq!(refusal_with(status, "").map(|it| it.expected() == field_at(status - 1)), Some(true));
         statuses.insert(status, format!("UNRECOGNIZED_{field}"));
     }
-    assert!(refusal_with(6, "").is_some_and(|it| it.expected().is_none()));
+    assert_eq!(refusal_with(6, "").map(|it| it.expected().is_none()), Some(true));
     statuses.insert(6, "UNRECOGNIZED_FIELD".to_string());
     assert_eq!(found, statuses);
 }

@@ -14,7 +14,7 @@ use arguments::{DIALECTS, FIELDS};
 use clap::error::{ContextKind, ContextValue, ErrorKind};
 use clap::ArgMatches;
 use clap_complete::Shell;
-use input::{each_target, Answers, Place, Target};
+use input::{each_target, end_of_line, Answers, Place, Target};
 use json::{Json, Object};
 use matrix::Matrix;
 use output::Outputs;
@@ -38,6 +38,8 @@ pub enum Fault {
     },
     /// Nobody reads the output any more.
     Closed,
+    /// A target is refused, and nobody asks for more.
+    Refused,
 }
 
 /// The status of what a closed pipe ended, as the shell shows it for other tools.
@@ -66,7 +68,9 @@ enum Found<'a> {
 struct Run {
     call: Call,
     is_strict: bool,
+    is_quiet: bool,
     skips_comments: bool,
+    end_of_line: u8,
     ignores_vendor: bool,
     shows_changes: bool,
     has_json: bool,
@@ -78,6 +82,8 @@ struct Run {
 impl Answers for Run {
     fn answer(&mut self, target: Target<'_>) -> Result<(), Fault> {
         match self.find(target.text) {
+            Ok(_) if self.is_quiet => Ok(()),
+            Err(_) if self.is_quiet => Err(Fault::Refused),
             Ok(Found::Parsed(explanation)) if self.call == Call::Matrix => {
                 self.matrix
                     .add(target, explanation.triple, self.ignores_vendor);
@@ -91,7 +97,7 @@ impl Answers for Run {
             }
             Ok(found) => {
                 let (call, shows_changes) = (self.call, self.shows_changes);
-                self.outputs.write(|out| match found {
+                self.outputs.answer(self.end_of_line, |out| match found {
                     Found::Parsed(explanation) => match call {
                         Call::Explain => answers::write_explained(out, target, &explanation),
                         Call::Facts => answers::write_facts(
@@ -174,7 +180,9 @@ impl Run {
         Run {
             call,
             is_strict: arguments.get_flag("strict"),
+            is_quiet: arguments.get_flag("quiet"),
             skips_comments: arguments.get_flag("comments"),
+            end_of_line: end_of_line(arguments),
             ignores_vendor: call == Call::Matrix && arguments.get_flag("ignore-vendor"),
             shows_changes: matches!(call, Call::Read(_)) && arguments.get_flag("changes"),
             has_json: arguments.get_flag("json") || arguments.get_flag("json-lines"),
@@ -205,6 +213,7 @@ impl Run {
                     visible(text)
                 )
             }),
+            Place::Line { .. } if self.end_of_line == 0 => None,
             Place::Line { .. } => (!self.skips_comments && (text.is_empty() || text.contains('#')))
                 .then(|| "with `--comments` blank lines and comments are skipped".to_string()),
         }
@@ -224,7 +233,8 @@ impl Run {
                     .into_objects()
                     .try_for_each(|object| self.outputs.object(object))?;
             } else {
-                self.outputs.write(|out| matrix.write(out))?;
+                let end = self.end_of_line;
+                self.outputs.write(|out| matrix.write(out, end))?;
             }
         }
         // A matrix that isn't whole is none, so that nobody takes it for one.
@@ -347,6 +357,7 @@ fn main() {
     let status = ended.unwrap_or_else(|fault| {
         let why = match fault {
             Fault::Closed => process::exit(CLOSED),
+            Fault::Refused => return 1,
             Fault::Stream { name, why } => format!("{}: {why}", visible(&name)),
             Fault::NotUtf8 { place } => format!("{}: not UTF-8", visible(&place)),
         };

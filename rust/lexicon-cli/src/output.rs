@@ -99,6 +99,24 @@ impl Outputs {
         text(&mut self.out).map_err(|why| Fault::of_output("standard output", why))
     }
 
+    /// Writes an answer, a text of lines, after which `end` comes instead of the last line feed.
+    pub fn answer(
+        &mut self,
+        end: u8,
+        text: impl FnOnce(&mut dyn Write) -> io::Result<()>,
+    ) -> Result<(), Fault> {
+        if end == b'\n' {
+            return self.write(text);
+        }
+        self.write(|out| {
+            let mut answer = Vec::new();
+            text(&mut answer)?;
+            answer.pop();
+            answer.push(end);
+            out.write_all(&answer)
+        })
+    }
+
     /// Writes a refusal to standard error. `text` gets whether it has colours.
     pub fn refuse(
         &mut self,

@@ -75,7 +75,7 @@ fn each_line(mut answer: impl FnMut(&mut Vec<u8>, TripleRef<'_>)) -> Result<(), 
         // What is written would be read, for ever.
         input.reader = Box::new(io::Cursor::new(whole_input(input.reader)?));
     }
-    each_block(input.reader, |block| {
+    each_block(input.reader, b'\n', |block| {
         for line in block.split_terminator('\n') {
             match TripleRef::from_str(line) {
                 Ok(triple) => answer(&mut out, triple),
