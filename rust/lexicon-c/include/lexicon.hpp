@@ -122,6 +122,9 @@ enum class DataModel : std::uint8_t {
   ILP64 = LEXICON_DATA_MODEL_ILP64
 };
 
+// Where the value of a field comes from: nowhere, so that it is unknown; a part of the string; or the other fields.
+enum class Origin : std::uint8_t { NotGiven = LEXICON_ORIGIN_NOT_GIVEN, Given = LEXICON_ORIGIN_GIVEN, Implied = LEXICON_ORIGIN_IMPLIED };
+
 namespace detail {
 
 // The field of which a type has the values.
@@ -184,6 +187,10 @@ inline std::string_view name(CallingConvention value) {
   constexpr const char* names[] = {"", "SystemV", "WasmBasicCAbi", "WindowsFastcall", "AppleAarch64"};
   return detail::name_at(names, static_cast<std::size_t>(value));
 }
+inline std::string_view name(Origin value) {
+  constexpr const char* names[] = {"not given", "given", "implied"};
+  return detail::name_at(names, static_cast<std::size_t>(value));
+}
 inline std::string_view name(DataModel value) {
   constexpr const char* names[] = {"", "LP32", "ILP32", "LLP64", "LP64", "ILP64"};
   return detail::name_at(names, static_cast<std::size_t>(value));
@@ -222,6 +229,12 @@ struct ParseError {
   }
   friend std::ostream& operator<<(std::ostream& out, const ParseError& it) { return out << it.text; }
 };
+
+struct Source {
+  Origin origin = Origin::NotGiven;
+  std::size_t start = 0, end = 0;  // the part, in bytes; 0 unless it is given
+};
+struct Explanation;
 
 class Triple {
   // What is compared.
@@ -292,6 +305,9 @@ class Triple {
     if (error) *error = error_of(text, found);
     return std::nullopt;
   }
+
+  // What `parse` gives, and from where each field comes.
+  static std::optional<Explanation> explain(std::string_view text, ParseError* error = nullptr);
 
   // The triple of a string that is spelled like one, such as what `cc -dumpmachine` prints; and that of a name of another tool.
   // If there is none, `error` says why.
@@ -503,6 +519,24 @@ class Triple {
   lexicon_triple numbers_ = {};
   std::string custom_vendor_;
 };
+
+struct Explanation {
+  Triple triple;
+  Source architecture, vendor, operating_system, environment, binary_format;
+};
+
+inline std::optional<Explanation> Triple::explain(std::string_view text, ParseError* error) {
+  lexicon_triple triple;
+  lexicon_sources sources;
+  lexicon_error found;
+  if (lexicon_explain(text.data(), text.size(), &triple, &sources, &found) != LEXICON_OK) {
+    if (error) *error = error_of(text, found);
+    return std::nullopt;
+  }
+  auto of = [](const lexicon_source& it) { return Source{static_cast<Origin>(it.origin), it.start, it.end}; };
+  return Explanation{Triple(triple), of(sources.architecture), of(sources.vendor), of(sources.operating_system), of(sources.environment),
+                     of(sources.binary_format)};
+}
 
 // The canonical form of each line of a string, with a line feed after it; of a line that is refused, only the line feed.
 inline std::string settle_lines(std::string_view text) {

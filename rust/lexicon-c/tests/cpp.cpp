@@ -121,6 +121,18 @@ static void try_changes() {
   }
 }
 
+static void try_explain() {
+  const std::string_view text = "x86_64-acme-linux";
+  auto it = Triple::explain(text);
+  auto part = [&](const Source& source) { return text.substr(source.start, source.end - source.start); };
+  EXPECT(it && it->triple == parsed(text) && part(it->architecture) == "x86_64" && part(it->vendor) == "acme" && part(it->operating_system) == "linux");
+  EXPECT(it->vendor.origin == Origin::Given && it->environment.origin == Origin::NotGiven && it->environment.end == 0);
+  EXPECT(it->binary_format.origin == Origin::Implied && shown(it->binary_format.origin) == "implied" && name(Origin::Given) == "given");
+  EXPECT(Triple::explain("arm64-linux-gnu-elf")->environment.start == 12 && Triple::explain("arm64-linux-gnu-elf")->binary_format.start == 16);
+  ParseError error;
+  EXPECT(!Triple::explain("x86_64-pc-linx", &error) && error.part == "linx" && error.suggestion == "linux" && !Triple::explain("foo"));
+}
+
 static void try_lines() {
   EXPECT(settle_lines("arm64-linux\nfoo\n\nx86_64-acme-linux") == "aarch64-unknown-linux\n\n\nx86_64-acme-linux\n");
   EXPECT(settle_lines("") == "" && settle_lines({}) == "" && settle_lines("\n") == "\n");
@@ -208,6 +220,7 @@ static void try_no_names() {
   try_no_name<Endianness>();
   try_no_name<CallingConvention>();
   try_no_name<DataModel>();
+  try_no_name<Origin>();
   ParseError error;
   EXPECT(!Triple::read("amd64", static_cast<Dialect>(99), &error) && error.status == LEXICON_NO_SUCH_DIALECT);
   EXPECT(!parsed("x86_64-linux").name_in(static_cast<Dialect>(99)));
@@ -238,6 +251,7 @@ int main() {
   try_values();
   try_c();
   try_changes();
+  try_explain();
   try_lines();
   try_sample();
   try_ownership();
