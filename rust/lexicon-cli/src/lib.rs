@@ -40,7 +40,10 @@ pub fn each_block<E>(
             }
         };
         filled += count;
-        let end = match bytes[begin..filled].iter().rposition(|byte| *byte == end_of_line) {
+        let end = match bytes[begin..filled]
+            .iter()
+            .rposition(|byte| *byte == end_of_line)
+        {
             Some(at) => begin + at + 1,
             None if count == 0 => begin,
             None => continue,

@@ -109,8 +109,15 @@ fn targets_and_answers_end_with_a_zero_byte_if_asked() {
     let answers = |words: &[&str], input: &[u8]| texts(&run_on(words, input));
     let input = b"z80\0x86_64-\nlinux\0arm64-linux\r\0\0x86_64-linux";
     let (out, errors, status) = answers(&["settle", "-0"], input);
-    assert_eq!((out.as_str(), status), ("z80-unknown-unknown-elf\0x86_64-unknown-linux\0", 1));
-    let places: Vec<&str> = errors.lines().filter_map(|it| it.split_once(": error: ")).map(|it| it.0).collect();
+    assert_eq!(
+        (out.as_str(), status),
+        ("z80-unknown-unknown-elf\0x86_64-unknown-linux\0", 1)
+    );
+    let places: Vec<&str> = errors
+        .lines()
+        .filter_map(|it| it.split_once(": error: "))
+        .map(|it| it.0)
+        .collect();
     assert_eq!(places, ["<stdin>:2:8", "<stdin>:3:7", "<stdin>:4:1"]);
     assert!(!errors.contains("--comments"));
     // Only the last line feed of an answer is another, and none of JSON.
@@ -119,11 +126,20 @@ fn targets_and_answers_end_with_a_zero_byte_if_asked() {
     assert_eq!(out.matches('\0').count(), 2);
     assert_eq!(out.replace('\0', "\n"), lines);
     let (out, _, _) = answers(&["read", "--changes", "-0"], b"amd64-linux\0z80");
-    assert_eq!(out, "x86_64-unknown-linux\n  `amd64` is read as `x86_64`\0z80-unknown-unknown-elf\0");
+    assert_eq!(
+        out,
+        "x86_64-unknown-linux\n  `amd64` is read as `x86_64`\0z80-unknown-unknown-elf\0"
+    );
     let (out, _, _) = answers(&["matrix", "-0"], b"z80\0avr");
-    assert_eq!(out, "z80-unknown-unknown-elf\tz80\t<stdin>:1\0avr-unknown-unknown\tavr\t<stdin>:2\0");
+    assert_eq!(
+        out,
+        "z80-unknown-unknown-elf\tz80\t<stdin>:1\0avr-unknown-unknown\tavr\t<stdin>:2\0"
+    );
     let json = |words: &[&str], input: &[u8]| answers(words, input).0;
-    assert_eq!(json(&["settle", "-0", "--json"], b"z80\0avr"), json(&["settle", "--json"], b"z80\navr"));
+    assert_eq!(
+        json(&["settle", "-0", "--json"], b"z80\0avr"),
+        json(&["settle", "--json"], b"z80\navr")
+    );
     // The lines before one that isn't UTF-8 are answered here too.
     let (out, errors, status) = answers(&["settle", "-0"], b"z80\0x\xc3\0z80");
     assert_eq!((out.as_str(), status), ("z80-unknown-unknown-elf\0", 3));
@@ -134,17 +150,32 @@ fn targets_and_answers_end_with_a_zero_byte_if_asked() {
 #[test]
 fn a_quiet_run_has_only_a_status() {
     for call in ["explain", "facts", "settle", "check", "matrix", "elsewhere"] {
-        assert_eq!(answers(&[call, "-q", "z80", "x86_64-linx"]), ("".into(), "".into(), 0));
-        assert_eq!(answers(&[call, "-q", "--strict", "z80", "x86_64-linx"]), ("".into(), "".into(), 1));
+        assert_eq!(
+            answers(&[call, "-q", "z80", "x86_64-linx"]),
+            ("".into(), "".into(), 0)
+        );
+        assert_eq!(
+            answers(&[call, "-q", "--strict", "z80", "x86_64-linx"]),
+            ("".into(), "".into(), 1)
+        );
         // The first target that is refused ends it.
-        assert_eq!(answers(&[call, "--quiet", "foo", "-f", "nowhere"]), ("".into(), "".into(), 1));
+        assert_eq!(
+            answers(&[call, "--quiet", "foo", "-f", "nowhere"]),
+            ("".into(), "".into(), 1)
+        );
         let (out, errors, status) = answers(&[call, "-q", "z80", "-f", "nowhere"]);
         assert_eq!((out.as_str(), status), ("", 3));
         assert!(errors.starts_with("lexicon: nowhere: "));
         assert_eq!(answers(&[call, "-q", "--json", "z80"]).2, 2);
     }
-    assert_eq!(answers(&["read", "-q", "--from", "go", "linux/arm64", "linux/foo"]), ("".into(), "".into(), 1));
-    assert_eq!(answers(&["write", "-q", "--to", "go", "avr-none"]), ("".into(), "".into(), 1));
+    assert_eq!(
+        answers(&["read", "-q", "--from", "go", "linux/arm64", "linux/foo"]),
+        ("".into(), "".into(), 1)
+    );
+    assert_eq!(
+        answers(&["write", "-q", "--to", "go", "avr-none"]),
+        ("".into(), "".into(), 1)
+    );
 }
 
 #[test]
@@ -293,7 +324,11 @@ fn json_is_an_array_or_lines() {
     );
     // It is whole where the run ends early, too.
     for (words, input, count) in [
-        (&["settle", "z80", "-f", "nowhere"] as &[&str], b"" as &[u8], 1),
+        (
+            &["settle", "z80", "-f", "nowhere"] as &[&str],
+            b"" as &[u8],
+            1,
+        ),
         (&["settle", "-f", "nowhere"], b"", 0),
         (&["check", "foo", "bar", "-f", "nowhere"], b"", 2),
         (&["explain"], b"z80\nfoo\nx\xff\n", 2),
@@ -303,7 +338,10 @@ fn json_is_an_array_or_lines() {
             assert_eq!(status, 3);
             let objects: Vec<Value> = match layout {
                 "--json" => serde_json::from_str(&out).unwrap(),
-                _ => out.lines().map(|it| serde_json::from_str(it).unwrap()).collect(),
+                _ => out
+                    .lines()
+                    .map(|it| serde_json::from_str(it).unwrap())
+                    .collect(),
             };
             assert_eq!(objects.len(), count, "{words:?}");
         }
@@ -427,11 +465,11 @@ fn names_of_other_tools_are_read_and_written() {
             "linux/arm64",
             "note: it is a name of another tool: use `--from go` or `--from oci`",
         ),
+        ("linux/foo", "note: a name of another tool needs `--from`"),
         (
-            "linux/foo",
-            "note: a name of another tool needs `--from`",
+            "armhf",
+            "note: it is a name of another tool: use `--from debian`",
         ),
-        ("armhf", "note: it is a name of another tool: use `--from debian`"),
         ("foo", "^^^"),
     ] {
         assert_eq!(note(&["read", name]), expected);

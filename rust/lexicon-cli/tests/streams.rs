@@ -1,5 +1,5 @@
 //! Standard streams of both commands that are closed, open for something else, or the input too; and memory that runs out.
-#![cfg(unix)]
+#![cfg(target_os = "linux")]
 use std::fs;
 use std::process::{Command, Output, Stdio};
 
@@ -18,7 +18,11 @@ fn shell(line: &str) -> (String, String, i32) {
         .output()
         .unwrap();
     let text = |bytes| String::from_utf8(bytes).unwrap();
-    (text(run.stdout), text(run.stderr), run.status.code().unwrap())
+    (
+        text(run.stdout),
+        text(run.stderr),
+        run.status.code().unwrap(),
+    )
 }
 
 const NOT_OPEN: &str = "lexicon: standard output: Bad file descriptor (os error 9)\n";
@@ -26,17 +30,41 @@ const NOT_OPEN: &str = "lexicon: standard output: Bad file descriptor (os error 
 #[test]
 fn an_output_that_is_closed_or_only_for_reading_is_reported() {
     for redirection in [">&-", "1< /dev/null"] {
-        for words in ["settle z80", "settle --json z80", "settle --json", "explain z80", "matrix z80", "names vendor"] {
+        for words in [
+            "settle z80",
+            "settle --json z80",
+            "settle --json",
+            "explain z80",
+            "matrix z80",
+            "names vendor",
+        ] {
             let (_, errors, status) = shell(&format!("lexicon {words} {redirection}"));
-            assert_eq!((errors.as_str(), status), (NOT_OPEN, 3), "{words} {redirection}");
+            assert_eq!(
+                (errors.as_str(), status),
+                (NOT_OPEN, 3),
+                "{words} {redirection}"
+            );
         }
         for words in ["--help", "--version", "manual", "completions bash"] {
             let (_, errors, status) = shell(&format!("lexicon {words} {redirection}"));
-            assert_eq!((errors.as_str(), status), (NOT_OPEN, 3), "{words} {redirection}");
+            assert_eq!(
+                (errors.as_str(), status),
+                (NOT_OPEN, 3),
+                "{words} {redirection}"
+            );
         }
         // Where nothing is written to it, the status is that of the targets, and of the arguments.
-        for (words, status) in [("check z80", 0), ("check foo", 1), ("settle foo", 1), ("settle -x", 2)] {
-            assert_eq!(shell(&format!("lexicon {words} {redirection}")).2, status, "{words} {redirection}");
+        for (words, status) in [
+            ("check z80", 0),
+            ("check foo", 1),
+            ("settle foo", 1),
+            ("settle -x", 2),
+        ] {
+            assert_eq!(
+                shell(&format!("lexicon {words} {redirection}")).2,
+                status,
+                "{words} {redirection}"
+            );
         }
         for (words, status) in [("", 1), ("matrix", 1), ("json", 1), ("no", 2)] {
             let ran = shell(&format!("echo z80 | triples {words} {redirection}"));
@@ -46,7 +74,10 @@ fn an_output_that_is_closed_or_only_for_reading_is_reported() {
     }
     // A null device that is open for both, as other languages open it, is no closed one.
     for command in ["lexicon settle z80", "echo z80 | triples"] {
-        assert_eq!(shell(&format!("{command} 1<> /dev/null")), ("".into(), "".into(), 0));
+        assert_eq!(
+            shell(&format!("{command} 1<> /dev/null")),
+            ("".into(), "".into(), 0)
+        );
     }
 }
 
@@ -54,7 +85,10 @@ fn an_output_that_is_closed_or_only_for_reading_is_reported() {
 fn an_input_that_is_closed_or_only_for_writing_is_reported() {
     for redirection in ["<&-", "0> /dev/null"] {
         let (out, errors, status) = shell(&format!("lexicon settle --json z80 - {redirection}"));
-        assert_eq!(errors, "lexicon: <stdin>: Bad file descriptor (os error 9)\n");
+        assert_eq!(
+            errors,
+            "lexicon: <stdin>: Bad file descriptor (os error 9)\n"
+        );
         assert_eq!(out, "[{\"target\":\"z80\",\"file\":null,\"line\":null,\"canonical\":\"z80-unknown-unknown-elf\"}]\n");
         assert_eq!(status, 3);
         assert_eq!(shell(&format!("lexicon check z80 {redirection}")).2, 0);
@@ -85,28 +119,51 @@ fn an_input_that_is_also_an_output_ends() {
         assert_eq!(status, 3, "{command}");
         let why = "input file is also the output\n";
         let text = fs::read_to_string(format!("{}/both", env!("CARGO_TARGET_TMPDIR"))).unwrap();
-        let (said, lines) = if errors.is_empty() { (&text, 3) } else { (&errors, 2) };
+        let (said, lines) = if errors.is_empty() {
+            (&text, 3)
+        } else {
+            (&errors, 2)
+        };
         assert!(said.ends_with(why), "{command}: {errors}");
-        assert_eq!(text.lines().count(), lines + usize::from(command.contains("settle z80")), "{command}");
+        assert_eq!(
+            text.lines().count(),
+            lines + usize::from(command.contains("settle z80")),
+            "{command}"
+        );
     }
     // Two files, and a device, are no such thing.
     file("first", "z80\n");
-    assert_eq!(shell("lexicon settle -f first > second; cat second").0, "z80-unknown-unknown-elf\n");
-    assert_eq!(shell("lexicon settle < /dev/null > /dev/null 2>&1"), ("".into(), "".into(), 0));
+    assert_eq!(
+        shell("lexicon settle -f first > second; cat second").0,
+        "z80-unknown-unknown-elf\n"
+    );
+    assert_eq!(
+        shell("lexicon settle < /dev/null > /dev/null 2>&1"),
+        ("".into(), "".into(), 0)
+    );
     // `triples` reads the whole first.
     file("both", "z80\nfoo\n");
     let answers = "z80-unknown-unknown-elf\nerror: Unrecognized architecture: foo\n";
-    assert_eq!(shell("triples < both >> both; cat both"), (format!("z80\nfoo\n{answers}"), "".into(), 0));
+    assert_eq!(
+        shell("triples < both >> both; cat both"),
+        (format!("z80\nfoo\n{answers}"), "".into(), 0)
+    );
 }
 
-#[cfg(target_os = "linux")]
 #[test]
 fn an_input_larger_than_memory_is_reported() {
     let input = "head -c 200000000 /dev/zero | tr '\\0' a";
     for mode in ["print", "matrix", "json"] {
         let ran = shell(&format!("ulimit -v 100000; {input} | triples {mode}"));
-        assert_eq!(ran, ("fault: Out of memory\n".into(), "".into(), 1), "{mode}");
+        assert_eq!(
+            ran,
+            ("fault: Out of memory\n".into(), "".into(), 1),
+            "{mode}"
+        );
     }
     let ran = shell(&format!("ulimit -v 100000; {input} | lexicon check"));
-    assert_eq!(ran, ("".into(), "lexicon: <stdin>: out of memory\n".into(), 3));
+    assert_eq!(
+        ran,
+        ("".into(), "lexicon: <stdin>: out of memory\n".into(), 3)
+    );
 }
