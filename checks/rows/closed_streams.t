@@ -1,9 +1,5 @@
 # Streams that are closed before a program starts
 
-A program with Rust's runtime finds `/dev/null` instead, so these rows are only for the proved program.
-
-  $ ! grep -q RUST_BACKTRACE "$(type -P triples)" || exit 80
-
 A closed input can't be read, in no mode:
 
   $ for mode in print show settle json matrix; do triples $mode <&-; echo "status $?"; done | sort | uniq -c
@@ -25,9 +21,3 @@ If something can't be written, the status is 1, or 2 without a mode; if there is
   $ triples no < /dev/null >&-
   [2]
   $ triples print < /dev/null >&-
-
-The proved program writes nothing before it has read all:
-
-  $ { yes x86_64 | head -n 140000; printf '\xff'; } 2> /dev/null | triples print
-  fault: Input is not UTF-8
-  [1]

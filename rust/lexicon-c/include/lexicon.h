@@ -5,9 +5,9 @@
 
        struct lexicon_triple triple;
        struct lexicon_error error;
-       if (lexicon_parse(text, strlen(text), &triple, &error) != LEXICON_OK) {
+       if (lexicon_parse_z(text, &triple, &error) != LEXICON_OK) {
          char why[256];
-         lexicon_error_text(text, strlen(text), &error, why, sizeof why, NULL);
+         lexicon_error_text_z(text, &error, why, sizeof why, NULL);
          fprintf(stderr, "%s\n", why);
        }
 
@@ -15,13 +15,16 @@
    toolchains differ: UEFI and Cygwin imply ELF. It is proved that the calls follow this repository's definitions, and tested
    that these are upstream's, except for one rule of printing (docs/DIFFERENCES.md).
 
-   A string goes in as a pointer and a size. It needs no zero byte at its end, and need not be UTF-8. A string comes out into
-   the caller's buffer, with a zero byte after it. `length` may be null; otherwise *length becomes the length of the whole
+   A string goes in as a pointer and a size. It needs no zero byte at its end, and need not be UTF-8. For strings that end in a
+   zero byte there are calls without a size, whose names end in _z. A string comes out into the caller's buffer, with a zero byte
+   after it. `length` may be null; otherwise *length becomes the length of the whole
    string without the zero byte, even if the buffer is too small for it.
 
-   A string or a buffer of size 0 may be null, as with snprintf, and so may `length`; no other pointer may. What a call writes
-   may not overlap any other argument. No call allocates, waits, or stops the program, and nothing is kept or shared between
-   calls. So threads and signal handlers may make calls at any time.
+   A string or a buffer of size 0 may be null, as with snprintf, and so may `length` and `error`; no other pointer may. What a
+   call writes may not overlap any other argument, and no other byte is changed: of a buffer, only the string and its zero byte
+   are written. No memory has more than PTRDIFF_MAX bytes, so a larger size is a mistake: the status is LEXICON_TOO_LARGE
+   whatever else is wrong, or the returned string is null. No call allocates, waits, or stops the program, and nothing is kept
+   or shared between calls. So threads and signal handlers may make calls at any time.
 
    Most calls return a status. Except where a call says otherwise, it writes nothing if the status is not LEXICON_OK. A struct
    with a number that names no value gives LEXICON_NO_SUCH_VALUE, and one with a custom vendor that no string parses as gives
@@ -38,6 +41,7 @@
 #include <stdbool.h>
 #include <stddef.h>
 #include <stdint.h>
+#include <string.h>
 
 /* The version of this header. lexicon_version() is that of the library. */
 #define LEXICON_VERSION_MAJOR 0
@@ -73,7 +77,8 @@ enum lexicon_status {
   LEXICON_UNKNOWN_NAME = 12,        /* the dialect has no such name */
   LEXICON_NAME_WITHOUT_TRIPLE = 13, /* the dialect has the name, but no triple means the same; lexicon_reason says why */
   LEXICON_TRIPLE_WITHOUT_NAME = 14, /* the dialect has no name for the triple */
-  LEXICON_NO_SUCH_DIALECT = 15      /* the number of a dialect is above 6; for lexicon_write also 0 */
+  LEXICON_NO_SUCH_DIALECT = 15,     /* the number of a dialect is above 6; for lexicon_write also 0 */
+  LEXICON_TOO_LARGE = 16            /* a size is above PTRDIFF_MAX; that of a custom vendor gives LEXICON_NO_SUCH_VENDOR */
 };
 
 /* A tool, or a group of tools, that names targets in its own way. */
@@ -406,7 +411,8 @@ struct lexicon_triple {
 
 /* Why a string is refused: the status, from 1 to 7 or one that lexicon_read names, and where the refused part is. Here and
    below, start and end are byte indices: of the part's first byte, and of the byte after its last. They are equal for an empty
-   part, which may be at the end of the string. In a string that isn't UTF-8, the part is the first bytes that are no character. */
+   part, which may be at the end of the string. In a string that isn't UTF-8, the part is the first bytes that are no character.
+   At LEXICON_TOO_LARGE both are 0. */
 struct lexicon_error {
   uint32_t status; /* enum lexicon_status */
   size_t start, end;
@@ -445,13 +451,14 @@ struct lexicon_triple_facts {
    string parses as, and for its canonical form. arm64 prints as aarch64-unknown-unknown-elf, and no string grows by more. */
 #define LEXICON_MAX_GROWTH 22
 
-/* Parses a string. At LEXICON_OK the triple is written. At any other status, from 1 to 7, the error is written. */
-LEXICON_CHECKED LEXICON_NONNULL(3, 4)
+/* Parses a string. At LEXICON_OK the triple is written. At any other status, from 1 to 7 or LEXICON_TOO_LARGE, the error is
+   written, unless it is null: whoever only asks whether a string parses needs none. */
+LEXICON_CHECKED LEXICON_NONNULL(3)
 enum lexicon_status lexicon_parse(const char *text, size_t text_size, struct lexicon_triple *triple, struct lexicon_error *error);
 
 /* Parses a string, and says where each field comes from. The sources are written at each status; those from the refused part
    on are LEXICON_ORIGIN_NOT_GIVEN. */
-LEXICON_CHECKED LEXICON_NONNULL(3, 4, 5)
+LEXICON_CHECKED LEXICON_NONNULL(3, 4)
 enum lexicon_status lexicon_explain(const char *text, size_t text_size, struct lexicon_triple *triple,
                                     struct lexicon_sources *sources, struct lexicon_error *error);
 
@@ -484,7 +491,8 @@ enum lexicon_status lexicon_same_target(const struct lexicon_triple *first, cons
 LEXICON_CHECKED LEXICON_NONNULL(1, 2)
 enum lexicon_status lexicon_facts(const struct lexicon_triple *triple, struct lexicon_triple_facts *facts);
 
-/* Reads what another tool calls a target. At LEXICON_OK the triple is written. At any other status the error is.
+/* Reads what another tool calls a target. At LEXICON_OK the triple is written. At any other status the error is, unless it is
+   null.
 
    With LEXICON_DIALECT_NONE, the string is spelled like a triple, such as what cc -dumpmachine prints. Some parts are other
    spellings of known names: amd64 is x86_64, w64 is pc, mingw32 is windows-gnu, macos13 is macosx13. Versions of systems other
@@ -495,7 +503,7 @@ enum lexicon_status lexicon_facts(const struct lexicon_triple *triple, struct le
    doesn't state is unknown: linux/arm64 is aarch64-unknown-linux. The status is then LEXICON_OK, LEXICON_UNKNOWN_NAME,
    LEXICON_NAME_WITHOUT_TRIPLE or LEXICON_NOT_UTF8; of the first two refusals, the range is that of the whole name. At
    LEXICON_NO_SUCH_DIALECT it is empty. */
-LEXICON_CHECKED LEXICON_NONNULL(4, 5)
+LEXICON_CHECKED LEXICON_NONNULL(4)
 enum lexicon_status lexicon_read(uint32_t dialect, const char *text, size_t text_size, struct lexicon_triple *triple,
                                  struct lexicon_error *error);
 
@@ -523,16 +531,13 @@ const char *lexicon_name_suggestion(uint32_t dialect, const char *name, size_t n
                    ^^^^ did you mean `linux`?
 
    If the buffer is too small, the status is LEXICON_TOO_SMALL, and the first characters of it are written. An error that
-   isn't one of this string gives LEXICON_NO_SUCH_VALUE, and so does that of LEXICON_NO_SUCH_DIALECT. */
-LEXICON_NONNULL(3)
+   isn't one of this string gives LEXICON_NO_SUCH_VALUE, and so does that of LEXICON_NO_SUCH_DIALECT, and none. */
 enum lexicon_status lexicon_error_line(const char *text, size_t text_size, const struct lexicon_error *error, char *out,
                                        size_t out_size, size_t *length);
-LEXICON_NONNULL(3)
 enum lexicon_status lexicon_error_text(const char *text, size_t text_size, const struct lexicon_error *error, char *out,
                                        size_t out_size, size_t *length);
 
 /* The name that may have been meant by the refused part, of the expected field or a later one; null if there is none. */
-LEXICON_NONNULL(3)
 const char *lexicon_suggestion(const char *text, size_t text_size, const struct lexicon_error *error);
 
 /* The name that may have been meant by a custom vendor, of the vendors and the later fields: linux in x86_64-linx. Null if there
@@ -542,7 +547,8 @@ const char *lexicon_vendor_suggestion(const struct lexicon_triple *triple);
 
 /* The number of the value that a string names in one field, outside any triple. An alias gives the number of its value, a
    custom vendor LEXICON_VENDOR_CUSTOM, and a version is parsed and dropped. If the string names no value of the field, the
-   status is the number of the field plus 1. Otherwise it is LEXICON_OK, LEXICON_NOT_UTF8 or LEXICON_NO_SUCH_FIELD. */
+   status is the number of the field plus 1. Otherwise it is LEXICON_OK, LEXICON_NOT_UTF8, LEXICON_NO_SUCH_FIELD or
+   LEXICON_TOO_LARGE. */
 LEXICON_CHECKED LEXICON_NONNULL(4)
 enum lexicon_status lexicon_number(uint32_t field, const char *text, size_t text_size, uint32_t *number);
 
@@ -552,6 +558,52 @@ const char *lexicon_name(uint32_t field, uint32_t number);
 
 /* The version of the library, and the commit that it was built from if that is known: "0.4.0 (3f1877d0c1e2)". */
 const char *lexicon_version(void);
+
+/* The calls above for a string that ends in a zero byte, and isn't null. */
+LEXICON_CHECKED LEXICON_NONNULL(1, 2)
+static inline enum lexicon_status lexicon_parse_z(const char *text, struct lexicon_triple *triple, struct lexicon_error *error) {
+  return lexicon_parse(text, strlen(text), triple, error);
+}
+LEXICON_CHECKED LEXICON_NONNULL(1, 2, 3)
+static inline enum lexicon_status lexicon_explain_z(const char *text, struct lexicon_triple *triple, struct lexicon_sources *sources,
+                                                    struct lexicon_error *error) {
+  return lexicon_explain(text, strlen(text), triple, sources, error);
+}
+LEXICON_CHECKED LEXICON_NONNULL(1)
+static inline enum lexicon_status lexicon_settle_lines_z(const char *text, char *out, size_t out_size, size_t *length) {
+  return lexicon_settle_lines(text, strlen(text), out, out_size, length);
+}
+LEXICON_CHECKED LEXICON_NONNULL(2, 3)
+static inline enum lexicon_status lexicon_read_z(uint32_t dialect, const char *text, struct lexicon_triple *triple,
+                                                 struct lexicon_error *error) {
+  return lexicon_read(dialect, text, strlen(text), triple, error);
+}
+LEXICON_NONNULL(2)
+static inline const char *lexicon_reason_z(uint32_t dialect, const char *name) {
+  return lexicon_reason(dialect, name, strlen(name));
+}
+LEXICON_NONNULL(2)
+static inline const char *lexicon_name_suggestion_z(uint32_t dialect, const char *name) {
+  return lexicon_name_suggestion(dialect, name, strlen(name));
+}
+LEXICON_NONNULL(1)
+static inline enum lexicon_status lexicon_error_line_z(const char *text, const struct lexicon_error *error, char *out, size_t out_size,
+                                                       size_t *length) {
+  return lexicon_error_line(text, strlen(text), error, out, out_size, length);
+}
+LEXICON_NONNULL(1)
+static inline enum lexicon_status lexicon_error_text_z(const char *text, const struct lexicon_error *error, char *out, size_t out_size,
+                                                       size_t *length) {
+  return lexicon_error_text(text, strlen(text), error, out, out_size, length);
+}
+LEXICON_NONNULL(1)
+static inline const char *lexicon_suggestion_z(const char *text, const struct lexicon_error *error) {
+  return lexicon_suggestion(text, strlen(text), error);
+}
+LEXICON_CHECKED LEXICON_NONNULL(2, 3)
+static inline enum lexicon_status lexicon_number_z(uint32_t field, const char *text, uint32_t *number) {
+  return lexicon_number(field, text, strlen(text), number);
+}
 
 #ifdef __cplusplus
 }

@@ -7,13 +7,15 @@
 //       std::cerr << error << '\n';
 //     }
 //
-// A Triple is a value: it owns the name of a custom vendor, can be copied, compared, printed and hashed. A query without an
-// answer is std::nullopt.
+// A Triple is a value: it owns the name of a custom vendor, can be copied, compared, printed and hashed. Each is one of the
+// library's triples: what would make another, such as a number that is no enumerator, gives std::nullopt. So does a query without
+// an answer. Nothing here throws an exception of its own.
 //
 // SPDX-License-Identifier: Apache-2.0 WITH LLVM-exception
 #ifndef LEXICON_HPP
 #define LEXICON_HPP
 
+#include <algorithm>
 #include <cstddef>
 #include <cstdint>
 #include <functional>
@@ -120,6 +122,9 @@ enum class DataModel : std::uint8_t {
   ILP64 = LEXICON_DATA_MODEL_ILP64
 };
 
+// Where the value of a field comes from: nowhere, so that it is unknown; a part of the string; or the other fields.
+enum class Origin : std::uint8_t { NotGiven = LEXICON_ORIGIN_NOT_GIVEN, Given = LEXICON_ORIGIN_GIVEN, Implied = LEXICON_ORIGIN_IMPLIED };
+
 namespace detail {
 
 // The field of which a type has the values.
@@ -129,6 +134,11 @@ template <> struct FieldOf<Vendor> { static constexpr Field field = Field::Vendo
 template <> struct FieldOf<OperatingSystem> { static constexpr Field field = Field::OperatingSystem; };
 template <> struct FieldOf<Environment> { static constexpr Field field = Field::Environment; };
 template <> struct FieldOf<BinaryFormat> { static constexpr Field field = Field::BinaryFormat; };
+
+// The name of a number, empty for a number that has none.
+template <std::size_t Size> constexpr std::string_view name_at(const char* const (&names)[Size], std::size_t number) {
+  return number < Size ? names[number] : "";
+}
 
 template <class Value> std::optional<Value> answer(std::uint8_t number) {
   return number == 0 ? std::nullopt : std::optional<Value>(static_cast<Value>(number));
@@ -146,7 +156,8 @@ template <class Call> std::string written(Call call) {
 
 }  // namespace detail
 
-// The name of a value, such as "x86_64"; empty for Vendor::Custom, whose name is Triple::vendor_name.
+// The name of a value, such as "x86_64"; empty for Vendor::Custom, whose name is Triple::vendor_name. Here and below, that of a
+// number that is no enumerator is empty.
 template <class Value, class = decltype(detail::FieldOf<Value>::field)> std::string_view name(Value value) {
   const char* found = lexicon_name(static_cast<std::uint32_t>(detail::FieldOf<Value>::field), static_cast<std::uint32_t>(value));
   return found ? std::string_view(found) : std::string_view();
@@ -162,20 +173,27 @@ template <class Value> std::optional<Value> value_of(std::string_view text) {
 
 inline std::string_view name(Field field) {
   constexpr const char* names[] = {"architecture", "vendor", "operating system", "environment", "binary format"};
-  return names[static_cast<std::size_t>(field)];
+  return detail::name_at(names, static_cast<std::size_t>(field));
 }
 inline std::string_view name(Dialect value) {
   constexpr const char* names[] = {"", "debian", "go", "oci", "node", "gnu", "python"};
-  return names[static_cast<std::size_t>(value)];
+  return detail::name_at(names, static_cast<std::size_t>(value));
 }
-inline std::string_view name(Endianness value) { return value == Endianness::Little ? "little" : "big"; }
+inline std::string_view name(Endianness value) {
+  constexpr const char* names[] = {"", "little", "big"};
+  return detail::name_at(names, static_cast<std::size_t>(value));
+}
 inline std::string_view name(CallingConvention value) {
   constexpr const char* names[] = {"", "SystemV", "WasmBasicCAbi", "WindowsFastcall", "AppleAarch64"};
-  return names[static_cast<std::size_t>(value)];
+  return detail::name_at(names, static_cast<std::size_t>(value));
+}
+inline std::string_view name(Origin value) {
+  constexpr const char* names[] = {"not given", "given", "implied"};
+  return detail::name_at(names, static_cast<std::size_t>(value));
 }
 inline std::string_view name(DataModel value) {
   constexpr const char* names[] = {"", "LP32", "ILP32", "LLP64", "LP64", "ILP64"};
-  return names[static_cast<std::size_t>(value)];
+  return detail::name_at(names, static_cast<std::size_t>(value));
 }
 
 // Each value is written by its name.
@@ -212,11 +230,17 @@ struct ParseError {
   friend std::ostream& operator<<(std::ostream& out, const ParseError& it) { return out << it.text; }
 };
 
+struct Source {
+  Origin origin = Origin::NotGiven;
+  std::size_t start = 0, end = 0;  // the part, in bytes; 0 unless it is given
+};
+struct Explanation;
+
 class Triple {
   // What is compared.
   auto key() const {
     const auto& it = numbers_;
-    return std::make_tuple(it.architecture, it.vendor, std::string_view(custom_vendor_), it.operating_system, it.has_version, it.major,
+    return std::make_tuple(it.architecture, vendor(), std::string_view(custom_vendor_), it.operating_system, it.has_version, it.major,
                            it.minor, it.patch, it.environment, it.binary_format);
   }
 
@@ -224,14 +248,52 @@ class Triple {
   // The unknown triple.
   Triple() = default;
 
-  // The triple of these values. The binary format is the implied one unless it is given.
-  Triple(Architecture architecture, lexicon::Vendor vendor, OperatingSystem operating_system,
-         Environment environment = Environment::Unknown, std::optional<BinaryFormat> binary_format = std::nullopt) {
-    numbers_.architecture = static_cast<std::uint16_t>(architecture);
-    numbers_.vendor = static_cast<std::uint8_t>(vendor == Vendor::Custom ? Vendor::Unknown : vendor);
-    numbers_.operating_system = static_cast<std::uint8_t>(operating_system);
-    numbers_.environment = static_cast<std::uint8_t>(environment);
-    numbers_.binary_format = static_cast<std::uint8_t>(binary_format ? *binary_format : implied_format());
+  // The triple of these values. The binary format is the implied one unless it is given. If a value is no enumerator, there is
+  // none, and none for Vendor::Custom: then the vendor is given by its name, custom or known.
+  static std::optional<Triple> of(Architecture architecture, lexicon::Vendor vendor, OperatingSystem operating_system,
+                                  Environment environment = Environment::Unknown,
+                                  std::optional<BinaryFormat> binary_format = std::nullopt) {
+    return of_numbers(architecture, vendor, {}, operating_system, environment, binary_format);
+  }
+  static std::optional<Triple> of(Architecture architecture, std::string_view vendor, OperatingSystem operating_system,
+                                  Environment environment = Environment::Unknown,
+                                  std::optional<BinaryFormat> binary_format = std::nullopt) {
+    auto number = value_of<lexicon::Vendor>(vendor);
+    return number ? of_numbers(architecture, *number, vendor, operating_system, environment, binary_format) : std::nullopt;
+  }
+
+  // The triple of a struct of lexicon.h, if it is one.
+  static std::optional<Triple> from_c(const lexicon_triple& triple) {
+    lexicon_triple_facts facts;
+    return lexicon_facts(&triple, &facts) == LEXICON_OK ? std::optional<Triple>(Triple(triple)) : std::nullopt;
+  }
+
+  // The triple with another value in one field, if that is one. A binary format that the fields imply becomes the one that the new
+  // fields imply; another one stays. A new operating system has no version, unless it is given.
+  std::optional<Triple> with_architecture(Architecture value) const {
+    return changed([&](lexicon_triple& it) { it.architecture = static_cast<std::uint16_t>(value); });
+  }
+  std::optional<Triple> with_vendor(lexicon::Vendor value) const { return with_vendor(value, {}); }
+  std::optional<Triple> with_vendor(std::string_view vendor) const {
+    auto number = value_of<lexicon::Vendor>(vendor);
+    return number ? with_vendor(*number, vendor) : std::nullopt;
+  }
+  std::optional<Triple> with_operating_system(OperatingSystem value, std::optional<Version> version = std::nullopt) const {
+    return changed([&](lexicon_triple& it) {
+      it.operating_system = static_cast<std::uint8_t>(value);
+      set_version(it, version);
+    });
+  }
+  std::optional<Triple> with_version(std::optional<Version> version) const {
+    return changed([&](lexicon_triple& it) { set_version(it, version); });
+  }
+  std::optional<Triple> with_environment(Environment value) const {
+    return changed([&](lexicon_triple& it) { it.environment = static_cast<std::uint8_t>(value); });
+  }
+  std::optional<Triple> with_binary_format(BinaryFormat value) const {
+    lexicon_triple it = c_triple();
+    it.binary_format = static_cast<std::uint8_t>(value);
+    return from_c(it);
   }
 
   // The triple that a string parses as. If it is refused, `error` says why.
@@ -243,6 +305,9 @@ class Triple {
     if (error) *error = error_of(text, found);
     return std::nullopt;
   }
+
+  // What `parse` gives, and from where each field comes.
+  static std::optional<Explanation> explain(std::string_view text, ParseError* error = nullptr);
 
   // The triple of a string that is spelled like one, such as what `cc -dumpmachine` prints; and that of a name of another tool.
   // If there is none, `error` says why.
@@ -264,7 +329,7 @@ class Triple {
 
   // The five fields, in order.
   Architecture architecture() const { return static_cast<Architecture>(numbers_.architecture); }
-  Vendor vendor() const { return static_cast<Vendor>(numbers_.vendor); }
+  Vendor vendor() const { return has_custom_vendor() ? Vendor::Custom : static_cast<Vendor>(numbers_.vendor); }
   OperatingSystem operating_system() const { return static_cast<OperatingSystem>(numbers_.operating_system); }
   Environment environment() const { return static_cast<Environment>(numbers_.environment); }
   BinaryFormat binary_format() const { return static_cast<BinaryFormat>(numbers_.binary_format); }
@@ -301,7 +366,7 @@ class Triple {
   Family family() const { return static_cast<Family>(facts().family); }
   bool is_thumb() const { return facts().is_thumb; }
   bool is_like_darwin() const { return facts().is_like_darwin; }
-  bool has_custom_vendor() const { return numbers_.vendor == LEXICON_VENDOR_CUSTOM; }
+  bool has_custom_vendor() const { return !custom_vendor_.empty(); }
 
   // All of these at once.
   lexicon_triple_facts facts() const {
@@ -338,6 +403,7 @@ class Triple {
   lexicon_triple c_triple() const {
     lexicon_triple triple = numbers_;
     if (has_custom_vendor()) {
+      triple.vendor = LEXICON_VENDOR_CUSTOM;
       triple.custom_vendor = custom_vendor_.data();
       triple.custom_vendor_size = custom_vendor_.size();
     }
@@ -358,10 +424,62 @@ class Triple {
   }
 
  private:
-  explicit Triple(const lexicon_triple& triple) : numbers_(triple) {
-    if (has_custom_vendor()) custom_vendor_.assign(triple.custom_vendor, triple.custom_vendor_size);
-    numbers_.custom_vendor = nullptr;
-    numbers_.custom_vendor_size = 0;
+  // The triple of a struct that is one. What isn't read of it may have any value.
+  explicit Triple(const lexicon_triple& it) {
+    numbers_.architecture = it.architecture;
+    if (it.vendor == LEXICON_VENDOR_CUSTOM) custom_vendor_.assign(it.custom_vendor, it.custom_vendor_size);
+    else numbers_.vendor = it.vendor;
+    numbers_.operating_system = it.operating_system;
+    numbers_.environment = it.environment;
+    numbers_.binary_format = it.binary_format;
+    if (!it.has_version) return;
+    numbers_.has_version = it.has_version;
+    numbers_.major = it.major;
+    numbers_.minor = it.minor;
+    numbers_.patch = it.patch;
+  }
+
+  static std::optional<Triple> of_numbers(Architecture architecture, lexicon::Vendor vendor, std::string_view custom_vendor,
+                                          OperatingSystem operating_system, Environment environment,
+                                          std::optional<BinaryFormat> binary_format) {
+    lexicon_triple it = {};
+    it.architecture = static_cast<std::uint16_t>(architecture);
+    it.vendor = static_cast<std::uint8_t>(vendor);
+    it.operating_system = static_cast<std::uint8_t>(operating_system);
+    it.environment = static_cast<std::uint8_t>(environment);
+    it.binary_format = static_cast<std::uint8_t>(binary_format.value_or(BinaryFormat::Unknown));
+    it.custom_vendor = custom_vendor.data();
+    it.custom_vendor_size = custom_vendor.size();
+    return finished(it, !binary_format);
+  }
+
+  // The triple of a struct, perhaps with the format that its other fields imply.
+  static std::optional<Triple> finished(const lexicon_triple& it, bool is_implied) {
+    auto triple = from_c(it);
+    if (triple && is_implied) triple->numbers_.binary_format = triple->facts().implied_format;
+    return triple;
+  }
+
+  template <class Change> std::optional<Triple> changed(Change change) const {
+    lexicon_triple it = c_triple();
+    change(it);
+    return finished(it, binary_format() == implied_format());
+  }
+
+  std::optional<Triple> with_vendor(lexicon::Vendor number, std::string_view custom_vendor) const {
+    return changed([&](lexicon_triple& it) {
+      it.vendor = static_cast<std::uint8_t>(number);
+      it.custom_vendor = custom_vendor.data();
+      it.custom_vendor_size = custom_vendor.size();
+    });
+  }
+
+  static void set_version(lexicon_triple& it, std::optional<Version> version) {
+    it.has_version = version.has_value();
+    if (!version) return;
+    it.major = version->major;
+    it.minor = version->minor;
+    it.patch = version->patch;
   }
 
   static std::optional<Triple> read_in(std::uint32_t dialect, std::string_view text, ParseError* error) {
@@ -397,9 +515,37 @@ class Triple {
     return error;
   }
 
+  // The numbers, without a custom vendor, which is this text: a triple that was moved from is one too.
   lexicon_triple numbers_ = {};
   std::string custom_vendor_;
 };
+
+struct Explanation {
+  Triple triple;
+  Source architecture, vendor, operating_system, environment, binary_format;
+};
+
+inline std::optional<Explanation> Triple::explain(std::string_view text, ParseError* error) {
+  lexicon_triple triple;
+  lexicon_sources sources;
+  lexicon_error found;
+  if (lexicon_explain(text.data(), text.size(), &triple, &sources, &found) != LEXICON_OK) {
+    if (error) *error = error_of(text, found);
+    return std::nullopt;
+  }
+  auto of = [](const lexicon_source& it) { return Source{static_cast<Origin>(it.origin), it.start, it.end}; };
+  return Explanation{Triple(triple), of(sources.architecture), of(sources.vendor), of(sources.operating_system), of(sources.environment),
+                     of(sources.binary_format)};
+}
+
+// The canonical form of each line of a string, with a line feed after it; of a line that is refused, only the line feed.
+inline std::string settle_lines(std::string_view text) {
+  std::size_t lines = 1 + static_cast<std::size_t>(std::count(text.begin(), text.end(), '\n')), length = 0;
+  std::string settled(text.size() + lines * LEXICON_MAX_GROWTH + 1, '\0');
+  if (lexicon_settle_lines(text.data(), text.size(), settled.data(), settled.size() + 1, &length) != LEXICON_OK) length = 0;
+  settled.resize(length);
+  return settled;
+}
 
 // The version and the commit of the library.
 inline std::string_view version() { return lexicon_version(); }

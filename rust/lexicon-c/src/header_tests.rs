@@ -1,5 +1,5 @@
 //! The numbers of lexicon.h and lexicon.hpp are the library's.
-use crate::proved::{dialect_at, facts, name_at, NumberedTriple, TripleNumbers};
+use crate::proved::{dialect_at, facts, name_at, refusal_with, NumberedTriple, TripleNumbers};
 use std::collections::BTreeMap;
 use target_lexicon::proved::names::{architecture_at, field_at, operating_system_at};
 use target_lexicon::TripleRef;
@@ -121,6 +121,51 @@ fn the_conventions_and_models_are_those_of_the_queries() {
     }
 }
 
+#[test]
+fn the_statuses_are_those_of_the_calls() {
+    let (_, after) = HEADER.split_once("enum lexicon_status {").expect("the statuses");
+    let found = enumerators(after.split_once("};").expect("an end").0, "LEXICON_");
+    let declared = include_str!("lib.rs").lines().filter_map(|line| {
+        let (name, number) = line.strip_prefix("const ")?.strip_suffix(';')?.split_once(": Status = ")?;
+        Some((number.parse().expect(name), name.to_string()))
+    });
+    let mut statuses: BTreeMap<u32, String> = declared.collect();
+    for (status, (field, _)) in (1..).zip(FIELDS) {
+        assert_eq!(refusal_with(status, "").map(|it| it.expected() == field_at(status - 1)), Some(true));
+        statuses.insert(status, format!("UNRECOGNIZED_{field}"));
+    }
+    assert_eq!(refusal_with(6, "").map(|it| it.expected().is_none()), Some(true));
+    statuses.insert(6, "UNRECOGNIZED_FIELD".to_string());
+    assert_eq!(found, statuses);
+}
+
+/// A call may be given null for a text, a buffer, `length` and `error`, and for no other pointer.
+#[test]
+fn the_pointers_that_may_not_be_null_are_marked() {
+    let (_, prototypes) = HEADER.split_once("#define LEXICON_MAX_GROWTH").expect("the calls");
+    let (prototypes, inline) = prototypes.split_once("/* The calls above for a string").expect("those without a size");
+    // Each call that takes a string's size has one without, where the string may not be null either.
+    let sizes = ["size_t text_size", "size_t name_size"].map(|it| prototypes.matches(it).count());
+    let count_of = |what| inline.matches(what).count();
+    assert_eq!((count_of("_z("), count_of("LEXICON_NONNULL(")), (sizes[0] + sizes[1], sizes[0] + sizes[1]));
+    let prototypes = uncommented(prototypes);
+    let declared = prototypes.split(';').filter_map(|it| it.trim().strip_suffix(')')?.rsplit_once('('));
+    let mut count = 0;
+    for (before, given) in declared.filter(|(before, _)| before.contains("lexicon_")) {
+        let marked = before.split_once("LEXICON_NONNULL(").map_or("", |(_, after)| after.split_once(')').expect("an end").0);
+        let pointers = (1..).zip(given.split(',')).filter_map(|(number, it)| Some((number, it.rsplit_once('*')?.1)));
+        let needed = pointers.filter(|(_, name)| !["text", "name", "out", "length", "error"].contains(name));
+        assert_eq!(marked, needed.map(|(number, _)| i32::to_string(&number)).collect::<Vec<_>>().join(", "), "{before}");
+        count += 1;
+    }
+    assert_eq!(count, include_str!("lib.rs").matches("extern \"C\" fn lexicon_").count());
+}
+
+/// The text without its comments.
+fn uncommented(text: &str) -> String {
+    text.split("/*").map(|it| it.split_once("*/").map_or(it, |(_, after)| after)).collect()
+}
+
 const TYPES: [(&str, &str); 7] = [
     ("uint8_t", "u8"),
     ("uint16_t", "u16"),
@@ -135,8 +180,8 @@ const TYPES: [(&str, &str); 7] = [
 fn members(name: &str) -> Vec<(String, String)> {
     let (_, after) = HEADER.split_once(&format!("struct {name} {{")).expect(name);
     let listed = after.split_once("\n};").expect("an end").0;
-    let uncommented: String = listed.split("/*").map(|it| it.split_once("*/").map_or(it, |(_, after)| after)).collect();
-    let declared = uncommented.split(';').map(str::trim).filter(|it| !it.is_empty());
+    let listed = uncommented(listed);
+    let declared = listed.split(';').map(str::trim).filter(|it| !it.is_empty());
     declared
         .flat_map(|it| {
             let (names, of) = TYPES.iter().find_map(|(c, rust)| Some((it.strip_prefix(c)?, rust))).expect(it);

@@ -5,8 +5,8 @@
 //! no reference is formed: it is read and written by pointers, field by field or whole.
 //!
 //! Each `unsafe` here depends on what lexicon.h asks of the caller: that a pointer is valid for what the call reads or
-//! writes, that only one of size 0 and `length` may be null, that what a call writes overlaps no other argument, and that
-//! the text of a custom vendor stays as long as its struct is used. Nothing else is asked.
+//! writes, that only one of size 0, `length` and `error` may be null, that what a call writes overlaps no other argument, and
+//! that the text of a custom vendor stays as long as its struct is used. Nothing else is asked.
 #![cfg_attr(not(test), no_std)]
 #![deny(unsafe_op_in_unsafe_fn)]
 #![allow(clippy::missing_safety_doc)] // lexicon.h says it
@@ -34,7 +34,7 @@ use proved::{
 };
 use target_lexicon::proved::names::field_at;
 use target_lexicon::ParseErrorRef;
-use text::{write_all, write_text, Text};
+use text::{write_text, Text};
 
 /// `enum lexicon_status`. From 1 to 6 a text is refused, where a value of the first to the fifth field was expected, or none.
 pub type Status = u32;
@@ -49,6 +49,10 @@ const UNKNOWN_NAME: Status = 12;
 const NAME_WITHOUT_TRIPLE: Status = 13;
 const TRIPLE_WITHOUT_NAME: Status = 14;
 const NO_SUCH_DIALECT: Status = 15;
+const TOO_LARGE: Status = 16;
+
+/// The greatest size of anything in memory, `PTRDIFF_MAX`. Rust has no slice that is larger.
+const MAX_SIZE: usize = isize::MAX as usize;
 
 impl From<Fault> for Status {
     fn from(fault: Fault) -> Status {
@@ -88,7 +92,7 @@ impl Triple {
     }
 
     /// The triple of a caller's struct. The numbers of a version are read only if it has one, and the text only of a custom
-    /// vendor.
+    /// vendor. One of a size that no text has is empty here, which no string parses as either.
     #[inline(always)]
     unsafe fn read<'a>(from: *const Triple) -> NumberedTriple<'a> {
         // SAFETY: the caller's struct, in which what is read has a value.
@@ -108,7 +112,7 @@ impl Triple {
                 major: if has { (*it).major } else { 0 },
             };
             let custom_vendor = match numbers.vendor {
-                CUSTOM_VENDOR => bytes_at((*from).custom_vendor, (*from).custom_vendor_size),
+                CUSTOM_VENDOR => bytes_at((*from).custom_vendor, (*from).custom_vendor_size).unwrap_or(&[]),
                 _ => &[],
             };
             NumberedTriple { numbers, custom_vendor }
@@ -118,24 +122,38 @@ impl Triple {
 
 /// The caller's bytes.
 #[inline(always)]
-unsafe fn bytes_at<'a>(text: *const u8, size: usize) -> &'a [u8] {
-    if size == 0 {
-        return &[];
+unsafe fn bytes_at<'a>(text: *const u8, size: usize) -> Result<&'a [u8], TextError> {
+    match size {
+        0 => Ok(&[]),
+        // SAFETY: the caller's text of this size, which isn't null.
+        1..=MAX_SIZE => Ok(unsafe { slice::from_raw_parts(text, size) }),
+        _ => Err(TextError { status: TOO_LARGE, start: 0, end: 0 }),
     }
-    // SAFETY: the caller's text of this size, which isn't null.
-    unsafe { slice::from_raw_parts(text, size) }
 }
 
-/// The caller's text. Most are ASCII, which is found faster than other text.
+/// Bytes as a text. Most are ASCII, which is found faster than other text.
+#[inline(always)]
+fn text_of(bytes: &[u8]) -> Result<&str, TextError> {
+    if bytes.is_ascii() {
+        // SAFETY: ASCII is UTF-8.
+        return Ok(unsafe { str::from_utf8_unchecked(bytes) });
+    }
+    str::from_utf8(bytes).map_err(|error| not_utf8(bytes, error))
+}
+
+/// The caller's text.
 #[inline(always)]
 unsafe fn text_at<'a>(text: *const u8, size: usize) -> Result<&'a str, TextError> {
-    // SAFETY: the arguments of the caller; ASCII is UTF-8.
+    // SAFETY: the arguments of the caller.
+    text_of(unsafe { bytes_at(text, size) }?)
+}
+
+/// The caller's bytes and error, if there is one, for a call that says why a text is refused.
+unsafe fn refused_at<'a>(text: *const u8, size: usize, error: *const TextError) -> Result<(&'a [u8], TextError), Status> {
+    // SAFETY: the arguments of the caller.
     unsafe {
-        let bytes = bytes_at(text, size);
-        if bytes.is_ascii() {
-            return Ok(str::from_utf8_unchecked(bytes));
-        }
-        str::from_utf8(bytes).map_err(|error| not_utf8(bytes, error))
+        let bytes = bytes_at(text, size).map_err(|error| error.status)?;
+        Ok((bytes, *error.as_ref().ok_or(NO_SUCH_VALUE)?))
     }
 }
 
@@ -152,7 +170,7 @@ unsafe fn answer<T>(to: *mut T, answer: Result<T, impl Into<Status>>) -> Status 
     }
 }
 
-/// Writes what parsing gives.
+/// Writes what parsing gives. The error is written if the caller wants it.
 #[inline(always)]
 unsafe fn parsed(result: Result<NumberedTriple<'_>, TextError>, triple: *mut Triple, error: *mut TextError) -> Status {
     // SAFETY: the caller's variables.
@@ -162,7 +180,9 @@ unsafe fn parsed(result: Result<NumberedTriple<'_>, TextError>, triple: *mut Tri
             OK
         },
         Err(it) => unsafe {
-            error.write(it);
+            if !error.is_null() {
+                error.write(it);
+            }
             it.status
         },
     }
@@ -230,8 +250,10 @@ pub unsafe extern "C" fn lexicon_settle_lines(
     out_size: usize,
     length: *mut usize,
 ) -> Status {
-    let text = unsafe { bytes_at(text, text_size) };
-    unsafe { write_all(out, out_size, length, |out| settle_lines(text, out)) }
+    match unsafe { bytes_at(text, text_size) } {
+        Ok(text) => unsafe { Text::write(out, out_size, length, |out| Ok(settle_lines(text, out))) },
+        Err(error) => error.status,
+    }
 }
 
 #[no_mangle]
@@ -262,11 +284,12 @@ pub unsafe extern "C" fn lexicon_read(
     triple: *mut Triple,
     error: *mut TextError,
 ) -> Status {
-    let result = match dialect_at(dialect) {
-        Some(dialect) => unsafe { text_at(text, text_size) }.and_then(|text| read(dialect, text)),
-        None => Err(TextError { status: NO_SUCH_DIALECT, start: 0, end: 0 }),
+    let find = || {
+        let bytes = unsafe { bytes_at(text, text_size) }?;
+        let dialect = dialect_at(dialect).ok_or(TextError { status: NO_SUCH_DIALECT, start: 0, end: 0 })?;
+        read(dialect, text_of(bytes)?)
     };
-    unsafe { parsed(result, triple, error) }
+    unsafe { parsed(find(), triple, error) }
 }
 
 #[no_mangle]
@@ -278,6 +301,9 @@ pub unsafe extern "C" fn lexicon_write(
     length: *mut usize,
 ) -> Status {
     let find = || {
+        if out_size > MAX_SIZE {
+            return Err(TOO_LARGE);
+        }
         let dialect = dialect_at(dialect).flatten().ok_or(NO_SUCH_DIALECT)?;
         name_in(dialect, &unsafe { Triple::read(triple) })?.ok_or(TRIPLE_WITHOUT_NAME)
     };
@@ -318,8 +344,10 @@ pub unsafe extern "C" fn lexicon_error_line(
     out_size: usize,
     length: *mut usize,
 ) -> Status {
-    let (bytes, error) = unsafe { (bytes_at(text, text_size), *error) };
-    unsafe { Text::write(out, out_size, length, |out| line(bytes, &error, out)) }
+    match unsafe { refused_at(text, text_size, error) } {
+        Ok((bytes, error)) => unsafe { Text::write(out, out_size, length, |out| line(bytes, &error, out)) },
+        Err(status) => status,
+    }
 }
 
 #[no_mangle]
@@ -331,14 +359,16 @@ pub unsafe extern "C" fn lexicon_error_text(
     out_size: usize,
     length: *mut usize,
 ) -> Status {
-    let (bytes, error) = unsafe { (bytes_at(text, text_size), *error) };
-    unsafe { Text::write(out, out_size, length, |out| line_and_caret(bytes, &error, out)) }
+    match unsafe { refused_at(text, text_size, error) } {
+        Ok((bytes, error)) => unsafe { Text::write(out, out_size, length, |out| line_and_caret(bytes, &error, out)) },
+        Err(status) => status,
+    }
 }
 
 #[no_mangle]
 pub unsafe extern "C" fn lexicon_suggestion(text: *const u8, text_size: usize, error: *const TextError) -> *const u8 {
-    let (bytes, error) = unsafe { (bytes_at(text, text_size), *error) };
-    suggestion(bytes, &error).map_or(null(), c_name)
+    let refused = unsafe { refused_at(text, text_size, error) }.ok();
+    refused.and_then(|(bytes, error)| suggestion(bytes, &error)).map_or(null(), c_name)
 }
 
 #[no_mangle]
@@ -354,9 +384,10 @@ pub unsafe extern "C" fn lexicon_vendor_suggestion(triple: *const Triple) -> *co
 #[no_mangle]
 pub unsafe extern "C" fn lexicon_number(field: u32, text: *const u8, text_size: usize, number: *mut u32) -> Status {
     let find = || {
+        let status_of = |error: TextError| error.status;
+        let bytes = unsafe { bytes_at(text, text_size) }.map_err(status_of)?;
         let named = field_at(field).ok_or(NO_SUCH_FIELD)?;
-        let text = unsafe { text_at(text, text_size) }.map_err(|error| error.status)?;
-        number_in(named, text).ok_or(1 + field)
+        number_in(named, text_of(bytes).map_err(status_of)?).ok_or(1 + field)
     };
     unsafe { answer(number, find()) }
 }

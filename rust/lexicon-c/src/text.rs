@@ -1,5 +1,5 @@
 //! Texts in the caller's buffer, each with a zero byte after it.
-use crate::{Status, OK, TOO_SMALL};
+use crate::{Status, MAX_SIZE, OK, TOO_LARGE, TOO_SMALL};
 use core::{ptr, slice};
 
 /// Writes the length of a text if the caller wants it.
@@ -19,50 +19,42 @@ pub(crate) unsafe fn write_text(
     length: *mut usize,
     write: impl Fn(&mut [u8]) -> Result<usize, Status>,
 ) -> Status {
+    if out_size > MAX_SIZE {
+        return TOO_LARGE;
+    }
     let mut text = [0; 128];
     let size = match write(&mut text) {
         Ok(size) => size,
         Err(status) => return status,
     };
     // SAFETY: the caller's variable, and the first bytes of the caller's buffer, which has more than `size` bytes where any
-    // is written, and so isn't null. A text too long for the buffer here is written into the caller's, which has values then.
+    // is written, and so isn't null.
     unsafe {
         write_length(length, size);
         if out_size <= size {
             return TOO_SMALL;
         }
-        if size <= text.len() {
-            ptr::copy_nonoverlapping(text.as_ptr(), out, size);
-        } else {
-            out.write_bytes(0, size);
-            if let Err(status) = write(slice::from_raw_parts_mut(out, size)) {
-                return status;
-            }
-        }
+        copy_written(out, size, &text, |room| {
+            let _ = write(room); // which gives the size again
+        });
         out.add(size).write(0);
     }
     OK
 }
 
-/// Writes a text of any length into the caller's buffer, and its length. `write` writes what fits, and returns the length.
-pub(crate) unsafe fn write_all(
-    out: *mut u8,
-    out_size: usize,
-    length: *mut usize,
-    write: impl FnOnce(&mut [u8]) -> usize,
-) -> Status {
-    let mut room: &mut [u8] = &mut [];
-    if out_size > 0 {
-        // SAFETY: the caller's buffer, whose bytes have values then, and the last of which stays zero.
-        room = unsafe {
-            out.write_bytes(0, out_size);
-            slice::from_raw_parts_mut(out, out_size - 1)
-        };
+/// Copies a text of this size into the caller's buffer, which has room for it. One that was too long for the buffer here is
+/// written into the caller's, which has values then. No other byte of it is touched.
+#[inline(always)]
+unsafe fn copy_written(out: *mut u8, size: usize, text: &[u8], write: impl FnOnce(&mut [u8])) {
+    // SAFETY: the first bytes of the caller's buffer.
+    unsafe {
+        if size <= text.len() {
+            ptr::copy_nonoverlapping(text.as_ptr(), out, size);
+        } else {
+            out.write_bytes(0, size);
+            write(slice::from_raw_parts_mut(out, size));
+        }
     }
-    let size = write(room);
-    // SAFETY: the caller's variable.
-    unsafe { write_length(length, size) }
-    if size < out_size { OK } else { TOO_SMALL }
 }
 
 /// A text that is written piece by piece, of which only the first characters are kept if the buffer is too small.
@@ -83,6 +75,9 @@ impl Text {
         length: *mut usize,
         fill: impl FnOnce(&mut Text) -> Result<(), Status>,
     ) -> Status {
+        if out_size > MAX_SIZE {
+            return TOO_LARGE;
+        }
         let mut text = Text { out, room: out_size.saturating_sub(1), kept: 0, length: 0 };
         if let Err(status) = fill(&mut text) {
             return status;
@@ -97,13 +92,42 @@ impl Text {
         if text.length < out_size { OK } else { TOO_SMALL }
     }
 
+    /// Whether a piece of this size fits after all that came before.
+    fn has_room(&self, size: usize) -> bool {
+        self.kept == self.length && size <= self.room - self.kept
+    }
+
+    /// Adds a piece to the length. Where memory is small, the texts of an error, or lines, may have more bytes than it has.
+    fn count(&mut self, size: usize, is_kept: bool) {
+        if is_kept {
+            self.kept += size;
+        }
+        self.length = self.length.saturating_add(size);
+    }
+
     fn push_whole(&mut self, piece: &str) {
-        if self.kept == self.length && piece.len() <= self.room - self.kept {
+        let fits = self.has_room(piece.len());
+        if fits {
             // SAFETY: the piece fits into the caller's buffer, after what is kept.
             unsafe { ptr::copy_nonoverlapping(piece.as_ptr(), self.out.add(self.kept), piece.len()) }
-            self.kept += piece.len();
         }
-        self.length += piece.len();
+        self.count(piece.len(), fits);
+    }
+
+    /// Adds a whole piece, which `write` writes into a buffer that has room for it. It returns the length.
+    pub(crate) fn push_written(&mut self, write: impl Fn(&mut [u8]) -> usize) {
+        let mut text = [0; 128];
+        let size = write(&mut text);
+        let fits = self.has_room(size);
+        if fits {
+            // SAFETY: the piece fits into the caller's buffer, after what is kept.
+            unsafe {
+                copy_written(self.out.add(self.kept), size, &text, |room| {
+                    write(room);
+                });
+            }
+        }
+        self.count(size, fits);
     }
 
     pub(crate) fn push(&mut self, piece: &str) {

@@ -96,6 +96,8 @@ static void try_refused(void) {
     fill(&triple, sizeof triple);
     expect(lexicon_parse(text, size, &triple, &error) == refused[i].status, "parse", refused[i].text);
     expect(lexicon_explain(text, size, &triple, &sources, &other) == refused[i].status, "explain", refused[i].text);
+    expect(lexicon_parse(text, size, &triple, NULL) == refused[i].status, "parse without an error", refused[i].text);
+    expect(lexicon_explain(text, size, &triple, &sources, NULL) == refused[i].status, "explain without an error", refused[i].text);
     expect(is_filled(&triple, sizeof triple), "the triple is unchanged", refused[i].text);
     expect(error.status == refused[i].status && error.start == refused[i].start && error.end == refused[i].end, "error", refused[i].text);
     expect(other.status == error.status && other.start == error.start && other.end == error.end, "both errors", refused[i].text);
@@ -127,6 +129,10 @@ static void try_bad_errors(void) {
   }
   struct lexicon_error error = {LEXICON_UNRECOGNIZED_ARCHITECTURE, 0, 9};
   char out[128];
+  fill(out, sizeof out);
+  expect(lexicon_error_line(text, 3, NULL, out, sizeof out, NULL) == LEXICON_NO_SUCH_VALUE, "no error", "line");
+  expect(lexicon_error_text(text, 3, NULL, out, sizeof out, NULL) == LEXICON_NO_SUCH_VALUE, "no error", "text");
+  expect(lexicon_suggestion(text, 3, NULL) == NULL && is_filled(out, sizeof out), "no error", "suggestion");
   expect(lexicon_error_text("\x1b[31m\xe2\x80\xae!", 9, &error, out, sizeof out, NULL) == LEXICON_OK, "control characters", "");
   expect(strcmp(out, "Unrecognized architecture: \xef\xbf\xbd[31m\xef\xbf\xbd!\n  \xef\xbf\xbd[31m\xef\xbf\xbd!\n  ^^^^^^^") == 0, out, "replaced");
 }
@@ -149,6 +155,7 @@ static void try_parsed(void) {
     fill(&error, sizeof error);
     expect(lexicon_explain(text, strlen(text), &explained, &sources, &error) == LEXICON_OK, "explain", text);
     expect(is_filled(&error, sizeof error), "the error is unchanged", text);
+    expect(lexicon_parse(text, strlen(text), &explained, NULL) == LEXICON_OK, "parse without an error", text);
     expect(lexicon_equal(&triple, &explained, &answer) == LEXICON_OK && answer, "parse and explain", text);
     expect(lexicon_comes_back(&triple, &answer) == LEXICON_OK && answer == parsed[i].comes_back, "comes_back", text);
     try_text(print, &triple, parsed[i].printed, false);
@@ -314,18 +321,77 @@ static void try_lines(void) {
     size_t size = strlen(text) - cut, whole = strlen(expected);
     expect(lexicon_settle_lines(text, size, out, size + lines * LEXICON_MAX_GROWTH + 2, &length) == LEXICON_OK, "the buffer for", "lines");
     expect(length == whole && strcmp(out, expected) == 0, "lines", out);
+    fill(out, sizeof out);
+    expect(lexicon_settle_lines(text, size, out, sizeof out, NULL) == LEXICON_OK && strcmp(out, expected) == 0, "room for more than", "lines");
+    expect(is_filled(out + whole + 1, sizeof out - whole - 1), "the rest of the buffer is unchanged", out);
     for (size_t room = 0; room <= whole; room++) {
       fill(out, sizeof out);
       expect(lexicon_settle_lines(text, size, room ? out : NULL, room, &length) == LEXICON_TOO_SMALL && length == whole, "a small buffer for", "lines");
       if (room == 0) continue;
       size_t kept = strlen(out);
-      expect(kept < room && strncmp(out, expected, kept) == 0 && is_filled(out + room, sizeof out - room), "the first lines", out);
+      expect(kept < room && strncmp(out, expected, kept) == 0, "the first lines", out);
+      expect(is_filled(out + kept + 1, sizeof out - kept - 1), "the rest is unchanged", out);
       expect(kept == room - 1 || strchr(expected + kept, '\n') > expected + room - 1, "each line that fits", out);
     }
     expect(lexicon_settle_lines(text, size, out, whole + 1, NULL) == LEXICON_OK && strcmp(out, expected) == 0, "no length for", "lines");
   }
   expect(lexicon_settle_lines(NULL, 0, out, 1, &length) == LEXICON_OK && length == 0 && *out == 0, "no lines", "");
   expect(lexicon_settle_lines("\n", 1, out, 2, &length) == LEXICON_OK && strcmp(out, "\n") == 0, "an empty line", "");
+  char vendor[300] = "avr-"; /* a line that is longer than those of known names */
+  memset(vendor + 4, 'v', 250);
+  strcpy(vendor + 254, "-linux\n");
+  fill(out, sizeof out);
+  expect(lexicon_settle_lines(vendor, 261, out, 262, &length) == LEXICON_OK && length == 261 && strcmp(out, vendor) == 0, "a long line", "");
+  fill(out, sizeof out);
+  expect(lexicon_settle_lines(vendor, 261, out, 260, &length) == LEXICON_TOO_SMALL && length == 261 && *out == 0, "a long line", "too small");
+  expect(is_filled(out + 1, sizeof out - 1), "a long line", "unchanged");
+}
+
+/* Sizes that no memory has, of which one is 4 with a bit more. What is there isn't looked at, and nothing is written. */
+static void try_too_large(void) {
+  static const char text[] = "x86_64-linux";
+  const size_t sizes[] = {(size_t)PTRDIFF_MAX + 1, (size_t)PTRDIFF_MAX + 5, SIZE_MAX};
+  const struct lexicon_error why = {LEXICON_UNRECOGNIZED_ARCHITECTURE, 0, 1};
+  const struct lexicon_triple known = triple_of(text);
+  for (size_t i = 0; i < sizeof sizes / sizeof *sizes; i++) {
+    struct lexicon_triple triple, bad = known;
+    struct lexicon_error errors[3];
+    struct lexicon_sources sources;
+    char out[64];
+    size_t large = sizes[i], length = 77;
+    uint32_t number = 77;
+    fill(&triple, sizeof triple);
+    fill(out, sizeof out);
+    expect(lexicon_parse(text, large, &triple, &errors[0]) == LEXICON_TOO_LARGE, "too large", "parse");
+    expect(lexicon_parse(text, large, &triple, NULL) == LEXICON_TOO_LARGE, "too large", "parse without an error");
+    expect(lexicon_explain(text, large, &triple, &sources, &errors[1]) == LEXICON_TOO_LARGE, "too large", "explain");
+    expect(sources.architecture.origin == LEXICON_ORIGIN_NOT_GIVEN, "too large", "sources");
+    expect(lexicon_read(LEXICON_DIALECT_NONE, text, large, &triple, &errors[2]) == LEXICON_TOO_LARGE, "too large", "read");
+    for (size_t j = 0; j < 3; j++)
+      expect(errors[j].status == LEXICON_TOO_LARGE && errors[j].start == 0 && errors[j].end == 0, "too large", "error");
+    expect(lexicon_read(7, text, large, &triple, NULL) == LEXICON_TOO_LARGE, "too large", "read, with no dialect");
+    expect(lexicon_reason(LEXICON_DIALECT_GO, text, large) == NULL, "too large", "reason");
+    expect(lexicon_name_suggestion(LEXICON_DIALECT_GO, text, large) == NULL, "too large", "name_suggestion");
+    expect(lexicon_suggestion(text, large, &why) == NULL, "too large", "suggestion");
+    expect(lexicon_number(LEXICON_FIELD_VENDOR, text, large, &number) == LEXICON_TOO_LARGE, "too large", "number");
+    expect(lexicon_number(5, text, large, &number) == LEXICON_TOO_LARGE && number == 77, "too large", "number, with no field");
+    expect(lexicon_error_line(text, large, &why, out, sizeof out, &length) == LEXICON_TOO_LARGE, "too large", "error_line");
+    expect(lexicon_error_text(text, large, &why, out, sizeof out, &length) == LEXICON_TOO_LARGE, "too large", "error_text");
+    expect(lexicon_error_line(text, 5, &why, out, large, &length) == LEXICON_TOO_LARGE, "a buffer too large", "error_line");
+    expect(lexicon_error_text(text, 5, &why, out, large, &length) == LEXICON_TOO_LARGE, "a buffer too large", "error_text");
+    expect(lexicon_settle_lines(text, large, out, sizeof out, &length) == LEXICON_TOO_LARGE, "too large", "settle_lines");
+    expect(lexicon_settle_lines(text, 5, out, large, &length) == LEXICON_TOO_LARGE, "a buffer too large", "settle_lines");
+    expect(lexicon_print(&known, out, large, &length) == LEXICON_TOO_LARGE, "a buffer too large", "print");
+    expect(lexicon_write(LEXICON_DIALECT_GO, &known, out, large, &length) == LEXICON_TOO_LARGE, "a buffer too large", "write");
+    bad.environment = 255;
+    expect(lexicon_print(&bad, out, large, &length) == LEXICON_TOO_LARGE, "a buffer too large", "print, of no value");
+    expect(lexicon_write(7, &known, out, large, &length) == LEXICON_TOO_LARGE, "a buffer too large", "write, with no dialect");
+    expect(is_filled(&triple, sizeof triple) && is_filled(out, sizeof out) && length == 77, "too large", "unchanged");
+    bad = triple_of("x86_64-acme-linux");
+    bad.custom_vendor_size = large;
+    expect(lexicon_vendor_suggestion(&bad) == NULL, "too large", "vendor_suggestion");
+    try_bad(bad, LEXICON_NO_SUCH_VENDOR, "a vendor too large");
+  }
 }
 
 static void try_sources(void) {
@@ -428,6 +494,7 @@ static void try_dialects(void) {
     char whole[256];
     fill(&triple, sizeof triple);
     expect(lexicon_read(unread[i].dialect, name, size, &triple, &error) == unread[i].status, "read", unread[i].name);
+    expect(lexicon_read(unread[i].dialect, name, size, &triple, NULL) == unread[i].status, "read without an error", unread[i].name);
     expect(is_filled(&triple, sizeof triple), "the triple is unchanged", unread[i].name);
     expect(error.status == unread[i].status && error.start == unread[i].start && error.end == unread[i].end, "error", unread[i].name);
     error_of = unread[i].name;
@@ -444,6 +511,7 @@ static void try_dialects(void) {
   fill(&triple, sizeof triple);
   fill(out, sizeof out);
   expect(lexicon_read(7, "avr", 3, &triple, &error) == LEXICON_NO_SUCH_DIALECT && is_filled(&triple, sizeof triple), "no dialect", "7");
+  expect(lexicon_read(7, "avr", 3, &triple, NULL) == LEXICON_NO_SUCH_DIALECT, "no dialect, without an error", "7");
   expect(error.status == LEXICON_NO_SUCH_DIALECT && error.start == 0 && error.end == 0 && lexicon_reason(~0u, "avr", 3) == NULL, "no dialect", "7");
   expect(lexicon_name_suggestion(7, "linux/amd46", 11) == NULL && lexicon_name_suggestion(~0u, "amd46", 5) == NULL, "no dialect", "7");
   expect(lexicon_error_line("avr", 3, &error, out, sizeof out, NULL) == LEXICON_NO_SUCH_VALUE, "no line", "7");
@@ -464,6 +532,45 @@ static void try_dialects(void) {
   expect(length == 77 && is_filled(out, sizeof out), "write", "unchanged");
 }
 
+/* The calls without a size do the same as those with one. */
+static void try_zero_ended(void) {
+  for (size_t i = 0; i < sizeof refused / sizeof *refused; i++) {
+    const char *text = refused[i].text;
+    size_t size = strlen(text), length = 0, same = 0;
+    struct lexicon_triple triple;
+    struct lexicon_error error, other;
+    struct lexicon_sources sources;
+    char out[256], expected[256];
+    expect(lexicon_parse_z(text, &triple, &error) == refused[i].status && error.end == refused[i].end, "parse_z", text);
+    expect(lexicon_explain_z(text, &triple, &sources, &other) == refused[i].status && other.start == error.start, "explain_z", text);
+    expect(lexicon_parse_z(text, &triple, NULL) == refused[i].status, "parse_z without an error", text);
+    expect(lexicon_error_line_z(text, &error, out, sizeof out, &length) == LEXICON_OK && strcmp(out, refused[i].line) == 0, "error_line_z", text);
+    expect(lexicon_error_text_z(text, &error, out, sizeof out, &length) == LEXICON_OK, "error_text_z", text);
+    expect(lexicon_error_text(text, size, &error, expected, sizeof expected, &same) == LEXICON_OK, "error_text", text);
+    expect(length == same && strcmp(out, expected) == 0, "error_text_z", text);
+    expect(lexicon_suggestion_z(text, &error) == lexicon_suggestion(text, size, &error), "suggestion_z", text);
+  }
+  for (size_t i = 0; i < sizeof unread / sizeof *unread; i++) {
+    struct lexicon_triple triple;
+    struct lexicon_error error;
+    const char *name = unread[i].name;
+    expect(lexicon_read_z(unread[i].dialect, name, &triple, &error) == unread[i].status && error.end == unread[i].end, "read_z", name);
+    expect(lexicon_reason_z(unread[i].dialect, name) == lexicon_reason(unread[i].dialect, name, strlen(name)), "reason_z", name);
+    expect(lexicon_name_suggestion_z(unread[i].dialect, name) == lexicon_name_suggestion(unread[i].dialect, name, strlen(name)), "name_suggestion_z", name);
+  }
+  struct lexicon_triple triple;
+  struct lexicon_sources sources;
+  char out[64];
+  size_t length = 0;
+  uint32_t number = 0;
+  expect(lexicon_parse_z("arm64-linux", &triple, NULL) == LEXICON_OK && triple.architecture == LEXICON_ARCHITECTURE_AARCH64, "parse_z", "arm64-linux");
+  expect(lexicon_explain_z("arm64-linux", &triple, &sources, NULL) == LEXICON_OK && sources.operating_system.end == 11, "explain_z", "arm64-linux");
+  expect(lexicon_read_z(LEXICON_DIALECT_GO, "linux/arm64", &triple, NULL) == LEXICON_OK, "read_z", "linux/arm64");
+  expect(lexicon_number_z(LEXICON_FIELD_ARCHITECTURE, "arm64", &number) == LEXICON_OK && number == LEXICON_ARCHITECTURE_AARCH64, "number_z", "arm64");
+  expect(lexicon_settle_lines_z("arm64-linux\nfoo\n", out, sizeof out, &length) == LEXICON_OK && length == 23, "settle_lines_z", "arm64-linux");
+  expect(strcmp(out, "aarch64-unknown-linux\n\n") == 0, "settle_lines_z", out);
+}
+
 int main(void) {
   try_parsed();
   try_refused();
@@ -473,9 +580,11 @@ int main(void) {
   try_all_facts();
   try_struct();
   try_lines();
+  try_too_large();
   try_sources();
   try_names();
   try_dialects();
+  try_zero_ended();
   fprintf(stderr, "calls: %u right, %u wrong\n", count - failures, failures);
   return failures ? 1 : 0;
 }

@@ -303,7 +303,9 @@ static void try_lines(const char *text, size_t size) {
   size_t room = size + lines * LEXICON_MAX_GROWTH + 2;
   if (room > ROOM) return;
   char *out = (char *)before_guard(1, room), *settled;
+  memset(out, 0xa5, room);
   CHECK(lexicon_settle_lines(text, size, out, room, &length) == LEXICON_OK && length < room && out[length] == 0);
+  CHECK(is_unchanged(out + length + 1, room - length - 1));
   const char *line = out;
   for (size_t start = 0, end; start < size; start = end + 1) {
     struct lexicon_triple triple;
@@ -332,6 +334,8 @@ static void try_text(const char *text, size_t size) {
   memset(&sources, 0xa5, sizeof sources);
   uint32_t status = lexicon_parse(text, size, &triple, &error);
   CHECK(lexicon_explain(text, size, &explained, &sources, &other) == status && status <= LEXICON_NOT_UTF8);
+  struct lexicon_triple alone = triple;
+  CHECK(lexicon_parse(text, size, &alone, NULL) == status);
   const struct lexicon_source *each[] = {&sources.architecture, &sources.vendor, &sources.operating_system, &sources.environment,
       &sources.binary_format};
   for (size_t i = 0; i < 5; i++) try_source(each[i], size);

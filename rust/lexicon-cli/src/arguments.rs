@@ -58,6 +58,12 @@ fn of_targets(name: &'static str, about: &'static str, example: &'static str) ->
             .value_hint(ValueHint::FilePath)
             .help("Answer for the lines of FILE too; `-` is standard input. May be given more than once"),
         flag("comments", "Skip blank lines, and what follows `#` in a line"),
+        flag("null", "End targets in files, and answers, with a zero byte instead of a line feed")
+            .short('0')
+            .conflicts_with("comments"),
+        flag("quiet", "Write nothing, and end at the first target that is refused: the status says it")
+            .short('q')
+            .conflicts_with_all(["json", "json-lines"]),
         flag("strict", "Refuse custom vendors, which may be any lower-case word").hide(name == "read"),
         flag("json", "Write one JSON array on one line").conflicts_with("json-lines"),
         flag("json-lines", "Write one JSON object per line"),

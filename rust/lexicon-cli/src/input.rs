@@ -2,10 +2,9 @@
 use crate::refusal::visible;
 use crate::Fault;
 use clap::ArgMatches;
-use lexicon_cli::{each_block, Stop};
+use lexicon_cli::{each_block, streams, Stop};
 use std::fmt;
-use std::fs::File;
-use std::io::{self, Read};
+use std::io::{self, ErrorKind};
 use std::path::{Path, PathBuf};
 
 pub const STANDARD_INPUT: &str = "<stdin>";
@@ -48,15 +47,18 @@ pub trait Answers {
 
 /// Answers each target that the arguments name: first those that are arguments, then those of the files.
 pub fn each_target(arguments: &ArgMatches, answers: &mut impl Answers) -> Result<(), Fault> {
-    let skips_comments = arguments.get_flag("comments");
+    let lines = Lines {
+        skips_comments: arguments.get_flag("comments"),
+        end: end_of_line(arguments),
+    };
     let targets = arguments.get_many::<String>("target").unwrap_or_default();
     let files = arguments.get_many::<PathBuf>("file").unwrap_or_default();
     if targets.len() + files.len() == 0 {
-        return each_line(Path::new("-"), skips_comments, answers);
+        return each_line(Path::new("-"), lines, answers);
     }
     for (text, number) in targets.zip(1..) {
         match text.as_str() {
-            "-" => each_line(Path::new("-"), skips_comments, answers)?,
+            "-" => each_line(Path::new("-"), lines, answers)?,
             text => answers.answer(Target {
                 text,
                 place: Place::Argument(number),
@@ -64,33 +66,56 @@ pub fn each_target(arguments: &ArgMatches, answers: &mut impl Answers) -> Result
         }
     }
     for file in files {
-        each_line(file, skips_comments, answers)?;
+        each_line(file, lines, answers)?;
     }
     Ok(())
 }
 
-fn each_line(path: &Path, skips_comments: bool, answers: &mut impl Answers) -> Result<(), Fault> {
-    let (name, input): (String, Box<dyn Read>) = if path == Path::new("-") {
-        (STANDARD_INPUT.into(), Box::new(io::stdin().lock()))
+/// What ends a line, and the answer to it.
+pub fn end_of_line(arguments: &ArgMatches) -> u8 {
+    match arguments.get_flag("null") {
+        true => 0,
+        false => b'\n',
+    }
+}
+
+/// How lines are read.
+#[derive(Clone, Copy)]
+struct Lines {
+    skips_comments: bool,
+    end: u8,
+}
+
+fn each_line(path: &Path, lines: Lines, answers: &mut impl Answers) -> Result<(), Fault> {
+    let (name, opened) = if path == Path::new("-") {
+        (STANDARD_INPUT.to_string(), streams::standard_input())
     } else {
-        let name = path.display().to_string();
-        match File::open(path) {
-            Ok(file) => (name, Box::new(file)),
-            Err(why) => return Err(Fault::Stream { name, why }),
+        (path.display().to_string(), streams::file(path))
+    };
+    let input = match opened {
+        Ok(input) if input.is_output => {
+            // What is written would be read, for ever.
+            let why = io::Error::new(ErrorKind::Other, "input file is also the output");
+            return Err(Fault::Stream { name, why });
         }
+        Ok(input) => input.reader,
+        Err(why) => return Err(Fault::Stream { name, why }),
     };
     let mut number = 0;
-    let read = each_block(input, |block| {
-        for line in block.split_terminator('\n') {
+    let read = each_block(input, lines.end, |block| {
+        for line in block.split_terminator(char::from(lines.end)) {
             number += 1;
-            let line = line.strip_suffix('\r').unwrap_or(line);
+            let line = match lines.end {
+                b'\n' => line.strip_suffix('\r').unwrap_or(line),
+                _ => line,
+            };
             let line = if number == 1 {
                 line.strip_prefix('\u{feff}').unwrap_or(line)
             } else {
                 line
             };
             let (mut text, mut indent) = (line, 0);
-            if skips_comments {
+            if lines.skips_comments {
                 text = line.split('#').next().unwrap_or("").trim();
                 indent = line.chars().take_while(|c| c.is_whitespace()).count();
                 if text.is_empty() {

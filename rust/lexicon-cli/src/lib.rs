@@ -1,5 +1,7 @@
-//! What both commands read: lines, as they come.
-#![forbid(unsafe_code)]
+//! What both commands read and write: lines, as they come, and the standard streams.
+#![deny(unsafe_code)] // except where `streams` looks before the runtime starts
+
+pub mod streams;
 
 use std::io::{self, ErrorKind, Read};
 use std::str;
@@ -15,15 +17,19 @@ pub enum Stop<E> {
     Answer(E),
 }
 
-/// Calls `answer` with one or more whole lines at a time, as soon as they were read. A line that isn't UTF-8 ends this, after
-/// the lines before it were answered.
+/// Calls `answer` with one or more whole lines at a time, as soon as they were read. A line ends with the given
+/// character of ASCII. A line that isn't UTF-8 ends this, after the lines before it were answered.
 pub fn each_block<E>(
     mut input: impl Read,
+    end_of_line: u8,
     mut answer: impl FnMut(&str) -> Result<(), E>,
 ) -> Result<(), Stop<E>> {
     let (mut bytes, mut filled) = (vec![0; 1 << 16], 0);
     loop {
         if filled == bytes.len() {
+            bytes
+                .try_reserve_exact(filled)
+                .map_err(|_| Stop::Read(ErrorKind::OutOfMemory.into()))?;
             bytes.resize(2 * filled, 0);
         }
         let begin = filled;
@@ -34,7 +40,10 @@ pub fn each_block<E>(
             }
         };
         filled += count;
-        let end = match bytes[begin..filled].iter().rposition(|byte| *byte == b'\n') {
+        let end = match bytes[begin..filled]
+            .iter()
+            .rposition(|byte| *byte == end_of_line)
+        {
             Some(at) => begin + at + 1,
             None if count == 0 => begin,
             None => continue,
@@ -47,7 +56,7 @@ pub fn each_block<E>(
             }
         };
         if valid.len() < end {
-            let line = valid.rfind('\n').map_or(0, |at| at + 1);
+            let line = valid.rfind(char::from(end_of_line)).map_or(0, |at| at + 1);
             answer(&valid[..line]).map_err(Stop::Answer)?;
             return Err(Stop::NotUtf8 {
                 column: valid[line..].chars().count() + 1,

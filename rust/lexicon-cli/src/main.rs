@@ -14,11 +14,12 @@ use arguments::{DIALECTS, FIELDS};
 use clap::error::{ContextKind, ContextValue, ErrorKind};
 use clap::ArgMatches;
 use clap_complete::Shell;
-use input::{each_target, Answers, Place, Target};
+use input::{each_target, end_of_line, Answers, Place, Target};
 use json::{Json, Object};
 use matrix::Matrix;
 use output::Outputs;
-use refusal::Refusal;
+use refusal::{visible, Refusal};
+use std::env;
 use std::io::{self, Write};
 use std::path::Path;
 use std::process;
@@ -37,6 +38,8 @@ pub enum Fault {
     },
     /// Nobody reads the output any more.
     Closed,
+    /// A target is refused, and nobody asks for more.
+    Refused,
 }
 
 /// The status of what a closed pipe ended, as the shell shows it for other tools.
@@ -65,7 +68,9 @@ enum Found<'a> {
 struct Run {
     call: Call,
     is_strict: bool,
+    is_quiet: bool,
     skips_comments: bool,
+    end_of_line: u8,
     ignores_vendor: bool,
     shows_changes: bool,
     has_json: bool,
@@ -77,6 +82,8 @@ struct Run {
 impl Answers for Run {
     fn answer(&mut self, target: Target<'_>) -> Result<(), Fault> {
         match self.find(target.text) {
+            Ok(_) if self.is_quiet => Ok(()),
+            Err(_) if self.is_quiet => Err(Fault::Refused),
             Ok(Found::Parsed(explanation)) if self.call == Call::Matrix => {
                 self.matrix
                     .add(target, explanation.triple, self.ignores_vendor);
@@ -90,7 +97,7 @@ impl Answers for Run {
             }
             Ok(found) => {
                 let (call, shows_changes) = (self.call, self.shows_changes);
-                self.outputs.write(|out| match found {
+                self.outputs.answer(self.end_of_line, |out| match found {
                     Found::Parsed(explanation) => match call {
                         Call::Explain => answers::write_explained(out, target, &explanation),
                         Call::Facts => answers::write_facts(
@@ -173,7 +180,9 @@ impl Run {
         Run {
             call,
             is_strict: arguments.get_flag("strict"),
+            is_quiet: arguments.get_flag("quiet"),
             skips_comments: arguments.get_flag("comments"),
+            end_of_line: end_of_line(arguments),
             ignores_vendor: call == Call::Matrix && arguments.get_flag("ignore-vendor"),
             shows_changes: matches!(call, Call::Read(_)) && arguments.get_flag("changes"),
             has_json: arguments.get_flag("json") || arguments.get_flag("json-lines"),
@@ -201,9 +210,10 @@ impl Run {
             Place::Argument(_) => (!text.is_empty() && Path::new(text).is_file()).then(|| {
                 format!(
                     "there is a file of that name: `-f {}` answers for its lines",
-                    refusal::visible(text)
+                    visible(text)
                 )
             }),
+            Place::Line { .. } if self.end_of_line == 0 => None,
             Place::Line { .. } => (!self.skips_comments && (text.is_empty() || text.contains('#')))
                 .then(|| "with `--comments` blank lines and comments are skipped".to_string()),
         }
@@ -211,7 +221,11 @@ impl Run {
 
     /// Answers for all targets. Returns the status.
     fn finish(mut self, arguments: &ArgMatches) -> Result<i32, Fault> {
-        each_target(arguments, &mut self)?;
+        if let Err(fault) = each_target(arguments, &mut self) {
+            // What was answered is whole; if it can't be written either, the first fault is the one to show.
+            let _ = self.outputs.end(self.call != Call::Matrix);
+            return Err(fault);
+        }
         if self.call == Call::Matrix && !self.is_refused {
             let matrix = std::mem::take(&mut self.matrix);
             if self.has_json {
@@ -219,7 +233,8 @@ impl Run {
                     .into_objects()
                     .try_for_each(|object| self.outputs.object(object))?;
             } else {
-                self.outputs.write(|out| matrix.write(out))?;
+                let end = self.end_of_line;
+                self.outputs.write(|out| matrix.write(out, end))?;
             }
         }
         // A matrix that isn't whole is none, so that nobody takes it for one.
@@ -299,19 +314,39 @@ fn run(arguments: &ArgMatches) -> Result<i32, Fault> {
     Run::new(call, arguments).finish(arguments)
 }
 
+/// What clap says of the arguments, without a control character of theirs: it is asked about the escaped ones.
+fn usage_text(error: &clap::Error) -> String {
+    let shown = env::args_os().map(|word| visible(&word.to_string_lossy()));
+    let text = match arguments::command().try_get_matches_from(shown) {
+        Err(again) if again.kind() == error.kind() => again.render().to_string(),
+        _ => error.render().to_string(),
+    };
+    text.split('\n').map(visible).collect::<Vec<_>>().join("\n")
+}
+
 /// Help, the version, or what is wrong with the arguments. Returns the status.
 fn usage(error: &clap::Error) -> Result<i32, Fault> {
-    error
-        .print()
-        .map_err(|why| Fault::of_output("standard output", why))?;
+    let mut outputs = Outputs::plain();
+    let text = usage_text(error) + &target_note(error);
+    let is_wrong = error.use_stderr();
+    match is_wrong {
+        true => outputs.refuse(|out, _| out.write_all(text.as_bytes()))?,
+        false => outputs.write(|out| out.write_all(text.as_bytes()))?,
+    }
+    outputs.flush()?;
+    Ok(if is_wrong { 2 } else { 0 })
+}
+
+/// What the user may have meant by a subcommand that is none.
+fn target_note(error: &clap::Error) -> String {
     if let (ErrorKind::InvalidSubcommand, Some(ContextValue::String(word))) =
         (error.kind(), error.get(ContextKind::InvalidSubcommand))
     {
         if TripleRef::from_str(word).is_ok() {
-            eprintln!("\nA target follows a command: lexicon explain {word}");
+            return format!("\nA target follows a command: lexicon explain {word}\n");
         }
     }
-    Ok(if error.use_stderr() { 2 } else { 0 })
+    String::new()
 }
 
 fn main() {
@@ -322,8 +357,9 @@ fn main() {
     let status = ended.unwrap_or_else(|fault| {
         let why = match fault {
             Fault::Closed => process::exit(CLOSED),
-            Fault::Stream { name, why } => format!("{}: {why}", refusal::visible(&name)),
-            Fault::NotUtf8 { place } => format!("{}: not UTF-8", refusal::visible(&place)),
+            Fault::Refused => return 1,
+            Fault::Stream { name, why } => format!("{}: {why}", visible(&name)),
+            Fault::NotUtf8 { place } => format!("{}: not UTF-8", visible(&place)),
         };
         let _ = io::stderr().write_all(format!("lexicon: {why}\n").as_bytes());
         3

@@ -45,16 +45,17 @@ impl Matrix {
             .push((head(target), target.place.to_string()));
     }
 
-    /// The canonical form, the first spelling and the places, between tabs.
-    pub fn write(&self, out: &mut dyn Write) -> io::Result<()> {
+    /// The canonical form, the first spelling and the places, between tabs; and what ends a line.
+    pub fn write(&self, out: &mut dyn Write, end: u8) -> io::Result<()> {
         for row in &self.rows {
             let places: Vec<&str> = row.from.iter().map(|(_, place)| place.as_str()).collect();
-            writeln!(
+            write!(
                 out,
-                "{}\t{}\t{}",
+                "{}\t{}\t{}{}",
                 row.canonical,
                 row.target,
-                places.join(" ")
+                places.join(" "),
+                char::from(end)
             )?;
         }
         Ok(())

@@ -2,6 +2,7 @@
 use crate::json::{Json, Object};
 use crate::Fault;
 use clap::ArgMatches;
+use lexicon_cli::streams;
 use std::env;
 use std::io::{self, BufWriter, ErrorKind, Write};
 
@@ -25,7 +26,7 @@ enum Layout {
 }
 
 pub struct Outputs {
-    out: BufWriter<io::Stdout>,
+    out: BufWriter<Box<dyn Write>>,
     errors: BufWriter<io::Stderr>,
     layout: Option<Layout>,
     has_object: bool,
@@ -47,7 +48,7 @@ fn is_colorful_terminal() -> bool {
 impl Outputs {
     pub fn plain() -> Self {
         Outputs {
-            out: BufWriter::with_capacity(1 << 16, io::stdout()),
+            out: BufWriter::with_capacity(1 << 16, streams::standard_output()),
             errors: BufWriter::with_capacity(1 << 16, io::stderr()),
             layout: None,
             has_object: false,
@@ -96,6 +97,24 @@ impl Outputs {
     ) -> Result<(), Fault> {
         self.flush_errors()?;
         text(&mut self.out).map_err(|why| Fault::of_output("standard output", why))
+    }
+
+    /// Writes an answer, a text of lines, after which `end` comes instead of the last line feed.
+    pub fn answer(
+        &mut self,
+        end: u8,
+        text: impl FnOnce(&mut dyn Write) -> io::Result<()>,
+    ) -> Result<(), Fault> {
+        if end == b'\n' {
+            return self.write(text);
+        }
+        self.write(|out| {
+            let mut answer = Vec::new();
+            text(&mut answer)?;
+            answer.pop();
+            answer.push(end);
+            out.write_all(&answer)
+        })
     }
 
     /// Writes a refusal to standard error. `text` gets whether it has colours.

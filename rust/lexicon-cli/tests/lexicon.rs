@@ -105,6 +105,80 @@ fn comments_are_skipped_if_asked() {
 }
 
 #[test]
+fn targets_and_answers_end_with_a_zero_byte_if_asked() {
+    let answers = |words: &[&str], input: &[u8]| texts(&run_on(words, input));
+    let input = b"z80\0x86_64-\nlinux\0arm64-linux\r\0\0x86_64-linux";
+    let (out, errors, status) = answers(&["settle", "-0"], input);
+    assert_eq!(
+        (out.as_str(), status),
+        ("z80-unknown-unknown-elf\0x86_64-unknown-linux\0", 1)
+    );
+    let places: Vec<&str> = errors
+        .lines()
+        .filter_map(|it| it.split_once(": error: "))
+        .map(|it| it.0)
+        .collect();
+    assert_eq!(places, ["<stdin>:2:8", "<stdin>:3:7", "<stdin>:4:1"]);
+    assert!(!errors.contains("--comments"));
+    // Only the last line feed of an answer is another, and none of JSON.
+    let (lines, _, _) = answers(&["facts"], b"z80\navr\n");
+    let (out, _, _) = answers(&["facts", "--null"], b"z80\0avr\0");
+    assert_eq!(out.matches('\0').count(), 2);
+    assert_eq!(out.replace('\0', "\n"), lines);
+    let (out, _, _) = answers(&["read", "--changes", "-0"], b"amd64-linux\0z80");
+    assert_eq!(
+        out,
+        "x86_64-unknown-linux\n  `amd64` is read as `x86_64`\0z80-unknown-unknown-elf\0"
+    );
+    let (out, _, _) = answers(&["matrix", "-0"], b"z80\0avr");
+    assert_eq!(
+        out,
+        "z80-unknown-unknown-elf\tz80\t<stdin>:1\0avr-unknown-unknown\tavr\t<stdin>:2\0"
+    );
+    let json = |words: &[&str], input: &[u8]| answers(words, input).0;
+    assert_eq!(
+        json(&["settle", "-0", "--json"], b"z80\0avr"),
+        json(&["settle", "--json"], b"z80\navr")
+    );
+    // The lines before one that isn't UTF-8 are answered here too.
+    let (out, errors, status) = answers(&["settle", "-0"], b"z80\0x\xc3\0z80");
+    assert_eq!((out.as_str(), status), ("z80-unknown-unknown-elf\0", 3));
+    assert_eq!(errors, "lexicon: <stdin>:2:2: not UTF-8\n");
+    assert_eq!(answers(&["settle", "-0", "--comments"], b"").2, 2);
+}
+
+#[test]
+fn a_quiet_run_has_only_a_status() {
+    for call in ["explain", "facts", "settle", "check", "matrix", "elsewhere"] {
+        assert_eq!(
+            answers(&[call, "-q", "z80", "x86_64-linx"]),
+            ("".into(), "".into(), 0)
+        );
+        assert_eq!(
+            answers(&[call, "-q", "--strict", "z80", "x86_64-linx"]),
+            ("".into(), "".into(), 1)
+        );
+        // The first target that is refused ends it.
+        assert_eq!(
+            answers(&[call, "--quiet", "foo", "-f", "nowhere"]),
+            ("".into(), "".into(), 1)
+        );
+        let (out, errors, status) = answers(&[call, "-q", "z80", "-f", "nowhere"]);
+        assert_eq!((out.as_str(), status), ("", 3));
+        assert!(errors.starts_with("lexicon: nowhere: "));
+        assert_eq!(answers(&[call, "-q", "--json", "z80"]).2, 2);
+    }
+    assert_eq!(
+        answers(&["read", "-q", "--from", "go", "linux/arm64", "linux/foo"]),
+        ("".into(), "".into(), 1)
+    );
+    assert_eq!(
+        answers(&["write", "-q", "--to", "go", "avr-none"]),
+        ("".into(), "".into(), 1)
+    );
+}
+
+#[test]
 fn hostile_targets_do_not_reach_the_terminal() {
     let hostile = "x86_64-\u{1b}[2J\u{202e}b\u{9b}\u{7f}\u{200b}\t'\\-linux";
     let (_, errors, _) = answers(&["check", hostile]);
@@ -125,6 +199,36 @@ fn hostile_targets_do_not_reach_the_terminal() {
     let (_, errors, status) = answers(&["check", "-f", "no\u{1b}file"]);
     assert_eq!(status, 3);
     assert!(errors.starts_with(r"lexicon: no\u{1b}file: "));
+}
+
+#[test]
+fn hostile_arguments_do_not_reach_the_terminal() {
+    let hostile = "\u{1b}]0;x\u{7}\n\u{202e}\u{9b}";
+    let shown = r"\u{1b}]0;x\u{7}\n\u{202e}\u{9b}";
+    let option = format!("--{hostile}");
+    let value = format!("--json={hostile}");
+    for words in [
+        &["check", &option] as &[&str],
+        &["check", "z80", &option, "z80"],
+        &["check", &value],
+        &["settle", "--color", hostile],
+        &["write", "--to", hostile],
+        &["names", hostile],
+        &["completions", hostile],
+        &["manual", hostile],
+        &["names", "vendor", hostile],
+        &[hostile],
+        &[&option],
+    ] {
+        let (out, errors, status) = answers(words);
+        assert_eq!((out.as_str(), status), ("", 2), "{words:?}");
+        assert!(errors.contains(shown), "{errors:?}");
+        // With plain words it has as many lines.
+        let plain: Vec<String> = words.iter().map(|it| it.replace(hostile, "#")).collect();
+        let plain: Vec<&str> = plain.iter().map(String::as_str).collect();
+        assert_eq!(errors.lines().count(), answers(&plain).1.lines().count());
+        assert!(!errors.contains(|c: char| c.is_control() && c != '\n' || c == '\u{202e}'));
+    }
 }
 
 #[test]
@@ -218,6 +322,33 @@ fn json_is_an_array_or_lines() {
         objects[2],
         json!({ "target": "x86_64-linux", "file": "<stdin>", "line": 3, "canonical": "x86_64-unknown-linux" })
     );
+    // It is whole where the run ends early, too.
+    for (words, input, count) in [
+        (
+            &["settle", "z80", "-f", "nowhere"] as &[&str],
+            b"" as &[u8],
+            1,
+        ),
+        (&["settle", "-f", "nowhere"], b"", 0),
+        (&["check", "foo", "bar", "-f", "nowhere"], b"", 2),
+        (&["explain"], b"z80\nfoo\nx\xff\n", 2),
+    ] {
+        for layout in ["--json", "--json-lines"] {
+            let (out, _, status) = texts(&run_on(&[words, &[layout]].concat(), input));
+            assert_eq!(status, 3);
+            let objects: Vec<Value> = match layout {
+                "--json" => serde_json::from_str(&out).unwrap(),
+                _ => out
+                    .lines()
+                    .map(|it| serde_json::from_str(it).unwrap())
+                    .collect(),
+            };
+            assert_eq!(objects.len(), count, "{words:?}");
+        }
+    }
+    let (out, errors, status) = answers(&["matrix", "--json", "z80", "-f", "nowhere"]);
+    assert_eq!((out.as_str(), status), ("", 3));
+    assert!(errors.starts_with("lexicon: nowhere: "));
     // Of `check` there are only those that are refused.
     let (lines, _, status) = answers_on(&["check", "--json-lines"], input);
     assert_eq!((lines.lines().count(), status), (1, 1));
@@ -334,11 +465,11 @@ fn names_of_other_tools_are_read_and_written() {
             "linux/arm64",
             "note: it is a name of another tool: use `--from go` or `--from oci`",
         ),
+        ("linux/foo", "note: a name of another tool needs `--from`"),
         (
-            "linux/foo",
-            "note: a name of another tool needs `--from`",
+            "armhf",
+            "note: it is a name of another tool: use `--from debian`",
         ),
-        ("armhf", "note: it is a name of another tool: use `--from debian`"),
         ("foo", "^^^"),
     ] {
         assert_eq!(note(&["read", name]), expected);

@@ -1,10 +1,10 @@
 //! The command `triples`: a line for each line of standard input. All that it writes goes to standard output.
 #![forbid(unsafe_code)]
 
-use lexicon_cli::{each_block, Stop};
+use lexicon_cli::{each_block, streams, Stop};
 use serde_json::Value;
 use std::collections::HashSet;
-use std::io::{self, Read, Write};
+use std::io::{self, ErrorKind, Read, Write};
 use std::process::ExitCode;
 use target_lexicon::{CDataModel, CallingConvention, Endianness, PointerWidth, TripleRef};
 
@@ -48,16 +48,34 @@ fn settle(out: &mut Vec<u8>, triple: TripleRef<'_>) {
 }
 
 fn write(text: &[u8]) -> Result<(), Fault> {
-    let mut out = io::stdout().lock();
-    out.write_all(text)
-        .and_then(|()| out.flush())
+    streams::standard_output()
+        .write_all(text)
         .map_err(|_| Fault::Write)
+}
+
+fn read_fault(why: io::Error) -> Fault {
+    Fault::Said(match why.kind() {
+        ErrorKind::OutOfMemory => "Out of memory",
+        _ => "Read failed",
+    })
+}
+
+/// Standard input, as a whole.
+fn whole_input(mut reader: impl Read) -> Result<Vec<u8>, Fault> {
+    let mut input = Vec::new();
+    reader.read_to_end(&mut input).map_err(read_fault)?;
+    Ok(input)
 }
 
 /// Writes what `answer` adds for the triple of each line.
 fn each_line(mut answer: impl FnMut(&mut Vec<u8>, TripleRef<'_>)) -> Result<(), Fault> {
-    let mut out = Vec::new();
-    each_block(io::stdin().lock(), |block| {
+    let (mut out, mut stdout) = (Vec::new(), streams::standard_output());
+    let mut input = streams::standard_input().map_err(read_fault)?;
+    if input.is_output {
+        // What is written would be read, for ever.
+        input.reader = Box::new(io::Cursor::new(whole_input(input.reader)?));
+    }
+    each_block(input.reader, b'\n', |block| {
         for line in block.split_terminator('\n') {
             match TripleRef::from_str(line) {
                 Ok(triple) => answer(&mut out, triple),
@@ -66,12 +84,12 @@ fn each_line(mut answer: impl FnMut(&mut Vec<u8>, TripleRef<'_>)) -> Result<(), 
                 }
             }
         }
-        let written = write(&out);
+        let written = stdout.write_all(&out).map_err(|_| Fault::Write);
         out.clear();
         written
     })
     .map_err(|stop| match stop {
-        Stop::Read(_) => Fault::Said("Read failed"),
+        Stop::Read(why) => read_fault(why),
         Stop::NotUtf8 { .. } => Fault::Said("Input is not UTF-8"),
         Stop::Answer(fault) => fault,
     })
@@ -99,11 +117,7 @@ fn matrix() -> Result<(), Fault> {
 }
 
 fn json() -> Result<(), Fault> {
-    let mut input = Vec::new();
-    io::stdin()
-        .lock()
-        .read_to_end(&mut input)
-        .map_err(|_| Fault::Said("Read failed"))?;
+    let input = whole_input(streams::standard_input().map_err(read_fault)?.reader)?;
     let input = String::from_utf8(input).map_err(|_| Fault::Said("Input is not UTF-8"))?;
     let value: Value =
         serde_json::from_str(&input).map_err(|_| Fault::Said("Input is not JSON"))?;
