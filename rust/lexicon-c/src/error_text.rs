@@ -1,8 +1,10 @@
 //! Why a text is refused, in words.
-use crate::proved::{refusal_with, TextError};
+use crate::proved::{expected_at, TextError};
 use crate::text::Text;
 use crate::{Status, NAME_WITHOUT_TRIPLE, NOT_UTF8, NO_SUCH_VALUE, UNKNOWN_NAME};
 use core::str;
+use target_lexicon::proved::refusal_prefix;
+use target_lexicon::tool_names;
 
 /// What stands for a character that could change what a terminal or a log shows, and for bytes that are no character.
 const REPLACEMENT: char = '\u{fffd}';
@@ -23,11 +25,7 @@ fn start_of_line<'a>(bytes: &'a [u8], error: &TextError, out: &mut Text) -> Resu
     match error.status {
         UNKNOWN_NAME => out.push("Unknown name: "),
         NAME_WITHOUT_TRIPLE => out.push("No triple has this name: "),
-        status => {
-            let mut words = [0; 64];
-            let size = refusal_with(status, "").ok_or(NO_SUCH_VALUE)?.write_to(&mut words);
-            out.push(words.get(..size).and_then(|words| str::from_utf8(words).ok()).unwrap_or(""));
-        }
+        status => out.push(refusal_prefix(expected_at(status).ok_or(NO_SUCH_VALUE)?)),
     }
     Ok(Some(part))
 }
@@ -62,7 +60,7 @@ pub(crate) fn line_and_caret(bytes: &[u8], error: &TextError, out: &mut Text) ->
 /// The name that may have been meant.
 pub(crate) fn suggestion(bytes: &[u8], error: &TextError) -> Option<&'static str> {
     let part = str::from_utf8(part(bytes, error).ok()?).ok()?;
-    refusal_with(error.status, part)?.suggestion()
+    tool_names::suggestion(expected_at(error.status)??, part)
 }
 
 /// The characters of some bytes. Each run of bytes that is none is a replacement character.

@@ -1,5 +1,5 @@
 //! The numbers of lexicon.h and lexicon.hpp are the library's.
-use crate::proved::{dialect_at, facts, name_at, refusal_with, NumberedTriple, TripleNumbers};
+use crate::proved::{dialect_at, expected_at, facts, name_at, NumberedTriple, TripleNumbers};
 use std::collections::BTreeMap;
 use target_lexicon::proved::names::{architecture_at, field_at, operating_system_at};
 use target_lexicon::TripleRef;
@@ -131,10 +131,10 @@ fn the_statuses_are_those_of_the_calls() {
     });
     let mut statuses: BTreeMap<u32, String> = declared.collect();
     for (status, (field, _)) in (1..).zip(FIELDS) {
-        assert_eq!(refusal_with(status, "").map(|it| it.expected() == field_at(status - 1)), Some(true));
+        assert_eq!(expected_at(status).map(|it| it == field_at(status - 1)), Some(true));
         statuses.insert(status, format!("UNRECOGNIZED_{field}"));
     }
-    assert_eq!(refusal_with(6, "").map(|it| it.expected().is_none()), Some(true));
+    assert_eq!(expected_at(6).map(|it| it.is_none()), Some(true));
     statuses.insert(6, "UNRECOGNIZED_FIELD".to_string());
     assert_eq!(found, statuses);
 }

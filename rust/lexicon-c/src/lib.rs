@@ -33,7 +33,7 @@ use proved::{
     FieldSource, FieldSources, NumberedTriple, TextError, TripleFacts, TripleNumbers,
 };
 use target_lexicon::proved::names::field_at;
-use target_lexicon::ParseErrorRef;
+use target_lexicon::{tool_names, Field};
 use text::{write_text, Text};
 
 /// `enum lexicon_status`. From 1 to 6 a text is refused, where a value of the first to the fifth field was expected, or none.
@@ -377,7 +377,7 @@ pub unsafe extern "C" fn lexicon_vendor_suggestion(triple: *const Triple) -> *co
     let vendor = str::from_utf8(triple.custom_vendor).unwrap_or("");
     match vendor {
         "" => null(),
-        _ => ParseErrorRef::UnrecognizedVendor(vendor).suggestion().map_or(null(), c_name),
+        _ => tool_names::suggestion(Field::Vendor, vendor).map_or(null(), c_name),
     }
 }
 

@@ -2,11 +2,11 @@
 use crate::arguments::{DIALECTS, FIELDS};
 use crate::input::{Place, Target};
 use crate::json::{Json, Object};
+use crate::refusal::Parsed;
 use std::io::{self, Write};
 use target_lexicon::tool_names::{self, changes, object_format, read, Change, Dialect};
 use target_lexicon::{
-    default_binary_format, Architecture, CDataModel, Explanation, Field, Size, Source, TripleRef,
-    VendorRef,
+    default_binary_format, Architecture, CDataModel, Field, Size, Source, TripleRef, VendorRef,
 };
 
 pub fn canonical<'a>(triple: TripleRef<'a>) -> TripleRef<'a> {
@@ -46,7 +46,7 @@ fn name_of(triple: &TripleRef<'_>, field: Field) -> String {
 }
 
 /// How the value of a field came: a word for it, and the part that gave it.
-fn origin<'a>(explanation: &Explanation<'a>, field: Field) -> (&'static str, Option<&'a str>) {
+fn origin<'a>(explanation: &Parsed<'a>, field: Field) -> (&'static str, Option<&'a str>) {
     let (triple, sources) = (&explanation.triple, &explanation.sources);
     let (source, own) = match field {
         Field::Architecture => (sources.architecture, triple.architecture.to_string()),
@@ -77,7 +77,7 @@ fn suggestion(vendor: VendorRef<'_>) -> Option<&'static str> {
 pub fn write_explained(
     out: &mut dyn Write,
     target: Target<'_>,
-    explanation: &Explanation<'_>,
+    explanation: &Parsed<'_>,
 ) -> io::Result<()> {
     let triple = &explanation.triple;
     let value = |field| match (field, version(triple)) {
@@ -149,14 +149,14 @@ pub fn changed_parts(text: &str) -> Json {
         vec![
             ("part", change.part.text.into()),
             ("start", change.part.start.into()),
-            ("end", change.part.end.into()),
+            ("end", change.part.range().end.into()),
             ("read_as", change.names.to_string().into()),
         ]
     };
     Json::List(changes(text).map(members).map(Json::Object).collect())
 }
 
-pub fn explained(explanation: &Explanation<'_>) -> Object {
+pub fn explained(explanation: &Parsed<'_>) -> Object {
     let triple = &explanation.triple;
     let mut members: Object = Vec::new();
     for (key, field) in FIELDS {

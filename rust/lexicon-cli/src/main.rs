@@ -24,7 +24,7 @@ use std::io::{self, Write};
 use std::path::Path;
 use std::process;
 use target_lexicon::tool_names::{Dialect, Name};
-use target_lexicon::{Explanation, TripleRef};
+use target_lexicon::TripleRef;
 
 /// What ends a run early.
 pub enum Fault {
@@ -59,7 +59,7 @@ enum Call {
 
 /// What was found out about a target.
 enum Found<'a> {
-    Parsed(Explanation<'a>),
+    Parsed(refusal::Parsed<'a>),
     Read(TripleRef<'a>),
     Name(Name),
 }

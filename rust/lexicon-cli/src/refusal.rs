@@ -4,7 +4,7 @@ use crate::input::{Place, Target};
 use crate::json::{Json, Object};
 use std::io::{self, Write};
 use target_lexicon::tool_names::{self, Dialect, Name, NameError};
-use target_lexicon::{Explanation, Field, ParseErrorRef, Source, TextPart, TripleRef, VendorRef};
+use target_lexicon::{Field, Source, Sources, TextPart, TripleRef, VendorRef};
 
 pub struct Refusal<'a> {
     error: String,
@@ -14,30 +14,34 @@ pub struct Refusal<'a> {
     suggestion: Option<&'static str>,
 }
 
+/// What a target parses as, and from where.
+pub struct Parsed<'a> {
+    pub triple: TripleRef<'a>,
+    pub sources: Sources<'a>,
+}
+
 /// What a target parses as, and from where; or why it is refused.
-pub fn explanation(text: &str, is_strict: bool) -> Result<Explanation<'_>, Refusal<'_>> {
-    let explanation = TripleRef::explain(text)
-        .map_err(|refusal| Refusal::of_part(refusal.error, refusal.part))?;
-    match (explanation.triple.vendor, explanation.sources.vendor) {
+pub fn explanation(text: &str, is_strict: bool) -> Result<Parsed<'_>, Refusal<'_>> {
+    let explanation = TripleRef::explain(text);
+    let (triple, sources) = (
+        explanation.triple.map_err(Refusal::of_part)?,
+        explanation.sources,
+    );
+    match (triple.vendor, sources.vendor) {
         (VendorRef::Custom(vendor), Source::Part(part)) if is_strict => Err(Refusal {
             error: "custom vendor".into(),
             field: Some(Field::Vendor),
             part,
             suggestion: tool_names::suggestion(Field::Vendor, vendor),
         }),
-        _ => Ok(explanation),
+        _ => Ok(Parsed { triple, sources }),
     }
 }
 
 /// The triple that a name of another tool means; without a dialect, that of a string spelled like a triple.
 pub fn read(text: &str, dialect: Option<Dialect>) -> Result<TripleRef<'_>, Refusal<'_>> {
     match dialect {
-        None => tool_names::read(text).map_err(|refusal| {
-            Refusal::of_part(
-                target_lexicon::ParseErrorRef::new(refusal.expected, refusal.part.text),
-                refusal.part,
-            )
-        }),
+        None => tool_names::read(text).map_err(Refusal::of_part),
         Some(dialect) => dialect.read(text).map_err(|refusal| match refusal {
             NameError::Unknown => Refusal {
                 suggestion: dialect.suggestion(text),
@@ -79,23 +83,21 @@ pub fn name_in<'a>(
 }
 
 impl<'a> Refusal<'a> {
-    fn of_part(error: ParseErrorRef<'a>, part: TextPart<'a>) -> Self {
-        let field = error.expected();
-        let name = field.and_then(key_of).unwrap_or("field");
+    fn of_part(refusal: target_lexicon::Refusal<'a>) -> Self {
+        let name = refusal.expected.and_then(key_of).unwrap_or("field");
         Refusal {
             error: format!("unrecognized {}", name.replace('_', " ")),
-            field,
-            part,
-            suggestion: error.suggestion(),
+            field: refusal.expected,
+            part: refusal.part,
+            suggestion: refusal.suggestion(),
         }
     }
 
     fn of_all(error: String, text: &'a str) -> Self {
-        let (start, end) = (0, text.len());
         Refusal {
             error,
             field: None,
-            part: TextPart { text, start, end },
+            part: TextPart { text, start: 0 },
             suggestion: None,
         }
     }
@@ -123,7 +125,7 @@ impl Refusal<'_> {
         };
         let (before, after) = (
             &target.text[..self.part.start],
-            &target.text[self.part.end..],
+            &target.text[self.part.range().end..],
         );
         let (before, part, after) = (
             last(&visible(before)),
@@ -168,7 +170,7 @@ impl Refusal<'_> {
             ("error", self.error.as_str().into()),
             ("part", self.part.text.into()),
             ("start", self.part.start.into()),
-            ("end", self.part.end.into()),
+            ("end", self.part.range().end.into()),
             ("field", Json::from(self.field.and_then(key_of))),
             ("suggestion", self.suggestion.into()),
         ]
