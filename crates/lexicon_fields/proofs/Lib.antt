@@ -8,6 +8,7 @@ pub mod EqualByValue
 pub mod HashInputs
 pub mod PrefixKeyLemmas
 pub mod Halving
+pub mod LawOfNames
 pub mod LookUpLemmas
 pub mod NameLengths
 pub mod NamesReadBack

@@ -1,8 +1,9 @@
 //! Laws of names, queries, equality and hashing. Each function's contract is a law; a call does nothing.
-ghost use Rattle.std.specs.Prelude.{◌≡◌, ◌↔◌, ◌≤◌, true, ℕ, List, Some, length, Contains, IsTrue};
+ghost use Rattle.std.specs.Prelude.{◌≡◌, ◌↔◌, ◌≤◌, ◌++◌, true, ℕ, List, Some, length, Contains, IsTrue};
 ghost use Rattle.std.specs.Cmp.Lexicographic.{slice_cmp};
 ghost use Rattle.std.specs.List.Sorted.{IsStrictlySortedBy};
 ghost use Rattle.std.specs.Ordering.{nat_cmp};
+ghost use Rattle.lexicon_fields.specs.Put.{IsPut, Puts};
 ghost use Rattle.lexicon_fields.specs.Laws.{HashInjectiveOn, HashInjective, CopiesEqualTheirSources, IsVersionInRange, HasVersionInRange, NamesReadBackOn, NamesReadBack, TextsAreNames, NamesGrowAtMost, NamesAreShort, max_name_length, ComparesByValue, version_cmp};
 ghost use Rattle.lexicon_fields.specs.SubArchitecture.{arm_name, aarch64_name, x86_32_name, mips32_name, mips64_name, riscv32_name, riscv64_name, clever_name, z80_name};
 ghost use Rattle.lexicon_fields.specs.Architecture.{architecture_name, architecture_of, sub_architecture_of, as_arm, as_aarch64, as_x86_32, as_mips32, as_mips64, as_riscv32, as_riscv64, as_clever, as_z80};
@@ -74,6 +75,18 @@ pub fn names_are_short()
         length (operating_system_name s) ≤ max_name_length }
     ensures environment { NamesAreShort environment_name }
     ensures binary_format { NamesAreShort binary_format_name }
+{}
+
+/// A text that is put after another follows it, and one that is put at the start of a buffer is all that is there.
+#[tactic(auto, using(crate::proofs::Puts::puts_first, crate::proofs::Puts::puts_then))]
+pub fn texts_are_put_in_order()
+    ensures first { (x old now : List ℕ) (end : ℕ) →
+        Puts x old 0 now end →
+        IsPut x old now end }
+    ensures next { (x y old mid now : List ℕ) (at end last : ℕ) →
+        Puts x old at mid end →
+        Puts y mid end now last →
+        Puts (x ++ y) old at now last }
 {}
 
 /// The version of each system that a string parses as is in range.

@@ -4,6 +4,7 @@ use Rattle.std.specs.Bool.{Decides}
 use Rattle.std.proofs.lemmas.Bool.Decides.{Decides-not, Decides-and, Decides-like}
 use Rattle.lexicon_fields.specs.{Vendor.is_plain, Laws.HasVersionInRange}
 use Rattle.target_lexicon.specs.{Families.IsInSomeFamily, FixedPoints.FixedExactlyOutsideFamilies, FixedPoints.RoundIsNormalStep, Laws.ComesBack, NormalStep.normal_step, Private.is_in_no_family, Printing.text_of, Reading.ReadsAs, Values.Values}
+use Rattle.target_lexicon.proofs.TextRoundTrips.{round}
 use Rattle.target_lexicon.proofs.StepCases.{IsOutside, step_cases, prints_as_special-decides, hides_newlib-decides, prints_the_esp_idf_text-decides, shows_only_none-decides}
 use Rattle.target_lexicon.proofs.{ReadValues.read_plain, UniqueReading.values_unique}
 
@@ -77,3 +78,7 @@ module _ (round : RoundIsNormalStep) where
 
   pub tests_by_back : (t : Values) → HasVersionInRange t.operating_system → ComesBack t → is_in_no_family t ≡ true
   tests_by_back t range back = let is = back-outside t range back in (no_family-decides t).1 (is.1, is.0)
+
+-- so it does, since the round trip is the normal step
+pub fixed_exactly_outside_families : FixedExactlyOutsideFamilies
+fixed_exactly_outside_families = fixed_exactly_outside round

@@ -1,16 +1,17 @@
 -- The shown parts of a triple with a plain vendor parse as its normal step, if no special text is printed.
-use Rattle.std.proofs.Common.{◌≡◌, ◌∙◌, ℕ, Bool, true, false, not, ◌&&◌, ◌||◌, cond, List, [], ◌∷◌, None, Result, Ok, refl, sym, ap, ◌⊎◌, inl, inr}
+use Rattle.std.proofs.Common.{◌≡◌, ◌∙◌, ℕ, Bool, true, false, not, ◌&&◌, ◌||◌, cond, List, [], ◌∷◌, None, Result, Ok, is_some, refl, sym, ap, ◌⊎◌, inl, inr}
+use Rattle.lexicon_fields.proofs.LawOfNames.{NamesAreRead}
 use Rattle.target_lexicon.specs.Values.{Architecture, Environment, OperatingSystem, BinaryFormat, VendorValue, Known, Values, values, implies_newlib, is_same_format}
 use Rattle.target_lexicon.specs.{Field.Field, ImpliedFormat.default_binary_format, ImpliedFormat.implied_format, Families.PrintsAsSpecial, Families.HidesNewlib, Refusal.Refusal, SpecialTexts.special_text}
-use Rattle.target_lexicon.specs.NormalStep.{normal_step, hides_newlib, prints_the_esp_idf_text, shows_only_none, elf_if_unknown}
+use Rattle.target_lexicon.specs.NormalStep.{normal_step, is_3ds_or_esp_idf, hides_newlib, prints_the_esp_idf_text, shows_only_none, elf_if_unknown}
 use Rattle.target_lexicon.specs.Printing.{shows_vendor, omits_unknown_vendor, shows_operating_system, shows_environment, is_none_or_unknown, shows_implied_format, shows_binary_format, shows_unknowns, shown_names, cons_if}
 use Rattle.target_lexicon.specs.GreedyReading.{reading_of_parts, reading_from_vendor, reading_from_operating_system, reading_from_environment}
 use Rattle.lexicon_fields.specs.{declared.architecture.clever.CleverArchitecture.CleverArchitecture, Architecture.architecture_name, Laws.HasVersionInRange, Vendor.vendor_name, Vendor.is_plain, OperatingSystem.operating_system_name, Environment.environment_name, BinaryFormat.binary_format_name}
 use Rattle.lexicon_fields.specs.declared.known_vendor.KnownVendor.TheVariants.{Unknown, Nintendo, Espressif}
 use Rattle.std.proofs.{lemmas.Bool.not-false, lemmas.Bool.not-true, Math.Bool.and-false, lemmas.Bool.false≢true, lemmas.Bool.true≢false, lemmas.Bool.Decides.not_from_Decides}
 use Rattle.target_lexicon.proofs.PrintingLemmas.{printed_names}
-use Rattle.target_lexicon.proofs.NamesAcross.{NamesAreRead, environment_of-format, operating_system_of-format, operating_system_of-environment, vendor_of-operating_system, system_as_vendor}
-use Rattle.target_lexicon.proofs.StepCases.{step_cases, hides_newlib-decides, prints_the_esp_idf_text-decides, shows_only_none-decides}
+use Rattle.target_lexicon.proofs.NamesAcross.{environment_of-format, operating_system_of-format, operating_system_of-environment, vendor_of-operating_system, system_as_vendor}
+use Rattle.target_lexicon.proofs.StepCases.{special-is, step_cases, hides_newlib-decides, prints_the_esp_idf_text-decides, shows_only_none-decides}
 use Rattle.target_lexicon.specs.Values.architecture
 use Rattle.target_lexicon.specs.Values.operating_system
 use Rattle.target_lexicon.specs.Values.environment
@@ -63,8 +64,12 @@ not_shown : (a : Architecture) (v : VendorValue) (s : OperatingSystem) (e : Envi
     → (e ≡ environment.Unknown) ⊎ (hides_newlib (values a v s e f) ≡ true)
 unfolding shows_environment
 not_shown a v s environment.Unknown f none hidden = inl refl
-not_shown a (Known Nintendo) operating_system.Horizon environment.Newlib f none hidden = inr (rw none refl)
-not_shown a (Known Espressif) operating_system.Espidf environment.Newlib f none hidden = inr (rw none refl)
+not_shown a (Known Nintendo) operating_system.Horizon environment.Newlib f none hidden =
+    let apart : is_3ds_or_esp_idf a (Known Nintendo) operating_system.Horizon ≡ false = sym (special-is a _ _ environment.Newlib f) ∙ ap is_some none in
+    inr (rw apart refl)
+not_shown a (Known Espressif) operating_system.Espidf environment.Newlib f none hidden =
+    let apart : is_3ds_or_esp_idf a (Known Espressif) operating_system.Espidf ≡ false = sym (special-is a _ _ environment.Newlib f) ∙ ap is_some none in
+    inr (rw apart refl)
 not_shown a _ _ environment.Newlib f none hidden = absurd (true≢false hidden)
 not_shown a v s _ f none hidden = absurd (true≢false (rw and-false at hidden))
 

@@ -1,12 +1,12 @@
 -- The tests in the normal step decide the families. So a fact that holds in the case of each family, and outside
 -- them, holds for the step.
-use Rattle.std.proofs.Common.{◌≡◌, ◌≢◌, inl, inr, true, not, ◌&&◌, codes, refl, ap}
+use Rattle.std.proofs.Common.{◌≡◌, ◌≢◌, inl, inr, true, not, ◌&&◌, codes, is_some, refl, ap}
 use Rattle.std.specs.Bool.{Decides}
 use Rattle.std.proofs.{lemmas.Slice.Eq.bytes_eq-Decides, lemmas.Bool.cond_both, lemmas.Bool.false≢true, lemmas.Bool.Decides.not_from_Decides}
 use Rattle.target_lexicon.specs.Values.{Architecture, OperatingSystem, Environment, BinaryFormat, VendorValue, Known, Custom, Values, values, is_newlib, is_clever_without_system, is_same_format}
 use Rattle.target_lexicon.specs.Families.{PrintsAsSpecial, HidesNewlib, PrintsTheEspIdfText, ShowsOnlyNone}
 use Rattle.target_lexicon.specs.SpecialTexts.{special_text}
-use Rattle.target_lexicon.specs.NormalStep.{prints_as_special, hides_newlib, prints_the_esp_idf_text, shows_only_none, normal_step, elf_if_unknown}
+use Rattle.target_lexicon.specs.NormalStep.{is_3ds_or_esp_idf, prints_as_special, hides_newlib, prints_the_esp_idf_text, shows_only_none, normal_step, elf_if_unknown}
 use Rattle.lexicon_fields.specs.{ArchitectureQueries.is_clever, declared.known_vendor.KnownVendor.TheVariants.Nintendo, declared.known_vendor.KnownVendor.TheVariants.Espressif}
 use Rattle.target_lexicon.specs.Values.architecture
 use Rattle.target_lexicon.specs.Values.arm
@@ -16,6 +16,16 @@ use Rattle.target_lexicon.specs.Values.environment
 use Rattle.target_lexicon.specs.Values.binary_format
 
 -- a special text is printed
+
+pub special-is : (a : Architecture) (v : VendorValue) (s : OperatingSystem) (e : Environment) (f : BinaryFormat)
+    → is_some (special_text (values a v s e f)) ≡ is_3ds_or_esp_idf a v s
+unfolding special_text
+special-is (architecture.Arm arm.Armv6k) (Known Nintendo) operating_system.Horizon e f = refl
+special-is (architecture.Riscv32 riscv32.Riscv32imc) (Known Espressif) operating_system.Espidf e f = refl
+special-is _ _ _ e f = refl
+
+pub special_fields : (t : Values) → is_some (special_text t) ≡ is_3ds_or_esp_idf t.architecture t.vendor t.operating_system
+special_fields t = special-is t.architecture t.vendor t.operating_system t.environment t.binary_format
 
 not_newlib_elf : (e : Environment) (f : BinaryFormat) → ¬ ((e ≡ environment.Newlib) × (f ≡ binary_format.Elf)) → not (is_newlib e && is_same_format f binary_format.Elf) ≡ true
 not_newlib_elf environment.Newlib binary_format.Elf others = absurd (others (refl, refl))

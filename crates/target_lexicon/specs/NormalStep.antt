@@ -1,21 +1,33 @@
--- The triple that the printed text of a triple with a plain vendor reads as.
-use Rattle.std.specs.Prelude.{Bool, false, not, ◌&&◌, is_some, is_none, codes, if◌then◌else◌}
+-- The triple that the printed text of a triple with a plain vendor reads as. The cases are of the five fields: they know
+-- no text and no printer.
+use Rattle.std.specs.Prelude.{Bool, true, false, not, ◌&&◌, codes, if◌then◌else◌}
 use Rattle.std.specs.Str.{bytes_eq}
 use Rattle.target_lexicon.specs.Values.{Architecture, OperatingSystem, Environment, BinaryFormat, VendorValue, Known, Custom, Values}
-use Rattle.target_lexicon.specs.{Values.is_newlib, Values.is_environment_none, Values.is_clever_without_system, Values.implies_newlib, Values.is_same_format, SpecialTexts.special_text}
-use Rattle.lexicon_fields.specs.declared.known_vendor.KnownVendor.TheVariants.{Espressif}
+use Rattle.target_lexicon.specs.{Values.is_newlib, Values.is_environment_none, Values.is_clever_without_system, Values.implies_newlib, Values.is_same_format}
+use Rattle.lexicon_fields.specs.declared.known_vendor.KnownVendor.TheVariants.{Nintendo, Espressif}
 use Rattle.target_lexicon.specs.Values.architecture
+use Rattle.target_lexicon.specs.Values.arm
 use Rattle.target_lexicon.specs.Values.riscv32
 use Rattle.target_lexicon.specs.Values.operating_system
 use Rattle.target_lexicon.specs.Values.environment
 use Rattle.target_lexicon.specs.Values.binary_format
 
+-- Nintendo's 3DS, and ESP-IDF on the machine of its special string
+abbrev pub is_3ds_or_esp_idf : Architecture → VendorValue → OperatingSystem → Bool
+is_3ds_or_esp_idf (architecture.Arm arm.Armv6k) (Known Nintendo) operating_system.Horizon = true
+is_3ds_or_esp_idf (architecture.Riscv32 riscv32.Riscv32imc) (Known Espressif) operating_system.Espidf = true
+is_3ds_or_esp_idf _ _ _ = false
+
 -- a test for each family except the last
 abbrev pub prints_as_special : Values → Bool
-prints_as_special t = is_some (special_text t) && not (is_newlib t.environment && is_same_format t.binary_format binary_format.Elf)
+prints_as_special t =
+    is_3ds_or_esp_idf t.architecture t.vendor t.operating_system
+    && not (is_newlib t.environment && is_same_format t.binary_format binary_format.Elf)
 
 abbrev pub hides_newlib : Values → Bool
-hides_newlib t = implies_newlib t.vendor t.operating_system && is_newlib t.environment && is_none (special_text t)
+hides_newlib t =
+    implies_newlib t.vendor t.operating_system && is_newlib t.environment
+    && not (is_3ds_or_esp_idf t.architecture t.vendor t.operating_system)
 
 abbrev pub prints_the_esp_idf_text : Values → Bool
 prints_the_esp_idf_text t = by_fields t.architecture t.vendor t.operating_system t.environment t.binary_format

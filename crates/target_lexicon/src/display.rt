@@ -14,6 +14,7 @@ ghost use Rattle.target_lexicon.specs.Written.{IsWritten};
 
 use crate::triple::Triple;
 use crate::triple_ref::TripleRef;
+use lexicon_fields::laws::{names_are_short, texts_are_put_in_order};
 use lexicon_fields::{
     Architecture, ArmArchitecture, BinaryFormat, DeploymentTarget, Environment, KnownVendor,
     MAX_VERSION_LENGTH, OperatingSystem, VendorRef, version_text,
@@ -115,6 +116,7 @@ impl<'a> TripleRef<'a> {
         if let Some(text) = self.special_text() {
             return Pieces::of_special_text(text);
         }
+        names_are_short();
         let system = shows_last_three | self.shows_operating_system();
         let environment = shows_last_three | self.shows_environment();
         let binary_format = shows_last_three | self.shows_binary_format();
@@ -433,6 +435,7 @@ impl Pieces<'_> {
         requires { length (pieces_text self.now) ≤ length out.old }
         ensures { IsPut (pieces_text self.now) out.old out.new result }
     {
+        texts_are_put_in_order();
         let at = put(out, 0, self.first.as_bytes());
         let at = self.vendor.put(out, at);
         let at = self.operating_system.put(out, at);

@@ -40,7 +40,7 @@ use crate::triple_ref::TripleRef;
 pub use lexicon_fields::laws::{
     copies_of_fields_equal_their_sources, custom_vendors_are_equal_by_text,
     custom_vendors_hash_by_text, names_are_short, names_grow_at_most, names_read_back,
-    read_versions_are_in_range, rows_are_sorted_and_complete,
+    read_versions_are_in_range, rows_are_sorted_and_complete, texts_are_put_in_order,
     values_are_equal_by_variant_and_fields, values_hash_by_variant_and_fields,
     vendor_refs_are_equal_by_value, vendor_refs_hash_by_value, vendors_are_equal_by_value,
     versions_are_ordered,
@@ -179,20 +179,16 @@ pub fn defaults_are_equal_by_value()
 
 /// A triple comes back (it is printed and parsed again as itself) exactly if it is in none of five families, also if
 /// its vendor is not plain. Each triple comes back or is in a family.
-#[tactic(auto, using(crate::proofs::FixedPointLemmas::fixed_exactly_outside))]
+#[tactic(auto, using(crate::proofs::FixedPointLemmas::fixed_exactly_outside_families))]
 pub fn fixed_exactly_outside_families()
     ensures { FixedExactlyOutsideFamilies }
-{
-    round_is_normal_step();
-}
+{}
 
 /// The printed text of each triple with a plain vendor parses as the triple's normal step.
 #[tactic(auto, using(crate::proofs::TextRoundTrips::round))]
 pub fn round_is_normal_step()
     ensures { RoundIsNormalStep }
-{
-    names_read_back();
-}
+{}
 
 /// A second normal step changes none: one round trip gives the canonical form. The name is from upstream's rules of
 /// printing, by which it changes one.
@@ -204,9 +200,7 @@ pub fn second_step_changes_one()
 /// The canonical form of a triple with a plain vendor comes back, and no other canonical triple has its text.
 pub fn settled_texts_are_keys()
     ensures { SettledTextsAreKeys }
-{
-    round_is_normal_step();
-}
+{}
 
 /// The headline, all of these laws in one: every text parses or is refused, in exactly one way. Each parsed triple has
 /// a plain vendor. A triple comes back exactly if it is in none of five families. The round trip of each triple with a

@@ -8,6 +8,7 @@ use crate::display::put;
 use crate::explanation::TextPart;
 use crate::parse_error::ParseError;
 use lexicon_fields::Field;
+use lexicon_fields::laws::texts_are_put_in_order;
 use std::alloc::{AllocError, Global};
 use std::fmt;
 use std::ops::Range;
@@ -52,6 +53,7 @@ impl<'a> Refusal<'a> {
         let part = self.part.text;
         let length = prefix.len() + part.len();
         if length <= out.len() {
+            texts_are_put_in_order();
             let at = put(out, 0, prefix.as_bytes());
             put(out, at, part.as_bytes());
         }

@@ -8,7 +8,7 @@ ghost use Rattle.lexicon_fields.specs.declared.vendor_ref.VendorRef.TheVariants.
 ghost use Rattle.target_lexicon.specs.FixedPoints.{settled_values};
 ghost use Rattle.lexicon_fields.specs.Laws.{HasVersionInRange};
 ghost use Rattle.target_lexicon.specs.Laws.{ComesBack};
-ghost use Rattle.target_lexicon.specs.NormalStep.{normal_step, prints_as_special, hides_newlib, prints_the_esp_idf_text, shows_only_none, elf_if_unknown};
+ghost use Rattle.target_lexicon.specs.NormalStep.{is_3ds_or_esp_idf, normal_step, prints_as_special, hides_newlib, prints_the_esp_idf_text, shows_only_none, elf_if_unknown};
 ghost use Rattle.target_lexicon.specs.Private.{is_in_no_family};
 ghost use Rattle.target_lexicon.specs.Printing.{text_of};
 ghost use Rattle.target_lexicon.specs.Reading.{ReadsAs};
@@ -171,11 +171,19 @@ impl<'a> TripleRef<'a> {
             && self.vendor.is_plain()
     }
 
+    /// Whether the first three fields are those of a special string.
+    fn is_3ds_or_esp_idf(&self) -> bool
+        ensures { result ≡ is_3ds_or_esp_idf self.now.architecture (ref_value self.now.vendor)
+            self.now.operating_system }
+    {
+        self.special_text().is_some()
+    }
+
     /// Whether a special text is printed, and environment and format aren't `Newlib` and `Elf`.
     fn prints_as_special(&self) -> bool
         ensures { result ≡ prints_as_special (values_of_ref self.now) }
     {
-        self.special_text().is_some()
+        self.is_3ds_or_esp_idf()
             && !matches!(
                 (self.environment, self.binary_format),
                 (Environment::Newlib, BinaryFormat::Elf)
@@ -188,7 +196,7 @@ impl<'a> TripleRef<'a> {
     {
         self.implies_newlib()
             && matches!(self.environment, Environment::Newlib)
-            && self.special_text().is_none()
+            && !self.is_3ds_or_esp_idf()
     }
 
     /// Whether the vendor is the custom `esp`, and the text is the special one.

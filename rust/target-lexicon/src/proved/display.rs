@@ -73,6 +73,7 @@ impl<'a> TripleRef<'a> {
         if let Some(text) = self.special_text() {
             return Pieces::of_special_text(text);
         }
+
         let system = shows_last_three | self.shows_operating_system();
         let environment = shows_last_three | self.shows_environment();
         let binary_format = shows_last_three | self.shows_binary_format();

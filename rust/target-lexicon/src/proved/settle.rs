@@ -90,9 +90,14 @@ impl<'a> TripleRef<'a> {
             && self.vendor.is_plain()
     }
 
+    /// Whether the first three fields are those of a special string.
+    fn is_3ds_or_esp_idf(&self) -> bool {
+        self.special_text().is_some()
+    }
+
     /// Whether a special text is printed, and environment and format aren't `Newlib` and `Elf`.
     fn prints_as_special(&self) -> bool {
-        self.special_text().is_some()
+        self.is_3ds_or_esp_idf()
             && !matches!(
                 (self.environment, self.binary_format),
                 (Environment::Newlib, BinaryFormat::Elf)
@@ -103,7 +108,7 @@ impl<'a> TripleRef<'a> {
     fn hides_newlib(&self) -> bool {
         self.implies_newlib()
             && matches!(self.environment, Environment::Newlib)
-            && self.special_text().is_none()
+            && !self.is_3ds_or_esp_idf()
     }
 
     /// Whether the vendor is the custom `esp`, and the text is the special one.

@@ -1,7 +1,6 @@
 use Rattle.std.proofs.Common.{◌||◌, ap, length, arith}
 use Rattle.std.proofs.lemmas.List.{length-append}
 use Rattle.lexicon_fields.specs.OperatingSystem.{version_suffix, system_version}
-use Rattle.lexicon_fields.proofs.NameLengths.{architectures_are_short, operating_systems_are_short, environments_are_short, binary_formats_are_short}
 use Rattle.target_lexicon.specs.ValuesRef.{values_of_ref}
 use Rattle.target_lexicon.proofs.PrintingLemmas.{text_of_pieces}
 use Rattle.target_lexicon.proofs.triple_ref.TripleRef.pieces.Goals as goal
@@ -9,6 +8,7 @@ use Rattle.target_lexicon.proofs.triple_ref.TripleRef.pieces.Goals as goal
 pub invariant_of-result : goal.invariant_of-result
 invariant_of-result c =
     let triple = c.args.self.now in
+    let short = c.names_are_short.ensures in
     record {
       fits = omega (
         arith,
@@ -17,10 +17,10 @@ invariant_of-result c =
         length-append c.prefix.result.now (version_suffix (system_version triple.operating_system)),
         ap length c.name-2.ensures,
         ap length c.name-3.ensures,
-        architectures_are_short triple.architecture,
-        operating_systems_are_short triple.operating_system c.version_if.ensures.range,
-        environments_are_short triple.environment,
-        binary_formats_are_short triple.binary_format,
+        short.architecture triple.architecture,
+        short.operating_system triple.operating_system c.version_if.ensures.range,
+        short.environment triple.environment,
+        short.binary_format triple.binary_format,
       );
     }
 
