@@ -75,6 +75,30 @@ def asks_for_two_files(page):
     same([it.rsplit("/", 1)[1] for it in page.requests() if not it.startswith("data:")], ["", "page.js", "lexicon.wasm"])
 
 
+# What a page may do that `default-src` says nothing about: each must be a violation of its own directive.
+VIOLATIONS = """new Promise((resolve) => {
+  const found = [];
+  document.addEventListener("securitypolicyviolation", (event) => {
+    found.push(event.effectiveDirective);
+    if (found.length === 3) resolve(found.sort());
+  });
+  setTimeout(() => resolve(found.sort()), 5000);
+  const base = document.createElement("base"), form = document.createElement("form");
+  base.href = "https://example.invalid/";
+  form.action = "https://example.invalid/";
+  document.head.append(base);
+  document.body.append(form);
+  form.submit();
+  fetch("https://example.invalid/").catch(() => {});
+})"""
+
+
+def forbids_what_it_does_not_need(page):
+    same(page.run(VIOLATIONS), ["base-uri", "connect-src", "form-action"])
+    same(page.run("document.baseURI === location.href"), True)
+    holds(len(page.errors()) >= 3, "no error was reported")
+
+
 def shows_fields(page):
     page.size(1280, 900)
     typed(page, "arm64-linux-gnu\n\n  armv7a-nuttx-eabi \nclever-unknown-unknown-none\naarch64-apple-ios17.1\naarch64-unknown-linux-gnu-elf")
@@ -296,7 +320,7 @@ def stays_responsive(page):
 
 def page_tests(url, program):
     """The name of each test of the page at a URL, and the test; `program` is the command `lexicon`."""
-    tests = [asks_for_two_files, shows_fields, shows_special_strings_and_formats, refuses_and_suggests,
+    tests = [asks_for_two_files, forbids_what_it_does_not_need, shows_fields, shows_special_strings_and_formats, refuses_and_suggests,
              names_other_tools, says_what_other_tools_mean, is_a_card, breaks_no_name, folds_on_a_phone,
              says_what_to_paste, is_accessible, has_a_link, functools.partial(copies_the_matrix, program), stays_responsive]
     for test in tests:
