@@ -281,6 +281,14 @@ class Samples(Folder):
     def test_columns_of_the_page(self):
         self.assertEqual(self.commands_run(DEBIAN_PYTHON, "pandas"), 4)
 
+    @unittest.skipUnless(run(BASE_PYTHON, "-c", "import pandas, pyarrow").returncode == 0, "no pandas and pyarrow")
+    def test_parquet(self):
+        """The frame of the page's program is written to a file, and read again."""
+        program = re.search(r"<!-- file: write.py -->\n```python\n(.*?)```", lists.read("bindings/python/README.md"), re.S)[1]
+        path = os.path.join(self.folder, "targets.parquet")
+        program += f"frame.to_parquet({path!r})\nassert pandas.read_parquet({path!r}).equals(frame)\n"
+        self.assertEqual(run(BASE_PYTHON, "-c", program, PYTHONPATH=PACKAGES).stderr, "")
+
     @unittest.skipUnless(HAS_PYDANTIC, "no pydantic 2")
     def test_models_of_the_page(self):
         self.assertEqual(self.commands_run(BASE_PYTHON, "pydantic"), 1)
