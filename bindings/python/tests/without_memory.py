@@ -3,7 +3,7 @@
 It runs with checks/failing_allocator.c in LD_PRELOAD and PYTHONMALLOC=malloc. It writes each other outcome to standard
 error, and last the number of trials. The allocator writes to standard output.
 
-CPython 3.11 itself may end any function that raises with a SystemError, if there is no memory. So that of a call whose
+From 3.10 on, CPython itself may end any function that raises with a SystemError, if there is no memory. So that of a call whose
 string is refused is let pass there.
 """
 import copy
@@ -51,7 +51,7 @@ CALLS = {
     "print a long one": lambda: str(Triple(LONG)),
     "show": lambda: [repr(LINUX), repr(OTHER), f"{CUSTOM:>30}", repr(CUSTOM.vendor)],
     "compare": lambda: [fresh()[0] == fresh()[0], fresh()[0] < fresh()[1], fresh()[0] >= fresh()[1], hash(fresh()[1]) == hash(fresh()[1])],
-    "sort": lambda: sorted([*fresh(), *fresh()]),
+    "sort": lambda: sorted(fresh() + fresh()),
     "fields": lambda: (CUSTOM.architecture, CUSTOM.vendor, CUSTOM.operating_system, CUSTOM.environment, CUSTOM.binary_format, OTHER.version),
     "facts": lambda: [(it.endianness, it.pointer_width, it.data_model, it.family, it.object_format, sizes(it)) for it in fresh()],
     "all facts": lambda: [it.to_dict() for it in fresh()],
@@ -114,7 +114,7 @@ def main():
     gc.disable()
     trials = 0
     for name, call in CALLS.items():
-        is_of_python = name.startswith("refusal") and sys.version_info >= (3, 11)
+        is_of_python = name.startswith("refusal") and sys.version_info >= (3, 10)
         found, number = outcomes(call, [call() for _ in range(3)][-1])
         trials += number
         for number, outcome in found:
