@@ -432,6 +432,9 @@ class Types(unittest.TestCase):
             ran = run(*command, "-c", "from lexicon import Triple\n" + "\n".join(
                 f"reveal_type(Triple('x86_64-linux').{it}.value)" for it in values))
             self.assertEqual(ran.stdout.count('"builtins.str"'), len(values), ran.stdout)
+            ran = run(*command, "-c", "from lexicon import Dialect, Triple\n" + "\n".join(
+                f"Triple.read('x', {it})" for it in ("'docker'", "'gnu'", "str()", "'go'", "Dialect.GO", "Dialect(str())")))
+            self.assertEqual((ran.stdout.count("error: "), ran.stdout.count("expected \"Union[Dialect, Literal[")), (3, 3), ran.stdout)
             for checked in ["-p", "lexicon"], [os.path.join(os.path.dirname(os.path.abspath(__file__)), "typed_sample.py")]:
                 ran = run(*command, "--python-version", "3.9", *checked)
                 self.assertEqual((ran.stdout + ran.stderr, ran.returncode), ("", 0))

@@ -36,8 +36,9 @@ for _field, _values in enumerate((_ARCHITECTURES, _VENDORS, _SYSTEMS, _ENVIRONME
     _library.check_names(_field, [str(it) for it in _values])
 
 _LARGEST_VERSION = (65535, 255, 255)
-# The numbers of a struct, without its pointer and its size.
+# The numbers of a struct, without its pointer and its size; and the same ones as bytes with their order, but for the version's.
 _numbers_of: Callable[[_library.TripleStruct], Tuple[int, ...]] = Struct("@H7BH").unpack_from
+_ordered_bytes: Callable[..., bytes] = Struct(">H7BH").pack
 
 
 class Keep(enum.Enum):
@@ -66,12 +67,13 @@ class Triple:
     """
 
     # The struct of C, and the memory that a custom vendor is in; then what is kept once somebody has asked: the facts, the printed
-    # string, and the hash, which isn't set before.
-    __slots__ = ("_struct", "_owner", "_facts", "_printed", "_hash", "__weakref__")
+    # string, the string whose order is that of triples, and the hash, which isn't set before.
+    __slots__ = ("_struct", "_owner", "_facts", "_printed", "_order_of_triple", "_hash", "__weakref__")
     _struct: _library.TripleStruct
     _owner: Optional[ctypes.Array[ctypes.c_char]]
     _facts: Optional[_library.FactsStruct]
     _printed: Optional[str]
+    _order_of_triple: Optional[str]
     _hash: int
     __match_args__ = ("architecture", "vendor", "operating_system", "environment", "binary_format", "version")
 
@@ -427,9 +429,15 @@ class Triple:
         start = (struct.custom_vendor or 0) - ctypes.addressof(owner)
         return owner.raw[start:start + struct.custom_vendor_size]
 
-    def _order(self) -> Tuple[str, Tuple[int, ...]]:
-        """What triples are ordered by: the printed string, then the numbers of the fields. Where both are equal, so are custom vendors."""
-        return str(self), _numbers_of(self._struct)
+    def _ordered(self) -> str:
+        """What triples are ordered by, which is kept: the printed string, which has no zero byte, then the numbers of the fields.
+
+        Where both are equal, so are versions and custom vendors, which are printed.
+        """
+        order = self._order_of_triple
+        if order is None:
+            self._order_of_triple = order = f"{str(self)}\0{_ordered_bytes(*_numbers_of(self._struct)).decode('latin-1')}"
+        return order
 
     def __str__(self) -> str:
         text = self._printed
@@ -461,21 +469,21 @@ class Triple:
     def __lt__(self, other: Triple) -> bool:
         # This is what `sorted` calls: the same as for the others, in less time.
         try:
-            one, two = self._printed, other._printed
+            one, two = self._order_of_triple, other._order_of_triple
         except AttributeError:
             return NotImplemented
         if one is None or two is None:
-            one, two = str(self), str(other)
-        return one < two if one != two else _numbers_of(self._struct) < _numbers_of(other._struct)
+            one, two = self._ordered(), other._ordered()
+        return one < two
 
     def __le__(self, other: Triple) -> bool:
-        return self._order() <= other._order() if isinstance(other, Triple) else NotImplemented
+        return self._ordered() <= other._ordered() if isinstance(other, Triple) else NotImplemented
 
     def __gt__(self, other: Triple) -> bool:
-        return self._order() > other._order() if isinstance(other, Triple) else NotImplemented
+        return self._ordered() > other._ordered() if isinstance(other, Triple) else NotImplemented
 
     def __ge__(self, other: Triple) -> bool:
-        return self._order() >= other._order() if isinstance(other, Triple) else NotImplemented
+        return self._ordered() >= other._ordered() if isinstance(other, Triple) else NotImplemented
 
     def __copy__(self) -> Triple:
         return self
@@ -500,7 +508,7 @@ def _triple_of(struct: _library.TripleStruct, owner: Optional[ctypes.Array[ctype
     self._struct = struct
     self._owner = owner if struct.vendor == _library.CUSTOM_VENDOR else None
     self._facts = None
-    self._printed = None
+    self._printed = self._order_of_triple = None
     return self
 
 
