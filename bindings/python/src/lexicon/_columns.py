@@ -84,7 +84,9 @@ def _each(targets: Iterable[str], answers_of: Callable[[Sequence[str]], List[Ans
     answers: List[Answer] = []
     remembered: Dict[str, Answer] = {}
     rest = iter(targets)
-    while some := list(map(_plain, islice(rest, _AT_ONCE))):
+    while some := list(islice(rest, _AT_ONCE)):
+        if not {str}.issuperset(map(type, some)):
+            some = list(map(_plain, some))
         if len(remembered) > _REMEMBERED:
             remembered.clear()
         new = tuple(set(some).difference(remembered))
@@ -95,8 +97,6 @@ def _each(targets: Iterable[str], answers_of: Callable[[Sequence[str]], List[Ans
 
 def _plain(target: str) -> str:
     """The target as a `str`, so that no subclass says how it is compared, hashed or searched. Anything but a `str` is a TypeError."""
-    if type(target) is str:
-        return target
     if not isinstance(target, str):
         raise TypeError(f"a target must be a str, not {type(target).__name__}")
     return str.__str__(target)

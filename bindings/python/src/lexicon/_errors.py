@@ -53,7 +53,7 @@ class ParseError(ValueError):
             raise TypeError(f"the text must be a str, not {type(text).__name__}")
         text = str.__str__(text)
         part = text[start:] if part is None else part
-        if field not in (None, *FIELDS):
+        if field is not None and field not in FIELDS:
             raise ValueError(f"the field must be one of {', '.join(FIELDS)}, or None, not {field}")
         if start < 0 or not text.startswith(part, start):
             raise ValueError(f"the text doesn't have the part {part!r} at {start}")

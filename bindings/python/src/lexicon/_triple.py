@@ -36,7 +36,7 @@ for _field, _values in enumerate((_ARCHITECTURES, _VENDORS, _SYSTEMS, _ENVIRONME
     _library.check_names(_field, [str(it) for it in _values])
 
 _LARGEST_VERSION = (65535, 255, 255)
-# The numbers of a struct, without its pointer and its size; and the same ones as bytes with their order, but for the version's.
+# The numbers of a struct, without its pointer and its size; and the same ones as bytes in their order, except those of the version.
 _numbers_of: Callable[[_library.TripleStruct], Tuple[int, ...]] = Struct("@H7BH").unpack_from
 _ordered_bytes: Callable[..., bytes] = Struct(">H7BH").pack
 
