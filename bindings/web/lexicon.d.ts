@@ -100,6 +100,9 @@ export interface Version {
 export type Given = Partial<Omit<Values, "architecture">> & {
   architecture?: Architecture | ArchitectureAlias;
   version?: { major: number; minor?: number; patch?: number } | null;
+  /** What a triple has besides, such as one that is spread: it follows from the names, and isn't looked at. */
+  hasCustomVendor?: boolean;
+  numbers?: Readonly<Record<Field, number>>;
 };
 
 /**
@@ -201,7 +204,8 @@ export class Triple {
   static explain(text: string): Explanation;
   /**
    * The triple of these values. A field that is left out is unknown, and the binary format is then the one that the others imply.
-   * Throws a RangeError if there is no such value, and for a version of a system that has none.
+   * The values may be those of a triple, spread or cloned: `Triple.of(structuredClone(triple))`. Throws a RangeError if there is no
+   * such value, and for a version of a system that has none.
    */
   static of(values: Given): Triple;
 
@@ -221,6 +225,8 @@ export class Triple {
   nameIn(dialect: Dialect): string | null;
   /** The canonical form: two canonical triples with the same printed string are equal, so the string is a key. */
   settle(): Triple;
+  /** The printed string of the canonical form: the key of the target, which all its spellings have. */
+  get canonical(): string;
   /** Whether the triple round-trips: printing and parsing give it again. */
   comesBack(): boolean;
   equals(other: Triple): boolean;

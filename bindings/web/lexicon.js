@@ -354,8 +354,11 @@ export class Triple {
     return { text, triple, error, fields, suggestion: error.suggestion };
   }
 
-  /** The triple of these values, by their names. A field that is left out is unknown, and the binary format is implied. */
-  static of({ version = null, ...values }) {
+  /**
+   * The triple of these values, by their names. A field that is left out is unknown, and the binary format is implied. What a triple
+   * has besides, such as one that was spread or cloned, follows from the names, and isn't looked at.
+   */
+  static of({ version = null, hasCustomVendor: _custom, numbers: _numbers, ...values }) {
     const it = instance(), numbers = {}, names = {};
     for (const field of Object.keys(values)) if (!FIELDS.includes(field)) throw new TypeError(`a triple has no ${field}`);
     for (const [index, field] of FIELDS.entries()) {
@@ -407,6 +410,11 @@ export class Triple {
     const it = instance(), status = it.call("settle", it.triple(this).start);
     if (status !== OK) throw failure(status);
     return it.tripleAt();
+  }
+
+  /** The printed string of the canonical form, which is a key for the target. */
+  get canonical() {
+    return this.settle().toString();
   }
 
   /** Whether the triple round-trips: printing and parsing give it again. */

@@ -1,7 +1,10 @@
 """Generated lines compared with the program `triples`, columns, threads, and memory."""
 import ctypes
+import os
+import shutil
 import subprocess
 import sys
+import tempfile
 import threading
 import unittest
 
@@ -176,3 +179,19 @@ class Memory(unittest.TestCase):
         before = resident()
         calls(50000, CALLS)
         self.assertLess(resident() - before, 1_000_000)
+
+
+@unittest.skipUnless(sys.implementation.name == "cpython" and sys.platform == "linux" and shutil.which("cc"), "no CPython on Linux with cc")
+@unittest.skipIf(sys.version_info >= (3, 12), "CPython from 3.12 on spoils its heap when it raises without memory")
+class WithoutMemory(unittest.TestCase):
+    def test_each_allocation_fails_in_turn(self):
+        with tempfile.TemporaryDirectory() as folder:
+            allocator = os.path.join(folder, "failing_allocator.so")
+            source = os.path.join(lists.ROOT, "checks", "failing_allocator.c")
+            subprocess.run(["cc", "-shared", "-fPIC", "-O1", "-o", allocator, source], check=True)
+            program = os.path.join(os.path.dirname(os.path.abspath(__file__)), "without_memory.py")
+            ran = subprocess.run([sys.executable, program], capture_output=True, text=True, check=False, timeout=300,
+                                 env={**os.environ, "LD_PRELOAD": allocator, "PYTHONMALLOC": "malloc"})
+        self.assertRegex(ran.stderr, r"^\d+ trials\n$")
+        self.assertGreater(int(ran.stderr.split()[0]), 1000)
+        self.assertGreater(ran.stdout.count("!"), 1000)

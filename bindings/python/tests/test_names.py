@@ -5,11 +5,12 @@ import itertools
 import pickle
 import re
 import sysconfig
+import typing
 import unittest
 
 import lexicon
 import lists
-from lexicon import CustomVendor, Dialect, ParseError, Triple, _library
+from lexicon import CustomVendor, Dialect, ParseError, Triple, _dialects, _library
 
 UNKNOWN, WITHOUT = "Unknown name: ", "No triple has this name: "
 NAMES = [it for it in lists.elsewhere() if it.dialect not in ("first", "later")]
@@ -24,6 +25,8 @@ class Names(unittest.TestCase):
 
     def test_dialects_are_those_of_the_table(self):
         self.assertEqual({it.value for it in Dialect}, {it.dialect for it in NAMES})
+        self.assertEqual(set(typing.get_args(_dialects.DialectName)), set(Dialect))
+        self.assertEqual(set(typing.get_args(_dialects.ReadDialectName)), {it.dialect for it in NAMES if "r" in it.ways})
 
     def test_read_rows(self):
         rows = [it for it in NAMES if "r" in it.ways]
@@ -139,16 +142,16 @@ class Names(unittest.TestCase):
         self.assertEqual(Triple(f"x86_64-{'a' * 500}-linux-gnu").name_in(Dialect.DEBIAN), "amd64")
 
     def test_wrong_arguments(self):
-        for value in None, 3, b"linux/amd64", Triple("x86_64"), Dialect.GO:
+        for value in None, 3, b"linux/amd64", Triple("x86_64"):
             for arguments in (value,), (value, "go"):
                 self.assertRaisesRegex(TypeError, f"must be a str, not {type(value).__name__}", Triple.read, *arguments)
         calls = [lambda it: Triple.read("linux/amd64", it), Triple("x86_64-linux").name_in]
         for call in calls:
-            for value in "Go", "", "docker", "none", "g\u00f6":
+            for value in "Go", "", "docker", "none", "g\u00f6", lexicon.Architecture.ARM:
                 with self.assertRaisesRegex(ValueError, "the dialect must be one of debian, go, oci, node, gnu, python, not ") as caught:
                     call(value)
                 self.assertNotIsInstance(caught.exception, ParseError)
-            for value in 1, b"go", Dialect, lexicon.Architecture.ARM:
+            for value in 1, b"go", Dialect:
                 self.assertRaisesRegex(TypeError, "the dialect must be of type Dialect or str", call, value)
         self.assertRaises(TypeError, calls[1], None)
         for number in 0, len(Dialect) + 1:

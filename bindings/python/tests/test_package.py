@@ -237,9 +237,10 @@ class FindsTheLibrary(Folder):
         self.assertRegex(self.prints(LEXICON_LIBRARY=lists.LIBRARY).stderr, "ImportError: .* has other names than this package")
 
 
-# A Python that has what the samples of columns need: Debian's, with its packages.
-DEBIAN_PYTHON = "/usr/bin/python3"
+# Pythons that have what samples need: Debian's with its packages for columns; the one that this one was made of for models.
+DEBIAN_PYTHON, BASE_PYTHON = "/usr/bin/python3", getattr(sys, "_base_executable", sys.executable)
 HAS_DASK = os.path.exists(DEBIAN_PYTHON) and run(DEBIAN_PYTHON, "-c", "import pandas, dask.dataframe, distributed").returncode == 0
+HAS_PYDANTIC = run(BASE_PYTHON, "-c", "import pydantic; assert int(pydantic.VERSION.split('.')[0]) == 2").returncode == 0
 
 
 class Samples(Folder):
@@ -249,8 +250,8 @@ class Samples(Folder):
         self.assertEqual(results.failed, 0)
         self.assertGreater(results.attempted, 20)
 
-    def commands_run(self, python, is_of_pandas):
-        """Runs the commands of the page, which write what it shows: those on programs with pandas, or the others. Returns how many."""
+    def commands_run(self, python, library):
+        """Runs the commands of the page, which write what it shows: those on programs with this library, or with none. Returns how many."""
         page = lists.read("bindings/python/README.md")
         programs = dict(re.findall(r"<!-- file: (\S+) -->\n```python\n(.*?)```", page, re.S))
         for name, text in programs.items():
@@ -261,11 +262,12 @@ class Samples(Folder):
             it.write(f'#!/bin/sh\nexec {python} "$@"\n')
             os.chmod(it.name, 0o755)
         variables = {"PATH": f"{self.folder}/bin:{os.environ['PATH']}"}
-        if is_of_pandas:
+        if library:
             variables["PYTHONPATH"] = PACKAGES
         count = 0
         for block in re.findall(r"```console\n(.*?)```", page, re.S):
-            if any(name in block and "pandas" in text for name, text in programs.items()) == is_of_pandas:
+            needed = [it for name, text in programs.items() if name in block for it in ("pandas", "pydantic") if it in text]
+            if needed[:1] == [library] * bool(library):
                 for command, expected in re.findall(r"^\$ (.*)\n((?:[^$].*\n)*)", block, re.M):
                     ran = run("bash", "-c", f"cd {self.folder} && {{ {command}; }} 2>&1", **variables)
                     self.assertEqual(ran.stdout, expected, command)
@@ -274,11 +276,33 @@ class Samples(Folder):
 
     @unittest.skipUnless(sys.version_info >= (3, 10), "the page's programs are for Python 3.10 or later")
     def test_programs_of_the_page(self):
-        self.assertEqual(self.commands_run(sys.executable, False), 8)
+        self.assertEqual(self.commands_run(sys.executable, None), 8)
 
     @unittest.skipUnless(HAS_DASK, "no pandas and Dask")
     def test_columns_of_the_page(self):
-        self.assertEqual(self.commands_run(DEBIAN_PYTHON, True), 3)
+        self.assertEqual(self.commands_run(DEBIAN_PYTHON, "pandas"), 4)
+
+    @unittest.skipUnless(run(BASE_PYTHON, "-c", "import pandas, pyarrow").returncode == 0, "no pandas and pyarrow")
+    def test_parquet(self):
+        """The frame of the page's program is written to a file, and read again."""
+        program = re.search(r"<!-- file: write.py -->\n```python\n(.*?)```", lists.read("bindings/python/README.md"), re.S)[1]
+        path = os.path.join(self.folder, "targets.parquet")
+        program += f"frame.to_parquet({path!r})\nassert pandas.read_parquet({path!r}).equals(frame)\n"
+        self.assertEqual(run(BASE_PYTHON, "-c", program, PYTHONPATH=PACKAGES).stderr, "")
+
+    @unittest.skipUnless(HAS_PYDANTIC, "no pydantic 2")
+    def test_models_of_the_page(self):
+        self.assertEqual(self.commands_run(BASE_PYTHON, "pydantic"), 1)
+
+    @unittest.skipUnless(HAS_PYDANTIC, "no pydantic 2")
+    def test_models(self):
+        program = os.path.join(os.path.dirname(os.path.abspath(__file__)), "with_pydantic.py")
+        ran = run(BASE_PYTHON, program, PYTHONPATH=PACKAGES)
+        self.assertEqual((ran.stdout, ran.stderr, ran.returncode), ("all well\n", "", 0))
+
+    def test_pydantic_is_imported_only_by_itself(self):
+        ran = run(sys.executable, "-I", "-c", "import sys, lexicon; lexicon.Triple('avr'); print([it for it in sys.modules if 'pydantic' in it])")
+        self.assertEqual(ran.stdout, "[]\n")
 
     @unittest.skipUnless(HAS_DASK, "no pandas and Dask")
     def test_two_processes_count_as_one(self):
@@ -366,8 +390,9 @@ class Samples(Folder):
         shown = {value: pydoc.plain(pydoc.render_doc(value))
                  for value in (lexicon.Triple.replace, lexicon.ParseError, lexicon.Architecture, lexicon.Vendor)}
         self.assertEqual(shown[lexicon.Triple.replace].count(" = KEEP"), 6)
-        for value in lexicon.Triple, lexicon.CustomVendor, lexicon.explain:
-            self.assertNotRegex(pydoc.plain(pydoc.render_doc(value)), r": .*\b_[A-Z]")
+        for value in filter(callable, map(vars(lexicon).get, lexicon.__all__)):
+            # No type is private, in quotes of quotes, or a reference.
+            self.assertNotRegex(pydoc.plain(pydoc.render_doc(value)), r""": '.*\b_[A-Z]|"'|ForwardRef""")
         for word in "part", "start", "end", "text", "line", "field", "suggestion", "reason":
             self.assertIn(f"`{word}`", lexicon.ParseError.__doc__)
         self.assertIn("class ParseError in module lexicon\n", shown[lexicon.ParseError])
@@ -408,6 +433,9 @@ class Types(unittest.TestCase):
             ran = run(*command, "-c", "from lexicon import Triple\n" + "\n".join(
                 f"reveal_type(Triple('x86_64-linux').{it}.value)" for it in values))
             self.assertEqual(ran.stdout.count('"builtins.str"'), len(values), ran.stdout)
+            ran = run(*command, "-c", "from lexicon import Dialect, Triple\n" + "\n".join(
+                f"Triple.read('x', {it})" for it in ("'docker'", "'gnu'", "str()", "'go'", "Dialect.GO", "Dialect(str())")))
+            self.assertEqual((ran.stdout.count("error: "), ran.stdout.count("expected \"Union[Dialect, Literal[")), (3, 3), ran.stdout)
             for checked in ["-p", "lexicon"], [os.path.join(os.path.dirname(os.path.abspath(__file__)), "typed_sample.py")]:
                 ran = run(*command, "--python-version", "3.9", *checked)
                 self.assertEqual((ran.stdout + ran.stderr, ran.returncode), ("", 0))

@@ -4,6 +4,8 @@ import ctypes
 import itertools
 import json
 import pickle
+import sys
+import time
 import unittest
 import unittest.mock
 
@@ -34,8 +36,23 @@ class Equality(unittest.TestCase):
             self.assertEqual([one < other, one == other, one > other].count(True), 1)
             self.assertEqual(one <= other, one < other or one == other)
             self.assertEqual(one >= other, not one < other)
+            self.assertEqual(one > other, other < one)
         with self.assertRaises(TypeError):
             Triple("x86_64") < "x86_64"  # pylint: disable=expression-not-assigned
+
+    def test_sorting_is_near_that_by_strings(self):
+        """Near it: strings and hashes are kept. If each comparison makes tuples of all values, it takes sixty times as long."""
+        triples = [Triple(f"x86_64-apple-ios{number * 7919 % 60000}.{number % 250}") for number in range(20000)]
+
+        def seconds(call):
+            begun = time.process_time()
+            call()
+            return time.process_time() - begun
+        self.assertEqual(sorted(triples), sorted(triples, key=str))
+        self.assertIs(Triple("x86_64").__lt__("x86_64"), NotImplemented)
+        by_string, by_order = (min(seconds(call) for _ in range(7)) for call in (lambda: sorted(triples, key=str), lambda: sorted(triples)))
+        self.assertLess(by_order, by_string * 20)
+        self.assertEqual([it._hash for it in triples if hash(it)], [hash(it) for it in triples])
 
     def test_copies(self):
         for triple in map(Triple, TEXTS):
@@ -84,7 +101,8 @@ class Fields(unittest.TestCase):
         vendor = Triple("x86_64-acme-linux").vendor
         self.assertEqual((vendor, str(vendor), vendor.text, vendor.value, vendor.number), (CustomVendor("acme"), "acme", "acme", "acme", 255))
         self.assertEqual(hash(vendor), hash(CustomVendor("acme")))
-        self.assertNotEqual(vendor, "acme")
+        self.assertEqual((vendor, hash(vendor), json.dumps({vendor: vendor})), ("acme", hash("acme"), '{"acme": "acme"}'))
+        self.assertIs(type(str(vendor)), str)
         self.assertNotIsInstance(vendor, Vendor)
         with self.assertRaisesRegex(ValueError, r"pc is a known vendor: Vendor\.PC"):
             CustomVendor("pc")
@@ -93,10 +111,44 @@ class Fields(unittest.TestCase):
         for value in None, b"acme", 3:
             self.assertRaises(TypeError, CustomVendor, value)
 
-    def test_members_are_not_texts(self):
-        self.assertRaises(TypeError, sorted, Architecture)
-        self.assertRaises(TypeError, json.dumps, Architecture.ARM)
-        self.assertEqual(json.dumps(str(Architecture.ARM)), '"arm"')
+    def test_members_are_strings(self):
+        """As those of StrEnum are."""
+        for of in (Architecture, Vendor, OperatingSystem, Environment, BinaryFormat, lexicon.Family, lexicon.Endianness, lexicon.CallingConvention,
+                   lexicon.DataModel, lexicon.Dialect, lexicon.Origin):
+            self.assertEqual([str(it) for it in sorted(of)], sorted(it.value for it in of))
+            for it in of:
+                self.assertEqual((it, hash(it), f"{it}", f"{it:>20}", type(str(it))), (it.value, hash(it.value), it.value, f"{it.value:>20}", str))
+                self.assertEqual(json.loads(json.dumps({it: [it]})), {it.value: [it.value]})
+                self.assertEqual(json.dumps({it: it}, indent=1), json.dumps({it.value: it.value}, indent=1))
+                for protocol in range(pickle.HIGHEST_PROTOCOL + 1):
+                    self.assertIs(pickle.loads(pickle.dumps(it, protocol)), it)
+        triple = Triple("x86_64-unknown-linux-gnu")
+        self.assertEqual((triple.architecture, triple.endianness, triple.vendor), ("x86_64", "little", "unknown"))
+        self.assertIs(triple.endianness == sys.byteorder, sys.byteorder == "little")
+        self.assertEqual({"linux": 1}[triple.operating_system], 1)
+        self.assertEqual(sorted({Vendor.PC, CustomVendor("acme")}), ["acme", "pc"])
+
+    def test_dictionaries(self):
+        for triple in map(Triple, TEXTS):
+            self.assertEqual(Triple.from_dict(json.loads(json.dumps(triple.to_dict()))), triple)
+        self.assertEqual(Triple.from_dict({}), Triple.from_fields())
+        self.assertEqual(Triple.from_dict({"operating_system": OperatingSystem.IOS, "vendor": "acme", "version": [17]}), Triple("unknown-acme-ios17"))
+        for values in ({"cpu": "arm"}, {"architecture": "arm64"}, {"architecture": None}, {"operating_system": "ios17"}, {"vendor": "ACME"},
+                       {"binary_format": "pe"}, {"operating_system": "linux", "version": "1"}, {"operating_system": "ios", "version": "x"}):
+            self.assertRaises(ValueError, Triple.from_dict, values)
+
+    def test_copies_with_other_values(self):
+        triple = Triple("x86_64-unknown-linux-gnu")
+        self.assertEqual(triple.__replace__(environment=Environment.MUSL), triple.replace(environment=Environment.MUSL))
+        if sys.version_info >= (3, 13):
+            self.assertEqual(str(copy.replace(triple, environment=Environment.MUSL)), "x86_64-unknown-linux-musl")
+        self.assertRaises(TypeError, triple.__replace__, cpu=1)
+
+    def test_patterns(self):
+        """By position, in the order of the fields."""
+        triple = Triple("arm64-apple-ios17.1")
+        self.assertEqual([str(getattr(triple, it)) for it in Triple.__match_args__[:5]], ["aarch64", "apple", "ios", "unknown", "macho"])
+        self.assertEqual(getattr(triple, Triple.__match_args__[5]), (17, 1, 0))
 
     def test_a_triple_owns_what_it_points_to(self):
         it = Triple("x86_64-acme-linux-gnu")
@@ -156,7 +208,7 @@ class Fields(unittest.TestCase):
         it = lexicon.explain("arm64-aple-ios17.2")
         self.assertEqual([(source.value, str(source.origin), source.part, source.start, source.end) for _, source in it.sources], [
             ("aarch64", "alias", "arm64", 0, 5), ("aple", "given", "aple", 6, 10), ("ios", "alias", "ios17.2", 11, 18),
-            ("unknown", "not given", None, 0, 0), ("macho", "implied", None, 0, 0)])
+            ("unknown", "not given", None, None, None), ("macho", "implied", None, None, None)])
         self.assertEqual(lexicon.explain("arm64-apple-ios17.2.0").operating_system.origin, lexicon.Origin.GIVEN)
         self.assertEqual((it.suggestion, it.note), ("apple", "`aple` is a custom vendor; did you mean `apple`?"))
         self.assertEqual(lexicon.explain("x86_64-linx").note, "`linx` is a custom vendor; did you mean `linux`?")
@@ -210,11 +262,16 @@ class Texts(unittest.TestCase):
                     call(value)
 
     def test_subclass_of_str(self):
-        class Text(str):
-            def encode(self, *arguments):
-                raise AssertionError("the text of a subclass was asked")
+        def asked(*_):
+            raise AssertionError("the text of a subclass was asked")
+        Text = type("Text", (str,), dict.fromkeys(
+            ("encode", "startswith", "__contains__", "__eq__", "__hash__", "__str__", "__len__", "__getitem__", "__iter__"), asked))
         self.assertEqual(Triple(Text("x86_64-linux")), Triple("x86_64-linux"))
         self.assertRaises(ParseError, Triple, Text("x86_64-\u00e9"))
+        texts = [Text("x86_64-linux\n"), Text("arm64-linux"), Text("avr\nx"), Text("avr"), "avr"]
+        keys = [None, "aarch64-unknown-linux", None, "avr-unknown-unknown", "avr-unknown-unknown"]
+        self.assertEqual(lexicon.settle_all(texts), keys)
+        self.assertEqual([it.canonical for it in lexicon.facts_all(texts)], keys)
 
     def test_lone_surrogates(self):
         for call in Triple, lexicon.explain, CustomVendor, Architecture.parse:
@@ -259,6 +316,19 @@ class Texts(unittest.TestCase):
                 Triple(text)
             self.assertEqual(caught.exception.line, line)
         self.assertEqual(ParseError.__module__, "lexicon")
+
+    def test_errors_are_made(self):
+        for error, message in ((ParseError("x86_64-foo-bar", "operating_system", 11), "Unrecognized operating system: bar\n  x86_64-foo-bar\n             ^^^"),
+                               (ParseError("x86_64-foo-bar", start=7, part="foo"), "Unrecognized field: foo\n  x86_64-foo-bar\n         ^^^"),
+                               (ParseError("linux/amd46", dialect="go"), "Unknown name: linux/amd46\n  linux/amd46\n  ^^^^^^^^^^^ did you mean `linux/amd64`?"),
+                               (ParseError("\udcff"), "Lone surrogate: \\udcff\n  \\udcff\n  ^^^^^^")):
+            self.assertEqual((str(error), str(pickle.loads(pickle.dumps(error)))), (message, message))
+        with self.assertRaises(ParseError) as caught:
+            Triple.read("js/wasm", lexicon.Dialect.GO)
+        self.assertEqual((repr(caught.exception), caught.exception.dialect), ("ParseError('js/wasm', None, 0, 'js/wasm', 'go')", "go"))
+        for arguments in ("x", "cpu"), ("x", None, 2, "x"), ("x", None, -1), ("x", None, 0, "y"), ("x", None, 0, "x", "docker"):
+            self.assertRaises(ValueError, ParseError, *arguments)
+        self.assertRaises(TypeError, ParseError, b"x")
 
     def test_errors_are_values(self):
         with self.assertRaises(ValueError) as caught:

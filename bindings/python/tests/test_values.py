@@ -83,4 +83,4 @@ class Values(unittest.TestCase):
         self.assertEqual(repr(lexicon.OperatingSystem.NONE), "OperatingSystem.NONE")
         self.assertEqual(str(lexicon.CallingConvention.WASM_BASIC_C_ABI), "WasmBasicCAbi")
         self.assertEqual(repr(lexicon.Origin.NOT_GIVEN), "Origin.NOT_GIVEN")
-        self.assertNotEqual(lexicon.Vendor.UNKNOWN, lexicon.Environment.UNKNOWN)
+        self.assertIsNot(lexicon.Vendor.UNKNOWN, lexicon.Environment.UNKNOWN)

@@ -5,6 +5,9 @@ const LABELS = {
   architecture: "Architecture", vendor: "Vendor", operatingSystem: "System", environment: "Environment", binaryFormat: "Format",
 };
 const TOOLS = { debian: "Debian", go: "Go", oci: "Container images", node: "Node", gnu: "GNU prefix", python: "Python" };
+// The targets of which there are chips, with the word for one and for more. Those of a kind that is a mistake come first.
+const KINDS = { all: ["target", "targets"], refused: ["refused"], suspicious: ["suspicious"], duplicate: ["duplicate", "duplicates"] };
+const ORDER = ["refused", "suspicious", "other"];
 const LONGEST_LINK = 32000;
 const SLICE = 12; // milliseconds of work between two chances for input
 const UNFOLDED = 3; // of more targets than these, the names in other tools are folded, and on a phone the cards
@@ -32,14 +35,14 @@ const linesOf = (text) => text.split("\n").map((line) => line.trim()).filter((li
 function markOf({ origin, part }, text, isCustom) {
   if (isCustom) return [small("custom")];
   if (origin === "alias") return [part === text && part.includes("-") ? small("from the whole") : small("alias ", code(part))];
-  return origin === "implied" ? [small("implied")] : [];
+  return origin === "implied" ? [element("span", { class: "aside" }, " implied")] : [];
 }
 
 const versionOf = ({ version: it }) => it && `${it.major}.${it.minor}.${it.patch}`;
 
 function fieldCell(triple, name, source, text) {
   const value = code(triple[name] + (name === "operatingSystem" ? versionOf(triple) ?? "" : ""));
-  if (source.origin === "not given") value.className = "dim";
+  if (source.part === null) value.className = "dim";
   return cell(LABELS[name], value, ...markOf(source, text, name === "vendor" && triple.hasCustomVendor));
 }
 
@@ -60,7 +63,7 @@ const header = (text, ...inside) => element("th", { role: "rowheader", scope: "r
 
 /** The printed and the canonical form, where they aren't the target. */
 function* forms(triple, text) {
-  const printed = `${triple}`, canonical = `${triple.settle()}`;
+  const printed = `${triple}`, { canonical } = triple;
   if (printed !== text && printed !== canonical) yield small("prints ", code(printed));
   if (canonical !== text) yield small("is ", code(canonical));
 }
@@ -79,7 +82,7 @@ function foldButton(row, text) {
 function meaningElsewhere(text) {
   try {
     const triple = Triple.read(text);
-    return triple.hasCustomVendor ? null : `${triple.settle()}`;
+    return triple.hasCustomVendor ? null : triple.canonical;
   } catch (error) {
     if (!(error instanceof ParseError)) throw error;
     return null;
@@ -88,36 +91,43 @@ function meaningElsewhere(text) {
 
 const meaning = (meant, text) => ["Other tools mean ", offer(meant, text, meant), "."];
 
-/** A cell with the names in other tools, which are looked up when they are shown. */
-function namesCell(triple, text) {
-  const label = "Names in other tools", list = element("dl");
-  const names = element("details", {}, element("summary", { "aria-label": `${label}: ${text}` }, label), list);
-  names.show = (isOpen) => {
-    names.open = isOpen;
+/** The cell with the button for the names in other tools, and the cell of these, which are looked up when they are shown. */
+function namesCells(triple, text) {
+  const list = element("dl"), cell = element("td", { role: "cell", class: "names", colspan: 11, "aria-colspan": 11, hidden: "" }, list);
+  const button = element("button", { type: "button", "aria-label": `Names in other tools: ${text}` }, element("span", {}, "names"));
+  const show = (isOpen) => {
+    cell.hidden = !isOpen;
+    button.setAttribute("aria-expanded", isOpen);
     if (!isOpen || list.firstChild) return;
     for (const dialect of DIALECTS) {
       const name = triple.nameIn(dialect), shown = name === null ? element("span", { class: "dim" }, "none") : code(name);
       list.append(element("div", {}, element("dt", {}, TOOLS[dialect]), element("dd", {}, shown)));
     }
   };
-  names.addEventListener("toggle", () => names.show(names.open));
-  return element("td", { role: "cell", class: "elsewhere", colspan: 10, "aria-colspan": 10 }, names);
+  button.addEventListener("click", () => show(cell.hidden));
+  return [show, element("td", { role: "cell", class: "elsewhere" }, button), cell];
 }
 
 function parsedRow({ text, triple, fields, suggestion }) {
-  const facts = triple.facts(), head = header(text, text), row = element("tr", { role: "row" }, head);
+  const facts = triple.facts(), { part, start, end } = fields.vendor;
+  const meant = triple.hasCustomVendor ? meaningElsewhere(text) : null, isSuspicious = Boolean(meant || suggestion);
+  const head = isSuspicious && part !== null
+    ? header(text, text.slice(0, start), element("span", { class: "odd" }, part), text.slice(end)) : header(text, text);
+  const row = element("tr", { role: "row", class: isSuspicious ? "suspicious" : "" }, head);
   head.classList.add("folds");
   head.append(...forms(triple, text));
-  const meant = triple.hasCustomVendor ? meaningElsewhere(text) : null;
   if (meant) head.append(small(...meaning(meant, text)));
-  else if (suggestion) head.append(small(code(fields.vendor.part), " is a custom vendor. ", ...question(suggestion, text, fields.vendor)));
+  else if (suggestion) head.append(small(...question(suggestion, text, fields.vendor)));
   row.append(...FIELDS.map((name) => fieldCell(triple, name, fields[name], text)));
+  if (isSuspicious) row.children[2].querySelector("code").className = "odd";
   if (facts.objectFormat !== triple.binaryFormat) row.lastChild.append(small("objects ", code(facts.objectFormat)));
+  const [showNames, ...names] = namesCells(triple, text);
   row.append(answerCell("Byte order", facts.endianness),
     answerCell("Pointers", facts.pointerWidth && `${facts.pointerWidth} bits`), answerCell("Convention", facts.defaultCallingConvention),
-    answerCell("Data model", facts.dataModel), namesCell(triple, text));
-  row.canonical = `${triple.settle()}`;
-  row.names = row.lastChild.firstChild;
+    answerCell("Data model", facts.dataModel), ...names);
+  row.canonical = triple.canonical;
+  row.kind = isSuspicious ? "suspicious" : "other";
+  row.showNames = showNames;
   row.double = head.appendChild(small());
   head.append(foldButton(row, text));
   return row;
@@ -130,15 +140,39 @@ function soFar(fields) {
   return [small("Before it: ", ...parts)];
 }
 
+const listOf = (words) => words.length < 2 ? words.join() : `${words.slice(0, -1).join(", ")} and ${words[words.length - 1]}`;
+
+/** What a refused target is as a name of other tools: for each meaning, which tools have the name, and the triple or the reason why there is none. */
+function* knownNames(text) {
+  const found = new Map();
+  for (const dialect of DIALECTS.filter((it) => it !== "gnu")) {
+    try {
+      const meant = Triple.read(text, dialect).canonical;
+      found.set(meant, { meant, tools: [...found.get(meant)?.tools ?? [], dialect] });
+    } catch (error) {
+      if (!(error instanceof ParseError)) throw error;
+      if (error.reason !== null) found.set(error.reason, { reason: error.reason, tools: [...found.get(error.reason)?.tools ?? [], dialect] });
+    }
+  }
+  for (const { meant, reason, tools } of found.values()) {
+    const known = ["A name of ", listOf(tools.map((it) => it === "oci" ? "container images" : TOOLS[it]))];
+    yield element("p", {}, ...known, ...(meant ? [", which is ", offer(meant, text, meant), "."] : [`. No triple means it: ${reason}.`]));
+  }
+}
+
 function refusedRow({ text, error, fields, suggestion }) {
   const part = element("strong", { class: "wrong" }, error.part || "(empty)");
   const head = header(text, text.slice(0, error.start), part, text.slice(error.end));
-  const inside = [element("p", { class: "message" }, error.message), ...soFar(fields)];
-  const meant = meaningElsewhere(text);
-  if (meant) inside.push(element("p", {}, ...meaning(meant, text)));
+  const inside = [element("p", { class: "message" }, error.message)];
+  const meant = meaningElsewhere(text), names = [...knownNames(text)];
+  if (names.length) inside.push(...names);
+  else if (meant) inside.push(element("p", {}, ...meaning(meant, text)));
   else if (suggestion) inside.push(element("p", {}, ...question(suggestion, text, error)));
-  const answer = element("td", { role: "cell", class: "refused", colspan: 9, "aria-colspan": 9 }, ...inside);
-  return element("tr", { role: "row", class: "refused" }, head, answer);
+  inside.push(...soFar(fields));
+  const answer = element("td", { role: "cell", class: "refused", colspan: 10, "aria-colspan": 10 }, ...inside);
+  const row = element("tr", { role: "row", class: "refused" }, head, answer);
+  row.kind = "refused";
+  return row;
 }
 
 function rowOf(text) {
@@ -151,20 +185,51 @@ function rowOf(text) {
 function markDouble(row, first) {
   const earlier = first.get(row.canonical);
   if (earlier === undefined) first.set(row.canonical, row.target);
+  row.classList.toggle("duplicate", earlier !== undefined);
   row.double.replaceChildren(...(earlier === undefined ? [] : earlier === row.target ? ["repeated"] : ["the same target as ", code(earlier)]));
   return earlier !== undefined;
 }
 
-/** Replaces the target in the text field, shows it, and puts the focus on its row. */
+const rowsInSight = () => [...table.querySelectorAll("tbody > tr")].filter((row) => row.getClientRects().length > 0);
+
+/** Replaces the target in the text field, and shows it. The focus goes to the next mistake, or if there is none to the row of the target. */
 async function replaceTarget(text, fixed) {
   const lines = field.value.split("\n"), at = lines.findIndex((line) => line.trim() === text);
   if (at < 0) return;
+  const place = rowsInSight().findIndex((row) => row.target === text);
   lines[at] = lines[at].replace(text, () => fixed);
   field.value = lines.join("\n");
   await show();
-  const head = [...table.tBodies].flatMap((body) => [...body.rows]).find((row) => row.target === fixed)?.firstChild;
+  const rows = rowsInSight(), next = rows[Math.min(place, rows.length - 1)];
+  const head = (next && next.kind !== "other" ? next : rows.find((row) => row.target === fixed))?.firstChild;
   head?.setAttribute("tabindex", "-1");
   head?.focus();
+}
+
+// ---- which rows are shown
+
+let shown = "all";
+
+function showOnly(kind) {
+  shown = table.dataset.show = kind;
+  for (const chip of byId("chips").children) chip.setAttribute("aria-pressed", chip.dataset.show === kind);
+}
+
+/** The counts of the chips. A kind that has no target any more isn't shown. */
+function showCounts(counts) {
+  for (const chip of byId("chips").children) {
+    const kind = chip.dataset.show, count = counts[kind], [one, more = one] = KINDS[kind];
+    chip.textContent = `${countOf(count)} ${count === 1 ? one : more}`;
+    chip.disabled = count === 0;
+  }
+  if (counts[shown] === 0) showOnly("all");
+  byId("chips").hidden = counts.all === 0;
+}
+
+/** Says something in the status; `isAside` if the chips show it too. */
+function say(text, isAside = false) {
+  byId("status").textContent = text;
+  byId("status").classList.toggle("aside", isAside);
 }
 
 // ---- showing, in slices
@@ -189,32 +254,36 @@ function rowsFor(lines) {
   return found;
 }
 
-function group(index) {
-  while (table.tBodies.length <= index) table.append(element("tbody", { role: "rowgroup" }));
-  return table.tBodies[index];
+/** The group of rows of a kind with this number. Those of a kind are together, in the order of the kinds. */
+function group(kind, index) {
+  const bodies = [...table.tBodies], found = bodies.filter((it) => it.dataset.kind === kind)[index];
+  if (found) return found;
+  const later = bodies.find((it) => ORDER.indexOf(it.dataset.kind) > ORDER.indexOf(kind));
+  return table.insertBefore(element("tbody", { role: "rowgroup", "data-kind": kind }), later ?? null);
 }
 
 /** Makes the rows those of the lines, and keeps each row that is there. A later call ends an earlier one. */
 async function show() {
   const run = ++runs, lines = linesOf(field.value), progress = byId("progress"), begin = performance.now();
-  const found = rowsFor(lines), first = new Map();
-  let body, next, parsed = 0, doubles = 0, until = performance.now() + SLICE;
+  const found = rowsFor(lines), first = new Map(), counts = { all: lines.length, refused: 0, suspicious: 0, other: 0, duplicate: 0 };
+  const places = Object.fromEntries(ORDER.map((kind) => [kind, {}]));
+  let until = performance.now() + SLICE;
   table.hidden = lines.length === 0;
   table.setAttribute("aria-busy", "true");
   for (const [index, line] of lines.entries()) {
-    if (index % GROUP === 0) {
-      body = group(index / GROUP);
-      next = body.firstElementChild;
+    const row = found[index] ?? rowOf(line), { kind } = row, place = places[kind];
+    if (counts[kind] % GROUP === 0) {
+      place.body = group(kind, counts[kind] / GROUP);
+      place.next = place.body.firstElementChild;
     }
-    const row = found[index] ?? rowOf(line);
+    counts[kind]++;
     if (!found[index]) {
       row.fold?.(lines.length > UNFOLDED);
-      row.names?.show(lines.length <= UNFOLDED);
+      row.showNames?.(lines.length <= UNFOLDED);
     }
-    if (row === next) next = next.nextElementSibling;
-    else body.insertBefore(row, next);
-    if (row.canonical) parsed++;
-    if (row.canonical && markDouble(row, first)) doubles++;
+    if (row === place.next) place.next = place.next.nextElementSibling;
+    else place.body.insertBefore(row, place.next);
+    if (row.canonical && markDouble(row, first)) counts.duplicate++;
     if (performance.now() < until) continue;
     if (performance.now() - begin > 300) {
       progress.hidden = false;
@@ -225,17 +294,21 @@ async function show() {
     if (run !== runs) return;
     until = performance.now() + SLICE;
   }
-  while (table.tBodies.length > 1 && !table.tBodies[table.tBodies.length - 1].firstChild) table.tBodies[table.tBodies.length - 1].remove();
+  for (const body of [...table.tBodies]) if (!body.firstChild) body.remove();
   progress.hidden = true;
   table.removeAttribute("aria-busy");
-  const more = doubles ? `, ${countOf(doubles, "double")}` : "";
-  byId("status").textContent = lines.length
-    ? `${countOf(lines.length, "target")}: ${countOf(parsed)} parsed, ${countOf(lines.length - parsed)} refused${more}.`
-    : "No targets. Paste some above, one a line, such as what `rustc --print target-list` writes.";
+  showCounts(counts);
+  if (lines.length) {
+    const more = ["suspicious", "duplicate"].filter((kind) => counts[kind]).map((kind) => `, ${chipOf(kind).textContent}`).join("");
+    say(`${chipOf("all").textContent}: ${countOf(lines.length - counts.refused)} parsed, ${chipOf("refused").textContent}${more}.`, true);
+  } else {
+    say("No targets. Paste some above, one a line, such as what `rustc --print target-list` writes.");
+  }
   showLink(lines);
 }
 
-const countOf = (count, word) => count.toLocaleString("en") + (word ? ` ${word}${count === 1 ? "" : "s"}` : "");
+const chipOf = (kind) => byId("chips").querySelector(`[data-show=${kind}]`);
+const countOf = (count) => count.toLocaleString("en");
 
 // ---- the link and the copy
 
@@ -278,7 +351,7 @@ function matrixEntry(text) {
     return { ...place, error: reason, part, start: from, end: from + size, field: name, suggestion };
   }
   const fields = FIELDS.flatMap((name) => [[name, triple[name]], ...(name === "operatingSystem" ? [["version", versionOf(triple)]] : [])]);
-  const facts = { ...Object.fromEntries(fields), ...triple.facts(), printed: `${triple}`, canonical: `${triple.settle()}` };
+  const facts = { ...Object.fromEntries(fields), ...triple.facts(), printed: `${triple}`, canonical: triple.canonical };
   return { ...place, ...Object.fromEntries(Object.entries(facts).map(([name, fact]) => [snakeCase(name), fact])) };
 }
 
@@ -295,7 +368,15 @@ async function copyMatrix() {
     hidden.remove();
     byId("copy").focus();
   }
-  byId("status").textContent = `Copied ${countOf(linesOf(field.value).length, "target")} as JSON.`;
+  say(`Copied ${chipOf("all").textContent} as JSON.`);
+}
+
+/** Empties the text field, where the focus then is. */
+function clear() {
+  field.value = "";
+  history.replaceState(null, "", location.pathname + location.search);
+  field.focus();
+  return show();
 }
 
 // ---- the beginning
@@ -314,10 +395,12 @@ async function begin() {
     show();
   });
   byId("copy").addEventListener("click", copyMatrix);
+  byId("clear").addEventListener("click", clear);
+  byId("chips").addEventListener("click", ({ target }) => target.dataset.show && showOnly(target.dataset.show));
   followLink();
   await show();
 }
 
 begin().catch((error) => {
-  byId("status").textContent = `The page can't work: ${error.message}`;
+  say(`The page can't work: ${error.message}`);
 });

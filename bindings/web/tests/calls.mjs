@@ -44,7 +44,7 @@ const tests = {
     }
     const members = [...Object.getOwnPropertyNames(Triple.prototype), ...Object.keys(Triple.parse("x86_64")), "parse", "read", "explain", "of"];
     const declared = types.match(/export class Triple \{(.*?)^\}/ms)[1];
-    for (const it of members) assert.match(declared, new RegExp(`^  (?:private |static |readonly )*${it}[(:]`, "m"));
+    for (const it of members) assert.match(declared, new RegExp(`^  (?:private |static |readonly |get )*${it}[(:]`, "m"));
     for (const it of Object.keys(Triple.parse("x86_64-linux").facts())) assert.match(types, new RegExp(`^  ${it}: `, "m"));
     for (const it of [...Object.keys(refusal("")), "report"].filter((it) => it !== "name")) {
       assert.match(types, new RegExp(`^  readonly ${it}: `, "m"));
@@ -161,6 +161,9 @@ const tests = {
     assert.deepEqual([it.comesBack(), `${it.settle()}`, it.settle().comesBack()], [false, "clever-unknown-none-elf", true]);
     assert.deepEqual([it.equals(it.settle()), it.sameTarget(it.settle())], [false, true]);
     assert.throws(() => it.equals("clever"), TypeError);
+    const other = Triple.parse("armv7-nintendo-horizon-newlib-unknown");
+    assert.deepEqual([`${other}`, other.canonical], ["armv7-nintendo-horizon-unknown", "armv7-nintendo-horizon"]);
+    assert.throws(() => { it.canonical = "x"; }, TypeError);
   },
   facts: () => {
     assert.deepEqual(Triple.parse("x86_64-acme-windows-msvc").facts(), {
@@ -192,6 +195,20 @@ const tests = {
       { operatingSystem: "ios17" }, { operatingSystem: "ios", version: { major: 65536 } },
       { operatingSystem: "ios", version: { major: 1, minor: -1 } }]) assert.throws(() => Triple.of(it), RangeError, JSON.stringify(it));
     assert.throws(() => Triple.of({ os: "linux" }), TypeError);
+  },
+  "a triple that was spread, cloned or sent": async () => {
+    for (const text of ["x86_64-acme-linux-gnu", "arm64-apple-ios17.1", "x86_64-linux-macho", "unknown"]) {
+      const it = Triple.parse(text), { port1, port2 } = new MessageChannel();
+      const sent = new Promise((resolve) => { port2.onmessage = ({ data }) => resolve(data); });
+      port1.postMessage(it);
+      for (const copy of [{ ...it }, structuredClone(it), await sent, it]) {
+        assert(Triple.of(copy).equals(it) && it.with(copy).equals(it), text);
+        assert.equal(Triple.of({ ...copy, environment: "musl" }).environment, "musl");
+      }
+      port1.close();
+    }
+    const pc = Triple.of({ ...Triple.parse("x86_64-acme-linux"), vendor: "pc" });
+    assert.deepEqual([pc.hasCustomVendor, pc.numbers.vendor, `${pc}`], [false, 10, "x86_64-pc-linux"]);
   },
   "with other values": () => {
     const ios = Triple.parse("aarch64-apple-ios17"), linux = Triple.parse("x86_64-unknown-linux-gnu");

@@ -12,6 +12,10 @@ const architectures: readonly Architecture[] = namesOf("architecture");
 const given: Given = { architecture: "arm64", vendor: "acme", operatingSystem: "ios", version: { major: 17 } };
 const model: Facts["dataModel"] = Triple.of(given).with({ environment: "sim", binaryFormat: "macho" }).facts().dataModel;
 
+// A triple that is spread, or that was cloned or sent, has what `Triple.of` takes.
+const spread: Triple = Triple.of({ ...triple, environment: "sim" });
+const cloned: Triple[] = [Triple.of(structuredClone(triple)), Triple.of(triple), triple.with({ ...triple, version: null })];
+
 const dialects: readonly Dialect[] = DIALECTS;
 const names: (string | null)[] = dialects.map((dialect) => Triple.read("linux/arm64", "oci").nameIn(dialect));
 
@@ -45,10 +49,12 @@ const members: {
     version: Version | null; hasCustomVendor: boolean; numbers: Readonly<Record<Field, number>>; with: (values: Given) => Triple;
     toString: () => string; toJSON: () => string; nameIn: (dialect: Dialect) => string | null; settle: () => Triple; comesBack: () => boolean;
     equals: (other: Triple) => boolean; sameTarget: (other: Triple) => boolean; facts: () => Facts;
+    canonical: string;
   }[Name]>
 } = {
   architecture: true, vendor: true, operatingSystem: true, environment: true, binaryFormat: true, version: true, hasCustomVendor: true,
   numbers: true, with: true, toString: true, toJSON: true, nameIn: true, settle: true, comesBack: true, equals: true, sameTarget: true, facts: true,
+  canonical: true,
 };
 const errors: {
   [Name in Exclude<keyof ParseError, keyof Error>]: Same<ParseError[Name], {
@@ -84,6 +90,8 @@ triple.architecture === "arm64";
 Triple.of({ operatingSystem: "ios17" });
 // @ts-expect-error there is no such field
 triple.with({ os: "linux" });
+// @ts-expect-error it follows from the triple
+triple.canonical = "x86_64-unknown-linux";
 // @ts-expect-error no answer is null
 triple.facts().pointerWidth + 1;
 // @ts-expect-error no data model has this name
@@ -105,4 +113,4 @@ namesOf("os");
 // @ts-expect-error an error comes from a string that is refused
 new ParseError("");
 
-export { answers, architectures, calls, errors, explained, family, members, models, names, orders, origins, parts, sources, system, text, tools, vendors, widths };
+export { answers, architectures, calls, cloned, errors, explained, family, members, models, names, orders, origins, parts, sources, spread, system, text, tools, vendors, widths };

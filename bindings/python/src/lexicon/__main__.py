@@ -27,7 +27,7 @@ _COMMANDS = {
     "elsewhere": "the names that other tools have for it",
 }
 # As the command orders them: the last one is only written.
-_DIALECTS = [*(str(it) for it in Dialect if it is not Dialect.GNU), str(Dialect.GNU)]
+_DIALECTS = [*(it for it in Dialect if it is not Dialect.GNU), Dialect.GNU]
 
 
 def _places(targets: List[str]) -> Iterator[Answer]:
@@ -51,7 +51,7 @@ def _explained(target: str) -> Answer:
     return {**answer, "has_custom_vendor": explanation.triple.has_custom_vendor, "suggestion": explanation.suggestion}
 
 
-def _answer(command: str, dialect: Optional[str], target: str) -> Answer:
+def _answer(command: str, dialect: Optional[Dialect], target: str) -> Answer:
     if command == "explain":
         return _explained(target)
     if command == "read":
@@ -60,7 +60,7 @@ def _answer(command: str, dialect: Optional[str], target: str) -> Answer:
     if command == "facts":
         return dict(triple.to_dict())
     if command == "elsewhere":
-        return {name: triple.name_in(name) for name in _DIALECTS}
+        return {str(dialect): triple.name_in(dialect) for dialect in _DIALECTS}
     if dialect is None:
         return {"canonical": triple.canonical}
     name = triple.name_in(dialect)
@@ -72,7 +72,7 @@ def _refused(error: str, part: str, start: int = 0, field: Optional[str] = None,
     return {"error": error, "part": part, "start": start, "end": end, "field": field, "suggestion": suggestion}
 
 
-def _refusal(error: ParseError, dialect: Optional[str]) -> Answer:
+def _refusal(error: ParseError, dialect: Optional[Dialect]) -> Answer:
     """What is wrong with a target, or with a name in a dialect."""
     if error.reason is not None:
         word = f"no triple means the same ({error.reason}):"
@@ -109,7 +109,7 @@ def _lines(command: str, target: str, answer: Answer) -> str:
     return "\n".join([target, *lines])
 
 
-def _is_name(dialect: str, name: str) -> bool:
+def _is_name(dialect: Dialect, name: str) -> bool:
     try:
         Triple.read(name, dialect)
     except ParseError as error:
@@ -119,17 +119,18 @@ def _is_name(dialect: str, name: str) -> bool:
 
 def _answered(options: argparse.Namespace, target: str) -> Tuple[Answer, str]:
     """The answer for a target, and how it is shown."""
+    dialect = None if options.dialect is None else Dialect(options.dialect)
     try:
-        answer = _answer(options.command, options.dialect, target)
+        answer = _answer(options.command, dialect, target)
         return answer, "" if options.json else _lines(options.command, target, answer)
     except ParseError as error:
         lines = [str(error)]
         if options.command != "read":
             return _refusal(error, None), lines[0]
-        if options.dialect is None:
+        if dialect is None:
             known = " or ".join(f"`--from {it}`" for it in _DIALECTS if _is_name(it, target))
             lines += [f"  note: it is a name of another tool: use {known}"] if known else []
-        return _refusal(error, options.dialect), "\n".join(lines)
+        return _refusal(error, dialect), "\n".join(lines)
 
 
 def _parser() -> argparse.ArgumentParser:
@@ -142,9 +143,9 @@ def _parser() -> argparse.ArgumentParser:
         command.add_argument("--json", action="store_true", help="write one JSON array on one line")
         command.set_defaults(dialect=None)
         if name == "read":
-            command.add_argument("--from", dest="dialect", choices=_DIALECTS[:-1])
+            command.add_argument("--from", dest="dialect", choices=list(map(str, _DIALECTS[:-1])))
         elif name == "write":
-            command.add_argument("--to", dest="dialect", choices=_DIALECTS, required=True)
+            command.add_argument("--to", dest="dialect", choices=list(map(str, _DIALECTS)), required=True)
     return parser
 
 

@@ -1,5 +1,4 @@
 """Answers for many targets at once, as plain values."""
-from __future__ import annotations
 
 import ctypes
 import struct
@@ -8,9 +7,8 @@ from itertools import islice
 from typing import Any, Callable, Dict, Iterable, List, NamedTuple, Optional, Sequence, Tuple, TypeVar
 
 from . import _library
-from ._errors import encoded
 from ._facts import CallingConvention, DataModel, Endianness
-from ._fields import members
+from ._named import members
 from ._triple import Triple
 from ._values import Architecture, BinaryFormat, Environment, Family, OperatingSystem, Vendor
 
@@ -87,6 +85,8 @@ def _each(targets: Iterable[str], answers_of: Callable[[Sequence[str]], List[Ans
     remembered: Dict[str, Answer] = {}
     rest = iter(targets)
     while some := list(islice(rest, _AT_ONCE)):
+        if not {str}.issuperset(map(type, some)):
+            some = list(map(_plain, some))
         if len(remembered) > _REMEMBERED:
             remembered.clear()
         new = tuple(set(some).difference(remembered))
@@ -95,14 +95,16 @@ def _each(targets: Iterable[str], answers_of: Callable[[Sequence[str]], List[Ans
     return answers
 
 
+def _plain(target: str) -> str:
+    """The target as a `str`, so that no subclass says how it is compared, hashed or searched. Anything but a `str` is a TypeError."""
+    if not isinstance(target, str):
+        raise TypeError(f"a target must be a str, not {type(target).__name__}")
+    return str.__str__(target)
+
+
 def _canonical_texts(targets: Sequence[str]) -> List[Optional[str]]:
     """The canonical string of each target, by one call for all of them."""
-    try:
-        lines = "\n".join(targets)
-    except TypeError:
-        for target in targets:
-            encoded(target, "a target")
-        raise
+    lines = "\n".join(targets)
     if lines.count("\n") >= len(targets) > 0:
         # A target that has a line feed is refused, as an empty one is.
         lines = "\n".join("" if "\n" in it else it for it in targets)

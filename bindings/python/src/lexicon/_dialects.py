@@ -1,9 +1,9 @@
 """The tools whose names of targets are read and written."""
 from __future__ import annotations
 
-from typing import Union
+from typing import Literal, Union
 
-from ._fields import NamedValue
+from ._named import NamedValue
 
 
 class Dialect(NamedValue):
@@ -23,17 +23,19 @@ class Dialect(NamedValue):
     PYTHON = "python"
 
 
+#: The names of the dialects that are read, and of all.
+ReadDialectName = Literal["debian", "go", "oci", "node", "python"]
+DialectName = Literal[ReadDialectName, "gnu"]
+
 #: The number in the library for C of no dialect: the string is spelled like a triple.
 NO_DIALECT = 0
 
 
-def dialect_number(dialect: Union[Dialect, str]) -> int:
+def dialect_number(dialect: Union[Dialect, DialectName]) -> int:
     """The number in the library for C of a dialect, given as a member or by its name."""
-    if isinstance(dialect, str):
-        names = [it.value for it in Dialect]
-        if dialect not in names:
-            raise ValueError(f"the dialect must be one of {', '.join(names)}, not {dialect}")
-        return names.index(dialect) + 1
-    if not isinstance(dialect, Dialect):
+    if not isinstance(dialect, str):
         raise TypeError(f"the dialect must be of type Dialect or str, not {type(dialect).__name__}")
-    return dialect.number + 1
+    names = list(Dialect)
+    if dialect not in names:
+        raise ValueError(f"the dialect must be one of {', '.join(names)}, not {dialect}")
+    return names.index(Dialect(dialect)) + 1

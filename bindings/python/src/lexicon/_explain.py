@@ -1,16 +1,15 @@
 """From which part of a string each field of its triple comes."""
-from __future__ import annotations
 
 import ctypes
-import enum
 from typing import Iterator, NamedTuple, Optional, Tuple
 
 from . import _library
 from ._errors import FIELDS, encoded, range_in, refusal
+from ._named import NamedValue, members
 from ._triple import Triple, _triple_of, _version_text
 
 
-class Origin(enum.Enum):
+class Origin(NamedValue):
     """Where the value of a field comes from."""
 
     #: No part of the string is of this field, which is unknown.
@@ -22,28 +21,22 @@ class Origin(enum.Enum):
     #: A part of the string that is another spelling. A special string such as `armv6k-nintendo-3ds` is one part, of all fields.
     ALIAS = "alias"
 
-    def __str__(self) -> str:
-        return str(self.value)
 
-    def __repr__(self) -> str:
-        return f"Origin.{self.name}"
-
-
-_ORIGINS = tuple(Origin)
+_ORIGINS = members(Origin)
 
 
 class Source(NamedTuple):
-    """Where the value of one field comes from. `part` is the part of the string from `start` to `end`, if it is given."""
+    """Where the value of one field comes from. `part` is the part of the string from `start` to `end`; all three may be None."""
 
     value: str
     origin: Origin
     part: Optional[str] = None
-    start: int = 0
+    start: Optional[int] = None
 
     @property
-    def end(self) -> int:
+    def end(self) -> Optional[int]:
         """Where the part ends in the string."""
-        return self.start + len(self.part or "")
+        return None if self.part is None or self.start is None else self.start + len(self.part)
 
     def __str__(self) -> str:
         word = "given as" if self.origin is Origin.GIVEN else str(self.origin)

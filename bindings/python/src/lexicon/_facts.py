@@ -1,7 +1,7 @@
 """What a compiler asks of a triple."""
 from __future__ import annotations
 
-from ._fields import NamedValue
+from ._named import NamedValue
 
 
 class Endianness(NamedValue):

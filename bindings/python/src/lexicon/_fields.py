@@ -1,47 +1,20 @@
 """What the values of fields have in common, and the custom vendor."""
 from __future__ import annotations
 
-import enum
-from typing import TYPE_CHECKING, Tuple, Type, TypeVar, Union, cast
+from typing import TYPE_CHECKING, Any, Tuple, Type, TypeVar, Union, cast
 
 from . import _library
 from ._errors import FIELDS, ParseError, encoded
+from ._named import NamedValue, members
 
 if TYPE_CHECKING:
     from ._values import Vendor
 
-Member = TypeVar("Member", bound="NamedValue")
 Value = TypeVar("Value", bound="FieldValue")
 
 # The numbers of the fields, by the names of their classes.
 _FIELDS = {name.title().replace("_", ""): number for number, name in enumerate(FIELDS)}
 _VENDOR = _FIELDS["Vendor"]
-
-
-class NamedValue(enum.Enum):
-    """A value that has a name and a number. The name is the member's `value`, and what `str` gives."""
-
-    #: The number of the value in the library for C.
-    number: int
-
-    if TYPE_CHECKING:
-
-        @property
-        def value(self) -> str:
-            """The name."""
-            ...
-
-    def __new__(cls, name: str) -> "NamedValue":
-        member = object.__new__(cls)
-        member._value_ = name
-        member.number = len(cls.__members__)
-        return member
-
-    def __str__(self) -> str:
-        return self.value
-
-    def __repr__(self) -> str:
-        return f"{type(self).__name__}.{self.name}"
 
 
 class FieldValue(NamedValue):
@@ -75,11 +48,6 @@ class VendorValue(NamedValue):
         return cast("Vendor", members(cls)[number])
 
 
-def members(of: Type[Member]) -> Tuple[Member, ...]:
-    """The members of an enumeration, by number."""
-    return tuple(of.__members__.values())
-
-
 def _number_of(field: int, text: str) -> int:
     """The number of the value that a string is in the field, or a ParseError."""
     status, number = _library.number(field, encoded(text, "the name of a value"))
@@ -87,71 +55,60 @@ def _number_of(field: int, text: str) -> int:
         return number
     if status != field + 1:
         raise _library.LibraryError(f"unexpected status {status}")
-    raise ParseError(text, status, 0, text)
+    raise ParseError(text, FIELDS[field])
 
 
-class CustomVendor:
+class CustomVendor(str):
     """A vendor that has no name of its own in the library: a string that parses as a vendor, and as nothing else.
 
-    Immutable, hashable, and equal by string. A string that is no vendor raises a ParseError, a known vendor a ValueError.
-    `case CustomVendor(text):` of a `match` gives the string.
+    It is a `str`, as known vendors are, and equal to its string. A string that is no vendor raises a ParseError, a known vendor
+    a ValueError. `case CustomVendor(text):` of a `match` gives the string.
 
-    >>> Triple("x86_64-acme-linux").vendor == CustomVendor("acme")
+    >>> Triple("x86_64-acme-linux").vendor == CustomVendor("acme") == "acme"
     True
     """
 
-    __slots__ = ("_text",)
+    __slots__ = ()
     __match_args__ = ("text",)
-    _text: str
 
-    def __new__(cls, text: str) -> "CustomVendor":
+    def __new__(cls, text: str) -> CustomVendor:
         if _number_of(_VENDOR, text) != _library.CUSTOM_VENDOR:
             raise ValueError(f"{text} is a known vendor: Vendor.{text.upper()}")
         return cls._of(text)
 
     @classmethod
-    def _of(cls, text: str) -> "CustomVendor":
-        self = object.__new__(cls)
-        self._text = text
-        return self
+    def _of(cls, text: str) -> CustomVendor:
+        return str.__new__(cls, text)
 
     @property
     def text(self) -> str:
         """The string."""
-        return self._text
+        return str.__str__(self)
 
     @property
     def value(self) -> str:
         """The string, as the `value` of a known vendor is its name."""
-        return self._text
+        return self.text
 
     @property
     def number(self) -> int:
         """The number that all custom vendors have in the library for C."""
         return _library.CUSTOM_VENDOR
 
-    def __str__(self) -> str:
-        return self.value
-
-    def __format__(self, form: str) -> str:
-        return format(self.value, form)
-
     def __repr__(self) -> str:
-        return f"CustomVendor({self.value!r})"
+        return f"CustomVendor({self.text!r})"
 
-    def __eq__(self, other: object) -> bool:
-        if not isinstance(other, CustomVendor):
-            return NotImplemented
-        return self._text == other._text
-
-    def __hash__(self) -> int:
-        return hash(self._text)
-
-    def __copy__(self) -> "CustomVendor":
+    def __copy__(self) -> CustomVendor:
         return self
 
-    def __deepcopy__(self, memo: object) -> "CustomVendor":
+    def __deepcopy__(self, memo: object) -> CustomVendor:
         return self
 
-    def __reduce__(self) -> Tuple[Type["CustomVendor"], Tuple[str]]:
-        return CustomVendor, (self.value,)
+    @classmethod
+    def __get_pydantic_core_schema__(cls, source: Any, handler: Any) -> Any:
+        from ._pydantic import schema_of
+
+        return schema_of(cls)
+
+    def __reduce__(self) -> Tuple[Type[CustomVendor], Tuple[str]]:
+        return CustomVendor, (self.text,)

@@ -7,7 +7,8 @@ import sys
 import sysconfig
 from typing import NamedTuple, Union
 
-from ._fields import CustomVendor, members
+from ._fields import CustomVendor
+from ._named import members
 from ._values import Architecture, Environment, OperatingSystem, Vendor
 
 

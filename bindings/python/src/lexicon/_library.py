@@ -142,13 +142,22 @@ def _declare(name: str, *arguments: Any, result: Any = c_uint32) -> Callable[...
         raise ImportError(f"{LIBRARY_PATH} isn't liblexicon {_CALLS_VERSION}: it doesn't have {name}") from None
     call.argtypes = list(arguments)
     call.restype = result
-    return call
+    return _or_memory_error(call)
+
+
+def _or_memory_error(call: Callable[..., Any]) -> Callable[..., Any]:
+    """The call. All its arguments are of its types, so that `ctypes` only fails to convert one if there is no memory."""
+    def checked(*values: Any) -> Any:
+        try:
+            return call(*values)
+        except ctypes.ArgumentError:
+            raise MemoryError from None
+    return checked
 
 
 def undeclared(name: str) -> Callable[..., int]:
     """A call that takes its arguments as they are: each must be a value of `ctypes`."""
-    call: Callable[..., int] = _load_file(LIBRARY_PATH)[name]
-    return call
+    return _or_memory_error(_load_file(LIBRARY_PATH)[name])
 
 
 _TRIPLE, _ERROR, _SIZE = POINTER(TripleStruct), POINTER(ErrorStruct), POINTER(c_size_t)

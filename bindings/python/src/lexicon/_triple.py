@@ -4,13 +4,15 @@ from __future__ import annotations
 import ctypes
 import enum
 import operator
-from typing import TYPE_CHECKING, Any, Callable, Dict, Iterable, Optional, Tuple, Type, Union, final
+from struct import Struct
+from typing import TYPE_CHECKING, Any, Callable, Dict, Iterable, Mapping, Optional, Tuple, Type, Union, final
 
 from . import _library
-from ._dialects import NO_DIALECT, Dialect, dialect_number
-from ._errors import encoded, refusal
+from ._dialects import NO_DIALECT, Dialect, DialectName, ReadDialectName, dialect_number
+from ._errors import FIELDS, encoded, refusal
 from ._facts import CallingConvention, DataModel, Endianness
-from ._fields import CustomVendor, members
+from ._fields import CustomVendor
+from ._named import members
 from ._values import Architecture, BinaryFormat, Environment, Family, OperatingSystem, Vendor
 
 if TYPE_CHECKING:
@@ -34,8 +36,9 @@ for _field, _values in enumerate((_ARCHITECTURES, _VENDORS, _SYSTEMS, _ENVIRONME
     _library.check_names(_field, [str(it) for it in _values])
 
 _LARGEST_VERSION = (65535, 255, 255)
-_numbers_of: Callable[[_library.TripleStruct], Tuple[int, ...]] = operator.attrgetter(
-    "architecture", "vendor", "operating_system", "environment", "binary_format", "has_version", "major", "minor", "patch")
+# The numbers of a struct, without its pointer and its size; and the same ones as bytes in their order, except those of the version.
+_numbers_of: Callable[[_library.TripleStruct], Tuple[int, ...]] = Struct("@H7BH").unpack_from
+_ordered_bytes: Callable[..., bytes] = Struct(">H7BH").pack
 
 
 class Keep(enum.Enum):
@@ -63,14 +66,18 @@ class Triple:
     in strings, ios17 comes before ios9. No class derives from this one.
     """
 
-    # The struct of C; the memory that a custom vendor is in; the facts and the printed string, once somebody has asked.
-    __slots__ = ("_struct", "_owner", "_facts", "_text", "__weakref__")
+    # The struct of C, and the memory that a custom vendor is in; then what is kept once somebody has asked: the facts, the printed
+    # string, the string whose order is that of triples, and the hash, which isn't set before.
+    __slots__ = ("_struct", "_owner", "_facts", "_printed", "_order_of_triple", "_hash", "__weakref__")
     _struct: _library.TripleStruct
     _owner: Optional[ctypes.Array[ctypes.c_char]]
     _facts: Optional[_library.FactsStruct]
-    _text: Optional[str]
+    _printed: Optional[str]
+    _order_of_triple: Optional[str]
+    _hash: int
+    __match_args__ = ("architecture", "vendor", "operating_system", "environment", "binary_format", "version")
 
-    def __new__(cls, text: str) -> "Triple":
+    def __new__(cls, text: str) -> Triple:
         utf8 = text.encode() if type(text) is str and text.isascii() else encoded(text, "the text of a triple")
         struct, error = _library.TripleStruct(), _library.ErrorStruct()
         if _library.parse(utf8, len(utf8), struct, error):
@@ -86,12 +93,12 @@ class Triple:
         raise TypeError("Triple is final: no class derives from it")
 
     @classmethod
-    def parse(cls, text: str) -> "Triple":
+    def parse(cls, text: str) -> Triple:
         """The same as `Triple(text)`."""
         return cls(text)
 
     @classmethod
-    def read(cls, text: str, dialect: Union[Dialect, str, None] = None) -> "Triple":
+    def read(cls, text: str, dialect: Union[Dialect, ReadDialectName, None] = None) -> Triple:
         """The triple that a name of another tool means. The tool is a `Dialect`, or its name; none is guessed.
 
         >>> Triple.read("linux/arm64", Dialect.OCI), Triple.read("armhf", "debian")
@@ -111,7 +118,7 @@ class Triple:
         owner = ctypes.create_string_buffer(utf8, len(utf8))
         struct, error = _library.TripleStruct(), _library.ErrorStruct()
         if _library.read(number, owner, len(utf8), struct, error) != _library.OK:
-            raise refusal(text, utf8, error, number)
+            raise refusal(text, utf8, error, dialect)
         return _triple_of(struct, owner)
 
     @classmethod
@@ -123,7 +130,7 @@ class Triple:
         environment: Environment = Environment.UNKNOWN,
         binary_format: Optional[BinaryFormat] = None,
         version: Optional[Iterable[int]] = None,
-    ) -> "Triple":
+    ) -> Triple:
         """The triple with these fields. The binary format None is the one that the other fields imply.
 
         >>> Triple.from_fields(Architecture.X86_64, operating_system=OperatingSystem.DARWIN, version=[23, 6])
@@ -154,7 +161,30 @@ class Triple:
         return _triple_of(struct, owner)
 
     @classmethod
-    def host(cls) -> "Triple":
+    def from_dict(cls, values: Mapping[str, Any]) -> Triple:
+        """The triple of the fields in a dictionary, such as one that `to_dict` gave, or that was read from JSON.
+
+        >>> Triple.from_dict({"architecture": "x86_64", "operating_system": "ios", "version": "17.1"})
+        Triple('x86_64-unknown-ios17.1.0')
+
+        The fields are names, and the version is as it is printed; what is left out is as in `from_fields`. The other answers
+        of `to_dict` follow from the fields, and aren't looked at. Any other key raises a ValueError, as a name does that the
+        field doesn't have.
+        """
+        from ._columns import Facts
+
+        unknown = [it for it in values if it not in Facts._fields]
+        if unknown:
+            raise ValueError(f"a triple has no {', '.join(map(str, unknown))}")
+        architecture, vendor, system, environment = (values.get(it, "unknown") for it in FIELDS[:4])
+        form, version = values.get("binary_format"), values.get("version")
+        return cls.from_fields(
+            Architecture(architecture), Vendor.parse(vendor), OperatingSystem(system), Environment(environment),
+            None if form is None else BinaryFormat(form), map(int, version.split(".")) if isinstance(version, str) else version,
+        )
+
+    @classmethod
+    def host(cls) -> Triple:
         """The triple that this Python runs as, as far as `platform` and `sysconfig` say it.
 
         Never refused: what is not known of the machine is `unknown`. It is the target of the interpreter, so a 32-bit
@@ -297,7 +327,7 @@ class Triple:
 
         return facts_of(self)._asdict()
 
-    def name_in(self, dialect: Union[Dialect, str]) -> Optional[str]:
+    def name_in(self, dialect: Union[Dialect, DialectName]) -> Optional[str]:
         """The name that another tool has for the target, or None if it has none. The tool is a `Dialect`, or its name.
 
         >>> triple = Triple("aarch64-unknown-linux-gnu")
@@ -308,7 +338,7 @@ class Triple:
         """
         return _library.name_in(dialect_number(dialect), self._struct)
 
-    def settle(self) -> "Triple":
+    def settle(self) -> Triple:
         """The canonical form of the triple, which comes back. So its string is a key for the target.
 
         >>> one, other = Triple("armv7-nintendo-horizon"), Triple("armv7-nintendo-horizon-newlib")
@@ -329,7 +359,7 @@ class Triple:
         _library.check(_library.comes_back(self._struct, answer))
         return answer.value
 
-    def same_target(self, other: "Triple") -> bool:
+    def same_target(self, other: Triple) -> bool:
         """Whether both triples have the same canonical form.
 
         >>> Triple("armv7-nintendo-horizon-newlib").same_target(Triple("armv7-nintendo-horizon"))
@@ -350,7 +380,7 @@ class Triple:
         environment: Union[Environment, Keep] = _KEEP,
         binary_format: Union[BinaryFormat, Keep, None] = _KEEP,
         version: Union[Iterable[int], Keep, None] = _KEEP,
-    ) -> "Triple":
+    ) -> Triple:
         """The triple with other values in the fields that are given.
 
         A binary format that the fields imply becomes the one that the new ones imply; another one stays, unless it is
@@ -376,7 +406,11 @@ class Triple:
             version,
         )
 
-    def explain(self) -> "Explanation":
+    def __replace__(self, /, **fields: Any) -> Triple:
+        """What `copy.replace` calls: the same as `replace`."""
+        return self.replace(**fields)
+
+    def explain(self) -> Explanation:
         """From which part of the printed string each field comes. `lexicon.explain` explains any string."""
         from ._explain import explain
 
@@ -389,20 +423,26 @@ class Triple:
 
     def _vendor_text(self) -> bytes:
         """The string of the custom vendor, which is within `_owner`."""
-        return ctypes.string_at(self._struct.custom_vendor or 0, self._struct.custom_vendor_size)
+        owner, struct = self._owner, self._struct
+        if owner is None:
+            return b""
+        start = (struct.custom_vendor or 0) - ctypes.addressof(owner)
+        return owner.raw[start:start + struct.custom_vendor_size]
 
-    def _values(self) -> Tuple[Any, ...]:
-        """All that makes a triple the one that it is."""
-        return _numbers_of(self._struct), b"" if self._owner is None else self._vendor_text()
+    def _ordered(self) -> str:
+        """What triples are ordered by, which is kept: the printed string, which has no zero byte, then the numbers of the fields.
 
-    def _order(self) -> Tuple[Any, ...]:
-        """By what triples are ordered: the printed string, and the values if it is the same."""
-        return str(self), self._values()
+        Where both are equal, so are versions and custom vendors, which are printed.
+        """
+        order = self._order_of_triple
+        if order is None:
+            self._order_of_triple = order = f"{str(self)}\0{_ordered_bytes(*_numbers_of(self._struct)).decode('latin-1')}"
+        return order
 
     def __str__(self) -> str:
-        text = self._text
+        text = self._printed
         if text is None:
-            self._text = text = _library.printed(self._struct)
+            self._printed = text = _library.printed(self._struct)
         return text
 
     def __format__(self, form: str) -> str:
@@ -417,36 +457,45 @@ class Triple:
     def __eq__(self, other: object) -> bool:
         if not isinstance(other, Triple):
             return NotImplemented
-        return self is other or self._values() == other._values()
+        return self is other or _numbers_of(self._struct) == _numbers_of(other._struct) and self._vendor_text() == other._vendor_text()
 
     def __hash__(self) -> int:
-        return hash(self._values())
+        try:
+            return self._hash
+        except AttributeError:
+            self._hash = found = hash((_numbers_of(self._struct), self._vendor_text()))
+            return found
 
-    def __lt__(self, other: "Triple") -> bool:
-        if not isinstance(other, Triple):
+    def __lt__(self, other: Triple) -> bool:
+        # This is what `sorted` calls: the same as for the others, in less time.
+        try:
+            one, two = self._order_of_triple, other._order_of_triple
+        except AttributeError:
             return NotImplemented
-        return self._order() < other._order()
+        if one is None or two is None:
+            one, two = self._ordered(), other._ordered()
+        return one < two
 
-    def __le__(self, other: "Triple") -> bool:
-        if not isinstance(other, Triple):
-            return NotImplemented
-        return self._order() <= other._order()
+    def __le__(self, other: Triple) -> bool:
+        return self._ordered() <= other._ordered() if isinstance(other, Triple) else NotImplemented
 
-    def __gt__(self, other: "Triple") -> bool:
-        if not isinstance(other, Triple):
-            return NotImplemented
-        return self._order() > other._order()
+    def __gt__(self, other: Triple) -> bool:
+        return self._ordered() > other._ordered() if isinstance(other, Triple) else NotImplemented
 
-    def __ge__(self, other: "Triple") -> bool:
-        if not isinstance(other, Triple):
-            return NotImplemented
-        return self._order() >= other._order()
+    def __ge__(self, other: Triple) -> bool:
+        return self._ordered() >= other._ordered() if isinstance(other, Triple) else NotImplemented
 
-    def __copy__(self) -> "Triple":
+    def __copy__(self) -> Triple:
         return self
 
-    def __deepcopy__(self, memo: object) -> "Triple":
+    def __deepcopy__(self, memo: object) -> Triple:
         return self
+
+    @classmethod
+    def __get_pydantic_core_schema__(cls, source: Any, handler: Any) -> Any:
+        from ._pydantic import schema_of
+
+        return schema_of(cls)
 
     def __reduce__(self) -> Tuple[Any, ...]:
         fields = (self.architecture, self.vendor, self.operating_system, self.environment, self.binary_format, self.version)
@@ -459,7 +508,7 @@ def _triple_of(struct: _library.TripleStruct, owner: Optional[ctypes.Array[ctype
     self._struct = struct
     self._owner = owner if struct.vendor == _library.CUSTOM_VENDOR else None
     self._facts = None
-    self._text = None
+    self._printed = self._order_of_triple = None
     return self
 
 

@@ -1,7 +1,8 @@
 """The values of each field, in the order of their numbers."""
 from __future__ import annotations
 
-from ._fields import FieldValue, NamedValue, VendorValue
+from ._fields import FieldValue, VendorValue
+from ._named import NamedValue
 
 
 class Architecture(FieldValue):

@@ -1,0 +1,38 @@
+"""What all enumerations have in common."""
+from __future__ import annotations
+
+import enum
+from typing import TYPE_CHECKING, Tuple, Type, TypeVar
+
+Member = TypeVar("Member", bound="NamedValue")
+
+
+class NamedValue(str, enum.Enum):
+    """A value that has a name and a number. It is its name: a `str` that is equal to the name, and sorted and written as the name."""
+
+    #: The number of the value in the library for C.
+    number: int
+
+    if TYPE_CHECKING:
+
+        @property
+        def value(self) -> str:
+            """The name."""
+            ...
+
+    def __new__(cls, name: str) -> NamedValue:
+        member = str.__new__(cls, name)
+        member._value_ = name
+        member.number = len(cls.__members__)
+        return member
+
+    def __str__(self) -> str:
+        return self.value
+
+    def __repr__(self) -> str:
+        return f"{type(self).__name__}.{self.name}"
+
+
+def members(of: Type[Member]) -> Tuple[Member, ...]:
+    """The members of an enumeration, by number."""
+    return tuple(of.__members__.values())
