@@ -1,9 +1,13 @@
 //! Uses of `target_lexicon`, as a caller writes them: each function is proved only from the library's public contracts
-//! and definitions.
+//! and definitions. For each law there is a function that concludes something from it, in a clause for each of the
+//! law's, so that a law which says less breaks its caller.
 #![tactic(auto)]
 
 mod boot;
 mod by_macro;
+pub mod copies;
+pub mod equality;
+pub mod hashing;
 mod key;
 mod literals;
 mod spelling;
