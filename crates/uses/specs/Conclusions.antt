@@ -2,6 +2,7 @@
 use Rattle.std.specs.Prelude.{◌≡◌, ◌++◌, ℕ, Bool, true, List, Option, Some, IsTrue}
 use Rattle.std.specs.Hash.{HashWrites}
 use Rattle.lexicon_fields.specs.Names.{is_dash_free}
+use Rattle.lexicon_fields.specs.declared.deployment_target.DeploymentTarget.{DeploymentTarget}
 
 -- values that are equal can stand for one another: each text that is made of what the one represents is made of the other
 pub record CanReplace {V W : Type 0} (value : V → W) (eq : V → V → Bool) : Type 0 where
@@ -38,3 +39,7 @@ pub record AreNamesKeys {V : Type 0} (IsOfKind : V → Type 0) (name : V → Lis
 -- the same of each value of the type
 abbrev pub AreAllNamesKeys : {V : Type 0} → (V → List ℕ) → (List ℕ → Option V) → Type 0
 AreAllNamesKeys {V} name find = AreNamesKeys (λ (v : V). Unit {0}) name find
+
+-- the version of these numbers
+abbrev pub version : ℕ → ℕ → ℕ → DeploymentTarget
+version major minor patch = record { major = major; minor = minor; patch = patch }

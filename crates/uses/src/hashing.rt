@@ -40,7 +40,8 @@ pub fn fields_are_keys()
     ensures known_vendor { AreAllPairsOfKeys ⟦<KnownVendor as Hash>⟧.hash_input }
     ensures vendor { ArePairsOfKeys (λ (v : Vendor). Unit {0}) vendor_value
         ⟦<Vendor as Hash>⟧.hash_input }
-    ensures version { ArePairsOfKeys IsVersionInRange (λ v. v) ⟦<DeploymentTarget as Hash>⟧.hash_input }
+    ensures version { ArePairsOfKeys IsVersionInRange (λ v. v)
+        ⟦<DeploymentTarget as Hash>⟧.hash_input }
     ensures operating_system { ArePairsOfKeys HasVersionInRange (λ s. s)
         ⟦<OperatingSystem as Hash>⟧.hash_input }
 {

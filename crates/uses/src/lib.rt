@@ -3,6 +3,7 @@
 //! law's, so that a law which says less breaks its caller.
 #![tactic(auto)]
 
+pub mod answers;
 mod boot;
 mod by_macro;
 pub mod copies;
@@ -10,6 +11,9 @@ pub mod equality;
 pub mod hashing;
 mod key;
 mod literals;
+pub mod names;
+pub mod outcomes;
+pub mod round_trips;
 mod spelling;
 
 pub use boot::{ImageFacts, image_facts};

@@ -1,5 +1,5 @@
-use Rattle.std.proofs.Common.{◌≡◌, ap, true≢false}
-use Rattle.lexicon_fields.specs.Vendor.{VendorValue, is_custom}
+use Rattle.std.proofs.Common.{ap, true≢false}
+use Rattle.lexicon_fields.specs.Vendor.{is_custom}
 use Rattle.lexicon_fields.specs.declared.vendor.Vendor.TheVariants as vendor
 use Rattle.uses.proofs.equality.custom_vendors_are_not_known.Goals as goal
 

@@ -1,4 +1,3 @@
-use Rattle.uses.proofs.Conclusions.{pairs_of_keys}
 use Rattle.uses.proofs.hashing.custom_vendors_are_keys.Goals as goal
 
 pub returns-clause-alike : goal.returns-clause-alike
