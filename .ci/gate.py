@@ -48,8 +48,8 @@ LAST = [
     ("links, names, samples, counts and versions of the pages, and the pictures", "checks/pages", "cc cargo"),
     ("the programs, proved and by cargo: stored rows, unusual streams, large inputs, samples of the pages", "checks/rows/run", "cram3 cargo"),
     ("each allocation fails in turn", "checks/fail_allocations", "cc"),
-    ("names, rules and tables are upstream's, by its kept answers; words of other tools mean one machine",
-     "checks/compare answers && checks/compare elsewhere", f"cargo {DEBIAN_CRATES}"),
+    ("names, rules and tables are upstream's, by its kept answers; what other tools say of names and targets",
+     "checks/compare answers && checks/compare elsewhere && checks/compare llvm", f"cargo {DEBIAN_CRATES}"),
     ("the mode json: the proved program and cargo's answer alike", "/usr/bin/python3 checks/compare json --inputs 200 --of proved cargo",
      "hypothesis cargo"),
 ]
