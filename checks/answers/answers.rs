@@ -1,12 +1,13 @@
 //! Answers of a crate with upstream's calls, as lines of words with tabs between them. `checks/compare answers` builds it over
 //! upstream's crate, whose answers it keeps, and over the Rust crate of this repository.
 //!
-//! Each line of the input is `word` or `triple`, a tab and a string. The lines of the output are, for each
+//! Each line of the input is `word`, `parsed` or `triple`, a tab and a string. The lines of the output are, for each
 //!
 //! - `word`: what it parses as in each field, as `{:?}` shows it, or `-`;
 //! - `architecture` among the words: byte order, pointer width, whether it is Clever, and of Arm what its own type answers;
 //! - `system`: whether it is like Darwin;
 //! - `model`, `size` and `width`: their sizes;
+//! - `parsed`: the five values, as `{:?}` shows them, or the error;
 //! - `triple`: what is printed, the canonical string, byte order, width, convention and model, or the line of the error;
 //! - `all`: each architecture with each system and environment: width, convention, model, implied format, and what is shown of it.
 use std::fmt::{Debug, Display, Write};
@@ -61,6 +62,16 @@ fn canonical(mut triple: Triple) -> Triple {
             return triple;
         }
         triple = next;
+    }
+}
+
+fn answer_parsed(text: &str) -> String {
+    match text.parse::<Triple>() {
+        Ok(it) => format!(
+            "parsed\t{text}\t{:?}\t{:?}\t{:?}\t{:?}\t{:?}",
+            it.architecture, it.vendor, it.operating_system, it.environment, it.binary_format
+        ),
+        Err(error) => format!("parsed\t{text}\t{error:?}"),
     }
 }
 
@@ -145,6 +156,9 @@ fn main() {
     }
     for width in [PointerWidth::U16, PointerWidth::U32, PointerWidth::U64] {
         println!("width\t{width:?}\t{}\t{}", width.bits(), width.bytes());
+    }
+    for (_, text) in asked.iter().filter(|it| it.0 == "parsed") {
+        println!("{}", answer_parsed(text));
     }
     for (_, text) in asked.iter().filter(|it| it.0 == "triple") {
         println!("{}", answer_triple(text));

@@ -10,6 +10,7 @@ Each line of the file has words with tabs between them: what was asked, and the 
 - `printed`: which fields after the architecture are printed (v, s, e), with the vendors unknown, pc, nintendo and espressif in turn.
   `printed_formats`: the formats that are printed. An unknown environment with an unknown format isn't asked, since this repository
   prints both if another format is implied.
+- `parsed`: the five values of a string, or the error.
 - `triple`, for known triples, and for each name with a few others: what is printed, the canonical string and the four answers; or
   the line of the error.
 
@@ -34,10 +35,11 @@ QUESTIONS = ("pointer_width", "calling_convention", "data_model", "implied_forma
 MORE_WORDS = ["darwin23.6.0", "ios17", "macosx10.7", "tvos+1.02", "visionos0.0.0", "watchos1.2.3.4", "xros65535.255.255", "xros65536",
               "xros1.256", "xros1.2.256", "ios1.", "iosfoo", "acme", "a_b.c9", "7up", "_esp", "PC"]
 # Special strings, triples that don't come back, and strings that are refused.
-MORE_STRINGS = """armv6k-nintendo-3ds-elf armv6k-nintendo-horizon-gnu-coff aarch64-nintendo-horizon-newlib
-    aarch64-nintendo-horizon-newlib-unknown riscv32imc-esp-espidf-elf riscv32imc-espressif-espidf-gnu
-    riscv64-espressif-espidf-newlib-coff clever-unknown-unknown-none clever1.0-pc-unknown-none-coff x86_64-none-none x86_64-a-b
-    x86_64-linux-linux x86_64-elf-linux x86_64-gnu-linux x86_64- - foo x86_64-acme x86_64-unknown-linux-unknown""".split()
+MORE_STRINGS = """armv6k-nintendo-3ds riscv32imc-esp-espidf riscv32imc-esp-espidf-unknown armv6k-nintendo-3ds-elf
+    armv6k-nintendo-horizon-gnu-coff aarch64-nintendo-horizon-newlib aarch64-nintendo-horizon-newlib-unknown
+    riscv32imc-esp-espidf-elf riscv32imc-espressif-espidf-gnu riscv64-espressif-espidf-newlib-coff
+    clever-unknown-unknown-none clever1.0-pc-unknown-none-coff x86_64-none-none x86_64-a-b x86_64-linux-linux
+    x86_64-elf-linux x86_64-gnu-linux x86_64- - foo x86_64-acme x86_64-unknown-linux-unknown""".split()
 
 
 def add_arguments(parser):
@@ -93,7 +95,8 @@ def names_asked(more_words=()):
     strings += [f"{machine}-unknown-{system}" for system in names.systems for machine in ("x86_64", "wasm32", "aarch64")]
     strings += [f"x86_64-unknown-linux-{environment}" for environment in names.environments]
     strings += [f"x86_64-unknown-linux-gnu-{binary_format}" for binary_format in names.formats]
-    return dict.fromkeys([*(("word", word) for word in (*names.each, *more_words)), *(("triple", text) for text in strings)])
+    return dict.fromkeys([*(("word", word) for word in (*names.each, *more_words)), *(("parsed", text) for text in MORE_STRINGS),
+                          *(("triple", text) for text in strings)])
 
 
 # ---- comparing
@@ -132,7 +135,7 @@ def main(options, folder):
         return 0
     kept = [line for line in upstream.read(PATH).splitlines() if not line.startswith("#")]
     rows = [line.split("\t") for line in kept]
-    asked = {words[:2]: None for words in map(tuple, rows) if words[0] in ("word", "triple")}
+    asked = {words[:2]: None for words in map(tuple, rows) if words[0] in ("word", "parsed", "triple")}
     wrong = difference("the Rust crate", file_lines(OURS, asked | names_asked()), kept)
     rows = [words[1:] for words in rows if words[0] == "triple"]
     parsed, outputs = [row for row in rows if len(row) > 2], mode_outputs(rows)
