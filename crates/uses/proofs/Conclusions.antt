@@ -1,5 +1,5 @@
-use Rattle.std.proofs.Common.{◌≡◌, ◌∙◌, ℕ, Bool, List, Option, refl, sym, ap}
-use Rattle.std.specs.Prelude.{◌↔◌, IsTrue}
+use Rattle.std.proofs.Common.{◌≡◌, ◌∙◌, ℕ, Bool, true, false, true≢false, List, Option, Ok, Err, refl, sym, ap}
+use Rattle.std.specs.Prelude.{Result, ◌↔◌, IsTrue}
 use Rattle.std.specs.Hash.{HashWrites}
 use Rattle.std.specs.Prelude.{unwrap_or}
 use Rattle.lexicon_fields.specs.Laws.{CopiesEqualTheirSources, HashInjectiveOn, NamesReadBackOn}
@@ -33,3 +33,17 @@ names_keys {V} IsOfKind name find law = record {
   dash_free = law.name_dash_free;
   cut = law.text_dash_free;
 }
+
+abbrev value_or : {T E : Type 0} → T → Result T E → T
+value_or {T} {E} other (Ok value) = value
+value_or {T} {E} other (Err _) = other
+
+pub ok-same : {T E : Type 0} {x y : T} → ◌≡◌ {A = Result T E} (Ok x) (Ok y) → x ≡ y
+ok-same {T} {E} {x} {y} same = ap (λ (r : Result T E). value_or x r) same
+
+abbrev is_value : {T E : Type 0} → Result T E → Bool
+is_value {T} {E} (Ok _) = true
+is_value {T} {E} (Err _) = false
+
+pub err≢ok : {T E : Type 0} {x : T} {e : E} → ◌≡◌ {A = Result T E} (Err e) (Ok x) → ⊥
+err≢ok {T} {E} {x} {e} same = true≢false (sym (ap (λ (r : Result T E). is_value r) same))
