@@ -1,5 +1,5 @@
 //! Names of other tools: what a caller concludes from each law about them.
-ghost use Rattle.std.specs.Prelude.{◌≡◌, ◌≢◌, ℕ, List, [], ◌∷◌, codes, true, false, is_none, None, Some, Ok, Err, not, ◌++◌};
+ghost use Rattle.std.specs.Prelude.{◌≡◌, ◌≢◌, ℕ, List, [], ◌∷◌, codes, true, false, is_none, IsTrue, None, Some, Ok, Err, not, ◌++◌};
 ghost use Rattle.std.specs.List.{AllPass};
 ghost use Rattle.lexicon_fields.specs.Architecture.{architecture_of};
 ghost use Rattle.lexicon_fields.specs.Laws.{HasVersionInRange};
@@ -15,16 +15,20 @@ ghost use Rattle.target_lexicon.specs.Queries.{endianness, pointer_width};
 ghost use Rattle.target_lexicon.specs.Reading.{IsRefusal, ReadsAs};
 ghost use Rattle.target_lexicon.specs.Refusal.{Refusal};
 ghost use Rattle.target_lexicon.specs.Values.{Values, host_values};
-ghost use Rattle.tool_names.specs.Changes.{PartChange, changes};
+ghost use Rattle.tool_names.specs.Changes.{PartChange, change_value, changes, spelling_names};
 ghost use Rattle.tool_names.specs.ObjectFormat.{object_format};
 ghost use Rattle.tool_names.specs.Platform.{NameParts, keeps_version, kept_version, read_name_of, short_tag, tag_of, version_of_two, versioned_name_of, versioned_tag};
 ghost use Rattle.tool_names.specs.Shape.{shape};
-ghost use Rattle.tool_names.specs.Spelling.{PartRefusal, first_spelling, first_spellings, is_known_name, later_spelling, later_spellings, name_texts, refused_part, spelled_names, spelled_reading, versioned_spellings};
+ghost use Rattle.tool_names.specs.Spelling.{PartRefusal, first_spelling, first_spellings, is_known_name, later_spelling, later_spellings, name_texts, part_refusal, refused_part, spelled_names, spelled_reading, versioned_spellings};
 ghost use Rattle.tool_names.specs.Tables.{both_ways, machines, machines_without_a_triple, without_a_triple};
-ghost use Rattle.tool_names.specs.ToolNames.{HasNoTriple, name_meaning, name_with, triple_name};
+ghost use Rattle.tool_names.specs.ToolNames.{name_bytes, name_meaning, name_with, triple_name, unread_of};
+ghost use Rattle.tool_names.specs.declared.change.Change.{Change};
+ghost use Rattle.tool_names.specs.declared.name.Name.{Name};
+ghost use Rattle.tool_names.specs.declared.spelling.Spelling.{Spelling};
+ghost use Rattle.uses.specs.Conclusions.{AreCopiesTheSame, CanReplace, CanReplaceEqual};
 
 use target_lexicon::{Architecture, BinaryFormat, OperatingSystem};
-use tool_names::Dialect;
+use tool_names::{Change, Dialect, Name, NameError, ReadError, Spelling};
 
 /// The host's name is read as the host, and without a change.
 pub fn known_names_are_read()
@@ -221,4 +225,43 @@ pub fn named_alike_answer_alike()
         object_format t ≡ object_format u }
 {
     tool_names::laws::names_keep_answers();
+}
+
+/// Equal dialects, reasons and refusals can stand for one another; equal names, spellings and changes are read alike.
+pub fn equal_other_names_can_replace()
+    ensures dialect { CanReplaceEqual ⟦<Dialect as PartialEq>⟧.eq }
+    ensures name_error { CanReplace unread_of ⟦<NameError as PartialEq>⟧.eq }
+    ensures read_error { CanReplace part_refusal ⟦<ReadError<'static> as PartialEq>⟧.eq }
+    ensures name { (x y : Name) →
+        name_bytes x ≢ name_bytes y →
+        IsTrue (⟦<Name as PartialEq>⟧.eq x y) →
+        ⊥ }
+    ensures spelling { (x y : Spelling) →
+        spelling_names x ≢ spelling_names y →
+        IsTrue (⟦<Spelling<'static> as PartialEq>⟧.eq x y) →
+        ⊥ }
+    ensures change { (x y : Change) →
+        change_value x ≢ change_value y →
+        IsTrue (⟦<Change<'static> as PartialEq>⟧.eq x y) →
+        ⊥ }
+{
+    tool_names::laws::values_are_equal_by_value();
+}
+
+/// Two copies are the same, and need no memory.
+pub fn copies_of_other_names_are_the_same()
+    ensures dialect { AreCopiesTheSame ⟦<Dialect as Clone>⟧.is_clone
+        ⟦<Dialect as Clone>⟧.is_infallible }
+    ensures name_error { AreCopiesTheSame ⟦<NameError as Clone>⟧.is_clone
+        ⟦<NameError as Clone>⟧.is_infallible }
+    ensures read_error { AreCopiesTheSame ⟦<ReadError<'static> as Clone>⟧.is_clone
+        ⟦<ReadError<'static> as Clone>⟧.is_infallible }
+    ensures name { AreCopiesTheSame ⟦<Name as Clone>⟧.is_clone
+        ⟦<Name as Clone>⟧.is_infallible }
+    ensures spelling { AreCopiesTheSame ⟦<Spelling<'static> as Clone>⟧.is_clone
+        ⟦<Spelling<'static> as Clone>⟧.is_infallible }
+    ensures change { AreCopiesTheSame ⟦<Change<'static> as Clone>⟧.is_clone
+        ⟦<Change<'static> as Clone>⟧.is_infallible }
+{
+    tool_names::laws::copies_equal_their_sources();
 }
