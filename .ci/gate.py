@@ -48,6 +48,8 @@ LAST = [
     ("links, names, samples, counts and versions of the pages, and the pictures", "checks/pages", "cc cargo"),
     ("the programs, proved and by cargo: stored rows, unusual streams, large inputs, samples of the pages", "checks/rows/run", "cram3 cargo"),
     ("each allocation fails in turn", "checks/fail_allocations", "cc"),
+    ("names, rules and tables are upstream's, by its kept answers; what other tools say of names and targets",
+     "checks/compare answers && checks/compare elsewhere && checks/compare llvm", f"cargo {DEBIAN_CRATES}"),
     ("the mode json: the proved program and cargo's answer alike", "/usr/bin/python3 checks/compare json --inputs 200 --of proved cargo",
      "hypothesis cargo"),
 ]
@@ -57,11 +59,12 @@ PACKAGES = {
     "cmake": "cmake", "pkg-config": "pkg-config", "dpkg-deb": "dpkg", "pip": "python3-pip", "ensurepip": "python3-venv", "chromium": "chromium",
     "chromedriver": "chromium-driver", "selenium": "python3-selenium", "mypy": "mypy", "pandas": "python3-pandas",
     "distributed": "python3-distributed", "node": "nodejs", "tsc": "node-typescript", "esbuild": "esbuild", "pypy3": "pypy3",
+    "dpkg-architecture": "dpkg-dev", "/usr/share/misc/config.sub": "autotools-dev", "packaging": "python3-packaging",
     f"{DEBIAN_CRATES}/clap-4.0.32": "librust-clap-4-dev", f"{DEBIAN_CRATES}/clap_complete-4.0.7": "librust-clap-complete-dev",
     f"{DEBIAN_CRATES}/serde_json-1.0.87": "librust-serde-json-dev", f"{DEBIAN_CRATES}/cfg-expr-0.10.3": "librust-cfg-expr-dev",
 }
 # The tools that are modules of Debian's Python, or of the python3 on the path.
-MODULES = {**dict.fromkeys(("hypothesis", "selenium", "pandas", "distributed"), "/usr/bin/python3"), **dict.fromkeys(("pip", "venv", "ensurepip"), "python3")}
+MODULES = {**dict.fromkeys(("hypothesis", "selenium", "pandas", "distributed", "packaging"), "/usr/bin/python3"), **dict.fromkeys(("pip", "venv", "ensurepip"), "python3")}
 
 GIGABYTES_FOR_A_PROOF = 5
 

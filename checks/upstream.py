@@ -55,8 +55,9 @@ def rust_program(crate, name, profile="release", flags=""):
 
 def quoted_texts(crate, form):
     """The texts of a form that the files of upstream's crate have in quotes."""
-    packages = json.loads(cargo(crate, "metadata", "--format-version=1"))["packages"]
-    folder = next(os.path.dirname(it["manifest_path"]) for it in packages if (it["name"], it["version"]) == ("target-lexicon", "0.13.5"))
+    packages = [] if crate else json.loads(cargo(crate, "metadata", "--format-version=1"))["packages"]
+    upstreams = (os.path.dirname(it["manifest_path"]) for it in packages if (it["name"], it["version"]) == ("target-lexicon", "0.13.5"))
+    folder = crate or next(upstreams)
     files = glob.glob(f"{folder}/**/*.rs", recursive=True)
     return sorted({text for path in files for text in re.findall(f'"({form})"', read(path))})
 

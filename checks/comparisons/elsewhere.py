@@ -2,7 +2,8 @@
 
 dpkg says byte order, pointer width and GNU type of each name; Go and containerd, which names they have and how they write
 them; esbuild and Node's manual, the words; config.sub, which strings there are. The crate cc has a table of prefixes. Python's
-sysconfig says how it names platforms, and packaging which tags it makes. The tools that aren't installed are named. The status
+sysconfig says how it names platforms, and packaging which tags it makes. The tools that aren't installed are named. Without any tool
+it checks that a machine's word means one architecture, and that each other spelling is explained by a rule or listed here. The status
 is 1 if an answer differs that docs/TOOL_NAMES.md doesn't list. The names of Android and iOS need a Python 3.13 that runs this.
 
 Debian's packages: dpkg-dev autotools-dev golang-go golang-github-containerd-containerd-dev esbuild nodejs-doc librust-cc-dev
@@ -26,6 +27,16 @@ from comparisons.tools import Report, order_and_width, output
 # dialect is found by nothing else.
 SYSTEM_WORDS = {"android": "linux", "win32": "windows", "win": "windows", "manylinux": "linux", "musllinux": "linux", "macos": "darwin",
                 "sunos": "solaris illumos", "hurd": "hurd", "musl": "linux", "uclibc": "linux"}
+# The architecture of a machine's word that only one name has, so that no other name of a dialect says what it means.
+ONLY_ONCE = {"arm64ilp32": "aarch64", "powerpcspe": "powerpc", "x32": "x86_64", "amd64/v1": "x86_64", "arm/v5": "armv5te", "arm/v8": "armv8",
+             "x86-64": "x86_64", "arm64_v8a": "aarch64", "armeabi_v7a": "armv7", "x86": "i686", "armv8l": "armv8", "ppc": "powerpc",
+             "win32": "i686", "arm32": "armv7", "armel of oci": "armv6", "armhf of oci": "armv7"}
+# Words that mean another machine in one dialect: containerd's 32-bit Arm, and the little-endian builds of Node on Linux.
+OWN_WORDS = ("arm of oci", "armel of oci", "armhf of oci", "ppc64 of node linux")
+# Other spellings that no rule of `spelled_by_rule` explains, and what they are read as.
+SPELLINGS = {"amd64": "x86_64", "i486": "i386", "bpf_be": "bpfeb", "bpf_le": "bpfel", "systemz": "s390x", "thumbv7": "thumbv7a", "w64": "pc",
+             "mingw32": "windows-gnu", "mingw64": "windows-gnu", "win32": "windows-msvc", "macos": "macosx", "gnu*": "hurd-gnu",
+             "netbsdelf": "netbsd", "netbsdelf*": "netbsd", "simulator": "sim"}
 PLATFORMS = """package main
 
 import ("bufio"; "fmt"; "os"; "github.com/containerd/containerd/platforms")
@@ -63,6 +74,35 @@ class Comparison(Report):
                 known = set(SYSTEM_WORDS.get(word, word).split()) & set(re.split("[-.0-9*]", row.triple))
                 rows.append((row.name, row.triple, bool(known), True))
             self.fact(f"the word of {dialect} for the system is the library's, or a listed one", rows)
+
+    def check_machines(self):
+        words = collections.defaultdict(list)
+        for dialect in ("debian", "go", "oci", "node", "python"):
+            for row in self.rows_of(dialect):
+                system, word = machine_of(dialect, row.name)
+                own = {f"{word} of {dialect}", f"{word} of {dialect} {system}"}.intersection(OWN_WORDS)
+                words[own.pop() if own else word].append((dialect, row.name, row.triple.split("-")[0]))
+        self.fact("a machine's word means one architecture in all dialects", (
+            (*row, rows[0][2]) for rows in words.values() for row in rows))
+        self.fact("and one that only one name has is listed here", (
+            (word, rows[0][2], ONLY_ONCE.get(word)) for word, rows in words.items() if len(rows) == 1))
+        self.fact("a word that says 64 or 32 is that of a machine with as many bits", (
+            (word, rows[0][2], self.lexicon.Triple(rows[0][2]).pointer_width, 64 if "64" in word else 32)
+            for word, rows in words.items() if re.search("64|32", word)), "x32")
+
+    def check_spellings(self):
+        self.fact("each other spelling of a part is explained by a rule, or listed here", (
+            (row.dialect, row.name, row.triple, SPELLINGS.get(row.name) or spelled_by_rule(row.name))
+            for dialect in ("first", "later") for row in self.rows_of(dialect)))
+        sub = "/usr/share/misc/config.sub"
+        if self.has("config.sub", os.path.exists(sub)):
+            first = {row: output("sh", sub, f"{row.name}-unknown-linux-gnu").split("-")[0] for row in self.rows_of("first")}
+            self.fact("config.sub rewrites no first part otherwise", (
+                (row.name, row.triple if said in ("", row.name) else said, row.triple) for row, said in first.items()))
+            later = {row.name: row.name.replace("*", "9.1") for row in self.rows_of("later")}
+            takes = {name: any(output("sh", sub, f"{machine}-{part}") for machine in ("x86_64-unknown", "arm-unknown-linux"))
+                     for name, part in later.items()}
+            self.fact("config.sub takes each later part", ((name, took, True) for name, took in takes.items()), "w64|win32|msvc|simulator")
 
     def check_dpkg(self):
         if not self.has("dpkg", shutil.which("dpkg-architecture")):
@@ -136,9 +176,6 @@ class Comparison(Report):
         if self.has("config.sub", os.path.exists(sub)):
             self.fact("config.sub takes the names of GNU's compilers", (
                 (row.name, output("sh", sub, row.name) != "", True) for row in rows))
-            first = {row: output("sh", sub, f"{row.name}-unknown-linux-gnu").split("-")[0] for row in self.rows_of("first")}
-            self.fact("config.sub rewrites no first part otherwise", (
-                (row.name, row.triple if said in ("", row.name) else said, row.triple) for row, said in first.items()))
         crate = glob.glob("/usr/share/cargo/registry/cc-1*/src/lib.rs")
         if self.has("the crate cc", crate):
             text = upstream.read(crate[0])
@@ -175,6 +212,28 @@ class Comparison(Report):
             (tag, it, self.read(gnu_type(tag))) for tag, it in named.items() if "linux" in tag))
 
 
+def machine_of(dialect, name):
+    """The system's and the machine's word of a name."""
+    if dialect in ("go", "oci"):
+        return name.split("/", 1)
+    if dialect == "node":
+        return name.split("-")[:2]
+    if dialect == "debian":
+        return "", name.split("-")[-1]
+    system, word = re.fullmatch(r"(win|linux|manylinux[0-9_*]*|musllinux_\*|macosx_\*|ios_\*|android_\*|)_?(.*?)(?:_iphone\w+)?", name).groups()
+    return system, word if system != "win" or name != "win32" else name
+
+
+def spelled_by_rule(name):
+    """What a part is read as if a rule explains it: `l` after an Arm is dropped, `ppc` is `powerpc`, `eb` after `mips` goes without
+    saying, later models of the i686 are one, a later part loses its version, and uClibc doesn't say that it is with GNU's tools."""
+    for pattern, new in ((r"(armv\d[a-z]*?)h?l", r"\1"), ("ppc(32)?", "powerpc"), ("ppc64(le)?", r"powerpc64\1"), ("(mips(64)?)eb", r"\1"),
+                         ("i[789]86", "i686"), ("uclibcgnu(eabi(hf)?)", r"uclibc\1"), (r"(\w+)\*", r"\1")):
+        if re.fullmatch(pattern, name):
+            return re.sub(pattern, new, name)
+    return None
+
+
 def order_and_width_of_tag(tag):
     """What the machine at the end of a tag means to Linux's `uname -m`, or to Apple, Android and Windows."""
     is_wide = re.search(r"(64|64le|64_v8a|s390x|amd64|iphoneos|iphonesimulator)$", tag)
@@ -191,6 +250,8 @@ def gnu_type(tag):
 def main(options, folder):
     comparison = Comparison(options, folder)
     comparison.check_systems()
+    comparison.check_machines()
+    comparison.check_spellings()
     comparison.check_dpkg()
     comparison.check_go()
     comparison.check_node()

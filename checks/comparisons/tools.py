@@ -53,7 +53,7 @@ class Report:
 
     def conclude(self):
         """Prints who was asked, and returns the status."""
-        print(f"asked: {', '.join(self.asked)}; not installed: {', '.join(self.missing) or 'none'}")
+        print(f"asked: {', '.join(dict.fromkeys(self.asked))}", *[f"left out: {name}" for name in self.missing], sep="\n")
         print(f"{len(self.failed)} facts don't hold")
         return 2 if not self.asked else 1 if self.failed else 0
 

@@ -1,6 +1,7 @@
 //! Makes each call of the libraries that takes an allocator, and writes a line for each: its name, and after the call
 //! `ok` or its error. `checks/fail_allocations` makes each allocation of the program fail in turn. A call that should
-//! allocate nothing has a line that begins with `no memory: `.
+//! allocate nothing has a line that begins with `no memory: `. If a call changed what it was given, which it must not
+//! even where it fails, there is a line more.
 #![tactic(auto)]
 
 use serde_json::Value;
@@ -33,6 +34,13 @@ fn end<T: Drop, E: Debug + Drop>(rt: &impl Print, returned: Result<T, E>) -> Opt
     }
 }
 
+/// Writes a line if a call changed what it was given.
+fn check_source(rt: &impl Print, is_same: bool) {
+    if !is_same {
+        let _ = println!(rt; "the source is another");
+    }
+}
+
 /// The same for a call that has no error.
 fn end_without_error(rt: &impl Print) {
     let _ = println!(rt; ": ok");
@@ -47,6 +55,7 @@ fn report_parsing(rt: &impl Print, alloc: Global, text: &str, memory: &str) {
         Err(error) => {
             begin(rt, "", "Refusal::to_error", text);
             let _ = end(rt, error.to_error(alloc));
+            check_source(rt, TripleRef::from_str(text) == Err(error));
         }
     }
 }
@@ -69,29 +78,48 @@ fn report_borrowed(
     let _ = end(rt, triple.to_json(alloc));
     begin(rt, memory, "VendorRef::to_vendor", text);
     let _ = end(rt, triple.vendor.to_vendor(alloc));
+    check_source(rt, TripleRef::from_str(text) == Ok(triple));
 }
 
 /// Calls on a triple that owns the text of its vendor, or has a known vendor.
 fn report_owned(rt: &impl Print, alloc: Global, text: &str, memory: &str) -> Option<()> {
     begin(rt, memory, "Triple::from_str", text);
     let triple = end(rt, Triple::from_str(alloc, text))?;
+    let is_same = |source: &Triple| TripleRef::from_str(text) == Ok(source.as_triple_ref());
     begin(rt, memory, "Triple::clone", text);
     let _ = end(rt, triple.clone(alloc));
+    check_source(rt, is_same(&triple));
     begin(rt, "", "Triple::to_text", text);
     let _ = end(rt, triple.to_text(alloc));
+    check_source(rt, is_same(&triple));
     begin(rt, "", "Triple::to_upstream_text", text);
     let _ = end(rt, triple.to_upstream_text(alloc));
+    check_source(rt, is_same(&triple));
     begin(rt, memory, "Vendor::clone", text);
     let _ = end(rt, triple.vendor.clone(alloc));
+    check_source(rt, is_same(&triple));
     begin(rt, "", "Triple::to_json", text);
-    let value = end(rt, triple.to_json(alloc))?;
+    let value = end(rt, triple.to_json(alloc));
+    check_source(rt, is_same(&triple));
+    let value = value?;
+    let printed = value.as_str()?;
     begin(rt, memory, "Triple::from_json", text);
-    let host = DefaultToHost(end(rt, Triple::from_json(alloc, &value))?);
+    let read = end(rt, Triple::from_json(alloc, &value));
+    check_source(rt, value.as_str() == Some(printed));
+    let host = DefaultToHost(read?);
     begin(rt, memory, "DefaultToHost::clone", text);
     let _ = end(rt, host.clone(alloc));
+    check_source(
+        rt,
+        TripleRef::from_str(printed) == Ok(host.0.as_triple_ref()),
+    );
     let unknown = DefaultToUnknown(host.0);
     begin(rt, memory, "DefaultToUnknown::clone", text);
     let _ = end(rt, unknown.clone(alloc));
+    check_source(
+        rt,
+        TripleRef::from_str(printed) == Ok(unknown.0.as_triple_ref()),
+    );
     report_steps(rt, text, triple);
     Some(())
 }
@@ -123,7 +151,13 @@ fn report_vendors(rt: &impl Print, alloc: Global) {
     if let Some(Vendor::Custom(custom)) = end(rt, Vendor::from_str(alloc, "foo")) {
         begin(rt, "", "CustomVendor::clone", "foo");
         let _ = end(rt, custom.clone(alloc));
+        check_source(
+            rt,
+            matches!(&custom, CustomVendor::Owned(text) if text.as_str() == "foo"),
+        );
     }
+    begin(rt, NO_MEMORY, "Vendor::clone", "pc");
+    let _ = end(rt, Vendor::Pc.clone(alloc));
 }
 
 /// Calls on systems and errors.
@@ -135,8 +169,10 @@ fn report_names(rt: &impl Print, alloc: Global) -> Option<()> {
         minor: 6,
         patch: 0,
     };
+    let system = OperatingSystem::Darwin(Some(version));
     begin(rt, "", "OperatingSystem::into_str", "darwin23.6.0");
-    let _ = end(rt, OperatingSystem::Darwin(Some(version)).into_str(alloc));
+    let _ = end(rt, system.into_str(alloc));
+    check_source(rt, system == OperatingSystem::Darwin(Some(version)));
     begin(
         rt,
         NO_MEMORY,
@@ -148,12 +184,15 @@ fn report_names(rt: &impl Print, alloc: Global) -> Option<()> {
     let error = ParseError::UnrecognizedVendor(end(rt, String::from_str(alloc, "foo"))?);
     begin(rt, "", "ParseError::clone", "an error with a part");
     let _ = end(rt, error.clone(alloc));
+    check_source(
+        rt,
+        matches!(&error, ParseError::UnrecognizedVendor(part) if part.as_str() == "foo"),
+    );
     Some(())
 }
 
-/// Calls on a list, of which the elements 1 and 3 need memory.
-fn report_list(rt: &impl Print, alloc: Global) -> Option<()> {
-    let text = "[\"x86_64\",\"x86_64-foo-linux\",\"avr\",\"avr-bar\"]";
+/// Calls on a list of these strings, some of which need memory.
+fn report_list(rt: &impl Print, alloc: Global, text: &str, strings: &[&str]) -> Option<()> {
     begin(rt, "", "Value::from_str", text);
     let list = end(
         rt,
@@ -163,9 +202,23 @@ fn report_list(rt: &impl Print, alloc: Global) -> Option<()> {
         },
     )?;
     begin(rt, "", "list_from_json", text);
-    let triples = end(rt, list_from_json(alloc, &list))?;
+    let triples = end(rt, list_from_json(alloc, &list));
+    let is_same = |list: &Value| match list.as_array() {
+        Some(elements) => elements
+            .iter()
+            .map(Value::as_str)
+            .eq(strings.iter().map(|it| Some(*it))),
+        None => false,
+    };
+    check_source(rt, is_same(&list));
+    let triples = triples?;
     begin(rt, "", "list_to_json", text);
     let _ = end(rt, list_to_json(alloc, triples.as_slice()));
+    let parsed = strings.iter().map(|it| TripleRef::from_str(it).ok());
+    check_source(
+        rt,
+        triples.iter().map(|it| Some(it.as_triple_ref())).eq(parsed),
+    );
     Some(())
 }
 
@@ -173,6 +226,7 @@ fn main(rt: HostRuntime) {
     let alloc = rt.alloc();
     report_parsing(&rt, alloc, "x86_64-unknown-linux-gnu", NO_MEMORY);
     report_parsing(&rt, alloc, "armv6k-nintendo-3ds", NO_MEMORY);
+    report_parsing(&rt, alloc, "riscv32imc-esp-espidf", NO_MEMORY);
     report_parsing(&rt, alloc, "x86_64-customvendor-linux", "");
     report_parsing(&rt, alloc, "foo", "");
     report_parsing(&rt, alloc, "x86_64-customvendor-linux-foo-bar", "");
@@ -180,5 +234,9 @@ fn main(rt: HostRuntime) {
     let _ = report_owned(&rt, alloc, "clever-unknown-unknown-none", NO_MEMORY);
     report_vendors(&rt, alloc);
     let _ = report_names(&rt, alloc);
-    let _ = report_list(&rt, alloc);
+    let two = ["x86_64", "x86_64-foo-linux"];
+    let _ = report_list(&rt, alloc, "[\"x86_64\",\"x86_64-foo-linux\"]", &two);
+    let four = ["x86_64", "x86_64-foo-linux", "avr", "avr-bar"];
+    let text = "[\"x86_64\",\"x86_64-foo-linux\",\"avr\",\"avr-bar\"]";
+    let _ = report_list(&rt, alloc, text, &four);
 }

@@ -2,9 +2,11 @@
 
 use crate::all_names::{
     ALIASES, ARCHITECTURES, BINARY_FORMATS, DARWIN_SYSTEMS, ENVIRONMENTS, OPERATING_SYSTEMS,
+    VENDORS,
 };
 use crate::values::{prints, writes};
-use lexicon_fields::{Steps, fixed_row};
+use lexicon_fields::{ROW_COUNT, Steps, fixed_row, row_order};
+use std::cmp::Ordering;
 use std::fmt::{Debug, Display};
 use std::process::Abort;
 use std::str::FromStr;
@@ -51,6 +53,11 @@ fn each_value_has_its_name(rt: HostRuntime) {
     check_names::<OperatingSystem>(&rt, DARWIN_SYSTEMS, "");
     check_names::<Environment>(&rt, ENVIRONMENTS, "");
     check_names::<BinaryFormat>(&rt, BINARY_FORMATS, "");
+    for text in ["armv8_1a", "Aarch64", "aarch64be", "arm64 ", ""] {
+        assert!(rt; Architecture::from_str(text).is_err(), "{text}");
+        assert!(rt; ArmArchitecture::from_str(text).is_err(), "{text}");
+        assert!(rt; Aarch64Architecture::from_str(text).is_err(), "{text}");
+    }
 }
 
 /// A string, and after `=` the values of its row in the table of names, by field; nothing if it has no row.
@@ -88,5 +95,45 @@ fn names_have_rows(rt: HostRuntime) {
             }
             None => assert!(rt; expected.is_empty(), "{row}"),
         }
+    }
+    for rows in [
+        ARCHITECTURES,
+        ALIASES,
+        VENDORS,
+        OPERATING_SYSTEMS,
+        ENVIRONMENTS,
+        BINARY_FORMATS,
+    ] {
+        for row in rows.lines() {
+            let (name, _) = row.split_once('=').unwrap_or((row, ""));
+            let found = fixed_row(name, &mut Steps::new());
+            assert!(rt; matches!(found, Some(found) if found.text == name), "{row}");
+        }
+    }
+}
+
+/// The number of a row, a string, and the order of the row's string against it.
+const ORDERS: [(usize, &str, Ordering); 10] = [
+    (0, "aarch64", Ordering::Equal),
+    (0, "aarch6", Ordering::Greater),
+    (0, "aarch64_", Ordering::Less),
+    (0, "", Ordering::Greater),
+    (0, "zkasm", Ordering::Less),
+    (1, "aarch64_be", Ordering::Equal),
+    (191, "zkasm", Ordering::Equal),
+    (191, "zkasn", Ordering::Less),
+    (191, "zkas\u{e9}", Ordering::Less),
+    (191, "aarch64", Ordering::Greater),
+];
+
+#[test]
+fn rows_are_in_order(rt: HostRuntime) {
+    assert!(rt; ROW_COUNT == 192);
+    for (number, text, order) in ORDERS {
+        assert!(rt; number < ROW_COUNT, "{number}");
+        assert!(rt;
+            row_order(number, text, &mut Steps::new()) == order,
+            "{number} {text}"
+        );
     }
 }

@@ -1,10 +1,10 @@
-//! Suggestions, and names of Python's platforms.
+//! Suggestions, object formats, names of Python's platforms, and how the values of `tool_names` are compared and displayed.
 
-use crate::values::prints;
+use crate::values::{hash_alike, prints, writes};
 use lexicon_names::names;
 use std::process::Abort;
-use target_lexicon::{Field, TripleRef};
-use tool_names::{Dialect, NameError, suggestion};
+use target_lexicon::{Field, ParseErrorRef, TripleRef};
+use tool_names::{Change, Dialect, NameError, ReadError, changes, object_format, read, suggestion};
 
 /// For each field strings, and after `=` the name that should be suggested, or nothing.
 const OPERATING_SYSTEMS: &str = "\
@@ -12,7 +12,11 @@ linx=linux
 darwim=darwin
 widows=windows
 plan9=
-w64=";
+w64=
+solar=
+solart=solaris
+darwxyz=
+lniux=linux";
 
 const ARCHITECTURES: &str = "\
 x86-64=x86_64
@@ -28,7 +32,15 @@ wasm=
 x86=
 x86_32=
 mipsel64=
-s390=";
+arc=
+arceb=
+crisv32=
+m88k=
+r600=
+s390=
+spir64=
+spirv64=
+z8k=";
 
 const VENDORS: &str = "\
 linxu=linux
@@ -160,4 +172,164 @@ fn names_of_python(rt: HostRuntime) {
     assert!(rt; Dialect::Python.suggestion("linux_x86_46") == Some("linux_x86_64"));
     assert!(rt; Dialect::Python.suggestion("macosx_11_0_arm46") == None);
     assert!(rt; "python".parse() == Ok(Dialect::Python) && prints(&Dialect::Python, "python"));
+}
+
+/// A string, and after `=` the format of the object files that rustc or LLVM writes for it.
+const OBJECT_FORMATS: &str = "\
+x86_64-unknown-linux-gnu=elf
+x86_64-pc-windows-msvc=coff
+x86_64-pc-cygwin=coff
+x86_64-unknown-uefi=coff
+i686-unknown-uefi=coff
+aarch64-apple-ios=macho
+powerpc64-ibm-aix=xcoff
+wasm32-unknown-unknown=wasm
+wasm32-wasi=wasm
+wasm32-wasip1=wasm
+wasm32-wasip2=wasm
+wasm64-unknown-unknown=wasm
+wasm32-unknown-emscripten=wasm
+wasm32-unknown-none=wasm
+wasm32-unknown-linux-musl=wasm
+thumbv7m-none-eabi=elf
+x86_64-unknown-none=elf
+x86_64-unknown-linux-unknown-unknown=elf
+x86_64-unknown-uefi-macho=macho
+x86_64-unknown-linux-coff=coff
+unknown=unknown";
+
+#[test]
+fn object_formats(rt: HostRuntime) {
+    for row in OBJECT_FORMATS.lines() {
+        let (text, expected) = row.split_once('=').unwrap_or((row, ""));
+        match TripleRef::from_str(text) {
+            Ok(triple) => assert!(rt; prints(&object_format(&triple), expected), "{row}"),
+            Err(_) => panic!(rt; "{row}"),
+        }
+    }
+}
+
+/// A string, and after `=` each part of it that is read as other names, with these names.
+const CHANGES: &str = "\
+x86_64-w64-mingw32=w64:pc mingw32:windows-gnu
+x86_64-pc-win32=win32:windows-msvc
+amd64-unknown-freebsd13.2=amd64:x86_64 freebsd13.2:freebsd
+arm64-apple-macos13=macos13:macosx13
+arm64-apple-macos=macos:macosx
+arm-buildroot-linux-uclibcgnueabi=uclibcgnueabi:uclibceabi
+arm-buildroot-linux-uclibcgnueabihf=uclibcgnueabihf:uclibceabihf
+armv7-linux-androideabi21=androideabi21:androideabi
+x86_64--linux=:unknown
+x86_64-none-linux=none:unknown
+x86_64-unknown-linux-gnu=";
+
+#[test]
+fn changes_are_listed(rt: HostRuntime) {
+    for row in CHANGES.lines() {
+        let (text, expected) = row.split_once('=').unwrap_or((row, ""));
+        let mut rest = expected.split(' ').filter(|it| !it.is_empty());
+        for change in changes(text) {
+            let (part, names) = rest
+                .next()
+                .unwrap_or("")
+                .split_once(':')
+                .unwrap_or(("", ""));
+            assert!(rt;
+                change.part.text == part && prints(&change.names, names),
+                "{row}"
+            );
+        }
+        assert!(rt; rest.next() == None, "{row}");
+    }
+}
+
+/// Whether all are equal to themselves, and to no other.
+fn are_distinct<T: PartialEq>(values: &[T]) -> bool {
+    values.iter().enumerate().all(|(i, one)| {
+        values
+            .iter()
+            .enumerate()
+            .all(|(k, other)| (*one == *other) == (i == k))
+    })
+}
+
+#[test]
+fn values_of_other_names_are_compared_and_displayed(rt: HostRuntime) {
+    let error = ParseErrorRef::UnrecognizedOperatingSystem("foo");
+    let place = ReadError {
+        error,
+        start: 10,
+        end: 13,
+    };
+    assert!(rt; read("x86_64-pc-foo") == Err(place));
+    let errors = [
+        place,
+        ReadError { start: 9, ..place },
+        ReadError { end: 12, ..place },
+        ReadError {
+            error: ParseErrorRef::UnrecognizedOperatingSystem("fo"),
+            ..place
+        },
+        ReadError {
+            error: ParseErrorRef::UnrecognizedVendor("foo"),
+            ..place
+        },
+    ];
+    assert!(rt; are_distinct(&errors));
+    let errors = [
+        NameError::Unknown,
+        NameError::WithoutTriple("no machine"),
+        NameError::WithoutTriple("several machines"),
+    ];
+    assert!(rt; are_distinct(&errors));
+    let dialects = [
+        Dialect::Debian,
+        Dialect::Go,
+        Dialect::Oci,
+        Dialect::Node,
+        Dialect::Gnu,
+        Dialect::Python,
+    ];
+    assert!(rt; are_distinct(&dialects));
+    for dialect in dialects {
+        assert!(rt; hash_alike(&dialect, &dialect) && prints(&dialect, dialect.as_str()));
+        assert!(rt; dialect.as_str().parse() == Ok(dialect));
+    }
+    match (
+        TripleRef::from_str("x86_64-unknown-linux"),
+        TripleRef::from_str("x86_64-unknown-linux-gnu"),
+    ) {
+        (Ok(plain), Ok(gnu)) => match (
+            Dialect::Go.write(&plain),
+            Dialect::Oci.write(&plain),
+            Dialect::Gnu.write(&gnu),
+        ) {
+            (Some(go), Some(oci), Some(gnu)) => {
+                assert!(rt; go == oci && go != gnu && gnu == gnu);
+                assert!(rt; prints(&gnu, "x86_64-linux-gnu"));
+                assert!(rt; writes(&format_args!("{go:?}"), "\"linux/amd64\""));
+            }
+            _ => panic!(rt; "no name"),
+        },
+        _ => panic!(rt; "no triple"),
+    }
+}
+
+#[test]
+fn changes_are_compared(rt: HostRuntime) {
+    let (Some(gnu), Some(msvc), Some(old), Some(new)) = (
+        changes("x86_64-pc-mingw32").next(),
+        changes("x86_64-pc-win32").next(),
+        changes("arm64-apple-macos13").next(),
+        changes("arm64-apple-macos14").next(),
+    ) else {
+        panic!(rt; "no change");
+    };
+    assert!(rt; are_distinct(&[gnu, msvc, old, new]));
+    assert!(rt; are_distinct(&[gnu.names, msvc.names, old.names, new.names]));
+    let other = Change {
+        names: msvc.names,
+        ..gnu
+    };
+    assert!(rt; are_distinct(&[gnu, other]));
 }

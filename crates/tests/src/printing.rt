@@ -1,9 +1,10 @@
 //! The printed strings of triples, parsed and built, and what they parse as.
 
+use crate::all_names::KNOWN_TRIPLES;
 use crate::values::{hash_alike, is_answer, prints};
 use std::alloc::Global;
 use std::process::Abort;
-use target_lexicon::{CustomVendor, Triple, Vendor};
+use target_lexicon::{Architecture, CustomVendor, Triple, Vendor};
 
 /// Whether the triple and the borrowed one display this string, and `to_text` returns it.
 fn is_printed(alloc: Global, triple: &Triple, text: &str) -> bool {
@@ -15,7 +16,8 @@ fn is_printed(alloc: Global, triple: &Triple, text: &str) -> bool {
     }
 }
 
-/// A string, after `=` its triple, printed, and, if that differs, its canonical triple, printed.
+/// A string, after `=` its triple, printed, and, if that differs, its canonical triple, printed. A star is a thousand
+/// zeros.
 const READ: &str = "\
 unknown-unknown-unknown=unknown-unknown-unknown
 unknown-unknown-unknown-unknown=unknown-unknown-unknown
@@ -58,7 +60,8 @@ clever-unknown-unknown-none-elf=clever-unknown-none-elf
 x86_64-apple-ios-gnu-elf=x86_64-apple-ios-gnu-elf
 x86_64-apple-ios1.2-unknown-unknown=x86_64-apple-ios1.2.0-unknown-unknown
 aarch64-nintendo-horizon-newlib-coff=aarch64-nintendo-horizon-coff
-clever1.0-pc-unknown-none-coff=clever1.0-pc-none-coff";
+clever1.0-pc-unknown-none-coff=clever1.0-pc-none-coff
+x86_64-apple-darwin*23.*=x86_64-apple-darwin23.0.0";
 
 /// Whether the triple of the string prints this and comes back exactly if that parses as the triple; and the triple of the
 /// printed string is the next step and the canonical triple, and prints the last string.
@@ -79,10 +82,25 @@ fn is_round_trip(alloc: Global, text: &str, print: &str, last: &str) -> bool {
 
 #[test]
 fn parsed_triples_print(rt: HostRuntime) {
-    for row in READ.lines() {
+    let Ok(zeros) = "0".repeat(rt.alloc(), 1000) else {
+        panic!(rt; "out of memory");
+    };
+    let Ok(rows) = READ.replace(rt.alloc(), "*", zeros.as_str()) else {
+        panic!(rt; "out of memory");
+    };
+    for row in rows.lines() {
         let (text, prints) = row.split_once('=').unwrap_or((row, ""));
         let (print, last) = prints.split_once(' ').unwrap_or((prints, prints));
         assert!(rt; is_round_trip(rt.alloc(), text, print, last), "{row}");
+    }
+    for text in KNOWN_TRIPLES.lines() {
+        assert!(rt; is_round_trip(rt.alloc(), text, text, text), "{text}");
+        let triple = Triple::from_str(rt.alloc(), text);
+        assert!(rt;
+            matches!(&triple, Ok(triple) if triple.architecture != Architecture::Unknown
+                && triple.comes_back()),
+            "{text}"
+        );
     }
 }
 

@@ -2,7 +2,9 @@
 
 use crate::values::writes;
 use std::process::Abort;
-use target_lexicon::{CDataModel, CallingConvention, Endianness, PointerWidth, Triple};
+use target_lexicon::{
+    Architecture, CDataModel, CallingConvention, Endianness, PointerWidth, Triple,
+};
 
 /// A string, and after `=` the byte order, pointer width, calling convention and data model of its triple; `-` for no
 /// answer.
@@ -84,4 +86,62 @@ fn triples_answer(rt: HostRuntime) {
             "{row}"
         );
     }
+}
+
+/// A name of an architecture, and after `=` its own byte order and pointer width, and whether it is Thumb.
+const ARCHITECTURES: &str = "\
+unknown=- - false
+armv8.1a=little 32 false
+armeb=big 32 false
+armebv7r=big 32 false
+thumbeb=big 32 true
+thumbv8m.base=little 32 true
+thumbv7neon=little 32 true
+aarch64=little 64 false
+aarch64_be=big 64 false
+arm64=little 64 false
+rabbit3000a=little 16 false
+avr=little 16 false
+hexagon=little 32 false
+m68k=big 32 false
+mips64=big 64 false
+mipsisa64r6el=little 64 false
+zkasm=big 64 false
+clever1.0=little 64 false";
+
+#[test]
+fn architectures_answer(rt: HostRuntime) {
+    for row in ARCHITECTURES.lines() {
+        let (name, expected) = row.split_once('=').unwrap_or((row, ""));
+        let Ok(architecture) = Architecture::from_str(name) else {
+            panic!(rt; "{row}");
+        };
+        let order = architecture.endianness().ok().map(Endianness::name);
+        let width = architecture.pointer_width().ok().map(PointerWidth::name);
+        let (is_thumb, own) = match architecture {
+            Architecture::Arm(arm) => (
+                arm.is_thumb(),
+                Some((arm.endianness(), arm.pointer_width())),
+            ),
+            Architecture::Aarch64(arm) => {
+                (
+                    arm.is_thumb(),
+                    Some((arm.endianness(), arm.pointer_width())),
+                )
+            }
+            _ => (false, None),
+        };
+        if let Some((own_order, own_width)) = own {
+            assert!(rt; order == Some(own_order.name()), "{row}");
+            assert!(rt; width == Some(own_width.name()), "{row}");
+        }
+        let (order, width) = (order.unwrap_or("-"), width.unwrap_or("-"));
+        assert!(rt;
+            writes(&format_args!("{order} {width} {is_thumb}"), expected),
+            "{row}"
+        );
+    }
+    let unknown = Triple::unknown();
+    assert!(rt; unknown.endianness().is_err() && unknown.pointer_width().is_err());
+    assert!(rt; unknown.default_calling_convention().is_err() && unknown.data_model().is_err());
 }

@@ -2,7 +2,7 @@
 
 use crate::values::prints;
 use std::process::Abort;
-use target_lexicon::OperatingSystem;
+use target_lexicon::{DeploymentTarget, OperatingSystem};
 
 /// A string, and after `=` the name of the system that it parses as, or nothing if it is refused, as upstream answers. A
 /// star is a thousand zeros.
@@ -122,5 +122,25 @@ fn versions_are_read_and_named(rt: HostRuntime) {
             }
             Err(()) => assert!(rt; expected.is_empty(), "{row}"),
         }
+    }
+}
+
+/// A version, and a later one.
+const LATER: [[(u16, u8, u8); 2]; 4] = [
+    [(10, 7, 0), (10, 14, 6)],
+    [(9, 255, 255), (10, 0, 0)],
+    [(10, 7, 255), (10, 8, 0)],
+    [(10, 7, 0), (10, 7, 1)],
+];
+
+#[test]
+fn versions_are_ordered(rt: HostRuntime) {
+    for versions in LATER {
+        let [earlier, later] = versions.map(|(major, minor, patch)| DeploymentTarget {
+            major,
+            minor,
+            patch,
+        });
+        assert!(rt; earlier < later && !(later <= earlier) && earlier != later);
     }
 }

@@ -1,9 +1,23 @@
-//! Laws of the definitions. Each function's contract is a law; a call does nothing.
-ghost use Rattle.tool_names.specs.Changes.{ChangedPartsAreInTheString, KnownNamesStay, UnchangedStringsAreReadAsTheyParse};
+//! Laws of the definitions, and of equality. Each function's contract is a law; a call does nothing.
+ghost use Rattle.std.specs.Prelude.{◌≡◌, ◌↔◌, IsTrue};
+ghost use Rattle.lexicon_fields.specs.Laws.{ComparesByValue, CopiesEqualTheirSources};
+ghost use Rattle.tool_names.specs.Changes.{change_value, spelling_names, ChangedPartsAreInTheString, KnownNamesStay, UnchangedStringsAreReadAsTheyParse};
 ghost use Rattle.tool_names.specs.Laws.{NamesAreCanonical, NamesKeepAnswers, NamesMeanTheShape, NamesReadBack, NamesWithoutTripleAreRefused, OneNumberIsEnough, ShapesAreFixed, TagsMeanTheSame};
 ghost use Rattle.tool_names.specs.ObjectFormat.{GivenFormatsAreKept};
-ghost use Rattle.tool_names.specs.Spelling.{KnownNamesAreReadAsBefore, ListedPartsAreUnknown, OnceIsEnough, ReadingAgainIsTheSame, RefusalsAreAtTheRefusedName, RefusedPartsAreInTheString};
+ghost use Rattle.tool_names.specs.Spelling.{KnownNamesAreReadAsBefore, ListedPartsAreUnknown, OnceIsEnough, ReadingAgainIsTheSame, RefusalsAreAtTheRefusedName, RefusedPartsAreInTheString, part_refusal};
+ghost use Rattle.tool_names.specs.ToolNames.{name_bytes, unread_of};
+ghost use Rattle.tool_names.specs.declared.change.Change.{Change};
+ghost use Rattle.tool_names.specs.declared.name.Name.{Name};
+ghost use Rattle.tool_names.specs.declared.names.NameError.{NameError};
+ghost use Rattle.tool_names.specs.declared.reading.ReadError.{ReadError};
+ghost use Rattle.tool_names.specs.declared.spelling.Spelling.{Spelling};
 
+use crate::change::Change;
+use crate::dialect::Dialect;
+use crate::name::Name;
+use crate::names::NameError;
+use crate::reading::ReadError;
+use crate::spelling::Spelling;
 use target_lexicon::laws::{read_triples_are_plain, round_is_normal_step};
 
 /// A string that parses without a custom vendor is read as it parses.
@@ -121,3 +135,39 @@ pub fn names_keep_answers()
 {
     round_is_normal_step();
 }
+
+/// Two dialects, or two reasons why a name isn't read, are equal exactly if they are the same, and so are two refusals:
+/// the same part, in the same range, where the same was expected. Two names that are equal have the same bytes; two
+/// changes that are equal are of the same part, and name the same.
+pub fn values_are_equal_by_value()
+    ensures dialect { ComparesByValue ⟦<Dialect as PartialEq>⟧.eq }
+    ensures name_error { (x y : NameError) →
+        IsTrue (⟦<NameError as PartialEq>⟧.eq x y) ↔ (unread_of x ≡ unread_of y) }
+    ensures read_error { (x y : ReadError) →
+        IsTrue (⟦<ReadError<'static> as PartialEq>⟧.eq x y) ↔ (part_refusal x ≡ part_refusal y) }
+    ensures name { (x y : Name) →
+        IsTrue (⟦<Name as PartialEq>⟧.eq x y) →
+        name_bytes x ≡ name_bytes y }
+    ensures spelling { (x y : Spelling) →
+        IsTrue (⟦<Spelling<'static> as PartialEq>⟧.eq x y) →
+        spelling_names x ≡ spelling_names y }
+    ensures change { (x y : Change) →
+        IsTrue (⟦<Change<'static> as PartialEq>⟧.eq x y) →
+        change_value x ≡ change_value y }
+{}
+
+/// A copy of a value is that value, and copying allocates nothing.
+pub fn copies_equal_their_sources()
+    ensures dialect { CopiesEqualTheirSources ⟦<Dialect as Clone>⟧.is_clone
+        ⟦<Dialect as Clone>⟧.is_infallible }
+    ensures name_error { CopiesEqualTheirSources ⟦<NameError as Clone>⟧.is_clone
+        ⟦<NameError as Clone>⟧.is_infallible }
+    ensures read_error { CopiesEqualTheirSources ⟦<ReadError<'static> as Clone>⟧.is_clone
+        ⟦<ReadError<'static> as Clone>⟧.is_infallible }
+    ensures name { CopiesEqualTheirSources ⟦<Name as Clone>⟧.is_clone
+        ⟦<Name as Clone>⟧.is_infallible }
+    ensures spelling { CopiesEqualTheirSources ⟦<Spelling<'static> as Clone>⟧.is_clone
+        ⟦<Spelling<'static> as Clone>⟧.is_infallible }
+    ensures change { CopiesEqualTheirSources ⟦<Change<'static> as Clone>⟧.is_clone
+        ⟦<Change<'static> as Clone>⟧.is_infallible }
+{}

@@ -1,1 +1,2 @@
 pub mod Boot
+pub mod Conclusions

@@ -1,0 +1,151 @@
+"""Compares with upstream's answers, which checks/upstream.tsv keeps. Upstream's crate is needed only to write that file, with --write.
+
+Each line of the file has words with tabs between them: what was asked, and the answer.
+
+- `word`: what a word of upstream's sources, or of a few more, parses as in each field.
+- `architecture`: byte order, pointer width, whether it is Clever, and what the types of Arm's answer themselves. `system`: whether it
+  is like Darwin. `model`, `size`, `width`: sizes.
+- `pointer_width`, `calling_convention`, `data_model`, `implied_format`, for all systems, environments and architectures. A star is
+  all that no other line has of the same systems, or of the same systems and environments.
+- `printed`: which fields after the architecture are printed (v, s, e), with the vendors unknown, pc, nintendo and espressif in turn.
+  `printed_formats`: the formats that are printed. An unknown environment with an unknown format isn't asked, since this repository
+  prints both if another format is implied.
+- `parsed`: the five values of a string, or the error.
+- `triple`, for known triples, and for each name with a few others: what is printed, the canonical string and the four answers; or
+  the line of the error.
+
+The same program asks upstream's crate and the Rust crate of this repository, whose source is the proved one. The other programs are
+asked for the strings of `triple`, in each mode. A name of the table that upstream doesn't have differs.
+"""
+import collections
+import os
+import subprocess
+
+import built
+import target_lines
+import upstream
+from comparisons import lines
+
+PATH, PACKAGE, OURS = (f"{built.ROOT}/{path}" for path in ("checks/upstream.tsv", "checks/answers", "rust/target-lexicon"))
+HEAD = """# Answers of upstream's crate, target-lexicon 0.13.5. checks/comparisons/answers.py says what each line is.
+# `checks/compare answers --write` writes them, and `checks/compare answers` compares them with the answers of this repository.
+"""
+QUESTIONS = ("pointer_width", "calling_convention", "data_model", "implied_format", "printed", "printed_formats")
+# Words that aren't in upstream's sources: systems with versions, custom vendors, and words that parse as nothing.
+MORE_WORDS = ["darwin23.6.0", "ios17", "macosx10.7", "tvos+1.02", "visionos0.0.0", "watchos1.2.3.4", "xros65535.255.255", "xros65536",
+              "xros1.256", "xros1.2.256", "ios1.", "iosfoo", "acme", "a_b.c9", "7up", "_esp", "PC"]
+# Special strings, triples that don't come back, and strings that are refused.
+MORE_STRINGS = """armv6k-nintendo-3ds riscv32imc-esp-espidf riscv32imc-esp-espidf-unknown armv6k-nintendo-3ds-elf
+    armv6k-nintendo-horizon-gnu-coff aarch64-nintendo-horizon-newlib aarch64-nintendo-horizon-newlib-unknown
+    riscv32imc-esp-espidf-elf riscv32imc-espressif-espidf-gnu riscv64-espressif-espidf-newlib-coff
+    clever-unknown-unknown-none clever1.0-pc-unknown-none-coff x86_64-none-none x86_64-a-b x86_64-linux-linux
+    x86_64-elf-linux x86_64-gnu-linux x86_64- - foo x86_64-acme x86_64-unknown-linux-unknown""".split()
+
+
+def add_arguments(parser):
+    parser.add_argument("--write", action="store_true", help="write the file, from upstream's crate")
+
+
+# ---- the lines of the file
+
+def groups(answers):
+    """The answers, each with its keys in a string. The answer with the most keys comes first, with a star."""
+    keys = collections.defaultdict(list)
+    for key, answer in answers:
+        keys[answer].append(key)
+    most = max(keys, key=lambda answer: len(keys[answer]))
+    yield "*", most
+    yield from ((" ".join(names), answer) for answer, names in keys.items() if answer != most)
+
+
+def question_lines(question, rows):
+    """The lines of a question. A row is a system, an environment, an architecture, and the answer."""
+    tables, systems = collections.defaultdict(lambda: collections.defaultdict(list)), collections.defaultdict(list)
+    for system, environment, architecture, answer in rows:
+        tables[system][environment].append((architecture, answer))
+    for system, table in tables.items():
+        systems[tuple((environment, tuple(answers)) for environment, answers in table.items())].append(system)
+    for table, names in systems.items():
+        names = "*" if len(names) == len(tables) else " ".join(names)
+        for environments, answers in groups(table):
+            for architectures, answer in groups(answers):
+                yield "\t".join([question, names, environments, architectures, answer])
+
+
+def file_lines(crate, asked):
+    """The lines of the file, as a crate answers: that of a folder, or upstream's, which cargo fetches."""
+    cargo = built.CARGO if crate == OURS else ["cargo", *(["--offline"] if crate else [])]
+    patch = ["--config", f'patch.crates-io.target-lexicon.path="{os.path.realpath(crate)}"'] if crate else []
+    words = [*cargo, *patch, "run", "--quiet", "--release", f"--manifest-path={PACKAGE}/Cargo.toml"]
+    given = "".join(f"{kind}\t{text}\n" for kind, text in asked)
+    ran = subprocess.run(words, input=given, stdout=subprocess.PIPE, text=True, env={**os.environ, "RUSTFLAGS": "--cap-lints allow"})
+    if ran.returncode:
+        raise RuntimeError(f"that failed: {' '.join(words)}")
+    answers = [line.split("\t") for line in ran.stdout.splitlines()]
+    found = ["\t".join(words) for words in answers if words[0] != "all"]
+    for place, question in enumerate(QUESTIONS, start=4):
+        found += question_lines(question, ((*words[1:4], words[place]) for words in answers if words[0] == "all"))
+    return found
+
+
+def names_asked(more_words=()):
+    """The names of the table and more words; known triples, and each name in a string."""
+    names = target_lines.table_names()
+    strings = [*names.known, *MORE_STRINGS, *names.architectures, *(f"x86_64-{vendor}-linux" for vendor in names.vendors)]
+    strings += [f"{machine}-unknown-{system}" for system in names.systems for machine in ("x86_64", "wasm32", "aarch64")]
+    strings += [f"x86_64-unknown-linux-{environment}" for environment in names.environments]
+    strings += [f"x86_64-unknown-linux-gnu-{binary_format}" for binary_format in names.formats]
+    return dict.fromkeys([*(("word", word) for word in (*names.each, *more_words)), *(("parsed", text) for text in MORE_STRINGS),
+                          *(("triple", text) for text in strings)])
+
+
+# ---- comparing
+
+def mode_outputs(rows):
+    """What each mode writes for these strings."""
+    outputs = {mode: [] for mode in upstream.LINE_MODES}
+    for _, printed, *rest in rows:
+        settled, *answers = rest or [printed]
+        words = [{"Little": "little", "Big": "big"}.get(word, word.removeprefix("U")) for word in answers]
+        outputs["print"].append(printed)
+        outputs["show"].append(" ".join([printed, *words]))
+        outputs["settle"].append(settled)
+        if not rest or settled not in outputs["matrix"]:
+            outputs["matrix"].append(settled)
+    return outputs
+
+
+def json_list(strings):
+    return "[{}]".format(",".join(f'"{text}"' for text in strings))
+
+
+def difference(who, ours, theirs):
+    """Says how many lines differ, and returns these."""
+    wrong = [f"{who}: {line}" for line in ours if line not in {*theirs}] + [f"upstream: {line}" for line in theirs if line not in {*ours}]
+    if ours != theirs and not wrong:
+        wrong = [f"{who}: the lines are in another order, or not as many"]
+    print(f"{who}: {len(theirs)} lines of upstream, {len(wrong)} differ", flush=True)
+    return wrong
+
+
+def main(options, folder):
+    if options.write:
+        words = [*MORE_WORDS, *upstream.quoted_texts(options.upstream, lines.WORD)]
+        upstream.write(PATH, HEAD + "".join(f"{line}\n" for line in file_lines(options.upstream, names_asked(words))))
+        return 0
+    kept = [line for line in upstream.read(PATH).splitlines() if not line.startswith("#")]
+    rows = [line.split("\t") for line in kept]
+    asked = {words[:2]: None for words in map(tuple, rows) if words[0] in ("word", "parsed", "triple")}
+    wrong = difference("the Rust crate", file_lines(OURS, asked | names_asked()), kept)
+    rows = [words[1:] for words in rows if words[0] == "triple"]
+    parsed, outputs = [row for row in rows if len(row) > 2], mode_outputs(rows)
+    inputs = dict.fromkeys(outputs, "".join(f"{row[0]}\n" for row in rows)) | {"json": json_list(row[0] for row in parsed)}
+    outputs["json"] = [json_list(row[1] for row in parsed)]
+    options.of = options.of or ["proved"]
+    for program in upstream.programs(options, folder):
+        for mode in program.modes:
+            said = upstream.answers([*program.command, mode], inputs[mode].encode()).decode().splitlines()
+            wrong += difference(f"{program.name}, mode {mode}", said, outputs[mode])
+    for line in wrong[:None if options.all else 20]:
+        print("   ", line)
+    return 1 if wrong else 0

@@ -1,0 +1,20 @@
+use Rattle.uses.proofs.Conclusions.{copies_the_same}
+use Rattle.uses.proofs.other_names.copies_of_other_names_are_the_same.Goals as goal
+
+pub returns-clause-dialect : goal.returns-clause-dialect
+returns-clause-dialect c = copies_the_same _ _ c.copies_equal_their_sources.ensures.dialect
+
+pub returns-clause-name_error : goal.returns-clause-name_error
+returns-clause-name_error c = copies_the_same _ _ c.copies_equal_their_sources.ensures.name_error
+
+pub returns-clause-read_error : goal.returns-clause-read_error
+returns-clause-read_error c = copies_the_same _ _ c.copies_equal_their_sources.ensures.read_error
+
+pub returns-clause-name : goal.returns-clause-name
+returns-clause-name c = copies_the_same _ _ c.copies_equal_their_sources.ensures.name
+
+pub returns-clause-spelling : goal.returns-clause-spelling
+returns-clause-spelling c = copies_the_same _ _ c.copies_equal_their_sources.ensures.spelling
+
+pub returns-clause-change : goal.returns-clause-change
+returns-clause-change c = copies_the_same _ _ c.copies_equal_their_sources.ensures.change

@@ -1,0 +1,267 @@
+//! Names of other tools: what a caller concludes from each law about them.
+ghost use Rattle.std.specs.Prelude.{◌≡◌, ◌≢◌, ℕ, List, [], ◌∷◌, codes, true, false, is_none, IsTrue, None, Some, Ok, Err, not, ◌++◌};
+ghost use Rattle.std.specs.List.{AllPass};
+ghost use Rattle.lexicon_fields.specs.Architecture.{architecture_of};
+ghost use Rattle.lexicon_fields.specs.Laws.{HasVersionInRange};
+ghost use Rattle.lexicon_fields.specs.Names.{value_named};
+ghost use Rattle.lexicon_fields.specs.Vendor.{VendorValue, is_custom};
+ghost use Rattle.target_lexicon.specs.Explanation.{IsInText};
+ghost use Rattle.target_lexicon.specs.FixedPoints.{canonical_text};
+ghost use Rattle.target_lexicon.specs.ImpliedFormat.{default_binary_format};
+ghost use Rattle.target_lexicon.specs.Laws.{ComesBack};
+ghost use Rattle.target_lexicon.specs.Placement.{parts_of};
+ghost use Rattle.target_lexicon.specs.Printing.{text_of};
+ghost use Rattle.target_lexicon.specs.Queries.{endianness, pointer_width};
+ghost use Rattle.target_lexicon.specs.Reading.{IsRefusal, ReadsAs};
+ghost use Rattle.target_lexicon.specs.Refusal.{Refusal};
+ghost use Rattle.target_lexicon.specs.Values.{Values, host_values};
+ghost use Rattle.tool_names.specs.Changes.{PartChange, change_value, changes, spelling_names};
+ghost use Rattle.tool_names.specs.ObjectFormat.{object_format};
+ghost use Rattle.tool_names.specs.Platform.{NameParts, keeps_version, kept_version, read_name_of, short_tag, tag_of, version_of_two, versioned_name_of, versioned_tag};
+ghost use Rattle.tool_names.specs.Shape.{shape};
+ghost use Rattle.tool_names.specs.Spelling.{PartRefusal, first_spelling, first_spellings, is_known_name, later_spelling, later_spellings, name_texts, part_refusal, refused_part, spelled_names, spelled_reading, versioned_spellings};
+ghost use Rattle.tool_names.specs.Tables.{both_ways, machines, machines_without_a_triple, without_a_triple};
+ghost use Rattle.tool_names.specs.ToolNames.{name_bytes, name_meaning, name_with, triple_name, unread_of};
+ghost use Rattle.tool_names.specs.declared.change.Change.{Change};
+ghost use Rattle.tool_names.specs.declared.name.Name.{Name};
+ghost use Rattle.tool_names.specs.declared.spelling.Spelling.{Spelling};
+ghost use Rattle.uses.specs.Conclusions.{AreCopiesTheSame, CanReplace, CanReplaceEqual};
+
+use target_lexicon::{Architecture, BinaryFormat, OperatingSystem};
+use tool_names::{Change, Dialect, Name, NameError, ReadError, Spelling};
+
+/// The host's name is read as the host, and without a change.
+pub fn known_names_are_read()
+    ensures read { spelled_reading (codes "x86_64-unknown-linux-gnu") ≡ Ok host_values }
+    ensures unchanged { changes (codes "x86_64-unknown-linux-gnu") ≡ [] }
+{
+    target_lexicon::laws::reading_is_computed();
+    tool_names::laws::known_names_are_read_as_before();
+    tool_names::laws::known_names_stay();
+}
+
+/// The names that a refused string spells are refused too, and its refused part is in the string.
+pub fn refusals_are_found()
+    ensures names { (text : List ℕ) (found : PartRefusal) →
+        spelled_reading text ≡ Err found →
+        (refusal : Refusal) × IsRefusal (name_texts (spelled_names (parts_of text))) refusal }
+    ensures part { (text : List ℕ) (found : PartRefusal) →
+        spelled_reading text ≡ Err found →
+        IsInText text (refused_part found) }
+{
+    tool_names::laws::refusals_are_at_the_refused_name();
+    tool_names::laws::refused_parts_are_in_the_string();
+}
+
+/// The first changed part is in the string, and a string without one is read exactly as it parses.
+pub fn changes_are_found()
+    ensures first { (text : List ℕ) (change : PartChange) (others : List PartChange) →
+        changes text ≡ change ∷ others →
+        IsInText text change.part }
+    ensures parsed { (text : List ℕ) (t : Values) →
+        changes text ≡ [] →
+        spelled_reading text ≡ Ok t →
+        ReadsAs text t }
+    ensures read { (text : List ℕ) (t : Values) →
+        changes text ≡ [] →
+        ReadsAs text t →
+        spelled_reading text ≡ Ok t }
+{
+    tool_names::laws::changed_parts_are_in_the_string();
+    tool_names::laws::unchanged_strings_are_read_as_they_parse();
+}
+
+/// Of each listed spelling: it is no known name.
+pub fn listed_spellings_are_no_names()
+    ensures first { AllPass (λ row. is_none (architecture_of row.0)) first_spellings }
+    ensures later { AllPass (λ row. not (is_known_name row.0)) later_spellings }
+    ensures versioned { AllPass (λ row. not (is_known_name (row.0 ++ codes "1")))
+        versioned_spellings }
+{
+    tool_names::laws::listed_parts_are_unknown();
+}
+
+/// A third rewriting of a first part, and a second one of the first name of a later part, change nothing.
+pub fn spellings_stay()
+    ensures first { (part : List ℕ) →
+        first_spelling (first_spelling (first_spelling part)) ≡ first_spelling part }
+    ensures later { (part name : List ℕ) (names : List (List ℕ)) →
+        later_spelling part ≡ name ∷ names →
+        later_spelling name ≡ name ∷ [] }
+{
+    tool_names::laws::once_is_enough();
+}
+
+/// The printed and the canonical string of what was read are read alike.
+pub fn printed_strings_are_read_alike()
+    ensures { (text : List ℕ) (t : Values) →
+        spelled_reading text ≡ Ok t →
+        spelled_reading (text_of t) ≡ spelled_reading (canonical_text t) }
+{
+    tool_names::laws::reading_again_is_the_same();
+}
+
+/// A known format that isn't the implied one is the object format.
+pub fn given_formats_are_object_formats()
+    ensures { (t : Values) →
+        t.binary_format ≢ BinaryFormat.Unknown →
+        t.binary_format ≢ default_binary_format t →
+        object_format t ≡ t.binary_format }
+{
+    tool_names::laws::given_formats_are_kept();
+}
+
+/// What a name means is a key: it comes back, and its canonical string is its printed one; and no vendor is made up.
+pub fn meanings_are_keys()
+    ensures back { (d : Dialect) (name : List ℕ) (t : Values) →
+        name_meaning d name ≡ Ok t →
+        ComesBack t }
+    ensures key { (d : Dialect) (name : List ℕ) (t : Values) →
+        name_meaning d name ≡ Ok t →
+        canonical_text t ≡ text_of t }
+    ensures vendor { (d : Dialect) (name : List ℕ) (t : Values) →
+        name_meaning d name ≡ Ok t →
+        is_custom t.vendor ≡ false }
+{
+    tool_names::laws::names_are_canonical();
+}
+
+/// What a name that goes both ways means, and what a kept tag with a version means, has that name.
+pub fn meanings_are_named()
+    ensures plain { (d : Dialect) (name text : List ℕ) (t : Values) →
+        value_named (both_ways d) name ≡ Some text →
+        name_meaning d name ≡ Ok t →
+        triple_name d t ≡ Some name }
+    ensures versioned { (name : List ℕ) (it : NameParts) (text : List ℕ) →
+        tag_of name ≡ name →
+        versioned_name_of name ≡ Some it →
+        keeps_version it.system ≡ true →
+        value_named (machines it.system) it.machine ≡ Some text →
+        (t : Values) × (triple_name Dialect.Python t ≡ Some name) }
+{
+    tool_names::laws::names_read_back();
+}
+
+/// A name without a triple isn't read.
+pub fn names_without_triple_are_not_read()
+    ensures versioned { (name : List ℕ) (it : NameParts) (why : List ℕ) (t : Values) →
+        read_name_of (tag_of name) ≡ Some it →
+        value_named (machines_without_a_triple it.system) it.machine ≡ Some why →
+        name_meaning Dialect.Python name ≡ Ok t →
+        ⊥ }
+    ensures plain { (d : Dialect) (name why : List ℕ) (t : Values) →
+        value_named (without_a_triple d) name ≡ Some why →
+        name_meaning d name ≡ Ok t →
+        ⊥ }
+{
+    tool_names::laws::names_without_triple_are_refused();
+}
+
+/// A platform and its tag mean the same.
+pub fn platforms_mean_their_tags()
+    ensures { name_meaning Dialect.Python (codes "macosx_11_0_arm64")
+        ≡ name_meaning Dialect.Python (codes "macosx-11.0-arm64") }
+{
+    tool_names::laws::tags_mean_the_same();
+}
+
+/// A tag of macOS may have one number.
+pub fn one_number_names_a_platform()
+    ensures { (it : NameParts) →
+        keeps_version it.system ≡ true →
+        name_meaning Dialect.Python (short_tag it.system 14 (codes "arm64"))
+        ≡ name_meaning Dialect.Python
+        (versioned_tag it.system (version_of_two 14 0) (codes "arm64")) }
+{
+    tool_names::laws::one_number_is_enough();
+}
+
+/// The name of a triple is read as the shape, or not at all; one that goes both ways, or has a version, is read.
+pub fn names_mean_shapes()
+    ensures if_read { (d : Dialect) (t u : Values) (name : List ℕ) →
+        HasVersionInRange (shape d t).operating_system →
+        triple_name d t ≡ Some name →
+        name_meaning d name ≡ Ok u →
+        u ≡ shape d t }
+    ensures both_ways { (d : Dialect) (t : Values) (name : List ℕ) →
+        HasVersionInRange (shape d t).operating_system →
+        triple_name d t ≡ Some name →
+        name_with (both_ways d) (text_of (shape d t)) ≡ Some name →
+        name_meaning d name ≡ Ok (shape d t) }
+    ensures versioned { (d : Dialect) (t : Values) (name : List ℕ) →
+        HasVersionInRange (shape d t).operating_system →
+        triple_name d t ≡ Some name →
+        kept_version (shape d t).operating_system ≢ None →
+        name_meaning d name ≡ Ok (shape d t) }
+{
+    tool_names::laws::names_mean_the_shape();
+}
+
+/// The shape of the shape of the shape is the shape, and two vendors give the same shape.
+pub fn shapes_stay()
+    ensures again { (d : Dialect) (t : Values) → shape d (shape d (shape d t)) ≡ shape d t }
+    ensures vendor { (d : Dialect) (t : Values) (v w : VendorValue) →
+        shape d (record t { vendor = v }) ≡ shape d (record t { vendor = w }) }
+{
+    tool_names::laws::shapes_are_fixed();
+}
+
+/// Two triples with the same shape and a name have the same byte order, pointer width and object format.
+pub fn named_alike_answer_alike()
+    ensures endianness { (d : Dialect) (t u : Values) (name other : List ℕ) →
+        triple_name d t ≡ Some name →
+        triple_name d u ≡ Some other →
+        shape d t ≡ shape d u →
+        endianness t ≡ endianness u }
+    ensures width { (d : Dialect) (t u : Values) (name other : List ℕ) →
+        triple_name d t ≡ Some name →
+        triple_name d u ≡ Some other →
+        shape d t ≡ shape d u →
+        pointer_width t ≡ pointer_width u }
+    ensures format { (d : Dialect) (t u : Values) (name other : List ℕ) →
+        triple_name d t ≡ Some name →
+        triple_name d u ≡ Some other →
+        shape d t ≡ shape d u →
+        object_format t ≡ object_format u }
+{
+    tool_names::laws::names_keep_answers();
+}
+
+/// Equal dialects, reasons and refusals can stand for one another; equal names, spellings and changes are read alike.
+pub fn equal_other_names_can_replace()
+    ensures dialect { CanReplaceEqual ⟦<Dialect as PartialEq>⟧.eq }
+    ensures name_error { CanReplace unread_of ⟦<NameError as PartialEq>⟧.eq }
+    ensures read_error { CanReplace part_refusal ⟦<ReadError<'static> as PartialEq>⟧.eq }
+    ensures name { (x y : Name) →
+        name_bytes x ≢ name_bytes y →
+        IsTrue (⟦<Name as PartialEq>⟧.eq x y) →
+        ⊥ }
+    ensures spelling { (x y : Spelling) →
+        spelling_names x ≢ spelling_names y →
+        IsTrue (⟦<Spelling<'static> as PartialEq>⟧.eq x y) →
+        ⊥ }
+    ensures change { (x y : Change) →
+        change_value x ≢ change_value y →
+        IsTrue (⟦<Change<'static> as PartialEq>⟧.eq x y) →
+        ⊥ }
+{
+    tool_names::laws::values_are_equal_by_value();
+}
+
+/// Two copies are the same, and need no memory.
+pub fn copies_of_other_names_are_the_same()
+    ensures dialect { AreCopiesTheSame ⟦<Dialect as Clone>⟧.is_clone
+        ⟦<Dialect as Clone>⟧.is_infallible }
+    ensures name_error { AreCopiesTheSame ⟦<NameError as Clone>⟧.is_clone
+        ⟦<NameError as Clone>⟧.is_infallible }
+    ensures read_error { AreCopiesTheSame ⟦<ReadError<'static> as Clone>⟧.is_clone
+        ⟦<ReadError<'static> as Clone>⟧.is_infallible }
+    ensures name { AreCopiesTheSame ⟦<Name as Clone>⟧.is_clone
+        ⟦<Name as Clone>⟧.is_infallible }
+    ensures spelling { AreCopiesTheSame ⟦<Spelling<'static> as Clone>⟧.is_clone
+        ⟦<Spelling<'static> as Clone>⟧.is_infallible }
+    ensures change { AreCopiesTheSame ⟦<Change<'static> as Clone>⟧.is_clone
+        ⟦<Change<'static> as Clone>⟧.is_infallible }
+{
+    tool_names::laws::copies_equal_their_sources();
+}
