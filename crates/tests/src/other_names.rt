@@ -3,8 +3,8 @@
 use crate::values::{hash_alike, prints, writes};
 use lexicon_names::names;
 use std::process::Abort;
-use target_lexicon::{Field, ParseErrorRef, TripleRef};
-use tool_names::{Change, Dialect, NameError, ReadError, changes, object_format, read, suggestion};
+use target_lexicon::{Field, Refusal, TextPart, TripleRef};
+use tool_names::{Change, Dialect, NameError, changes, object_format, read, suggestion};
 
 /// For each field strings, and after `=` the name that should be suggested, or nothing.
 const OPERATING_SYSTEMS: &str = "\
@@ -255,24 +255,33 @@ fn are_distinct<T: PartialEq>(values: &[T]) -> bool {
 
 #[test]
 fn values_of_other_names_are_compared_and_displayed(rt: HostRuntime) {
-    let error = ParseErrorRef::UnrecognizedOperatingSystem("foo");
-    let place = ReadError {
-        error,
+    let part = TextPart {
+        text: "foo",
         start: 10,
-        end: 13,
     };
-    assert!(rt; read("x86_64-pc-foo") == Err(place));
+    let refusal = Refusal {
+        expected: Some(Field::OperatingSystem),
+        part,
+    };
+    assert!(rt; read("x86_64-pc-foo") == Err(refusal));
+    assert!(rt; refusal.range() == (10..13));
     let errors = [
-        place,
-        ReadError { start: 9, ..place },
-        ReadError { end: 12, ..place },
-        ReadError {
-            error: ParseErrorRef::UnrecognizedOperatingSystem("fo"),
-            ..place
+        refusal,
+        Refusal {
+            part: TextPart { start: 9, ..part },
+            ..refusal
         },
-        ReadError {
-            error: ParseErrorRef::UnrecognizedVendor("foo"),
-            ..place
+        Refusal {
+            part: TextPart { text: "fo", ..part },
+            ..refusal
+        },
+        Refusal {
+            expected: Some(Field::Vendor),
+            ..refusal
+        },
+        Refusal {
+            expected: None,
+            ..refusal
         },
     ];
     assert!(rt; are_distinct(&errors));

@@ -4,19 +4,17 @@ ghost use Rattle.lexicon_fields.specs.Laws.{ComparesByValue, CopiesEqualTheirSou
 ghost use Rattle.tool_names.specs.Changes.{change_value, spelling_names, ChangedPartsAreInTheString, KnownNamesStay, UnchangedStringsAreReadAsTheyParse};
 ghost use Rattle.tool_names.specs.Laws.{NamesAreCanonical, NamesKeepAnswers, NamesMeanTheShape, NamesReadBack, NamesWithoutTripleAreRefused, OneNumberIsEnough, ShapesAreFixed, TagsMeanTheSame};
 ghost use Rattle.tool_names.specs.ObjectFormat.{GivenFormatsAreKept};
-ghost use Rattle.tool_names.specs.Spelling.{KnownNamesAreReadAsBefore, ListedPartsAreUnknown, OnceIsEnough, ReadingAgainIsTheSame, RefusalsAreAtTheRefusedName, RefusedPartsAreInTheString, part_refusal};
+ghost use Rattle.tool_names.specs.Spelling.{KnownNamesAreReadAsBefore, ListedPartsAreUnknown, OnceIsEnough, ReadingAgainIsTheSame, RefusalsAreAtTheRefusedName, RefusedPartsAreInTheString};
 ghost use Rattle.tool_names.specs.ToolNames.{name_bytes, unread_of};
 ghost use Rattle.tool_names.specs.declared.change.Change.{Change};
 ghost use Rattle.tool_names.specs.declared.name.Name.{Name};
 ghost use Rattle.tool_names.specs.declared.names.NameError.{NameError};
-ghost use Rattle.tool_names.specs.declared.reading.ReadError.{ReadError};
 ghost use Rattle.tool_names.specs.declared.spelling.Spelling.{Spelling};
 
 use crate::change::Change;
 use crate::dialect::Dialect;
 use crate::name::Name;
 use crate::names::NameError;
-use crate::reading::ReadError;
 use crate::spelling::Spelling;
 use target_lexicon::laws::{read_triples_are_plain, round_is_normal_step};
 
@@ -136,15 +134,12 @@ pub fn names_keep_answers()
     round_is_normal_step();
 }
 
-/// Two dialects, or two reasons why a name isn't read, are equal exactly if they are the same, and so are two refusals:
-/// the same part, in the same range, where the same was expected. Two names that are equal have the same bytes; two
-/// changes that are equal are of the same part, and name the same.
+/// Two dialects, or two reasons why a name isn't read, are equal exactly if they are the same. Two names that are equal
+/// have the same bytes; two changes that are equal are of the same part, and name the same.
 pub fn values_are_equal_by_value()
     ensures dialect { ComparesByValue ⟦<Dialect as PartialEq>⟧.eq }
     ensures name_error { (x y : NameError) →
         IsTrue (⟦<NameError as PartialEq>⟧.eq x y) ↔ (unread_of x ≡ unread_of y) }
-    ensures read_error { (x y : ReadError) →
-        IsTrue (⟦<ReadError<'static> as PartialEq>⟧.eq x y) ↔ (part_refusal x ≡ part_refusal y) }
     ensures name { (x y : Name) →
         IsTrue (⟦<Name as PartialEq>⟧.eq x y) →
         name_bytes x ≡ name_bytes y }
@@ -162,8 +157,6 @@ pub fn copies_equal_their_sources()
         ⟦<Dialect as Clone>⟧.is_infallible }
     ensures name_error { CopiesEqualTheirSources ⟦<NameError as Clone>⟧.is_clone
         ⟦<NameError as Clone>⟧.is_infallible }
-    ensures read_error { CopiesEqualTheirSources ⟦<ReadError<'static> as Clone>⟧.is_clone
-        ⟦<ReadError<'static> as Clone>⟧.is_infallible }
     ensures name { CopiesEqualTheirSources ⟦<Name as Clone>⟧.is_clone
         ⟦<Name as Clone>⟧.is_infallible }
     ensures spelling { CopiesEqualTheirSources ⟦<Spelling<'static> as Clone>⟧.is_clone

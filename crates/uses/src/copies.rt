@@ -3,11 +3,10 @@ ghost use Rattle.uses.specs.Conclusions.{AreCopiesTheSame};
 
 use target_lexicon::{
     Aarch64Architecture, Architecture, ArmArchitecture, BinaryFormat, CDataModel,
-    CallingConvention, CleverArchitecture, DeploymentTarget, Endianness, Environment,
-    ExplainedError, Explanation, Field, FixedRow, KnownVendor, Mips32Architecture,
-    Mips64Architecture, OperatingSystem, ParseErrorRef, PointerWidth, Riscv32Architecture,
-    Riscv64Architecture, Size, Source, Sources, TextPart, TripleRef, VendorError, VendorRef,
-    X86_32Architecture, Z80Architecture, laws,
+    CallingConvention, CleverArchitecture, DeploymentTarget, Endianness, Environment, Explanation,
+    Field, FixedRow, KnownVendor, Mips32Architecture, Mips64Architecture, OperatingSystem,
+    PointerWidth, Refusal, Riscv32Architecture, Riscv64Architecture, Size, Source, Sources,
+    TextPart, TripleRef, VendorError, VendorRef, X86_32Architecture, Z80Architecture, laws,
 };
 
 /// Two copies of a value of a field are the same, and need no memory.
@@ -68,8 +67,8 @@ pub fn copies_are_the_same()
         ⟦<CallingConvention as Clone>⟧.is_infallible }
     ensures triple_ref { AreCopiesTheSame ⟦<TripleRef<'static> as Clone>⟧.is_clone
         ⟦<TripleRef<'static> as Clone>⟧.is_infallible }
-    ensures error_ref { AreCopiesTheSame ⟦<ParseErrorRef<'static> as Clone>⟧.is_clone
-        ⟦<ParseErrorRef<'static> as Clone>⟧.is_infallible }
+    ensures refusal { AreCopiesTheSame ⟦<Refusal<'static> as Clone>⟧.is_clone
+        ⟦<Refusal<'static> as Clone>⟧.is_infallible }
     ensures part { AreCopiesTheSame ⟦<TextPart<'static> as Clone>⟧.is_clone
         ⟦<TextPart<'static> as Clone>⟧.is_infallible }
     ensures source { AreCopiesTheSame ⟦<Source<'static> as Clone>⟧.is_clone
@@ -78,8 +77,6 @@ pub fn copies_are_the_same()
         ⟦<Sources<'static> as Clone>⟧.is_infallible }
     ensures explanation { AreCopiesTheSame ⟦<Explanation<'static> as Clone>⟧.is_clone
         ⟦<Explanation<'static> as Clone>⟧.is_infallible }
-    ensures explained_error { AreCopiesTheSame ⟦<ExplainedError<'static> as Clone>⟧.is_clone
-        ⟦<ExplainedError<'static> as Clone>⟧.is_infallible }
 {
     laws::copies_equal_their_sources();
 }

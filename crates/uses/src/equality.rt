@@ -8,8 +8,7 @@ ghost use Rattle.target_lexicon.specs.Explanation.{part_value, source_value, sou
 ghost use Rattle.target_lexicon.specs.Json.{json_error_value, list_error_value};
 ghost use Rattle.target_lexicon.specs.Refusal.{refusal_of};
 ghost use Rattle.target_lexicon.specs.Values.{values_of};
-ghost use Rattle.target_lexicon.specs.ValuesRef.{refusal_of_ref, values_of_ref};
-ghost use Rattle.target_lexicon.specs.declared.explanation.ExplainedError.{ExplainedError};
+ghost use Rattle.target_lexicon.specs.ValuesRef.{placed_outcome, placed_refusal, values_of_ref};
 ghost use Rattle.target_lexicon.specs.declared.explanation.Explanation.{Explanation};
 ghost use Rattle.lexicon_fields.specs.declared.table.FixedRow.{FixedRow};
 ghost use Rattle.uses.specs.Conclusions.{CanReplace, CanReplaceEqual};
@@ -17,11 +16,11 @@ ghost use Rattle.uses.specs.Conclusions.{CanReplace, CanReplaceEqual};
 use target_lexicon::{
     Aarch64Architecture, Architecture, ArmArchitecture, BinaryFormat, CDataModel,
     CallingConvention, CleverArchitecture, CustomVendor, DefaultToHost, DefaultToUnknown,
-    DeploymentTarget, Endianness, Environment, ExplainedError, Explanation, Field, FixedRow,
-    JsonError, KnownVendor, ListError, Mips32Architecture, Mips64Architecture, OperatingSystem,
-    ParseError, ParseErrorRef, PointerWidth, Riscv32Architecture, Riscv64Architecture, Size,
-    Source, Sources, TextPart, Triple, TripleRef, Vendor, VendorError, VendorRef,
-    X86_32Architecture, Z80Architecture, laws,
+    DeploymentTarget, Endianness, Environment, Explanation, Field, FixedRow, JsonError,
+    KnownVendor, ListError, Mips32Architecture, Mips64Architecture, OperatingSystem, ParseError,
+    PointerWidth, Refusal, Riscv32Architecture, Riscv64Architecture, Size, Source, Sources,
+    TextPart, Triple, TripleRef, Vendor, VendorError, VendorRef, X86_32Architecture,
+    Z80Architecture, laws,
 };
 
 /// Equal values of the fields, and equal rows, can stand for one another.
@@ -106,11 +105,11 @@ pub fn equal_errors_can_replace()
     laws::errors_are_equal_by_value();
 }
 
-/// Equal borrowed errors can stand for one another.
-pub fn equal_error_refs_can_replace()
-    ensures { CanReplace refusal_of_ref ⟦<ParseErrorRef<'static> as PartialEq>⟧.eq }
+/// Equal refusals can stand for one another.
+pub fn equal_refusals_can_replace()
+    ensures { CanReplace placed_refusal ⟦<Refusal<'static> as PartialEq>⟧.eq }
 {
-    laws::error_refs_are_equal_by_value();
+    laws::refusals_are_equal_by_value();
 }
 
 /// Equal sizes, data models and calling conventions can stand for one another.
@@ -144,25 +143,18 @@ pub fn equal_list_errors_can_replace()
     laws::list_errors_are_equal_by_value();
 }
 
-/// Equal parts and sources can stand for one another. Equal explanations have the same triple, and equal explained
-/// errors the same refusal, each with the same sources.
+/// Equal parts and sources can stand for one another. Equal explanations have the same triple or the same refusal, with the
+/// same sources.
 pub fn equal_explanations_can_replace()
     ensures part { CanReplace part_value ⟦<TextPart<'static> as PartialEq>⟧.eq }
     ensures source { CanReplace source_value ⟦<Source<'static> as PartialEq>⟧.eq }
     ensures sources { CanReplace sources_of ⟦<Sources<'static> as PartialEq>⟧.eq }
     ensures explanation { (x y : Explanation) →
         IsTrue (⟦<Explanation<'static> as PartialEq>⟧.eq x y) →
-        (values_of_ref x.triple ≡ values_of_ref y.triple)
+        (placed_outcome x.triple ≡ placed_outcome y.triple)
         × (sources_of x.sources ≡ sources_of y.sources) }
     ensures same_explanation { (x : Explanation) →
         IsTrue (⟦<Explanation<'static> as PartialEq>⟧.eq x x) }
-    ensures error { (x y : ExplainedError) →
-        IsTrue (⟦<ExplainedError<'static> as PartialEq>⟧.eq x y) →
-        (refusal_of_ref x.error ≡ refusal_of_ref y.error)
-        × (part_value x.part ≡ part_value y.part)
-        × (sources_of x.sources ≡ sources_of y.sources) }
-    ensures same_error { (x : ExplainedError) →
-        IsTrue (⟦<ExplainedError<'static> as PartialEq>⟧.eq x x) }
 {
     laws::explanations_are_equal_by_value();
 }

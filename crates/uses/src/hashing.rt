@@ -8,8 +8,7 @@ ghost use Rattle.lexicon_fields.specs.declared.vendor.Vendor.{Vendor};
 ghost use Rattle.lexicon_fields.specs.declared.vendor_ref.VendorRef.{VendorRef};
 ghost use Rattle.target_lexicon.specs.Refusal.{refusal_of};
 ghost use Rattle.target_lexicon.specs.Values.{values_of};
-ghost use Rattle.target_lexicon.specs.ValuesRef.{refusal_of_ref, values_of_ref};
-ghost use Rattle.target_lexicon.specs.declared.parse_error_ref.ParseErrorRef.{ParseErrorRef};
+ghost use Rattle.target_lexicon.specs.ValuesRef.{values_of_ref};
 ghost use Rattle.uses.specs.Conclusions.{AreAllPairsOfKeys, ArePairsOfKeys};
 
 use std::hash::Hash;
@@ -17,8 +16,8 @@ use target_lexicon::{
     Aarch64Architecture, Architecture, ArmArchitecture, BinaryFormat, CDataModel,
     CallingConvention, CleverArchitecture, CustomVendor, DefaultToHost, DefaultToUnknown,
     DeploymentTarget, Endianness, Environment, KnownVendor, Mips32Architecture, Mips64Architecture,
-    OperatingSystem, ParseErrorRef, PointerWidth, Riscv32Architecture, Riscv64Architecture, Size,
-    Triple, TripleRef, Vendor, VendorRef, X86_32Architecture, Z80Architecture, laws,
+    OperatingSystem, PointerWidth, Riscv32Architecture, Riscv64Architecture, Size, Triple,
+    TripleRef, Vendor, VendorRef, X86_32Architecture, Z80Architecture, laws,
 };
 
 /// Two values of a field are a key of a hashed map.
@@ -97,12 +96,4 @@ pub fn triple_refs_are_keys()
         ⟦<TripleRef<'static> as Hash>⟧.hash_input }
 {
     laws::triple_refs_hash_by_value();
-}
-
-/// Two borrowed errors are a key of a hashed map.
-pub fn error_refs_are_keys()
-    ensures { ArePairsOfKeys (λ (e : ParseErrorRef). Unit {0}) refusal_of_ref
-        ⟦<ParseErrorRef<'static> as Hash>⟧.hash_input }
-{
-    laws::error_refs_hash_by_value();
 }

@@ -19,7 +19,8 @@ ghost use Rattle.tool_names.specs.Changes.{PartChange, change_value, changes, sp
 ghost use Rattle.tool_names.specs.ObjectFormat.{object_format};
 ghost use Rattle.tool_names.specs.Platform.{NameParts, keeps_version, kept_version, read_name_of, short_tag, tag_of, version_of_two, versioned_name_of, versioned_tag};
 ghost use Rattle.tool_names.specs.Shape.{shape};
-ghost use Rattle.tool_names.specs.Spelling.{PartRefusal, first_spelling, first_spellings, is_known_name, later_spelling, later_spellings, name_texts, part_refusal, refused_part, spelled_names, spelled_reading, versioned_spellings};
+ghost use Rattle.target_lexicon.specs.ValuesRef.{PlacedRefusal};
+ghost use Rattle.tool_names.specs.Spelling.{first_spelling, first_spellings, is_known_name, later_spelling, later_spellings, name_texts, spelled_names, spelled_reading, versioned_spellings};
 ghost use Rattle.tool_names.specs.Tables.{both_ways, machines, machines_without_a_triple, without_a_triple};
 ghost use Rattle.tool_names.specs.ToolNames.{name_bytes, name_meaning, name_with, triple_name, unread_of};
 ghost use Rattle.tool_names.specs.declared.change.Change.{Change};
@@ -28,7 +29,7 @@ ghost use Rattle.tool_names.specs.declared.spelling.Spelling.{Spelling};
 ghost use Rattle.uses.specs.Conclusions.{AreCopiesTheSame, CanReplace, CanReplaceEqual};
 
 use target_lexicon::{Architecture, BinaryFormat, OperatingSystem};
-use tool_names::{Change, Dialect, Name, NameError, ReadError, Spelling};
+use tool_names::{Change, Dialect, Name, NameError, Spelling};
 
 /// The host's name is read as the host, and without a change.
 pub fn known_names_are_read()
@@ -42,12 +43,12 @@ pub fn known_names_are_read()
 
 /// The names that a refused string spells are refused too, and its refused part is in the string.
 pub fn refusals_are_found()
-    ensures names { (text : List ℕ) (found : PartRefusal) →
+    ensures names { (text : List ℕ) (found : PlacedRefusal) →
         spelled_reading text ≡ Err found →
         (refusal : Refusal) × IsRefusal (name_texts (spelled_names (parts_of text))) refusal }
-    ensures part { (text : List ℕ) (found : PartRefusal) →
+    ensures part { (text : List ℕ) (found : PlacedRefusal) →
         spelled_reading text ≡ Err found →
-        IsInText text (refused_part found) }
+        IsInText text found.part }
 {
     tool_names::laws::refusals_are_at_the_refused_name();
     tool_names::laws::refused_parts_are_in_the_string();
@@ -227,11 +228,10 @@ pub fn named_alike_answer_alike()
     tool_names::laws::names_keep_answers();
 }
 
-/// Equal dialects, reasons and refusals can stand for one another; equal names, spellings and changes are read alike.
+/// Equal dialects and reasons can stand for one another; equal names, spellings and changes are read alike.
 pub fn equal_other_names_can_replace()
     ensures dialect { CanReplaceEqual ⟦<Dialect as PartialEq>⟧.eq }
     ensures name_error { CanReplace unread_of ⟦<NameError as PartialEq>⟧.eq }
-    ensures read_error { CanReplace part_refusal ⟦<ReadError<'static> as PartialEq>⟧.eq }
     ensures name { (x y : Name) →
         name_bytes x ≢ name_bytes y →
         IsTrue (⟦<Name as PartialEq>⟧.eq x y) →
@@ -254,8 +254,6 @@ pub fn copies_of_other_names_are_the_same()
         ⟦<Dialect as Clone>⟧.is_infallible }
     ensures name_error { AreCopiesTheSame ⟦<NameError as Clone>⟧.is_clone
         ⟦<NameError as Clone>⟧.is_infallible }
-    ensures read_error { AreCopiesTheSame ⟦<ReadError<'static> as Clone>⟧.is_clone
-        ⟦<ReadError<'static> as Clone>⟧.is_infallible }
     ensures name { AreCopiesTheSame ⟦<Name as Clone>⟧.is_clone
         ⟦<Name as Clone>⟧.is_infallible }
     ensures spelling { AreCopiesTheSame ⟦<Spelling<'static> as Clone>⟧.is_clone

@@ -13,8 +13,8 @@ returns-clause-calling_convention c = copies_the_same _ _ c.copies_equal_their_s
 pub returns-clause-triple_ref : goal.returns-clause-triple_ref
 returns-clause-triple_ref c = copies_the_same _ _ c.copies_equal_their_sources.ensures.triple_ref
 
-pub returns-clause-error_ref : goal.returns-clause-error_ref
-returns-clause-error_ref c = copies_the_same _ _ c.copies_equal_their_sources.ensures.error_ref
+pub returns-clause-refusal : goal.returns-clause-refusal
+returns-clause-refusal c = copies_the_same _ _ c.copies_equal_their_sources.ensures.refusal
 
 pub returns-clause-part : goal.returns-clause-part
 returns-clause-part c = copies_the_same _ _ c.copies_equal_their_sources.ensures.part
@@ -27,6 +27,3 @@ returns-clause-sources c = copies_the_same _ _ c.copies_equal_their_sources.ensu
 
 pub returns-clause-explanation : goal.returns-clause-explanation
 returns-clause-explanation c = copies_the_same _ _ c.copies_equal_their_sources.ensures.explanation
-
-pub returns-clause-explained_error : goal.returns-clause-explained_error
-returns-clause-explained_error c = copies_the_same _ _ c.copies_equal_their_sources.ensures.explained_error

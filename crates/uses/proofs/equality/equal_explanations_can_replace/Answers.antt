@@ -19,9 +19,3 @@ returns-clause-explanation c = λ x y equal. (c.explanations_are_equal_by_value.
 
 pub returns-clause-same_explanation : goal.returns-clause-same_explanation
 returns-clause-same_explanation c = λ x. (c.explanations_are_equal_by_value.ensures.explanation x x).1 (refl, refl)
-
-pub returns-clause-error : goal.returns-clause-error
-returns-clause-error c = λ x y equal. (c.explanations_are_equal_by_value.ensures.error x y).0 equal
-
-pub returns-clause-same_error : goal.returns-clause-same_error
-returns-clause-same_error c = λ x. (c.explanations_are_equal_by_value.ensures.error x x).1 (refl, refl, refl)

@@ -7,9 +7,6 @@ returns-clause-dialect c = copies_the_same _ _ c.copies_equal_their_sources.ensu
 pub returns-clause-name_error : goal.returns-clause-name_error
 returns-clause-name_error c = copies_the_same _ _ c.copies_equal_their_sources.ensures.name_error
 
-pub returns-clause-read_error : goal.returns-clause-read_error
-returns-clause-read_error c = copies_the_same _ _ c.copies_equal_their_sources.ensures.read_error
-
 pub returns-clause-name : goal.returns-clause-name
 returns-clause-name c = copies_the_same _ _ c.copies_equal_their_sources.ensures.name
 

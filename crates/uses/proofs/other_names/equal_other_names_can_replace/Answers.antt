@@ -1,4 +1,4 @@
-use Rattle.tool_names.specs.{Spelling.part_refusal, ToolNames.unread_of}
+use Rattle.tool_names.specs.ToolNames.{unread_of}
 use Rattle.uses.proofs.Conclusions.{replaceable}
 use Rattle.uses.proofs.other_names.equal_other_names_can_replace.Goals as goal
 
@@ -7,9 +7,6 @@ returns-clause-dialect c = replaceable (λ v. v) _ c.values_are_equal_by_value.e
 
 pub returns-clause-name_error : goal.returns-clause-name_error
 returns-clause-name_error c = replaceable unread_of _ c.values_are_equal_by_value.ensures.name_error
-
-pub returns-clause-read_error : goal.returns-clause-read_error
-returns-clause-read_error c = replaceable part_refusal _ c.values_are_equal_by_value.ensures.read_error
 
 pub returns-clause-name : goal.returns-clause-name
 returns-clause-name c = λ x y differ equal. differ (c.values_are_equal_by_value.ensures.name x y equal)
