@@ -13,7 +13,7 @@ PACKAGES = {
 }
 # What is compiled only with the feature of a module's name: these modules of it. Suggestions need the others.
 FEATURES = {
-    "tool_names": {"change", "dialect", "formats", "name", "names", "names_left", "platform", "reading", "shape", "tables", "tags"},
+    "tool_names": {"change", "dialect", "formats", "name", "names", "names_left", "pattern", "reading", "shape", "tables"},
 }
 # Where one package finds the crates of another.
 OUTSIDE = "target_lexicon::internals::"

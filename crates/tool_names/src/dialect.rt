@@ -10,6 +10,7 @@ use std::str::FromStr;
 /// A tool, or a group of tools, that names targets in its own way.
 #[derive(Clone, Copy, Debug, PartialEq, Eq, Hash)]
 pub enum Dialect {
+    // written by tools/names/write: the dialects
     /// Debian's architectures, as `dpkg` names them: `amd64`, `armhf`, `musl-linux-arm64`.
     Debian,
     /// Go's ports, as `go tool dist list` prints them: `linux/amd64`.
@@ -24,6 +25,7 @@ pub enum Dialect {
     /// Platforms of Python, as tags of wheels: `manylinux_2_17_x86_64`, `macosx_11_0_arm64`. What
     /// `sysconfig.get_platform()` prints is read too: `macosx-11.0-arm64` means the same as its tag.
     Python,
+    // end of what is written
 }
 
 impl Dialect {
@@ -32,12 +34,14 @@ impl Dialect {
         ensures { result.now ≡ dialect_name self }
     {
         match self {
+            // written by tools/names/write: the names of the dialects
             Dialect::Debian => "debian",
             Dialect::Go => "go",
             Dialect::Oci => "oci",
             Dialect::Node => "node",
             Dialect::Gnu => "gnu",
             Dialect::Python => "python",
+            // end of what is written
         }
     }
 
@@ -50,6 +54,7 @@ impl Dialect {
     }
 }
 
+// written by tools/names/write: the dialects by name
 static DIALECTS: [(&str, Dialect); 6] = [
     ("debian", Dialect::Debian),
     ("go", Dialect::Go),
@@ -58,6 +63,7 @@ static DIALECTS: [(&str, Dialect); 6] = [
     ("gnu", Dialect::Gnu),
     ("python", Dialect::Python),
 ];
+// end of what is written
 
 impl FromStr for Dialect {
     type Err = ();
