@@ -11,10 +11,10 @@ use Rattle.lexicon_fields.specs.Put.{Puts}
 use Rattle.lexicon_fields.proofs.VersionsReadBack.{digits_model}
 use Rattle.tool_names.specs.declared.pattern.Numbers.{Numbers}
 use Rattle.tool_names.specs.declared.pattern.Numbers.TheVariants.{NoNumber, One, Two}
-use Rattle.tool_names.specs.Patterns.{after_byte, after_digits, all_limits, digit_count, filled, first_text, fits, fits_within, fits_first, head_digits, key_by, matched, matched_within, next_number, put_first, rest_of, star, star_count, tag_byte, tag_of}
+use Rattle.tool_names.specs.Patterns.{after_byte, after_digits, all_limits, are_within, digit_count, filled, first_text, fits, head_digits, matched, matched_within, next_number, put_first, rest_of, star, star_count, tag_byte}
 use Rattle.tool_names.specs.Private.{AreInRange, first_width, is_short_pattern, longest, numbers_of}
 use Rattle.tool_names.proofs.Matches.{apart}
-use Rattle.tool_names.proofs.NumberLemmas.{decimal-tag, plain_number-decimal, plain_number-within, tag_of-append}
+use Rattle.tool_names.proofs.NumberLemmas.{plain_number-decimal, plain_number-within}
 
 abbrev pub begins_with_digit : List ℕ → Bool
 begins_with_digit [] = false
@@ -62,157 +62,93 @@ small-rest : (limits : List ℕ) → are_small limits ≡ true → are_small (re
 small-rest [] small = refl
 small-rest (l ∷ ls) small = (and_parts _ _ small).1
 
-at-star : (ps limits ns : List ℕ) → are_small limits ≡ true → is_spaced (star ∷ ps) ≡ true → fits_first limits ns ≡ true → matched_within (rest_of limits) ps (filled ps (rest_of ns)) ≡ Some (rest_of ns)
-    → put_first (next_number limits (head_digits (first_text ns ++ filled ps (rest_of ns)))) (matched_within (rest_of limits) ps (after_digits (first_text ns ++ filled ps (rest_of ns)))) ≡ Some ns
-at-star ps [] ns small spaced first rest = absurd cc
-at-star ps (l ∷ ls) [] small spaced first rest = absurd cc
-at-star ps (l ∷ ls) (n ∷ ns) small spaced first rest =
-    let number = number-read l n ls (filled ps ns) (leb-true n l first) (leb-true l 65535 (and_parts _ _ small).0) (rest-spaced ps ns spaced) in
-    rw (number.0, number.1, rest) refl
-
-matched-filled : (ps limits ns : List ℕ) → are_small limits ≡ true → is_spaced ps ≡ true → fits_within limits ps ns ≡ true → matched_within limits ps (filled ps ns) ≡ Some ns
-matched-filled [] limits [] small spaced is = refl
-matched-filled [] limits (n ∷ ns) small spaced is = absurd cc
-matched-filled (p ∷ ps) limits ns small spaced is = by_star (nat_eq p star) refl (matched-filled ps (rest_of limits) (rest_of ns) (small-rest limits small) (spaced-rest p ps spaced)) (matched-filled ps limits ns small (spaced-rest p ps spaced))
-  where
-    by_star : (b : Bool) → nat_eq p star ≡ b → (fits_within (rest_of limits) ps (rest_of ns) ≡ true → matched_within (rest_of limits) ps (filled ps (rest_of ns)) ≡ Some (rest_of ns)) → (fits_within limits ps ns ≡ true → matched_within limits ps (filled ps ns) ≡ Some ns)
-        → matched_within limits (p ∷ ps) (filled (p ∷ ps) ns) ≡ Some ns
-    by_star true at_p star_case byte_case =
-        let parts = and_parts _ _ (rw at_p at is) in
-        let is_star : p ≡ star = eqb-true p star at_p in
-        rw at_p (at-star ps limits ns small (subst (λ (x : ℕ). is_spaced (x ∷ ps) ≡ true) is_star spaced) parts.0 (star_case parts.1))
-    by_star false at_p star_case byte_case =
-        let rest = byte_case (rw at_p at is) in
-        rw (at_p, eq-eqb p p refl) rest
-
-pub filled_matches : (ps ns : List ℕ) → is_spaced ps ≡ true → fits ps ns ≡ true → matched ps (filled ps ns) ≡ Some ns
-filled_matches ps ns spaced is = matched-filled ps all_limits ns refl spaced is
-
--- numbers that fit: one for each star, within its limit
-
-abbrev pub are_within : List ℕ → List ℕ → Bool
-are_within limits [] = true
-are_within [] (n ∷ ns) = false
-are_within (limit ∷ limits) (n ∷ ns) = nat_le n limit && are_within limits ns
-
-next-within : (limits text : List ℕ) (n : ℕ) → next_number limits text ≡ Some n → (ms : List ℕ) → fits_first limits (n ∷ ms) ≡ true
-next-within [] text n is ms = absurd cc
-next-within (limit ∷ limits) text n is ms = plain_number-within limit text n is
-
--- what a match finds fits
-matched-fits : (ps limits name ns : List ℕ) → matched_within limits ps name ≡ Some ns → fits_within limits ps ns ≡ true
-matched-fits [] limits [] ns is = let none : [] ≡ ns = cc in subst (λ (m : List ℕ). fits_within limits [] m ≡ true) none refl
-matched-fits [] limits (c ∷ cs) ns is = absurd cc
-matched-fits (p ∷ ps) limits name ns is = by_star (nat_eq p star) refl is (matched-fits ps (rest_of limits) (after_digits name)) (matched-fits ps limits)
-  where
-    at_number : (first : Option ℕ) (others : Option (List ℕ)) → next_number limits (head_digits name) ≡ first → matched_within (rest_of limits) ps (after_digits name) ≡ others → put_first first others ≡ Some ns
-        → ((ms : List ℕ) → matched_within (rest_of limits) ps (after_digits name) ≡ Some ms → fits_within (rest_of limits) ps ms ≡ true) → fits_first limits ns && fits_within (rest_of limits) ps (rest_of ns) ≡ true
-    at_number (Some n) (Some ms) found rest h again =
-        let same : n ∷ ms ≡ ns = cc in
-        subst (λ (m : List ℕ). fits_first limits m && fits_within (rest_of limits) ps (rest_of m) ≡ true) same (rw (next-within limits (head_digits name) n found ms, again ms rest) refl)
-    at_number (Some n) None found rest h again = absurd cc
-    at_number None others found rest h again = absurd cc
-
-    at_byte : (o : Option (List ℕ)) → option_and_then (λ (rest : List ℕ). matched_within limits ps rest) o ≡ Some ns → ((rest ms : List ℕ) → matched_within limits ps rest ≡ Some ms → fits_within limits ps ms ≡ true) → fits_within limits ps ns ≡ true
-    at_byte (Some rest) h again = again rest ns h
-    at_byte None h again = absurd cc
-
-    by_star : (b : Bool) → nat_eq p star ≡ b → matched_within limits (p ∷ ps) name ≡ Some ns → ((ms : List ℕ) → matched_within (rest_of limits) ps (after_digits name) ≡ Some ms → fits_within (rest_of limits) ps ms ≡ true)
-        → ((rest ms : List ℕ) → matched_within limits ps rest ≡ Some ms → fits_within limits ps ms ≡ true) → fits_within limits (p ∷ ps) ns ≡ true
-    by_star true at_p h star_case byte_case = rw at_p (at_number (next_number limits (head_digits name)) (matched_within (rest_of limits) ps (after_digits name)) refl refl (rw at_p at h) star_case)
-    by_star false at_p h star_case byte_case = rw at_p (at_byte (after_byte p name) (rw at_p at h) byte_case)
-
-pub match_fits : (ps name ns : List ℕ) → matched ps name ≡ Some ns → fits ps ns ≡ true
-match_fits ps name ns is = matched-fits ps all_limits name ns is
-
-fits-within : (ps limits ns : List ℕ) → fits_within limits ps ns ≡ true → are_within limits ns ≡ true
-fits-within [] limits [] is = refl
-fits-within [] limits (n ∷ ns) is = absurd cc
-fits-within (p ∷ ps) limits ns is = by_star (nat_eq p star) refl (fits-within ps (rest_of limits) (rest_of ns)) (fits-within ps limits ns)
-  where
-    joined : (limits ns : List ℕ) → fits_first limits ns ≡ true → are_within (rest_of limits) (rest_of ns) ≡ true → are_within limits ns ≡ true
-    joined [] [] first rest = refl
-    joined [] (n ∷ ns) first rest = absurd cc
-    joined (l ∷ ls) [] first rest = refl
-    joined (l ∷ ls) (n ∷ ns) first rest = rw (first, rest) refl
-
-    by_star : (b : Bool) → nat_eq p star ≡ b → (fits_within (rest_of limits) ps (rest_of ns) ≡ true → are_within (rest_of limits) (rest_of ns) ≡ true) → (fits_within limits ps ns ≡ true → are_within limits ns ≡ true) → are_within limits ns ≡ true
-    by_star true at_p star_case byte_case = let parts = and_parts _ _ (rw at_p at is) in joined limits ns parts.0 (star_case parts.1)
-    by_star false at_p star_case byte_case = byte_case (rw at_p at is)
-
-pub fits_are_within : (ps ns : List ℕ) → fits ps ns ≡ true → are_within all_limits ns ≡ true
-fits_are_within ps ns is = fits-within ps all_limits ns is
-
-fits-count : (ps limits ns : List ℕ) → fits_within limits ps ns ≡ true → star_count ps ≡ length ns
-fits-count [] limits [] is = refl
-fits-count [] limits (n ∷ ns) is = absurd cc
-fits-count (p ∷ ps) limits ns is = by_star (nat_eq p star) refl (fits-count ps (rest_of limits) (rest_of ns)) (fits-count ps limits ns)
-  where
-    no_first : (l : List ℕ) → fits_first l [] ≡ true → ⊥
-    no_first [] h = absurd cc
-    no_first (x ∷ xs) h = absurd cc
-
-    more : (m : List ℕ) → fits_first limits m ≡ true → suc (length (rest_of m)) ≡ length m
-    more [] first = absurd (no_first limits first)
-    more (n ∷ m) first = refl
-
-    by_star : (b : Bool) → nat_eq p star ≡ b → (fits_within (rest_of limits) ps (rest_of ns) ≡ true → star_count ps ≡ length (rest_of ns)) → (fits_within limits ps ns ≡ true → star_count ps ≡ length ns) → star_count (p ∷ ps) ≡ length ns
-    by_star true at_p star_case byte_case = let parts = and_parts _ _ (rw at_p at is) in rw at_p (ap suc (star_case parts.1) ∙ more ns parts.0)
-    by_star false at_p star_case byte_case = rw at_p (byte_case (rw at_p at is))
-
-pub fits_counted : (ps ns : List ℕ) → fits ps ns ≡ true → star_count ps ≡ length ns
-fits_counted ps ns is = fits-count ps all_limits ns is
-
-counted-fits : (ps limits ns : List ℕ) → star_count ps ≡ length ns → are_within limits ns ≡ true → fits_within limits ps ns ≡ true
-counted-fits [] limits [] counted within = refl
-counted-fits [] limits (n ∷ ns) counted within = absurd (omega (arith, counted))
-counted-fits (p ∷ ps) limits ns counted within = by_star (nat_eq p star) refl (counted-fits ps (rest_of limits) (rest_of ns)) (counted-fits ps limits ns)
-  where
-    at_number : (limits ns : List ℕ) → suc (star_count ps) ≡ length ns → are_within limits ns ≡ true → (star_count ps ≡ length (rest_of ns) → are_within (rest_of limits) (rest_of ns) ≡ true → fits_within (rest_of limits) ps (rest_of ns) ≡ true)
-        → fits_first limits ns && fits_within (rest_of limits) ps (rest_of ns) ≡ true
-    at_number limits [] counted within again = absurd (omega (arith, counted))
-    at_number [] (n ∷ ns) counted within again = absurd cc
-    at_number (l ∷ ls) (n ∷ ns) counted within again =
-        let parts = and_parts (nat_le n l) (are_within ls ns) within in
-        rw (parts.0, again (omega (arith, counted)) parts.1) refl
-
-    by_star : (b : Bool) → nat_eq p star ≡ b → (star_count ps ≡ length (rest_of ns) → are_within (rest_of limits) (rest_of ns) ≡ true → fits_within (rest_of limits) ps (rest_of ns) ≡ true)
-        → (star_count ps ≡ length ns → are_within limits ns ≡ true → fits_within limits ps ns ≡ true) → fits_within limits (p ∷ ps) ns ≡ true
-    by_star true at_p star_case byte_case = rw at_p (at_number limits ns (rw at_p at counted) within star_case)
-    by_star false at_p star_case byte_case = rw at_p (byte_case (rw at_p at counted) within)
-
-pub counted_fits : (ps ns : List ℕ) → star_count ps ≡ length ns → are_within all_limits ns ≡ true → fits ps ns ≡ true
-counted_fits ps ns counted within = counted-fits ps all_limits ns counted within
-
--- a tag with numbers is a tag
-
+-- what a pattern has of a name that it makes
 abbrev pub is_own_tag : List ℕ → Bool
 is_own_tag pattern = list_all (λ (c : ℕ). nat_eq (tag_byte c) c) pattern
 
-number-tag : (n : ℕ) → n ≤ 65535 → tag_of (decimal n) ≡ decimal n
-number-tag n small = decimal-tag n (omega (arith, small))
+own-byte : (tags : Bool) (p : ℕ) (rest : List ℕ) → not tags || nat_eq (tag_byte p) p ≡ true → after_byte tags p (p ∷ rest) ≡ Some rest
+own-byte false p rest own = rw (eq-eqb p p refl) refl
+own-byte true p rest own = rw (eqb-true (tag_byte p) p own, eq-eqb p p refl) refl
 
-first-tag : (limits ns : List ℕ) → are_small limits ≡ true → fits_first limits ns ≡ true → tag_of (first_text ns) ≡ first_text ns
-first-tag [] ns small is = absurd cc
-first-tag (l ∷ ls) [] small is = refl
-first-tag (l ∷ ls) (n ∷ ns) small is = number-tag n (omega (arith, leb-true n l is, leb-true l 65535 (and_parts _ _ small).0))
+own-parts : (tags : Bool) (p : ℕ) (ps : List ℕ) → not tags || is_own_tag (p ∷ ps) ≡ true → (not tags || nat_eq (tag_byte p) p ≡ true) × (not tags || is_own_tag ps ≡ true)
+own-parts false p ps own = (refl, refl)
+own-parts true p ps own = and_parts (nat_eq (tag_byte p) p) (is_own_tag ps) own
 
-filled-tag : (ps limits ns : List ℕ) → are_small limits ≡ true → is_own_tag ps ≡ true → fits_within limits ps ns ≡ true → tag_of (filled ps ns) ≡ filled ps ns
-filled-tag [] limits ns small own is = refl
-filled-tag (p ∷ ps) limits ns small own is =
-    by_star (nat_eq p star) refl (filled-tag ps (rest_of limits) (rest_of ns) (small-rest limits small) (and_parts _ _ own).1) (filled-tag ps limits ns small (and_parts _ _ own).1)
+at-star : (tags : Bool) (ps limits ns : List ℕ) → are_small limits ≡ true → is_spaced (star ∷ ps) ≡ true → suc (star_count ps) ≡ length ns → are_within limits ns ≡ true
+    → (star_count ps ≡ length (rest_of ns) → are_within (rest_of limits) (rest_of ns) ≡ true → matched_within tags (rest_of limits) ps (filled ps (rest_of ns)) ≡ Some (rest_of ns))
+    → put_first (next_number limits (head_digits (first_text ns ++ filled ps (rest_of ns)))) (matched_within tags (rest_of limits) ps (after_digits (first_text ns ++ filled ps (rest_of ns)))) ≡ Some ns
+at-star tags ps limits [] small spaced counted within rest = absurd (omega (arith, counted))
+at-star tags ps [] (n ∷ ns) small spaced counted within rest = absurd cc
+at-star tags ps (l ∷ ls) (n ∷ ns) small spaced counted within rest =
+    let first = and_parts (nat_le n l) (are_within ls ns) within in
+    let number = number-read l n ls (filled ps ns) (leb-true n l first.0) (leb-true l 65535 (and_parts _ _ small).0) (rest-spaced ps ns spaced) in
+    rw (number.0, number.1, rest (omega (arith, counted)) first.1) refl
+
+matched-filled : (tags : Bool) (ps limits ns : List ℕ) → are_small limits ≡ true → is_spaced ps ≡ true → not tags || is_own_tag ps ≡ true → star_count ps ≡ length ns → are_within limits ns ≡ true → matched_within tags limits ps (filled ps ns) ≡ Some ns
+matched-filled tags [] limits [] small spaced own counted within = refl
+matched-filled tags [] limits (n ∷ ns) small spaced own counted within = absurd (omega (arith, counted))
+matched-filled tags (p ∷ ps) limits ns small spaced own counted within =
+    let owns = own-parts tags p ps own in
+    by_star (nat_eq p star) refl (matched-filled tags ps (rest_of limits) (rest_of ns) (small-rest limits small) (spaced-rest p ps spaced) owns.1)
+    (matched-filled tags ps limits ns small (spaced-rest p ps spaced) owns.1) owns.0
   where
-    by_star : (b : Bool) → nat_eq p star ≡ b → (fits_within (rest_of limits) ps (rest_of ns) ≡ true → tag_of (filled ps (rest_of ns)) ≡ filled ps (rest_of ns)) → (fits_within limits ps ns ≡ true → tag_of (filled ps ns) ≡ filled ps ns)
-        → tag_of (filled (p ∷ ps) ns) ≡ filled (p ∷ ps) ns
-    by_star true at_p star_case byte_case =
-        let parts = and_parts _ _ (rw at_p at is) in
-        rw at_p (tag_of-append (first_text ns) (filled ps (rest_of ns)) ∙ ap (λ t. t ++ tag_of (filled ps (rest_of ns))) (first-tag limits ns small parts.0) ∙ ap (λ t. first_text ns ++ t) (star_case parts.1))
-    by_star false at_p star_case byte_case =
-        rw at_p (ap (λ c. c ∷ tag_of (filled ps ns)) (eqb-true (tag_byte p) p (and_parts _ _ own).0) ∙ ap (λ t. p ∷ t) (byte_case (rw at_p at is)))
+    by_star : (b : Bool) → nat_eq p star ≡ b → (star_count ps ≡ length (rest_of ns) → are_within (rest_of limits) (rest_of ns) ≡ true → matched_within tags (rest_of limits) ps (filled ps (rest_of ns)) ≡ Some (rest_of ns))
+        → (star_count ps ≡ length ns → are_within limits ns ≡ true → matched_within tags limits ps (filled ps ns) ≡ Some ns) → not tags || nat_eq (tag_byte p) p ≡ true → matched_within tags limits (p ∷ ps) (filled (p ∷ ps) ns) ≡ Some ns
+    by_star true at_p star_case byte_case own =
+        rw at_p (at-star tags ps limits ns small (subst (λ (x : ℕ). is_spaced (x ∷ ps) ≡ true) (eqb-true p star at_p) spaced) (rw at_p at counted) within star_case)
+    by_star false at_p star_case byte_case own = rw (at_p, own-byte tags p (filled ps ns) own) (byte_case (rw at_p at counted) within)
 
-pub key-filled : (tags : Bool) (ps ns : List ℕ) → not tags || is_own_tag ps ≡ true → fits ps ns ≡ true → key_by tags (filled ps ns) ≡ filled ps ns
-key-filled false ps ns own fit = refl
-key-filled true ps ns own fit = filled-tag ps all_limits ns refl own fit
+fits-parts : (ps ns : List ℕ) → fits ps ns ≡ true → (star_count ps ≡ length ns) × (are_within all_limits ns ≡ true)
+fits-parts ps ns fit = let parts = and_parts (nat_eq (star_count ps) (length ns)) (are_within all_limits ns) fit in (eqb-true (star_count ps) (length ns) parts.0, parts.1)
+
+pub fits_counted : (ps ns : List ℕ) → fits ps ns ≡ true → star_count ps ≡ length ns
+fits_counted ps ns fit = (fits-parts ps ns fit).0
+
+pub fits_are_within : (ps ns : List ℕ) → fits ps ns ≡ true → are_within all_limits ns ≡ true
+fits_are_within ps ns fit = (fits-parts ps ns fit).1
+
+pub counted_fits : (ps ns : List ℕ) → star_count ps ≡ length ns → are_within all_limits ns ≡ true → fits ps ns ≡ true
+counted_fits ps ns counted within = rw (eq-eqb (star_count ps) (length ns) counted, within) refl
+
+pub filled_matches : (tags : Bool) (ps ns : List ℕ) → is_spaced ps ≡ true → not tags || is_own_tag ps ≡ true → fits ps ns ≡ true → matched tags ps (filled ps ns) ≡ Some ns
+filled_matches tags ps ns spaced own fit = let parts = fits-parts ps ns fit in matched-filled tags ps all_limits ns refl spaced own parts.0 parts.1
+
+-- what a match finds fits
+
+next-within : (limits text : List ℕ) (n : ℕ) (ms : List ℕ) → next_number limits text ≡ Some n → are_within (rest_of limits) ms ≡ true → are_within limits (n ∷ ms) ≡ true
+next-within [] text n ms is rest = absurd cc
+next-within (limit ∷ limits) text n ms is rest = rw (plain_number-within limit text n is, rest) refl
+
+IsFit : List ℕ → List ℕ → List ℕ → Type 0
+IsFit limits ps ns = (star_count ps ≡ length ns) × (are_within limits ns ≡ true)
+
+matched-fits : (tags : Bool) (ps limits name ns : List ℕ) → matched_within tags limits ps name ≡ Some ns → IsFit limits ps ns
+unfolding IsFit
+matched-fits tags [] limits [] ns is = let none : [] ≡ ns = cc in subst (IsFit limits []) none (refl, refl)
+matched-fits tags [] limits (c ∷ cs) ns is = absurd cc
+matched-fits tags (p ∷ ps) limits name ns is = by_star (nat_eq p star) refl is (matched-fits tags ps (rest_of limits) (after_digits name)) (matched-fits tags ps limits)
+  where
+    at_number : (first : Option ℕ) (others : Option (List ℕ)) → next_number limits (head_digits name) ≡ first → matched_within tags (rest_of limits) ps (after_digits name) ≡ others → put_first first others ≡ Some ns
+        → ((ms : List ℕ) → matched_within tags (rest_of limits) ps (after_digits name) ≡ Some ms → IsFit (rest_of limits) ps ms) → (suc (star_count ps) ≡ length ns) × (are_within limits ns ≡ true)
+    at_number (Some n) (Some ms) found rest h again =
+        let same : n ∷ ms ≡ ns = cc in
+        let fit = again ms rest in
+        subst (λ (m : List ℕ). (suc (star_count ps) ≡ length m) × (are_within limits m ≡ true)) same (omega (arith, fit.0), next-within limits (head_digits name) n ms found fit.1)
+    at_number (Some n) None found rest h again = absurd cc
+    at_number None others found rest h again = absurd cc
+
+    at_byte : (o : Option (List ℕ)) → option_and_then (λ (rest : List ℕ). matched_within tags limits ps rest) o ≡ Some ns → ((rest ms : List ℕ) → matched_within tags limits ps rest ≡ Some ms → IsFit limits ps ms) → IsFit limits ps ns
+    at_byte (Some rest) h again = again rest ns h
+    at_byte None h again = absurd cc
+
+    by_star : (b : Bool) → nat_eq p star ≡ b → matched_within tags limits (p ∷ ps) name ≡ Some ns → ((ms : List ℕ) → matched_within tags (rest_of limits) ps (after_digits name) ≡ Some ms → IsFit (rest_of limits) ps ms)
+        → ((rest ms : List ℕ) → matched_within tags limits ps rest ≡ Some ms → IsFit limits ps ms) → IsFit limits (p ∷ ps) ns
+    by_star true at_p h star_case byte_case = rw at_p (at_number (next_number limits (head_digits name)) (matched_within tags (rest_of limits) ps (after_digits name)) refl refl (rw at_p at h) star_case)
+    by_star false at_p h star_case byte_case = rw at_p (at_byte (after_byte tags p name) (rw at_p at h) byte_case)
+
+pub match_fits : (tags : Bool) (ps name ns : List ℕ) → matched tags ps name ≡ Some ns → fits ps ns ≡ true
+unfolding IsFit
+match_fits tags ps name ns is = let fit = matched-fits tags ps all_limits name ns is in counted_fits ps ns fit.0 fit.1
 
 -- a name with numbers is ASCII, and as short as its pattern says
 

@@ -2,12 +2,11 @@
 -- spelling. SpelledNames, SpelledReading, SpelledOnce: what parses is read as before, and once is enough. ReadAgain: what is
 -- read of what was read is the same. ChangeLemmas, PlacedParts, RefusedNames: the changes of a string, the ranges of parts, and
 -- where a string is refused. ObjectFormats: the object format of a triple. ShapeLemmas: what a shape keeps. NumberLemmas,
--- Matches, Keys, Filling: names with numbers, and how they are matched. RowChecks, RowLemmas, NameLaws: what the rows pass,
+-- Matches, Tags, Filling: names with numbers, and how they are matched. RowChecks, RowLemmas, NameLaws: what the rows pass,
 -- what follows of the row of a name, and the laws.
 pub mod ChangeLemmas
 pub mod Filling
 pub mod JoinedNames
-pub mod Keys
 pub mod LookUps
 pub mod MacosNames
 pub mod Matches
@@ -24,3 +23,4 @@ pub mod ShapeLemmas
 pub mod SpelledNames
 pub mod SpelledOnce
 pub mod SpelledReading
+pub mod Tags

@@ -16,14 +16,14 @@ use Rattle.tool_names.specs.declared.tables.Way.TheVariants.{Both, Read, Written
 use Rattle.tool_names.specs.{Dialects.rows_of, Dialects.rules_of, Private.is_short_pattern}
 use Rattle.tool_names.specs.{Laws.IsCanonical, Laws.IsNamed, Laws.NamesAreCanonical, Laws.NamesKeepAnswers, Laws.NamesMeanTheShape, Laws.NamesMeanTheirRows, Laws.MeansTheShape, Laws.ReadsBack, Laws.NamesReadBack, Laws.NamesWithoutTripleAreRefused, Laws.OneNumberIsEnough, Laws.TagsMeanTheSame}
 use Rattle.tool_names.specs.{ObjectFormat.object_format, Shape.machine_by, Shape.shape, Shape.system_by, Shape.unversioned, Shape.with_two_numbers}
-use Rattle.tool_names.specs.Patterns.{all_limits, filled, fits, key_by, star_count, without_number}
+use Rattle.tool_names.specs.Patterns.{all_limits, are_within, filled, fits, star_count, without_number}
 use Rattle.tool_names.specs.Tables.{Row, is_read_and, is_written, row_named}
 use Rattle.tool_names.specs.ToolNames.{HasNoTriple, Unread, found_meaning, name_meaning, numbers_in, read_or_unknown, row_meaning, shape_row, system_with, text_without_numbers, triple_name, version_of_numbers, with_numbers, without_numbers}
-use Rattle.tool_names.proofs.Filling.{are_within, counted_fits, filled_matches, fits_are_within, fits_counted, is_own_tag, is_spaced, key-filled, match_fits}
-use Rattle.tool_names.proofs.NumberLemmas.{tag_of-again}
+use Rattle.tool_names.proofs.Filling.{counted_fits, filled_matches, fits_are_within, fits_counted, is_own_tag, is_spaced, match_fits}
 use Rattle.tool_names.proofs.ObjectFormats.{given_kept}
 use Rattle.tool_names.proofs.RowChecks.{IsWrittenFor, both_rows, gives_no_special_text, has_canonical, has_form, has_numbers, has_short, has_triple, is_both, is_canonical, is_canonical_as, is_known_format, is_ordinary, is_ordinary_architecture, is_ordinary_system, is_short_of, name_of, plain-back, row-written, rows-apart, rows-canonical, rows-formed, rows-short, versioned-back, written_back}
 use Rattle.tool_names.proofs.RowLemmas.{all-at, any-at, is_only_written, is_refused, named-at, row-found}
+use Rattle.tool_names.proofs.Tags.{named_tag}
 use Rattle.tool_names.proofs.ShapeLemmas.{has_no_special_text, numbers-within, shape-endianness, shape-no_special, shape-width, with-again, without-range}
 
 not-false : (b : Bool) → not b ≡ true → b ≡ false
@@ -105,7 +105,7 @@ text-row round_trip u plain no_special canonical =
 
 -- a name means what its row says
 
-found-meaning : (d : Dialect) (name : List ℕ) (found : Row × List ℕ) → row_named (rows_of d) (key_by (rules_of d).tags name) ≡ Some found → name_meaning d name ≡ row_meaning found.0.way found.0.meaning found.1
+found-meaning : (d : Dialect) (name : List ℕ) (found : Row × List ℕ) → row_named (rules_of d).tags (rows_of d) name ≡ Some found → name_meaning d name ≡ row_meaning found.0.way found.0.meaning found.1
 unfolding name_meaning
 found-meaning d name found is = rw is refl
 
@@ -115,7 +115,7 @@ not-written _ other = refl
 
 pub names_mean_rows : NamesMeanTheirRows
 names_mean_rows d row name numbers named other =
-    let found = row-found (rows_of d) (key_by (rules_of d).tags name) named.place row numbers (rows-apart d) named.listed named.has_name in
+    let found = row-found (rules_of d).tags (rows_of d) name named.place row numbers (rows-apart d) named.listed named.has_name in
     found-meaning d name (row, numbers) (found.1 ∙ ap Some (found.2.itself (not-written row.way other)))
 
 refused-meaning : (way : Way) (text numbers : List ℕ) → is_refused way ≡ true → (why : List ℕ) × (row_meaning way text numbers ≡ Err (HasNoTriple why))
@@ -126,7 +126,7 @@ refused-meaning NoTriple text numbers is = (text, refl)
 
 written-refused : (d : Dialect) (row : Row) (name numbers : List ℕ) → IsNamed d row name numbers → is_only_written row.way ≡ true → (why : List ℕ) × (name_meaning d name ≡ Err (HasNoTriple why))
 written-refused d row name numbers named is =
-    let found = row-found (rows_of d) (key_by (rules_of d).tags name) named.place row numbers (rows-apart d) named.listed named.has_name in
+    let found = row-found (rules_of d).tags (rows_of d) name named.place row numbers (rows-apart d) named.listed named.has_name in
     let refused = refused-meaning found.0.0.way found.0.0.meaning found.0.1 (found.2.refused is) in
     (refused.0, found-meaning d name found.0 found.1 ∙ refused.1)
 
@@ -139,7 +139,7 @@ without_triple_refused = record {
 
 pub tags_mean_same : TagsMeanTheSame
 unfolding name_meaning
-tags_mean_same d name tags = rw (tags, tag_of-again name) refl
+tags_mean_same d name tags = rw (tags, named_tag (rows_of d) name) refl
 
 -- the form of a row, and its name with numbers
 
@@ -162,7 +162,7 @@ form-at d i row at =
 named-filled : (d : Dialect) (i : ℕ) (row : Row) (numbers : List ℕ) → slice_get (rows_of d) i ≡ Some row → fits row.pattern numbers ≡ true → IsNamed d row (filled row.pattern numbers) numbers
 named-filled d i row numbers at fit =
     let form = form-at d i row at in
-    record { place = i; listed = at; has_name = rw (key-filled (rules_of d).tags row.pattern numbers form.own fit) (filled_matches row.pattern numbers form.spaced fit) }
+    record { place = i; listed = at; has_name = filled_matches (rules_of d).tags row.pattern numbers form.spaced form.own fit }
 
 -- names read back
 
@@ -304,28 +304,28 @@ numbers-special stars (n ∷ ns) b counted test some = by_none (nat_eq stars 0) 
     by_none true is h = absurd (omega (arith, eqb-true stars 0 is, counted))
     by_none false is h = h
 
-found-canonical : RoundIsNormalStep → ReadTriplesArePlain → (d : Dialect) (name : List ℕ) (found : Row × List ℕ) (t : Values) → row_named (rows_of d) name ≡ Some found → has_triple found.0.way ≡ true
+found-canonical : RoundIsNormalStep → ReadTriplesArePlain → (d : Dialect) (name : List ℕ) (found : Row × List ℕ) (t : Values) → row_named (rules_of d).tags (rows_of d) name ≡ Some found → has_triple found.0.way ≡ true
     → with_numbers found.1 (read_or_unknown (reading found.0.meaning)) ≡ Ok t → IsCanonical t
 found-canonical round_trip read_plain d name found t is triple means =
-    let at = named-at (rows_of d) name found is in
+    let at = named-at (rules_of d).tags (rows_of d) name found is in
     let canonical = canonical-at d at.0 found.0 at.1 triple in
     let row = canonical-row found.0.meaning canonical.0 in
-    let fit = match_fits found.0.pattern name found.1 at.2 in
+    let fit = match_fits (rules_of d).tags found.0.pattern name found.1 at.2 in
     let special = λ (some : found.1 ≢ []). subst (λ r. gives_no_special_text r ≡ true) row.1.reads (numbers-special (star_count found.0.pattern) found.1 (gives_no_special_text (reading found.0.meaning)) (fits_counted found.0.pattern found.1 fit) canonical.1 some) in
     let same : Ok (record row.0 { operating_system = system_with found.1 row.0.operating_system }) ≡ Ok t = sym (ap (λ r. with_numbers found.1 (read_or_unknown r)) row.1.reads) ∙ means in
     numbered-canonical round_trip read_plain found.0.meaning found.1 t row.0 row.1 special (fits_are_within found.0.pattern found.1 fit) cc
 
 pub names_canonical : RoundIsNormalStep → ReadTriplesArePlain → NamesAreCanonical
 unfolding name_meaning
-names_canonical round_trip read_plain d name t means = by_found (row_named (rows_of d) (key_by (rules_of d).tags name)) refl means
+names_canonical round_trip read_plain d name t means = by_found (row_named (rules_of d).tags (rows_of d) name) refl means
   where
-    by_way : (found : Row × List ℕ) → row_named (rows_of d) (key_by (rules_of d).tags name) ≡ Some found → (way : Way) → found.0.way ≡ way → row_meaning way found.0.meaning found.1 ≡ Ok t → IsCanonical t
-    by_way found is Both way h = found-canonical round_trip read_plain d (key_by (rules_of d).tags name) found t is (rw way refl) h
-    by_way found is Read way h = found-canonical round_trip read_plain d (key_by (rules_of d).tags name) found t is (rw way refl) h
+    by_way : (found : Row × List ℕ) → row_named (rules_of d).tags (rows_of d) name ≡ Some found → (way : Way) → found.0.way ≡ way → row_meaning way found.0.meaning found.1 ≡ Ok t → IsCanonical t
+    by_way found is Both way h = found-canonical round_trip read_plain d name found t is (rw way refl) h
+    by_way found is Read way h = found-canonical round_trip read_plain d name found t is (rw way refl) h
     by_way found is Written way h = absurd cc
     by_way found is NoTriple way h = absurd cc
 
-    by_found : (o : Option (Row × List ℕ)) → row_named (rows_of d) (key_by (rules_of d).tags name) ≡ o → found_meaning o ≡ Ok t → IsCanonical t
+    by_found : (o : Option (Row × List ℕ)) → row_named (rules_of d).tags (rows_of d) name ≡ o → found_meaning o ≡ Ok t → IsCanonical t
     by_found None is h = absurd cc
     by_found (Some found) is h = by_way found is found.0.way refl h
 

@@ -1,21 +1,12 @@
--- Numbers in decimal, and tags.
-use Rattle.std.proofs.Common.{◌≡◌, ◌∙◌, ℕ, zero, suc, ◌^◌, ◌<◌, ◌≤◌, nat_eq, nat_lt, nat_le, List, [], ◌∷◌, ◌++◌, length, get_or, Some, None, Bool, true, false, not, ◌&&◌, ◌||◌, cond, refl, sym, ap, subst, arith}
+-- Numbers in decimal.
+use Rattle.std.proofs.Common.{◌≡◌, ◌∙◌, ℕ, zero, suc, ◌^◌, ◌<◌, ◌≤◌, nat_eq, nat_lt, nat_le, List, [], ◌∷◌, length, get_or, Some, None, Bool, true, false, not, ◌&&◌, ◌||◌, cond, refl, sym, ap, subst, arith}
 use Rattle.std.specs.{Char.is_ascii_digit, Fmt.decimal, List.list_all, Str.IsUtf8, Str.Parse.digits_value, Str.Parse.without_leading_plus}
 use Rattle.std.proofs.lemmas.Bool.{and_parts, eqb-true, lt-ltb, le-leb}
 use Rattle.std.proofs.lemmas.Fmt.{IsAscii-from_digits, decimal_digit, decimal_is_IsNumeral, first_decimal}
 use Rattle.std.proofs.lemmas.Str.{IsUtf8-from_ascii}
 use Rattle.lexicon_fields.specs.Version.{number_within, piece_number_within}
 use Rattle.lexicon_fields.proofs.{LookUpLemmas.test_apart, VersionsReadBack.digits_model}
-use Rattle.tool_names.specs.Patterns.{is_plain, is_separator, plain_number, tag_byte, tag_of}
-
--- a tag of a tag is the tag
-pub tag_of-again : (name : List ℕ) → tag_of (tag_of name) ≡ tag_of name
-tag_of-again [] = refl
-tag_of-again (c ∷ cs) = by_test (is_separator c) refl (tag_of-again cs)
-  where
-    by_test : (b : Bool) → is_separator c ≡ b → tag_of (tag_of cs) ≡ tag_of cs → tag_of (tag_of (c ∷ cs)) ≡ tag_of (c ∷ cs)
-    by_test true is rest = rw (is, rest) refl
-    by_test false is rest = rw (is, is, rest) refl
+use Rattle.tool_names.specs.Patterns.{is_plain, plain_number}
 
 -- plain numbers and decimals
 
@@ -79,18 +70,3 @@ not_utf8-none limit text bad = by_plain (is_plain text) refl
     by_plain : (b : Bool) → is_plain text ≡ b → plain_number limit text ≡ None
     by_plain false is = rw is refl
     by_plain true is = rw is (by_digits (list_all is_ascii_digit text) refl)
-
--- digits are their own tag
-
-pub digits-tag : (ds : List ℕ) → list_all is_ascii_digit ds ≡ true → tag_of ds ≡ ds
-digits-tag [] digits = refl
-digits-tag (c ∷ cs) digits =
-    let parts = and_parts (is_ascii_digit c) (list_all is_ascii_digit cs) digits in
-    rw (test_apart is_ascii_digit c 45 refl parts.0, test_apart is_ascii_digit c 46 refl parts.0, test_apart is_ascii_digit c 95 refl parts.0, digits-tag cs parts.1) refl
-
-pub tag_of-append : (front back : List ℕ) → tag_of (front ++ back) ≡ tag_of front ++ tag_of back
-tag_of-append [] back = refl
-tag_of-append (c ∷ cs) back = ap (λ rest. tag_byte c ∷ rest) (tag_of-append cs back)
-
-pub decimal-tag : (n : ℕ) → n < 2 ^ 64 → tag_of (decimal n) ≡ decimal n
-decimal-tag n small = digits-tag (decimal n) (digits_model.from (decimal n) (decimal_is_IsNumeral n small).0.1)

@@ -5,7 +5,8 @@ use Rattle.std.specs.{Char.is_ascii_digit, List.list_all, List.list_any, List.pr
 use Rattle.std.proofs.lemmas.Bool.{and_parts, eqb-false, eqb-true}
 use Rattle.tool_names.specs.declared.tables.Way.{Way}
 use Rattle.tool_names.specs.declared.tables.Way.TheVariants.{Written, NoTriple}
-use Rattle.tool_names.specs.Patterns.{after_digits, all_limits, head_digits, matched, matched_within, next_number, put_first, rest_of, star}
+use Rattle.tool_names.specs.Patterns.{after_digits, all_limits, head_digits, key_by, matched, matched_within, next_number, put_first, rest_of, star}
+use Rattle.tool_names.proofs.Tags.{matched_key}
 use Rattle.tool_names.specs.Tables.{Row, is_written_for, row_for, row_named}
 
 -- two patterns that are apart: they differ at a byte, or one has a star where the other has a byte that begins no number
@@ -42,29 +43,29 @@ put-parts (Some n) (Some ns) x is = ((n, refl), (ns, refl))
 put-parts (Some n) None x is = absurd cc
 put-parts None rest x is = absurd cc
 
-at-star : (p : ℕ) (ps limits name x : List ℕ) → nat_eq p star ≡ true → matched_within limits (p ∷ ps) name ≡ Some x
-    → (first_digit name ≡ true) × ((ns : List ℕ) × (matched_within (rest_of limits) ps (after_digits name) ≡ Some ns))
+at-star : (p : ℕ) (ps limits name x : List ℕ) → nat_eq p star ≡ true → matched_within false limits (p ∷ ps) name ≡ Some x
+    → (first_digit name ≡ true) × ((ns : List ℕ) × (matched_within false (rest_of limits) ps (after_digits name) ≡ Some ns))
 at-star p ps limits name x is_star is =
     let h = rw is_star at is in
-    let parts = put-parts (next_number limits (head_digits name)) (matched_within (rest_of limits) ps (after_digits name)) x h in
+    let parts = put-parts (next_number limits (head_digits name)) (matched_within false (rest_of limits) ps (after_digits name)) x h in
     (number-digit limits name parts.0.0 parts.0.1, parts.1)
 
-at-byte : (p : ℕ) (ps limits name x : List ℕ) → nat_eq p star ≡ false → matched_within limits (p ∷ ps) name ≡ Some x → (cs : List ℕ) × (name ≡ p ∷ cs) × (matched_within limits ps cs ≡ Some x)
+at-byte : (p : ℕ) (ps limits name x : List ℕ) → nat_eq p star ≡ false → matched_within false limits (p ∷ ps) name ≡ Some x → (cs : List ℕ) × (name ≡ p ∷ cs) × (matched_within false limits ps cs ≡ Some x)
 at-byte p ps limits [] x other is = let h = rw other at is in absurd cc
 at-byte p ps limits (c ∷ cs) x other is = by_same (nat_eq p c) refl (rw other at is)
   where
-    by_same : (b : Bool) → nat_eq p c ≡ b → option_and_then (λ (rest : List ℕ). matched_within limits ps rest) (cond b (Some cs) None) ≡ Some x → (cs' : List ℕ) × (c ∷ cs ≡ p ∷ cs') × (matched_within limits ps cs' ≡ Some x)
+    by_same : (b : Bool) → nat_eq p c ≡ b → option_and_then (λ (rest : List ℕ). matched_within false limits ps rest) (cond b (Some cs) None) ≡ Some x → (cs' : List ℕ) × (c ∷ cs ≡ p ∷ cs') × (matched_within false limits ps cs' ≡ Some x)
     by_same true same h = (cs, ap (λ b. b ∷ cs) (sym (eqb-true p c same)), h)
     by_same false same h = absurd cc
 
-empty-unmatched : (q : ℕ) (qs limits x : List ℕ) → matched_within limits (q ∷ qs) [] ≡ Some x → ⊥
+empty-unmatched : (q : ℕ) (qs limits x : List ℕ) → matched_within false limits (q ∷ qs) [] ≡ Some x → ⊥
 empty-unmatched q qs limits x is = by_star (nat_eq q star) refl
   where
     by_star : (b : Bool) → nat_eq q star ≡ b → ⊥
     by_star true h = let bad = (at-star q qs limits [] x h is).0 in absurd cc
     by_star false h = let bad = (at-byte q qs limits [] x h is).1 in absurd cc
 
-ended : (limits name x : List ℕ) → matched_within limits [] name ≡ Some x → name ≡ []
+ended : (limits name x : List ℕ) → matched_within false limits [] name ≡ Some x → name ≡ []
 ended limits [] x is = refl
 ended limits (c ∷ cs) x is = absurd cc
 
@@ -74,20 +75,20 @@ not-true false h n = absurd cc
 
 -- no name has both patterns
 abbrev have_no_name : List ℕ → List ℕ → Type 0
-have_no_name ps qs = (name l m x y : List ℕ) → apart ps qs ≡ true → matched_within l ps name ≡ Some x → matched_within m qs name ≡ Some y → ⊥
+have_no_name ps qs = (name l m x y : List ℕ) → apart ps qs ≡ true → matched_within false l ps name ≡ Some x → matched_within false m qs name ≡ Some y → ⊥
 
 -- two patterns that are apart have no name in common
 apart-sound : (ps qs : List ℕ) → have_no_name ps qs
 apart-sound [] [] name l m x y is has_p has_q = absurd cc
-apart-sound [] (q ∷ qs) name l m x y is has_p has_q = empty-unmatched q qs m y (subst (λ (n : List ℕ). matched_within m (q ∷ qs) n ≡ Some y) (ended l name x has_p) has_q)
-apart-sound (p ∷ ps) [] name l m x y is has_p has_q = empty-unmatched p ps l x (subst (λ (n : List ℕ). matched_within l (p ∷ ps) n ≡ Some x) (ended m name y has_q) has_p)
+apart-sound [] (q ∷ qs) name l m x y is has_p has_q = empty-unmatched q qs m y (subst (λ (n : List ℕ). matched_within false m (q ∷ qs) n ≡ Some y) (ended l name x has_p) has_q)
+apart-sound (p ∷ ps) [] name l m x y is has_p has_q = empty-unmatched p ps l x (subst (λ (n : List ℕ). matched_within false l (p ∷ ps) n ≡ Some x) (ended m name y has_q) has_p)
 apart-sound (p ∷ ps) (q ∷ qs) name l m x y is has_p has_q = by_stars (apart-sound ps qs) (nat_eq p star) (nat_eq q star) refl refl is
   where
-    by_bytes : have_no_name ps qs → (cs ds : List ℕ) → name ≡ p ∷ cs → name ≡ q ∷ ds → matched_within l ps cs ≡ Some x → matched_within m qs ds ≡ Some y → (b : Bool) → nat_eq p q ≡ b → cond b (apart ps qs) true ≡ true → ⊥
+    by_bytes : have_no_name ps qs → (cs ds : List ℕ) → name ≡ p ∷ cs → name ≡ q ∷ ds → matched_within false l ps cs ≡ Some x → matched_within false m qs ds ≡ Some y → (b : Bool) → nat_eq p q ≡ b → cond b (apart ps qs) true ≡ true → ⊥
     by_bytes again cs ds name_p name_q rest_p rest_q true same h =
         let both : p ∷ cs ≡ q ∷ ds = sym name_p ∙ name_q in
         let tails : cs ≡ ds = ap rest_of both in
-        again ds l m x y h (subst (λ (n : List ℕ). matched_within l ps n ≡ Some x) tails rest_p) rest_q
+        again ds l m x y h (subst (λ (n : List ℕ). matched_within false l ps n ≡ Some x) tails rest_p) rest_q
     by_bytes again cs ds name_p name_q rest_p rest_q false same h =
         let both : p ∷ cs ≡ q ∷ ds = sym name_p ∙ name_q in
         eqb-false p q same (ap (λ (n : List ℕ). get_or n 0 0) both)
@@ -147,16 +148,16 @@ any-at p (row ∷ rows) h = by_test (p row) refl h (any-at p rows)
     by_test false is h again = let found = again h in record { row = found.row; place = suc found.place; listed = found.listed; holds = found.holds }
 
 -- the row that is found for a name is in the table, and has the name
-pub named-at : (rows : List Row) (name : List ℕ) (found : Row × List ℕ) → row_named rows name ≡ Some found → (i : ℕ) × (slice_get rows i ≡ Some found.0) × (matched found.0.pattern name ≡ Some found.1)
-named-at [] name found is = absurd cc
-named-at (row ∷ rows) name found is = by_match (matched row.pattern name) refl is (named-at rows name found)
+pub named-at : (tags : Bool) (rows : List Row) (name : List ℕ) (found : Row × List ℕ) → row_named tags rows name ≡ Some found → (i : ℕ) × (slice_get rows i ≡ Some found.0) × (matched tags found.0.pattern name ≡ Some found.1)
+named-at tags [] name found is = absurd cc
+named-at tags (row ∷ rows) name found is = by_match (matched tags row.pattern name) refl is (named-at tags rows name found)
   where
-    by_match : (o : Option (List ℕ)) → matched row.pattern name ≡ o → option_or (option_map (λ (numbers : List ℕ). (row, numbers)) o) (row_named rows name) ≡ Some found
-        → (row_named rows name ≡ Some found → (i : ℕ) × (slice_get rows i ≡ Some found.0) × (matched found.0.pattern name ≡ Some found.1))
-        → (i : ℕ) × (slice_get (row ∷ rows) i ≡ Some found.0) × (matched found.0.pattern name ≡ Some found.1)
+    by_match : (o : Option (List ℕ)) → matched tags row.pattern name ≡ o → option_or (option_map (λ (numbers : List ℕ). (row, numbers)) o) (row_named tags rows name) ≡ Some found
+        → (row_named tags rows name ≡ Some found → (i : ℕ) × (slice_get rows i ≡ Some found.0) × (matched tags found.0.pattern name ≡ Some found.1))
+        → (i : ℕ) × (slice_get (row ∷ rows) i ≡ Some found.0) × (matched tags found.0.pattern name ≡ Some found.1)
     by_match (Some numbers) has h again =
         let same : (row, numbers) ≡ found = cc in
-        subst (λ (f : Row × List ℕ). (i : ℕ) × (slice_get (row ∷ rows) i ≡ Some f.0) × (matched f.0.pattern name ≡ Some f.1)) same (0, refl, has)
+        subst (λ (f : Row × List ℕ). (i : ℕ) × (slice_get (row ∷ rows) i ≡ Some f.0) × (matched tags f.0.pattern name ≡ Some f.1)) same (0, refl, has)
     by_match None none h again = let rest = again h in (suc rest.0, rest.1, rest.2)
 
 -- so is the one for a triple
@@ -171,12 +172,12 @@ for-at (row ∷ rows) numbers text found is = by_test (is_written_for numbers te
     by_test false has h again = let rest = again h in (suc rest.0, rest.1, rest.2)
 
 -- two rows have a name only where the first isn't read and the second is only written
-both-named : (a b : Row) (name x y : List ℕ) → are_apart a b ≡ true → matched a.pattern name ≡ Some x → matched b.pattern name ≡ Some y → (is_only_written b.way && is_refused a.way) ≡ true
-both-named a b name x y is has_a has_b = by_test (is_only_written b.way && is_refused a.way) is
+both-named : (tags : Bool) (a b : Row) (name x y : List ℕ) → are_apart a b ≡ true → matched tags a.pattern name ≡ Some x → matched tags b.pattern name ≡ Some y → (is_only_written b.way && is_refused a.way) ≡ true
+both-named tags a b name x y is has_a has_b = by_test (is_only_written b.way && is_refused a.way) is
   where
     by_test : (c : Bool) → (c || apart a.pattern b.pattern) ≡ true → c ≡ true
     by_test true h = refl
-    by_test false h = absurd (apart-sound a.pattern b.pattern name all_limits all_limits x y h has_a has_b)
+    by_test false h = absurd (apart-sound a.pattern b.pattern (key_by tags name) all_limits all_limits x y h (sym (matched_key tags a.pattern name) ∙ has_a) (sym (matched_key tags b.pattern name) ∙ has_b))
 
 -- the row that is found for the name of a row: itself, or one that isn't read if it is only written
 pub record IsFoundFor (row : Row) (numbers : List ℕ) (found : Row × List ℕ) : Type 0 where
@@ -187,17 +188,17 @@ way-refused : (way : Way) → is_only_written way ≡ true → is_refused way �
 way-refused Written is = refl
 way-refused _ is = absurd cc
 
-pub row-found : (rows : List Row) (name : List ℕ) (i : ℕ) (row : Row) (numbers : List ℕ) → all_apart rows ≡ true → slice_get rows i ≡ Some row → matched row.pattern name ≡ Some numbers
-    → (found : Row × List ℕ) × (row_named rows name ≡ Some found) × IsFoundFor row numbers found
-row-found [] name i row numbers apart at has = absurd cc
-row-found (first ∷ rows) name zero row numbers apart at has =
+pub row-found : (tags : Bool) (rows : List Row) (name : List ℕ) (i : ℕ) (row : Row) (numbers : List ℕ) → all_apart rows ≡ true → slice_get rows i ≡ Some row → matched tags row.pattern name ≡ Some numbers
+    → (found : Row × List ℕ) × (row_named tags rows name ≡ Some found) × IsFoundFor row numbers found
+row-found tags [] name i row numbers apart at has = absurd cc
+row-found tags (first ∷ rows) name zero row numbers apart at has =
     let same : first ≡ row = cc in
-    ((row, numbers), rw (ap (λ (r : Row). matched r.pattern name) same ∙ has) (ap (λ (r : Row). Some (r, numbers)) same), record { itself = λ _. refl; refused = way-refused row.way })
-row-found (first ∷ rows) name (suc i) row numbers apart at has = by_first (matched first.pattern name) refl (row-found rows name i row numbers (and_parts _ _ apart).1 at has)
+    ((row, numbers), rw (ap (λ (r : Row). matched tags r.pattern name) same ∙ has) (ap (λ (r : Row). Some (r, numbers)) same), record { itself = λ _. refl; refused = way-refused row.way })
+row-found tags (first ∷ rows) name (suc i) row numbers apart at has = by_first (matched tags first.pattern name) refl (row-found tags rows name i row numbers (and_parts _ _ apart).1 at has)
   where
-    by_first : (o : Option (List ℕ)) → matched first.pattern name ≡ o → (found : Row × List ℕ) × (row_named rows name ≡ Some found) × IsFoundFor row numbers found
-        → (found : Row × List ℕ) × (option_or (option_map (λ (ns : List ℕ). (first, ns)) o) (row_named rows name) ≡ Some found) × IsFoundFor row numbers found
+    by_first : (o : Option (List ℕ)) → matched tags first.pattern name ≡ o → (found : Row × List ℕ) × (row_named tags rows name ≡ Some found) × IsFoundFor row numbers found
+        → (found : Row × List ℕ) × (option_or (option_map (λ (ns : List ℕ). (first, ns)) o) (row_named tags rows name) ≡ Some found) × IsFoundFor row numbers found
     by_first None none rest = rest
     by_first (Some other) has_first rest =
-        let shared = and_parts _ _ (both-named first row name other numbers (all-at (are_apart first) rows i row (and_parts _ _ apart).0 at) has_first has) in
+        let shared = and_parts _ _ (both-named tags first row name other numbers (all-at (are_apart first) rows i row (and_parts _ _ apart).0 at) has_first has) in
         ((first, other), refl, record { itself = λ apart. absurd (let bad = sym apart ∙ shared.0 in cc); refused = λ _. shared.1 })

@@ -14,8 +14,7 @@ use Rattle.tool_names.specs.declared.shape.AbiRule.{AbiRule}
 use Rattle.tool_names.specs.declared.shape.AbiRule.TheVariants.{Kept, Dropped, KeptOnLinux}
 use Rattle.tool_names.specs.Dialects.{rules_of}
 use Rattle.tool_names.specs.Laws.{ShapesAreFixed}
-use Rattle.tool_names.specs.Patterns.{all_limits}
-use Rattle.tool_names.proofs.Filling.{are_within}
+use Rattle.tool_names.specs.Patterns.{all_limits, are_within}
 use Rattle.tool_names.specs.Shape.{abi_by, abi_on, arm_of_order, arm_of_version, is_bare_abi, is_dropped_abi, machine_by, shape, system_by, unknown_if, unversioned, usual_vendor, with_two_numbers}
 use Rattle.tool_names.specs.ToolNames.{numbers_in, system_with, without_numbers}
 

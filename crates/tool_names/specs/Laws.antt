@@ -5,7 +5,7 @@ use Rattle.target_lexicon.specs.{FixedPoints.settled_values, Laws.ComesBack, Que
 use Rattle.tool_names.specs.declared.dialect.Dialect.{Dialect}
 use Rattle.tool_names.specs.declared.tables.Way.TheVariants.{Both, Written, NoTriple}
 use Rattle.tool_names.specs.{Dialects.rows_of, Dialects.rules_of, ObjectFormat.object_format, Shape.shape}
-use Rattle.tool_names.specs.Patterns.{filled, fits, key_by, matched, star_count, tag_of, without_number}
+use Rattle.tool_names.specs.Patterns.{filled, fits, matched, star_count, tag_of, without_number}
 use Rattle.tool_names.specs.Tables.{Row, is_read_and}
 use Rattle.tool_names.specs.ToolNames.{HasNoTriple, name_meaning, numbers_in, row_meaning, shape_row, triple_name}
 
@@ -22,7 +22,7 @@ NamesAreCanonical = (d : Dialect) (name : List ℕ) (t : Values) → name_meanin
 pub record IsNamed (d : Dialect) (row : Row) (name numbers : List ℕ) : Type 0 where
   pub place : ℕ
   pub listed : slice_get (rows_of d) place ≡ Some row
-  pub has_name : matched row.pattern (key_by (rules_of d).tags name) ≡ Some numbers
+  pub has_name : matched (rules_of d).tags row.pattern name ≡ Some numbers
 
 -- a name means what its row says, which is the only one. Rows that are only written may share a name with rows before them
 abbrev pub NamesMeanTheirRows : Type 0

@@ -27,23 +27,19 @@ abbrev pub filled : List ℕ → List ℕ → List ℕ
 filled [] numbers = []
 filled (p ∷ ps) numbers = if p == star then first_text numbers ++ filled ps (rest_of numbers) else p ∷ filled ps numbers
 
-abbrev pub fits_first : List ℕ → List ℕ → Bool
-fits_first (limit ∷ limits) (n ∷ ns) = nat_le n limit
-fits_first _ _ = false
-
--- whether there is one number for each star, within its limit
-abbrev pub fits_within : List ℕ → List ℕ → List ℕ → Bool
-fits_within limits [] [] = true
-fits_within limits [] (n ∷ ns) = false
-fits_within limits (p ∷ ps) numbers =
-    if p == star then fits_first limits numbers && fits_within (rest_of limits) ps (rest_of numbers) else fits_within limits ps numbers
-
-abbrev pub fits : List ℕ → List ℕ → Bool
-fits pattern numbers = fits_within all_limits pattern numbers
-
 abbrev pub star_count : List ℕ → ℕ
 star_count [] = 0
 star_count (p ∷ ps) = if p == star then suc (star_count ps) else star_count ps
+
+-- whether each number is within its limit
+abbrev pub are_within : List ℕ → List ℕ → Bool
+are_within limits [] = true
+are_within [] (n ∷ ns) = false
+are_within (limit ∷ limits) (n ∷ ns) = nat_le n limit && are_within limits ns
+
+-- whether there is one number for each star, within its limit
+abbrev pub fits : List ℕ → List ℕ → Bool
+fits pattern numbers = star_count pattern == length numbers && are_within all_limits numbers
 
 -- a pattern without its first star and the byte after it
 abbrev pub without_number : List ℕ → List ℕ
@@ -78,22 +74,6 @@ abbrev pub put_first : Option ℕ → Option (List ℕ) → Option (List ℕ)
 put_first (Some n) (Some ns) = Some (n ∷ ns)
 put_first _ _ = None
 
--- what follows a byte
-abbrev pub after_byte : ℕ → List ℕ → Option (List ℕ)
-after_byte b [] = None
-after_byte b (c ∷ cs) = if b == c then Some cs else None
-
--- the numbers that a name has where a pattern has stars, if it has the pattern
-abbrev pub matched_within : List ℕ → List ℕ → List ℕ → Option (List ℕ)
-matched_within limits [] [] = Some []
-matched_within limits [] (c ∷ cs) = None
-matched_within limits (p ∷ ps) name =
-    if p == star then put_first (next_number limits (head_digits name)) (matched_within (rest_of limits) ps (after_digits name))
-    else option_and_then (λ rest. matched_within limits ps rest) (after_byte p name)
-
-abbrev pub matched : List ℕ → List ℕ → Option (List ℕ)
-matched pattern name = matched_within all_limits pattern name
-
 -- the bytes for which a tag has `_`
 abbrev pub underscore : ℕ
 underscore = 95
@@ -108,6 +88,22 @@ tag_byte c = if is_separator c then underscore else c
 abbrev pub tag_of : List ℕ → List ℕ
 tag_of name = map tag_byte name
 
--- the text by which a name is looked up: in a dialect of tags its tag
+-- what follows a byte; of a tag, or of a name in the place of its tag
+abbrev pub after_byte : Bool → ℕ → List ℕ → Option (List ℕ)
+after_byte tags b [] = None
+after_byte tags b (c ∷ cs) = if b == (if tags then tag_byte c else c) then Some cs else None
+
+-- the numbers that a name, or its tag, has where a pattern has stars, if it has the pattern
+abbrev pub matched_within : Bool → List ℕ → List ℕ → List ℕ → Option (List ℕ)
+matched_within tags limits [] [] = Some []
+matched_within tags limits [] (c ∷ cs) = None
+matched_within tags limits (p ∷ ps) name =
+    if p == star then put_first (next_number limits (head_digits name)) (matched_within tags (rest_of limits) ps (after_digits name))
+    else option_and_then (λ rest. matched_within tags limits ps rest) (after_byte tags p name)
+
+abbrev pub matched : Bool → List ℕ → List ℕ → Option (List ℕ)
+matched tags pattern name = matched_within tags all_limits pattern name
+
+-- a name as it is matched byte by byte: where names are tags, its tag
 abbrev pub key_by : Bool → List ℕ → List ℕ
 key_by tags name = if tags then tag_of name else name

@@ -1,12 +1,12 @@
 -- Definitions for the contracts of private functions; no public contract cites them.
-use Rattle.std.specs.Prelude.{⊤, ℕ, ◌+◌, ◌^◌, ◌<◌, ◌==◌, ◌&&◌, nat_le, nat_lt, Bool, List, [], ◌∷◌, ◌++◌, Option, Some, None, drop, map, option_map, if◌then◌else◌}
+use Rattle.std.specs.Prelude.{⊤, ℕ, ◌+◌, ◌^◌, ◌<◌, ◌==◌, ◌&&◌, nat_le, nat_lt, Bool, List, [], ◌∷◌, ◌++◌, Option, Some, None, map, option_map, if◌then◌else◌}
 use Rattle.std.specs.{Borrow.Bor, List.list_all}
 use Rattle.lexicon_fields.specs.Names.{Pair}
 use Rattle.target_lexicon.specs.{GreedyReading.FieldReading, Placement.parts_of}
 use Rattle.tool_names.specs.{declared.names_left.Left.Left, declared.names_left.NameCursor.NameCursor, declared.pattern.Numbers.Numbers, declared.tables.Way.Way}
 use Rattle.tool_names.specs.declared.pattern.Numbers.TheVariants.{NoNumber, One, Two}
 use Rattle.tool_names.specs.Changes.{name_text, parts_after}
-use Rattle.tool_names.specs.{Patterns.digit_count, Patterns.plain_number, Patterns.rest_of, Patterns.star, Tables.Row, Tables.plain_row}
+use Rattle.tool_names.specs.{Patterns.plain_number, Patterns.rest_of, Patterns.star, Tables.Row, Tables.plain_row}
 use Rattle.tool_names.specs.Spelling.{SpelledName, later_names, name_texts, spelled_by}
 
 -- a table in the code as a list of pairs
@@ -43,10 +43,6 @@ abbrev pub with_number : Numbers → List ℕ → Option Numbers
 with_number NoNumber text = option_map One (plain_number 65535 text)
 with_number (One major) text = option_map (Two major) (plain_number 255 text)
 with_number (Two _ _) text = None
-
--- the end of the digits of a text from a place on
-abbrev pub digits_end : List ℕ → ℕ → ℕ
-digits_end text at = at + digit_count (drop at text)
 
 -- the row of a name, and its numbers
 abbrev pub found_row : (Bor (List ℕ) × Bor (List ℕ) × Way) × Numbers → Row × List ℕ

@@ -25,10 +25,10 @@ plain_row row = record { pattern = row.0.now; meaning = row.1.now; way = row.2 }
 abbrev pub plain_rows : List (Bor (List ℕ) × Bor (List ℕ) × Way) → List Row
 plain_rows rows = map plain_row rows
 
--- the first row that has a name, and the numbers of the name
-abbrev pub row_named : List Row → List ℕ → Option (Row × List ℕ)
-row_named [] name = None
-row_named (row ∷ rows) name = option_or (option_map (λ (numbers : List ℕ). (row, numbers)) (matched row.pattern name)) (row_named rows name)
+-- the first row that has a name, or its tag, and the numbers of the name
+abbrev pub row_named : Bool → List Row → List ℕ → Option (Row × List ℕ)
+row_named tags [] name = None
+row_named tags (row ∷ rows) name = option_or (option_map (λ (numbers : List ℕ). (row, numbers)) (matched tags row.pattern name)) (row_named tags rows name)
 
 abbrev pub is_written : Way → Bool
 is_written Both = true

@@ -7,7 +7,7 @@ use Rattle.tool_names.specs.{declared.dialect.Dialect.Dialect, declared.name.Nam
 use Rattle.tool_names.specs.declared.names.NameError.TheVariants as name_error
 use Rattle.tool_names.specs.declared.tables.TheConstants.{ONLY_WRITTEN}
 use Rattle.tool_names.specs.declared.tables.Way.TheVariants.{Both, Read, Written, NoTriple}
-use Rattle.tool_names.specs.Patterns.{filled, key_by}
+use Rattle.tool_names.specs.Patterns.{filled}
 use Rattle.tool_names.specs.Tables.{Row, has_plain_name, row_for, row_named}
 
 -- why a name isn't read: it isn't known, or it has no triple, for this reason
@@ -60,7 +60,7 @@ found_meaning (Some found) = row_meaning found.0.way found.0.meaning found.1
 
 -- what a name means: what its row means
 unfoldable pub name_meaning : Dialect → List ℕ → Result Values Unread
-name_meaning d name = found_meaning (row_named (rows_of d) (key_by (rules_of d).tags name))
+name_meaning d name = found_meaning (row_named (rules_of d).tags (rows_of d) name)
 
 -- the numbers of a system's version, which names may have, and the system without them
 abbrev pub numbers_in : OperatingSystem → List ℕ

@@ -1,7 +1,7 @@
 //! Names with numbers: a star in the name of a row is a number.
-ghost use Rattle.std.specs.Prelude.{◌≡◌, ◌≤◌, length, option_map, if◌then◌else◌};
-ghost use Rattle.tool_names.specs.Patterns.{is_plain, key_by, matched, plain_number, rest_of, star_count, tag_byte};
-ghost use Rattle.tool_names.specs.Private.{AreInRange, digits_end, numbers_of, with_number};
+ghost use Rattle.std.specs.Prelude.{◌≡◌, length, option_map, if◌then◌else◌};
+ghost use Rattle.tool_names.specs.Patterns.{after_byte, digit_count, is_plain, matched, plain_number, rest_of, star_count, tag_byte};
+ghost use Rattle.tool_names.specs.Private.{AreInRange, numbers_of, with_number};
 
 use std::str::from_utf8;
 
@@ -13,27 +13,31 @@ pub(crate) enum Numbers {
     Two(u16, u8),
 }
 
-/// The numbers that a name has where a pattern has stars, or that its tag has. `None` if it doesn't have the pattern.
+/// The numbers that a name, or its tag, has where a pattern has stars. `None` if it doesn't have the pattern.
 pub(crate) fn matched(pattern: &[u8], name: &[u8], tags: bool) -> Option<Numbers>
-    ensures { option_map numbers_of result ≡ matched pattern.now (key_by tags name.now) }
+    ensures { option_map numbers_of result ≡ matched tags pattern.now name.now }
 {
     let mut numbers = Numbers::NoNumber;
-    let mut at = 0;
+    let mut rest = name;
     for byte in pattern {
         if *byte == b'*' {
-            let end = digits_end(name, at);
-            numbers = numbers.with(&name[at..end])?;
-            at = end;
-        } else if at < name.len() && *byte == key_byte(name[at], tags) {
-            at += 1;
+            let (digits, others) = rest.split_at(digit_count(rest));
+            numbers = numbers.with(digits)?;
+            rest = others;
         } else {
-            return None;
+            rest = after_byte(rest, *byte, tags)?;
         }
     }
-    if at == name.len() {
-        Some(numbers)
-    } else {
-        None
+    if rest.is_empty() { Some(numbers) } else { None }
+}
+
+/// What follows a byte, which of a tag may be a separator.
+fn after_byte(text: &[u8], byte: u8, tags: bool) -> Option<&[u8]>
+    ensures { option_map (λ rest. rest.now) result ≡ after_byte tags byte text.entry.now }
+{
+    match text {
+        [first, rest @ ..] if byte == key_byte(*first, tags) => Some(rest),
+        _ => None,
     }
 }
 
@@ -96,12 +100,11 @@ fn key_byte(byte: u8, tags: bool) -> u8
     }
 }
 
-/// The end of the digits from a place on.
-fn digits_end(text: &[u8], at: usize) -> usize
-    requires { at ≤ length text.now }
-    ensures { result ≡ digits_end text.now at }
+/// How many digits a text begins with.
+fn digit_count(text: &[u8]) -> usize
+    ensures { result ≡ digit_count text.now }
 {
-    let mut end = at;
+    let mut end = 0;
     while end < text.len() && text[end].is_ascii_digit() {
         end += 1;
     }

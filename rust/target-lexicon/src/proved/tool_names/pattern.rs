@@ -11,25 +11,31 @@ pub(crate) enum Numbers {
     Two(u16, u8),
 }
 
-/// The numbers that a name has where a pattern has stars, or that its tag has. `None` if it doesn't have the pattern.
+/// The numbers that a name, or its tag, has where a pattern has stars. `None` if it doesn't have the pattern.
 pub(crate) fn matched(pattern: &[u8], name: &[u8], tags: bool) -> Option<Numbers> {
     let mut numbers = Numbers::NoNumber;
-    let mut at = 0;
+    let mut rest = name;
     for byte in pattern {
         if *byte == b'*' {
-            let end = digits_end(name, at);
-            numbers = numbers.with(&name[at..end])?;
-            at = end;
-        } else if at < name.len() && *byte == key_byte(name[at], tags) {
-            at += 1;
+            let (digits, others) = rest.split_at(digit_count(rest));
+            numbers = numbers.with(digits)?;
+            rest = others;
         } else {
-            return None;
+            rest = after_byte(rest, *byte, tags)?;
         }
     }
-    if at == name.len() {
+    if rest.is_empty() {
         Some(numbers)
     } else {
         None
+    }
+}
+
+/// What follows a byte, which of a tag may be a separator.
+fn after_byte(text: &[u8], byte: u8, tags: bool) -> Option<&[u8]> {
+    match text {
+        [first, rest @ ..] if byte == key_byte(*first, tags) => Some(rest),
+        _ => None,
     }
 }
 
@@ -81,9 +87,9 @@ fn key_byte(byte: u8, tags: bool) -> u8 {
     }
 }
 
-/// The end of the digits from a place on.
-fn digits_end(text: &[u8], at: usize) -> usize {
-    let mut end = at;
+/// How many digits a text begins with.
+fn digit_count(text: &[u8]) -> usize {
+    let mut end = 0;
     while end < text.len() && text[end].is_ascii_digit() {
         end += 1;
     }
