@@ -16,7 +16,7 @@ class Dialect:
     """A dialect: its rules, what is said of it, and its rows. A row is a name, what it means or why it has no triple, and its way."""
     name: str
     rules: dict
-    about: list = field(default_factory=list)
+    about: str = ""
     rows: list = field(default_factory=list)
 
     @property
@@ -51,9 +51,8 @@ def tables_of(text, wrong):
             found.only_written = line.removeprefix(ONLY_WRITTEN)
         elif line.startswith("#"):
             if described:
-                described.about.append(line[2:])
+                described.about, described = line[2:], None
         else:
-            described = None
             dialect, name, triple, ways, *note = line.split("\t")
             rows = found.parts.get(dialect) if dialect in found.parts else getattr(found.dialects.get(dialect), "rows", None)
             if rows is None or ways not in WAYS or len(note) > 1:
@@ -92,7 +91,7 @@ def rust_lists(tables):
     return lists | {
         "the reasons for C": [rf'"{reason}\0",' for reason in sorted(reasons)],
         "the reason of names that are only written": [f'pub(crate) const ONLY_WRITTEN: &str = "{tables.only_written}";'],
-        "the dialects": [line for it in dialects for line in (*(f"/// {about}" for about in it.about), f"{it.variant},")],
+        "the dialects": [line for it in dialects for line in (f"/// {it.about}", f"{it.variant},")],
         "the names of the dialects": [f'Dialect::{it.variant} => "{it.name}",' for it in dialects],
         "the dialects by name": [f"static DIALECTS: [(&str, Dialect); {len(dialects)}] = [",
                                  *(f'    ("{it.name}", Dialect::{it.variant}),' for it in dialects), "];"],
@@ -100,7 +99,26 @@ def rust_lists(tables):
                                       for it in dialects],
         "the rows of the dialects": [f"Dialect::{it.variant} => {it.name}()," for it in dialects],
         "the tables of the dialects": "\n".join(line for it in dialects for line in table(it)).strip("\n").split("\n"),
+        **lists_of_languages(list(dialects)),
         "the dialects by number": [f"{number} => Some(Some(Dialect::{it.variant}))," for number, it in enumerate(dialects, 1)],
+    }
+
+
+def lists_of_languages(dialects):
+    names = ", ".join(f'"{it.name}"' for it in dialects)
+    read = [it for it in dialects if any(way in ("Both", "Read") for _, _, way in it.rows)]
+    return {
+        "the dialects for C": [f"LEXICON_DIALECT_{it.table} = {number}, /* {it.about.rstrip('.').replace('`', '')} */" for number, it in enumerate(dialects, 1)],
+        "the last dialect": [f"enum {{ LAST_DIALECT = {len(dialects)} }};"],
+        "the dialects for C++": [f"{it.variant} = LEXICON_DIALECT_{it.table}," for it in dialects],
+        "the dialects' names for C++": [f'constexpr const char* names[] = {{"", {names}}};'],
+        "the dialects for the command": [f"pub const DIALECTS: [Dialect; {len(dialects)}] = [",
+                                         *(f"    Dialect::{it.variant}," for it in sorted(dialects, key=lambda it: it not in read)), "];",
+                                         f"const READ: usize = {len(read)};"],
+        "the dialects for Python": [line for it in dialects for line in (f"#: {it.about}", f'{it.table} = "{it.name}"')],
+        "the dialects for JavaScript": [f"export const DIALECTS = Object.freeze([{names}]);"],
+        "the type of dialects": ["export type Dialect = " + " | ".join(f'"{it.name}"' for it in dialects) + ";"],
+        "the dialects for TypeScript": [f"export const DIALECTS: readonly [{names}];"],
     }
 
 

@@ -4,7 +4,7 @@ import { DIALECTS, FIELDS, ParseError, Triple, load } from "../lexicon.js";
 const LABELS = {
   architecture: "Architecture", vendor: "Vendor", operatingSystem: "System", environment: "Environment", binaryFormat: "Format",
 };
-const TOOLS = { debian: "Debian", go: "Go", oci: "Container images", node: "Node", gnu: "GNU prefix", python: "Python" };
+const TOOLS = { oci: "Container images", gnu: "GNU prefix" };
 const LONGEST_LINK = 32000;
 const SLICE = 12; // milliseconds of work between two chances for input
 const UNFOLDED = 3; // of more targets than these, the names in other tools are folded, and on a phone the cards
@@ -97,7 +97,7 @@ function namesCell(triple, text) {
     if (!isOpen || list.firstChild) return;
     for (const dialect of DIALECTS) {
       const name = triple.nameIn(dialect), shown = name === null ? element("span", { class: "dim" }, "none") : code(name);
-      list.append(element("div", {}, element("dt", {}, TOOLS[dialect]), element("dd", {}, shown)));
+      list.append(element("div", {}, element("dt", {}, TOOLS[dialect] ?? dialect[0].toUpperCase() + dialect.slice(1)), element("dd", {}, shown)));
     }
   };
   names.addEventListener("toggle", () => names.show(names.open));
