@@ -85,10 +85,14 @@ export const FAMILIES: readonly Family[];
  * A tool, or a group of tools, that names targets in its own way: Debian's architectures, Go's ports, platforms of container images
  * (`oci`), `process.platform` and `process.arch` of Node, the prefixes of GNU's cross compilers, and the platforms of Python and its wheels.
  */
+// written by tools/names/write: the type of dialects
 export type Dialect = "debian" | "go" | "oci" | "node" | "gnu" | "python";
+// end of what is written
 
 /** The dialects, in the order of their numbers in lexicon.h, which begin with 1. */
+// written by tools/names/write: the dialects for TypeScript
 export const DIALECTS: readonly ["debian", "go", "oci", "node", "gnu", "python"];
+// end of what is written
 
 export interface Version {
   readonly major: number;

@@ -17,7 +17,9 @@ export const FAMILIES = Object.freeze([
 ]);
 
 /** The tools whose names of targets are known: Debian, Go, container images, Node, GNU's cross compilers, and Python. */
+// written by tools/names/write: the dialects for JavaScript
 export const DIALECTS = Object.freeze(["debian", "go", "oci", "node", "gnu", "python"]);
+// end of what is written
 
 const OK = 0, REFUSED = 6, TOO_SMALL = 8, NO_SUCH_VALUE = 10, NO_SUCH_VENDOR = 11;
 const UNKNOWN_NAME = 12, NAME_WITHOUT_TRIPLE = 13, TRIPLE_WITHOUT_NAME = 14;

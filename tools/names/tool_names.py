@@ -1,76 +1,135 @@
 """The tables of crates/tool_names, from tools/names/elsewhere.tsv."""
-from collections import defaultdict
+import re
+from dataclasses import dataclass, field
 
 PATH = "tools/names/elsewhere.tsv"
-DIALECTS = ("debian", "go", "oci", "node", "gnu", "python")
-WAYS = {"r": "only read", "w": "only written", "rw": "both ways", "-": "without a triple"}
-# The systems of the dialect python whose names have a version, and the ways of a name with a triple: a name that keeps
-# the version goes both ways.
-VERSIONED_SYSTEMS = {"macosx": "rw", "ios": "rw", "manylinux": "r", "musllinux": "r", "android": "r"}
+WAYS = {"rw": "Both", "r": "Read", "w": "Written", "-": "NoTriple"}
+DIALECT, ONLY_WRITTEN = "# dialect ", "# only written: "
+# The rules of a dialect: for each word of its line the field of `Rules`, and its value for each choice.
+RULES = {"arm": ("arm_version", {"order": "false", "version": "true"}),
+         "abi": ("abi", {"kept": "AbiRule::Kept", "dropped": "AbiRule::Dropped", "linux": "AbiRule::KeptOnLinux"}),
+         "versions": ("versions", {"no": "false", "yes": "true"}), "tags": ("tags", {"no": "false", "yes": "true"})}
+
+
+@dataclass
+class Dialect:
+    """A dialect: its rules, what is said of it, and its rows. A row is a name, what it means or why it has no triple, and its way."""
+    name: str
+    rules: dict
+    about: str = ""
+    rows: list = field(default_factory=list)
+
+    @property
+    def variant(self):
+        return self.name.capitalize()
+
+    @property
+    def table(self):
+        return self.name.upper()
+
+
+@dataclass
+class Elsewhere:
+    """The dialects in the order of their numbers, the rows of `first` and `later`, and why a name isn't read that is only written."""
+    dialects: dict = field(default_factory=dict)
+    parts: dict = field(default_factory=lambda: {"first": [], "later": []})
+    only_written: str = ""
 
 
 def tables_of(text, wrong):
-    """The rows by dialect and ways; each is a name and what it means, or why it has no triple.
-
-    The names of the dialect python with a version are there by system; each row has a machine.
-    """
-    tables, seen = defaultdict(list), set()
+    found, seen, described = Elsewhere(), set(), None
     for number, line in enumerate(text.splitlines(), 1):
-        if line.startswith("#"):
-            continue
-        dialect, name, triple, ways, *note = line.split("\t")
-        if dialect not in (*DIALECTS, "first", "later") or ways not in WAYS or len(note) > 1:
-            wrong.append(f"elsewhere.tsv:{number}: a dialect, a name, a triple, the ways and a note are wanted")
-        elif (dialect, name, triple) in seen or (ways == "-") != (triple == "-") or (ways == "-" and not note):
-            wrong.append(f"elsewhere.tsv:{number}: the row is there twice, or it has neither a triple nor a reason")
-        elif dialect == "python" and "*" in name:
-            seen.add((dialect, name, triple))
-            system, _, machine = name.partition("_*_")
-            wanted = "-" if triple == "-" else VERSIONED_SYSTEMS.get(system)
-            if system not in VERSIONED_SYSTEMS or ways != wanted or "*" in machine or ("*" in triple) != (ways == "rw"):
-                wrong.append(f"elsewhere.tsv:{number}: a system with a version, a star and a machine are wanted, and a star in the "
-                             "triple if the name goes both ways")
-            tables["python " + system, "machines" if ways != "-" else WAYS["-"]].append(
-                (machine, note[0] if ways == "-" else triple.replace("*", "")))
+        def mistake(what):
+            wrong.append(f"elsewhere.tsv:{number}: {what}")
+        if line.startswith(DIALECT):
+            name, *rules = line.removeprefix(DIALECT).split()
+            rules = dict(rule.partition("=")[::2] for rule in rules)
+            if name in found.dialects or list(rules) != list(RULES) or any(rules[it] not in RULES[it][1] for it in rules):
+                mistake("a new dialect is wanted, and a choice for each of " + ", ".join(RULES))
+            described = found.dialects.setdefault(name, Dialect(name, rules))
+        elif line.startswith(ONLY_WRITTEN):
+            found.only_written = line.removeprefix(ONLY_WRITTEN)
+        elif line.startswith("#"):
+            if described:
+                described.about, described = line[2:], None
         else:
+            dialect, name, triple, ways, *note = line.split("\t")
+            rows = found.parts.get(dialect) if dialect in found.parts else getattr(found.dialects.get(dialect), "rows", None)
+            if rows is None or ways not in WAYS or len(note) > 1:
+                mistake("a dialect, a name, a triple, the ways and a note are wanted")
+                continue
+            if (dialect, name, triple) in seen or (ways == "-") != (triple == "-") or (ways == "-" and not note):
+                mistake("the row is there twice, or it has neither a triple nor a reason")
+            if dialect in found.dialects and ("*" in triple) != ("*" in name and bool(re.search("macosx|ios", triple))):
+                mistake("a name with a star and a triple of macOS or iOS with one are wanted, or another triple without one")
             seen.add((dialect, name, triple))
-            tables[dialect, WAYS[ways]].append((name, note[0] if ways == "-" else triple))
-    # What is only written is known, and isn't read.
-    tables["gnu", "without a triple"] = [(name, "names of cross compilers are only written") for name, _ in tables["gnu", "only written"]]
-    return tables
-
-
-def constant(key):
-    return "_".join(key).upper().replace(" ", "_")
+            meaning = note[0] if ways == "-" else triple.replace("*", "") if dialect in found.dialects else triple
+            rows.append((name, meaning, WAYS[ways]))
+    return found
 
 
 def names_that_are_read(tables):
-    return {name for (dialect, ways), rows in tables.items() if dialect in DIALECTS and ways in ("both ways", "only read") for name, _ in rows}
-
-
-def is_of_a_dialect(key):
-    return key[0].split(" ")[0] in DIALECTS
+    return {name for it in tables.dialects.values() for name, _, way in it.rows if way in ("Both", "Read") and "*" not in name}
 
 
 def later(tables):
     """The rows of later parts, without a version after them and with one."""
-    rows = tables["later", "only read"]
+    rows = [it[:2] for it in tables.parts["later"]]
     return [it for it in rows if "*" not in it[0]], [(name.removesuffix("*"), names) for name, names in rows if "*" in name]
 
 
+def rules(it, equals):
+    return [(name, equals(values[it.rules[word]])) for word, (name, values) in RULES.items()]
+
+
 def rust_lists(tables):
-    lists = {"the other spellings of first parts": array("FIRST_SPELLINGS", "&str", tables["first", "only read"])}
+    dialects = tables.dialects.values()
+    lists = {"the other spellings of first parts": array("FIRST_SPELLINGS", [it[:2] for it in tables.parts["first"]])}
     for list_, name, rows in zip(("later parts", "parts before a version"), ("LATER_SPELLINGS", "VERSIONED_SPELLINGS"), later(tables)):
-        lists[f"the other spellings of {list_}"] = array(name, "&str", rows)
-    reasons = {reason for (_, ways), rows in tables.items() if ways == "without a triple" for _, reason in rows}
-    lists["the reasons for C"] = [rf'"{reason}\0",' for reason in sorted(reasons)]
-    return lists | {f"the names of {dialect}, {ways}": array(constant((dialect, ways)), "&'static str", rows)
-                    for (dialect, ways), rows in tables.items() if is_of_a_dialect((dialect, ways))}
+        lists[f"the other spellings of {list_}"] = array(name, rows)
+    reasons = {tables.only_written} | {meaning for it in dialects for _, meaning, way in it.rows if way == "NoTriple"}
+    return lists | {
+        "the reasons for C": [rf'"{reason}\0",' for reason in sorted(reasons)],
+        "the reason of names that are only written": [f'pub(crate) const ONLY_WRITTEN: &str = "{tables.only_written}";'],
+        "the dialects": [line for it in dialects for line in (f"/// {it.about}", f"{it.variant},")],
+        "the names of the dialects": [f'Dialect::{it.variant} => "{it.name}",' for it in dialects],
+        "the dialects by name": [f"static DIALECTS: [(&str, Dialect); {len(dialects)}] = [",
+                                 *(f'    ("{it.name}", Dialect::{it.variant}),' for it in dialects), "];"],
+        "the rules of the dialects": [f"Dialect::{it.variant} => Rules {{ {', '.join(f'{name}: {value}' for name, value in rules(it, str))} }},"
+                                      for it in dialects],
+        "the rows of the dialects": [f"Dialect::{it.variant} => {it.name}()," for it in dialects],
+        "the tables of the dialects": "\n".join(line for it in dialects for line in table(it)).strip("\n").split("\n"),
+        **lists_of_languages(list(dialects)),
+        "the dialects by number": [f"{number} => Some(Some(Dialect::{it.variant}))," for number, it in enumerate(dialects, 1)],
+    }
 
 
-def array(name, type_, rows):
-    return [f"static {name}: [({type_.replace(chr(39) + 'static ', '')}, &str); {len(rows)}] = [",
-            *(f'    ("{one}", "{other}"),' for one, other in rows), "];"]
+def lists_of_languages(dialects):
+    names = ", ".join(f'"{it.name}"' for it in dialects)
+    read = [it for it in dialects if any(way in ("Both", "Read") for _, _, way in it.rows)]
+    return {
+        "the dialects for C": [f"LEXICON_DIALECT_{it.table} = {number}, /* {it.about.rstrip('.').replace('`', '')} */" for number, it in enumerate(dialects, 1)],
+        "the last dialect": [f"enum {{ LAST_DIALECT = {len(dialects)} }};"],
+        "the dialects for C++": [f"{it.variant} = LEXICON_DIALECT_{it.table}," for it in dialects],
+        "the dialects' names for C++": [f'constexpr const char* names[] = {{"", {names}}};'],
+        "the dialects for the command": [f"pub const DIALECTS: [Dialect; {len(dialects)}] = [",
+                                         *(f"    Dialect::{it.variant}," for it in sorted(dialects, key=lambda it: it not in read)), "];",
+                                         f"const READ: usize = {len(read)};"],
+        "the dialects for Python": [line for it in dialects for line in (f"#: {it.about}", f'{it.table} = "{it.name}"')],
+        "the dialects for JavaScript": [f"export const DIALECTS = Object.freeze([{names}]);"],
+        "the type of dialects": ["export type Dialect = " + " | ".join(f'"{it.name}"' for it in dialects) + ";"],
+        "the dialects for TypeScript": [f"export const DIALECTS: readonly [{names}];"],
+    }
+
+
+def table(it):
+    return ["", f"fn {it.name}() -> &'static [Row]", f"    ensures {{ plain_rows result.now ≡ constant_rows {it.table} }}", "{", f"    &{it.table}", "}",
+            "", "#[rattlefmt::skip]", f"static {it.table}: [(&str, &str, Way); {len(it.rows)}] = [",
+            *(f'    ("{name}", "{meaning}", {way}),' for name, meaning, way in it.rows), "];"]
+
+
+def array(name, rows):
+    return [f"static {name}: [(&str, &str); {len(rows)}] = [", *(f'    ("{one}", "{other}"),' for one, other in rows), "];"]
 
 
 def antt_lists(tables):
@@ -81,10 +140,15 @@ def antt_lists(tables):
         return [f"{name} =", *(f'    (codes "{one}", {value(other)}) ∷' for one, other in rows), "    []"]
 
     one, other = later(tables)
-    lists = {"first_spellings": pairs("first_spellings", tables["first", "only read"]), "later_spellings": pairs("later_spellings", one, names),
-             "versioned_spellings": pairs("versioned_spellings", other, names)}
-    for key, rows in tables.items():
-        if is_of_a_dialect(key):
-            name = constant(key).lower()
-            lists[name] = pairs(name, rows)
-    return lists
+    dialects = tables.dialects.values()
+    return {
+        "first_spellings": pairs("first_spellings", [it[:2] for it in tables.parts["first"]]), "later_spellings": pairs("later_spellings", one, names),
+        "versioned_spellings": pairs("versioned_spellings", other, names),
+        "dialect_name": [f'dialect_name dialect.{it.variant} = codes "{it.name}"' for it in dialects],
+        "dialects": ["dialects = " + " ∷ ".join([*(f"dialect.{it.variant}" for it in dialects), "[]"])],
+        "dialects_by_number": ["dialects_by_number = " + " ∷ ".join(["None", *(f"Some dialect.{it.variant}" for it in dialects), "[]"])],
+        "rules_of": [f"rules_of dialect.{it.variant} = record {{ "
+                     + "; ".join(f"{name} = {value}" for name, value in rules(it, lambda value: value.replace("AbiRule::", "abi."))) + " }"
+                     for it in dialects],
+        "rows_of": [f"rows_of dialect.{it.variant} = constant_rows table.{it.table}" for it in dialects],
+    }

@@ -28,11 +28,13 @@ def table():
 def elsewhere():
     """The lines of the table of other tools' names: the dialect, the name, what it means, the ways, and a note that may be empty.
 
-    Where the table has a star, for any version, it is 13.2 here, or 21 for Android.
+    The numbers are 13 and 2 where the table has stars.
     """
     rows = [line.split("\t") for line in read("tools/names/elsewhere.tsv").splitlines() if not line.startswith("#")]
     rows = [Name(*row, *[""] * (5 - len(row))) for row in rows]
-    return [it._replace(name=it.name.replace("android_*", "android_21").replace("*", "13_2"), triple=it.triple.replace("*", "13.2.0")) for it in rows]
+    version = {1: "13.0.0", 2: "13.2.0"}
+    return [it._replace(name=it.name.replace("*", "13", 1).replace("*", "2"), triple=it.triple.replace("*", version.get(it.name.count("*"), "*")))
+            for it in rows]
 
 
 def rows(file, name):

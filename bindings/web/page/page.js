@@ -4,7 +4,7 @@ import { DIALECTS, FIELDS, ParseError, Triple, load } from "../lexicon.js";
 const LABELS = {
   architecture: "Architecture", vendor: "Vendor", operatingSystem: "System", environment: "Environment", binaryFormat: "Format",
 };
-const TOOLS = { debian: "Debian", go: "Go", oci: "Container images", node: "Node", gnu: "GNU prefix", python: "Python" };
+const TOOLS = { oci: "Container images", gnu: "GNU prefix" };
 // The targets of which there are chips, with the word for one and for more. Those of a kind that is a mistake come first.
 const KINDS = { all: ["target", "targets"], refused: ["refused"], suspicious: ["suspicious"], duplicate: ["duplicate", "duplicates"] };
 const ORDER = ["refused", "suspicious", "other"];
@@ -101,7 +101,7 @@ function namesCells(triple, text) {
     if (!isOpen || list.firstChild) return;
     for (const dialect of DIALECTS) {
       const name = triple.nameIn(dialect), shown = name === null ? element("span", { class: "dim" }, "none") : code(name);
-      list.append(element("div", {}, element("dt", {}, TOOLS[dialect]), element("dd", {}, shown)));
+      list.append(element("div", {}, element("dt", {}, TOOLS[dialect] ?? dialect[0].toUpperCase() + dialect.slice(1)), element("dd", {}, shown)));
     }
   };
   button.addEventListener("click", () => show(cell.hidden));

@@ -19,8 +19,8 @@ const refusal = (text, call = Triple.parse) => {
 };
 
 const elsewhere = readFileSync(new URL("../../../tools/names/elsewhere.tsv", import.meta.url), "utf8").split("\n")
-  // A star is any version: 13.2 here, or 21 for Android.
-  .map((row) => row.replace("android_*", "android_21").replace("_*_", "_13_2_").replace("*", "13.2.0").split("\t"));
+  // Stars are numbers: 13 and 2 here.
+  .map((row) => row.replace("_*_*_", "_13_2_").replace("_*_", "_13_").replace("*", row.includes("_*_*_") ? "13.2.0" : "13.0.0").split("\t"));
 
 const tests = {
   "nothing works before the module is loaded": async () => {

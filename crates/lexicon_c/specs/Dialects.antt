@@ -4,12 +4,15 @@ use Rattle.lexicon_names.specs.Nearest.{IsNearestOf}
 use Rattle.target_lexicon.specs.Values.{Values}
 use Rattle.tool_names.specs.{Spelling.spelled_reading, ToolNames.Unread, ToolNames.IsUnknown, ToolNames.HasNoTriple, ToolNames.name_meaning, ToolNames.names_that_are_read}
 use Rattle.tool_names.specs.declared.dialect.Dialect.{Dialect}
-use Rattle.tool_names.specs.declared.dialect.Dialect.TheVariants.{Debian, Go, Oci, Node, Gnu, Python}
+use Rattle.tool_names.specs.declared.dialect.Dialect.TheVariants as dialect
 use Rattle.lexicon_c.specs.{Parsing.refusal_numbers, Triple.AreNumbersOf, declared.error.TextError.TextError, declared.triple.NumberedTriple.NumberedTriple}
 
 -- the dialects by number. The first is none: strings that are spelled like triples. A number never changes its meaning
 abbrev pub dialects_by_number : List (Option Dialect)
-dialects_by_number = None ∷ Some Debian ∷ Some Go ∷ Some Oci ∷ Some Node ∷ Some Gnu ∷ Some Python ∷ []
+-- written by tools/names/write: dialects_by_number
+dialects_by_number = None ∷ Some dialect.Debian ∷ Some dialect.Go ∷ Some dialect.Oci ∷ Some dialect.Node ∷ Some dialect.Gnu ∷ Some dialect.Python ∷ []
+
+-- end of what is written
 
 -- the status of a name that isn't read
 abbrev pub unread_status : Unread → ℕ

@@ -16,12 +16,14 @@ pub fn dialect_at(number: u32) -> Option<Option<Dialect>>
 {
     match number {
         0 => Some(None),
+        // written by tools/names/write: the dialects by number
         1 => Some(Some(Dialect::Debian)),
         2 => Some(Some(Dialect::Go)),
         3 => Some(Some(Dialect::Oci)),
         4 => Some(Some(Dialect::Node)),
         5 => Some(Some(Dialect::Gnu)),
         6 => Some(Some(Dialect::Python)),
+        // end of what is written
         _ => None,
     }
 }

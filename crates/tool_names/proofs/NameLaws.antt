@@ -1,38 +1,40 @@
 -- The laws of the names in dialects, from the tests that the rows pass.
-use Rattle.std.proofs.Common.{◌≡◌, ◌∙◌, ℕ, ◌⊎◌, List, Option, Some, None, Result, Ok, Err, Bool, true, false, refl, sym, ap, subst, inl, inr, arith}
-use Rattle.std.specs.Prelude.{not, ◌&&◌, is_none, option_map}
-use Rattle.std.specs.Option.{option_or}
-use Rattle.std.proofs.lemmas.Bool.{and_parts}
+use Rattle.std.proofs.Common.{◌≡◌, ◌≢◌, ◌∙◌, ℕ, zero, suc, List, [], ◌∷◌, Option, Some, None, Result, Ok, Err, Bool, true, false, cond, length, map, nat_eq, refl, sym, ap, subst, inl, inr, arith}
+use Rattle.std.specs.Prelude.{not, ◌&&◌, ◌||◌, nat_le, option_map, slice_get}
 use Rattle.std.specs.Str.{bytes_eq}
+use Rattle.std.proofs.lemmas.Bool.{and_parts, eq-eqb, eqb-true, le-leb, leb-true}
 use Rattle.std.proofs.lemmas.Slice.Eq.{bytes_eq-Decides}
-use Rattle.lexicon_fields.specs.{ArchitectureQueries.is_clever, declared.deployment_target.DeploymentTarget.DeploymentTarget, Laws.HasVersionInRange, Laws.IsVersionInRange, Names.value_named, Vendor.is_custom, Vendor.is_plain}
-use Rattle.lexicon_fields.proofs.LookUpLemmas.{value_named-all}
+use Rattle.lexicon_fields.specs.{ArchitectureQueries.is_clever, Laws.HasVersionInRange, Laws.IsVersionInRange, Vendor.is_custom, Vendor.is_plain}
 use Rattle.target_lexicon.proofs.{ComputedReading.reading_computed, QueriesKept.kept, StepCases.step_cases, UniqueReading.values_unique}
 use Rattle.target_lexicon.specs.{FixedPoints.IsPlainTriple, FixedPoints.ReadTriplesArePlain, FixedPoints.RoundIsNormalStep, GreedyReading.reading, Laws.ComesBack, NormalStep.normal_step, Printing.text_of, Reading.ReadsAs, Refusal.Refusal, Values.Values}
 use Rattle.target_lexicon.specs.Values.{Architecture, OperatingSystem, VendorValue, Known, Custom}
 use Rattle.target_lexicon.specs.Values.architecture
 use Rattle.target_lexicon.specs.Values.operating_system
 use Rattle.tool_names.specs.declared.dialect.Dialect.{Dialect}
-use Rattle.tool_names.specs.declared.dialect.Dialect.TheVariants.{Python}
-use Rattle.tool_names.specs.declared.platform.VersionedSystem.{VersionedSystem}
-use Rattle.tool_names.specs.declared.platform.VersionedSystem.TheVariants.{MacOs, Ios, Manylinux, Musllinux, Android}
-use Rattle.tool_names.specs.{Laws.IsCanonical, Laws.NamesAreCanonical, Laws.NamesKeepAnswers, Laws.NamesMeanTheShape, Laws.MeansTheShape, Laws.ReadsBack, Laws.NamesReadBack, Laws.NamesWithoutTripleAreRefused, Laws.OneNumberIsEnough, Laws.TagsMeanTheSame}
-use Rattle.tool_names.specs.{ObjectFormat.object_format, Shape.machine_in, Shape.shape, Shape.system_in, Shape.unversioned, Shape.with_two_numbers}
-use Rattle.tool_names.specs.Platform.{NameParts, keeps_version, kept_version, read_name_of, system_with, tag_of, triple_with, version_of_two, versioned_name_of, versioned_tag}
-use Rattle.tool_names.specs.Tables.{both_ways, machines, machines_without_a_triple, only_read, only_written, without_a_triple}
-use Rattle.tool_names.specs.ToolNames.{HasNoTriple, Unread, key_of, meaning_by_parts, meaning_of, name_by_version, name_meaning, name_of_text, name_with, read_or_unknown, triple_name, triple_text, unread_because, versioned_meaning, versioned_name_in, with_version}
-use Rattle.tool_names.proofs.MachineChecks.{gives_no_special_text, is_written_on, machines-back, machines-canonical, machines-seen, machines-unread}
-use Rattle.tool_names.proofs.NameTables.{swapped}
+use Rattle.tool_names.specs.declared.tables.Way.{Way}
+use Rattle.tool_names.specs.declared.tables.Way.TheVariants.{Both, Read, Written, NoTriple}
+use Rattle.tool_names.specs.{Dialects.rows_of, Dialects.rules_of, Private.is_short_pattern}
+use Rattle.tool_names.specs.{Laws.IsCanonical, Laws.IsNamed, Laws.NamesAreCanonical, Laws.NamesKeepAnswers, Laws.NamesMeanTheShape, Laws.NamesMeanTheirRows, Laws.MeansTheShape, Laws.ReadsBack, Laws.NamesReadBack, Laws.NamesWithoutTripleAreRefused, Laws.OneNumberIsEnough, Laws.TagsMeanTheSame}
+use Rattle.tool_names.specs.{ObjectFormat.object_format, Shape.machine_by, Shape.shape, Shape.system_by, Shape.unversioned, Shape.with_two_numbers}
+use Rattle.tool_names.specs.Patterns.{all_limits, are_within, filled, fits, star_count, without_number}
+use Rattle.tool_names.specs.Tables.{Row, is_read_and, is_written, row_named}
+use Rattle.tool_names.specs.ToolNames.{HasNoTriple, Unread, found_meaning, name_meaning, numbers_in, read_or_unknown, row_meaning, shape_row, system_with, text_without_numbers, triple_name, version_of_numbers, with_numbers, without_numbers}
+use Rattle.tool_names.proofs.Filling.{counted_fits, filled_matches, fits_are_within, fits_counted, is_own_tag, is_spaced, match_fits}
 use Rattle.tool_names.proofs.ObjectFormats.{given_kept}
-use Rattle.tool_names.proofs.RowChecks.{both_ways-back, both_ways-canonical, both_ways-seen, is_canonical, is_canonical_as, is_known_format, is_ordinary, is_own_key, is_ordinary_architecture, is_ordinary_system, is_this, is_written_as, only_read-canonical, only_written-seen, without_a_triple-unread}
-use Rattle.tool_names.proofs.PlatformLemmas.{keeps-two, parts-joined, parts-read, read-range, short-read, tag_of-again, tag_of-short, tag_of-tag}
-use Rattle.tool_names.proofs.ShapeLemmas.{has_no_special_text, kept-is, kept-python, shape-endianness, shape-no_special, shape-width, unkept-range}
+use Rattle.tool_names.proofs.RowChecks.{IsWrittenFor, both_rows, gives_no_special_text, has_canonical, has_form, has_numbers, has_short, has_triple, is_both, is_canonical, is_canonical_as, is_known_format, is_ordinary, is_ordinary_architecture, is_ordinary_system, is_short_of, name_of, plain-back, row-written, rows-apart, rows-canonical, rows-formed, rows-short, versioned-back, written_back}
+use Rattle.tool_names.proofs.RowLemmas.{all-at, any-at, is_only_written, is_refused, named-at, row-found}
+use Rattle.tool_names.proofs.Tags.{named_tag}
+use Rattle.tool_names.proofs.ShapeLemmas.{has_no_special_text, numbers-within, shape-endianness, shape-no_special, shape-width, with-again, without-range}
 
--- what the test of a row says
+not-false : (b : Bool) → not b ≡ true → b ≡ false
+not-false true h = absurd cc
+not-false false h = refl
 
-is_this-same : (o : Option (List ℕ)) (text : List ℕ) → is_this o text ≡ true → o ≡ Some text
-is_this-same None text h = absurd cc
-is_this-same (Some other) text h = ap Some ((bytes_eq-Decides other text).0 h)
+implied : (a b : Bool) → a ≡ true → (not a || b) ≡ true → b ≡ true
+implied true b is h = h
+implied false b is h = absurd cc
+
+-- a triple in canonical form
 
 record IsRow (text : List ℕ) (t : Values) : Type 0 where
   reads : reading text ≡ Ok t
@@ -40,10 +42,6 @@ record IsRow (text : List ℕ) (t : Values) : Type 0 where
   known : is_custom t.vendor ≡ false
   not_clever : is_clever t.architecture ≡ false
   ordinary : is_ordinary t ≡ true
-
-not-false : (b : Bool) → not b ≡ true → b ≡ false
-not-false true h = absurd cc
-not-false false h = refl
 
 canonical-row : (text : List ℕ) → is_canonical text ≡ true → (t : Values) × IsRow text t
 canonical-row text h = by_reading (reading text) refl h
@@ -105,314 +103,297 @@ text-row round_trip u plain no_special canonical =
     let step = step-no_special u no_special other in
     (reads ∙ ap Ok step, sym (ap is_ordinary (same ∙ step)) ∙ row.1.ordinary)
 
--- the triple of a name without a version
+-- a name means what its row says
 
-found-canonical : (d : Dialect) (name text : List ℕ) → triple_text d name ≡ Some text → is_canonical text ≡ true
-unfolding triple_text
-found-canonical d name text found = by_first (value_named (both_ways d) name) refl found
-  where
-    by_first : (o : Option (List ℕ)) → value_named (both_ways d) name ≡ o → option_or o (value_named (only_read d) name) ≡ Some text → is_canonical text ≡ true
-    by_first (Some other) is same =
-        let passes = value_named-all (λ pair. is_canonical pair.1) (both_ways d) name other (both_ways-canonical d) is in
-        let the_text : other ≡ text = cc in subst (λ x. is_canonical x ≡ true) the_text passes
-    by_first None is same = value_named-all (λ pair. is_canonical pair.1) (only_read d) name text (only_read-canonical d) same
-
-is_none-same : {A : Type 0} (o : Option A) → is_none o ≡ true → o ≡ None
-is_none-same None h = refl
-is_none-same (Some x) h = absurd cc
-
--- a name that is its own key and has no version means what its row says
-own-meaning : (d : Dialect) (name : List ℕ) → is_own_key d name ≡ true → name_meaning d name ≡ meaning_of (triple_text d name) (unread_because (value_named (without_a_triple d) name))
+found-meaning : (d : Dialect) (name : List ℕ) (found : Row × List ℕ) → row_named (rules_of d).tags (rows_of d) name ≡ Some found → name_meaning d name ≡ row_meaning found.0.way found.0.meaning found.1
 unfolding name_meaning
-own-meaning d name own =
-    let parts = and_parts _ _ own in
-    let key : key_of d name ≡ name = (bytes_eq-Decides (key_of d name) name).0 parts.0 in
-    rw (key, is_none-same (versioned_name_in d name) parts.1) refl
+found-meaning d name found is = rw is refl
 
-meaning-of : (d : Dialect) (name text : List ℕ) (t : Values) → is_own_key d name ≡ true → triple_text d name ≡ Some text → reading text ≡ Ok t → name_meaning d name ≡ Ok t
-meaning-of d name text t own found reads = own-meaning d name own ∙ rw (found, reads) refl
+not-written : (way : Way) → way ≢ Written → is_only_written way ≡ false
+not-written Written other = absurd (other refl)
+not-written _ other = refl
 
--- the triple of a machine
+pub names_mean_rows : NamesMeanTheirRows
+names_mean_rows d row name numbers named other =
+    let found = row-found (rules_of d).tags (rows_of d) name named.place row numbers (rows-apart d) named.listed named.has_name in
+    found-meaning d name (row, numbers) (found.1 ∙ ap Some (found.2.itself (not-written row.way other)))
 
-record IsMachineRow (s : VersionedSystem) (text : List ℕ) (t : Values) : Type 0 where
-  row : IsRow text t
-  no_special : has_no_special_text t.vendor ≡ true
+refused-meaning : (way : Way) (text numbers : List ℕ) → is_refused way ≡ true → (why : List ℕ) × (row_meaning way text numbers ≡ Err (HasNoTriple why))
+refused-meaning Both text numbers is = absurd cc
+refused-meaning Read text numbers is = absurd cc
+refused-meaning Written text numbers is = (_, refl)
+refused-meaning NoTriple text numbers is = (text, refl)
 
-machine-row : (s : VersionedSystem) (machine text : List ℕ) → value_named (machines s) machine ≡ Some text → (t : Values) × IsMachineRow s text t
-machine-row s machine text found =
-    let passes = and_parts _ _ (value_named-all (λ row. is_canonical row.1 && gives_no_special_text (reading row.1)) (machines s) machine text (machines-canonical s) found) in
-    let row = canonical-row text passes.0 in
-    (row.0, record { row = row.1; no_special = subst (λ r. gives_no_special_text r ≡ true) row.1.reads passes.1 })
-
--- with a version it is in range
-version-plain : (s : VersionedSystem) (v : DeploymentTarget) (t : Values) → IsVersionInRange v → IsPlainTriple t → HasVersionInRange (system_with s (Some v) t.operating_system)
-version-plain MacOs v t range plain = range
-version-plain Ios v t range plain = range
-version-plain Manylinux v t range plain = plain.version
-version-plain Musllinux v t range plain = plain.version
-version-plain Android v t range plain = plain.version
-
-versioned-canonical : RoundIsNormalStep → ReadTriplesArePlain → (it : NameParts) (t : Values) → IsVersionInRange it.version → versioned_meaning it ≡ Ok t → IsCanonical t
-versioned-canonical round_trip read_plain it t range means = by_text (value_named (machines it.system) it.machine) refl means
-  where
-    why : Unread
-    why = unread_because (value_named (machines_without_a_triple it.system) it.machine)
-
-    by_text : (o : Option (List ℕ)) → value_named (machines it.system) it.machine ≡ o → with_version it.system it.version (meaning_of o why) ≡ Ok t → IsCanonical t
-    by_text None is h = absurd cc
-    by_text (Some text) is h =
-        let found = machine-row it.system it.machine text is in
-        let u : Values = found.0 in
-        let same : Ok (triple_with it.system (Some it.version) u) ≡ Ok t = sym (ap (λ r. with_version it.system it.version (read_or_unknown r)) found.1.row.reads) ∙ h in
-        let is_t : triple_with it.system (Some it.version) u ≡ t = cc in
-        let plain = read_plain (text_of u) u (row-comes_back text u found.1.row) in
-        subst IsCanonical is_t
-        (no_special-canonical round_trip (triple_with it.system (Some it.version) u)
-        (record { vendor = plain.vendor; version = version-plain it.system it.version u range plain }) found.1.no_special found.1.row.not_clever)
-
-pub names_canonical : RoundIsNormalStep → ReadTriplesArePlain → NamesAreCanonical
-unfolding name_meaning
-names_canonical round_trip read_plain d name t means = by_parts (versioned_name_in d key) refl means
-  where
-    key : List ℕ
-    key = key_of d name
-
-    by_text : (o : Option (List ℕ)) → triple_text d key ≡ o → meaning_of o (unread_because (value_named (without_a_triple d) key)) ≡ Ok t → IsCanonical t
-    by_text None is h = absurd cc
-    by_text (Some text) is h =
-        let row = canonical-row text (found-canonical d key text is) in
-        let same : Ok row.0 ≡ Ok t = sym (ap read_or_unknown row.1.reads) ∙ h in
-        let is_t : row.0 ≡ t = cc in
-        subst IsCanonical is_t (row-canonical round_trip read_plain text row.0 row.1)
-
-    range : (e : Dialect) (k : List ℕ) (it : NameParts) → versioned_name_in e k ≡ Some it → IsVersionInRange it.version
-    range Python k it is = read-range k it is
-    range _ k it is = absurd cc
-
-    by_parts : (o : Option NameParts) → versioned_name_in d key ≡ o → meaning_by_parts d key o ≡ Ok t → IsCanonical t
-    by_parts None is h = by_text (triple_text d key) refl h
-    by_parts (Some it) is h = versioned-canonical round_trip read_plain it t (range d key it is) h
-
-first-found : (d : Dialect) (name text : List ℕ) → value_named (both_ways d) name ≡ Some text → triple_text d name ≡ Some text
-unfolding triple_text
-first-found d name text is = rw is refl
-
-plain_read_back : (d : Dialect) (name text : List ℕ) → value_named (both_ways d) name ≡ Some text → (t : Values) × ReadsBack d name t
-plain_read_back d name text found =
-    let row = canonical-row text (value_named-all (λ pair. is_canonical pair.1) (both_ways d) name text (both_ways-canonical d) found) in
-    let back = and_parts _ _ (value_named-all (λ pair. is_written_as d pair.0 (reading pair.1) && is_own_key d pair.0) (both_ways d) name text (both_ways-back d) found) in (
-      row.0,
-      record {
-        read = meaning-of d name text row.0 back.1 (first-found d name text found) row.1.reads;
-        written = is_this-same _ _ (subst (λ r. is_written_as d name r ≡ true) row.1.reads back.0);
-      },
-    )
-
--- the name of a triple with a version that is kept
-written-with : (s : VersionedSystem) (v : DeploymentTarget) (u : Values) (machine : List ℕ) → keeps_version s ≡ true
-    → name_with (machines s) (text_of (triple_with s None (shape Python (triple_with s (Some v) u)))) ≡ Some machine
-    → triple_name Python (triple_with s (Some v) u) ≡ Some (versioned_tag s v machine)
-unfolding shape
-written-with MacOs v u machine keeps is = rw is refl
-written-with Ios v u machine keeps is = rw is refl
-written-with Manylinux v u machine keeps is = absurd cc
-written-with Musllinux v u machine keeps is = absurd cc
-written-with Android v u machine keeps is = absurd cc
-
-versioned_read_back : (name : List ℕ) (it : NameParts) (text : List ℕ) → tag_of name ≡ name → versioned_name_of name ≡ Some it → keeps_version it.system ≡ true
-    → value_named (machines it.system) it.machine ≡ Some text → (t : Values) × ReadsBack Python name t
-unfolding name_meaning
-versioned_read_back name it text tag parts keeps found =
-    let row = machine-row it.system it.machine text found in
-    let u : Values = row.0 in
-    let back = value_named-all (λ pair. is_written_on it.system it.version pair.0 (reading pair.1)) (machines it.system) it.machine text (machines-back it.system it.version keeps) found in
-    let machine = is_this-same _ _ (subst (λ r. is_written_on it.system it.version it.machine r ≡ true) row.1.row.reads back) in
-    let joined = (parts-joined name it parts).joined (keeps-two it.system keeps) in (
-      triple_with it.system (Some it.version) u,
-      record {
-        read = rw (tag, parts, found, row.1.row.reads) refl;
-        written = written-with it.system it.version u it.machine keeps machine ∙ ap Some joined;
-      },
-    )
-
-pub names_read_back : NamesReadBack
-names_read_back = record { plain = plain_read_back; versioned = versioned_read_back }
-
-plain_refused : (d : Dialect) (name why : List ℕ) → value_named (without_a_triple d) name ≡ Some why → name_meaning d name ≡ Err (HasNoTriple why)
-plain_refused d name why found =
-    let test = and_parts _ _ (value_named-all (λ pair. is_none (triple_text d pair.0) && is_own_key d pair.0) (without_a_triple d) name why (without_a_triple-unread d) found) in
-    own-meaning d name test.1 ∙ rw (is_none-same (triple_text d name) test.0, found) refl
-
-versioned_refused : (name : List ℕ) (it : NameParts) (why : List ℕ) → read_name_of (tag_of name) ≡ Some it
-    → value_named (machines_without_a_triple it.system) it.machine ≡ Some why → name_meaning Python name ≡ Err (HasNoTriple why)
-unfolding name_meaning
-versioned_refused name it why parts found =
-    let none = is_none-same _ (value_named-all (λ pair. is_none (value_named (machines it.system) pair.0)) (machines_without_a_triple it.system) it.machine why (machines-unread it.system) found) in
-    rw (parts, none, found) refl
+written-refused : (d : Dialect) (row : Row) (name numbers : List ℕ) → IsNamed d row name numbers → is_only_written row.way ≡ true → (why : List ℕ) × (name_meaning d name ≡ Err (HasNoTriple why))
+written-refused d row name numbers named is =
+    let found = row-found (rules_of d).tags (rows_of d) name named.place row numbers (rows-apart d) named.listed named.has_name in
+    let refused = refused-meaning found.0.0.way found.0.0.meaning found.0.1 (found.2.refused is) in
+    (refused.0, found-meaning d name found.0 found.1 ∙ refused.1)
 
 pub without_triple_refused : NamesWithoutTripleAreRefused
-without_triple_refused = record { plain = plain_refused; versioned = versioned_refused }
+without_triple_refused = record {
+  no_triple = λ d row name numbers named is.
+      names_mean_rows d row name numbers named (λ (other : row.way ≡ Written). let bad = sym is ∙ other in cc) ∙ ap (λ way. row_meaning way row.meaning numbers) is;
+  only_written = λ d row name numbers named is. written-refused d row name numbers named (rw is refl);
+}
 
 pub tags_mean_same : TagsMeanTheSame
 unfolding name_meaning
-tags_mean_same name = ap (λ tag. meaning_by_parts Python tag (read_name_of tag)) (tag_of-again name)
+tags_mean_same d name tags = rw (tags, named_tag (rows_of d) name) refl
+
+-- the form of a row, and its name with numbers
+
+record HasForm (d : Dialect) (row : Row) : Type 0 where
+  spaced : is_spaced row.pattern ≡ true
+  own : (not (rules_of d).tags || is_own_tag row.pattern) ≡ true
+  numbers : has_numbers row.way (star_count row.pattern) ≡ true
+
+form-at : (d : Dialect) (i : ℕ) (row : Row) → slice_get (rows_of d) i ≡ Some row → HasForm d row
+form-at d i row at =
+    let spaced : Bool = is_spaced row.pattern in
+    let own : Bool = not (rules_of d).tags || is_own_tag row.pattern in
+    let numbers : Bool = has_numbers row.way (star_count row.pattern) in
+    let sizes : Bool = not (is_written row.way) || (is_short_pattern row.pattern && nat_le (length row.meaning) 64) in
+    let all = and_parts (spaced && own && numbers) sizes (all-at (has_form (rules_of d).tags) (rows_of d) i row (rows-formed d) at) in
+    let two = and_parts (spaced && own) numbers all.0 in
+    let one = and_parts spaced own two.0 in
+    record { spaced = one.0; own = one.1; numbers = two.1 }
+
+named-filled : (d : Dialect) (i : ℕ) (row : Row) (numbers : List ℕ) → slice_get (rows_of d) i ≡ Some row → fits row.pattern numbers ≡ true → IsNamed d row (filled row.pattern numbers) numbers
+named-filled d i row numbers at fit =
+    let form = form-at d i row at in
+    record { place = i; listed = at; has_name = filled_matches (rules_of d).tags row.pattern numbers form.spaced form.own fit }
+
+-- names read back
+
+same-at : {A : Type 0} (f g : Row → A) (stars : ℕ) (rows : List Row) (i : ℕ) (row : Row) → map f (both_rows stars rows) ≡ map g (both_rows stars rows) → slice_get rows i ≡ Some row → row.way ≡ Both → star_count row.pattern ≡ stars → f row ≡ g row
+same-at f g stars [] i row same at both stars_are = absurd cc
+same-at {A} f g stars (first ∷ rows) i row same at both stars_are = by_test (is_both first.way && nat_eq (star_count first.pattern) stars) refl i at (λ j h at_j. same-at f g stars rows j row h at_j both stars_are)
+  where
+    heads : (x y : A) (xs ys : List A) → x ∷ xs ≡ y ∷ ys → x ≡ y
+    heads x y xs ys h = cc
+
+    tails : (x y : A) (xs ys : List A) → x ∷ xs ≡ y ∷ ys → xs ≡ ys
+    tails x y xs ys h = cc
+
+    by_test : (b : Bool) → (is_both first.way && nat_eq (star_count first.pattern) stars) ≡ b → (j : ℕ) → slice_get (first ∷ rows) j ≡ Some row
+        → ((k : ℕ) → map f (both_rows stars rows) ≡ map g (both_rows stars rows) → slice_get rows k ≡ Some row → f row ≡ g row) → f row ≡ g row
+    by_test true test zero at_j again =
+        let is_first : first ≡ row = cc in
+        let h = rw test at same in
+        subst (λ (r : Row). f r ≡ g r) is_first (heads _ _ _ _ h)
+    by_test true test (suc j) at_j again = let h = rw test at same in again j (tails _ _ _ _ h) at_j
+    by_test false test zero at_j again =
+        let is_first : first ≡ row = cc in
+        let passes : (is_both first.way && nat_eq (star_count first.pattern) stars) ≡ true = rw (is_first, both, stars_are, eq-eqb stars stars refl) refl in
+        absurd (let bad = sym test ∙ passes in cc)
+    by_test false test (suc j) at_j again = let h = rw test at same in again j h at_j
+
+back-at : (d : Dialect) (i : ℕ) (row : Row) (ns : List ℕ) → slice_get (rows_of d) i ≡ Some row → row.way ≡ Both → has_numbers row.way (star_count row.pattern) ≡ true → star_count row.pattern ≡ length ns
+    → written_back d ns row ≡ Some (filled row.pattern ns)
+back-at d i row [] at both form counted = same-at (written_back d []) (λ (r : Row). Some (filled r.pattern [])) 0 (rows_of d) i row (plain-back d) at both counted
+back-at d i row (a ∷ b ∷ []) at both form counted = same-at (written_back d (a ∷ b ∷ [])) (λ (r : Row). Some (filled r.pattern (a ∷ b ∷ []))) 2 (rows_of d) i row (versioned-back d a b) at both counted
+back-at d i row (a ∷ []) at both form counted = absurd (let bad = rw (both, counted) at form in cc)
+back-at d i row (a ∷ b ∷ c ∷ ns) at both form counted = absurd (by_tests (nat_eq (star_count row.pattern) 0) (nat_eq (star_count row.pattern) 2) refl refl (rw both at form))
+  where
+    by_tests : (x y : Bool) → nat_eq (star_count row.pattern) 0 ≡ x → nat_eq (star_count row.pattern) 2 ≡ y → (x || y) ≡ true → ⊥
+    by_tests true y none two h = let bad = eqb-true _ _ none in omega (arith, bad, counted)
+    by_tests false true none two h = let bad = eqb-true _ _ two in omega (arith, bad, counted)
+    by_tests false false none two h = cc
+
+back-meaning : (d : Dialect) (name : List ℕ) (r : Result Values Unread) → name_meaning d name ≡ r → name_of d r ≡ Some name → (t : Values) × ReadsBack d name t
+back-meaning d name (Ok t) means written = (t, record { read = means; written = written })
+back-meaning d name (Err why) means written = absurd cc
+
+pub names_read_back : NamesReadBack
+names_read_back d i row ns at both fit =
+    let name : List ℕ = filled row.pattern ns in
+    let means = names_mean_rows d row name ns (named-filled d i row ns at fit) (λ (other : row.way ≡ Written). let bad = sym both ∙ other in cc) in
+    back-meaning d name (with_numbers ns (read_or_unknown (reading row.meaning))) (means ∙ ap (λ way. row_meaning way row.meaning ns) both)
+    (back-at d i row ns at both (form-at d i row at).numbers (fits_counted row.pattern ns fit))
+
+-- one number is enough
+
+one-system : (n : ℕ) (s : OperatingSystem) → system_with (n ∷ []) s ≡ system_with (n ∷ 0 ∷ []) s
+one-system n (operating_system.MacOSX version) = refl
+one-system n (operating_system.IOS version) = refl
+one-system n _ = refl
+
+one-numbers : (n : ℕ) (r : Result Values Unread) → with_numbers (n ∷ []) r ≡ with_numbers (n ∷ 0 ∷ []) r
+one-numbers n (Ok t) = ap (λ s. Ok (record t { operating_system = s })) (one-system n t.operating_system)
+one-numbers n (Err why) = refl
+
+one-meaning : (n : ℕ) (text : List ℕ) (one two : Way) → is_only_written one ≡ false → is_read_and false two ≡ false → is_only_written two ≡ false → cond (has_triple two) (has_triple one) (not (has_triple one)) ≡ true
+    → row_meaning one text (n ∷ []) ≡ row_meaning two text (n ∷ 0 ∷ [])
+one-meaning n text Both Both a b c same = one-numbers n (read_or_unknown (reading text))
+one-meaning n text Read Both a b c same = one-numbers n (read_or_unknown (reading text))
+one-meaning n text NoTriple NoTriple a b c same = refl
+one-meaning n text Written two a b c same = absurd cc
+one-meaning n text one Read a b c same = absurd cc
+one-meaning n text one Written a b c same = absurd cc
+one-meaning n text NoTriple Both a b c same = absurd cc
+one-meaning n text Both NoTriple a b c same = absurd cc
+one-meaning n text Read NoTriple a b c same = absurd cc
+
+two-unwritten : (way : Way) (stars : ℕ) → has_numbers way stars ≡ true → stars ≡ 2 → is_only_written way ≡ false
+two-unwritten Written stars has two = absurd (let bad = rw two at has in cc)
+two-unwritten _ stars has two = refl
+
+unwritten : (way : Way) → is_only_written way ≡ false → way ≢ Written
+unwritten way is other = let bad = rw other at is in cc
 
 pub one_number_enough : OneNumberIsEnough
+one_number_enough d i row n tags at short small =
+    let test = all-at (has_short (rows_of d)) (rows_of d) i row (implied _ _ tags (rows-short d)) at in
+    let found = any-at (is_short_of row) (rows_of d) (implied _ _ short test) in
+    let other : Row = found.row in
+    let ways = and_parts _ _ found.holds in
+    let read = and_parts _ _ ways.0 in
+    let counted = and_parts _ _ read.0 in
+    let texts = and_parts (bytes_eq other.pattern (without_number row.pattern)) (bytes_eq other.meaning row.meaning) counted.0 in
+    let pattern = (bytes_eq-Decides other.pattern (without_number row.pattern)).0 texts.0 in
+    let meaning = (bytes_eq-Decides other.meaning row.meaning).0 texts.1 in
+    let unread = not-false _ read.1 in
+    let may = and_parts (nat_eq (star_count row.pattern) 2) (not (is_read_and false row.way)) short in
+    let two = eqb-true (star_count row.pattern) 2 may.0 in
+    let kept = two-unwritten row.way (star_count row.pattern) (form-at d i row at).numbers two in
+    let in_limit = le-leb n 65535 small in
+    let one_fits = counted_fits other.pattern (n ∷ []) (eqb-true (star_count other.pattern) 1 counted.1) (rw in_limit refl) in
+    let two_fits = counted_fits row.pattern (n ∷ 0 ∷ []) two (rw in_limit refl) in
+    let means_one = names_mean_rows d other (filled other.pattern (n ∷ [])) (n ∷ []) (named-filled d found.place other (n ∷ []) found.listed one_fits) (unwritten other.way unread) in
+    let means_two = names_mean_rows d row (filled row.pattern (n ∷ 0 ∷ [])) (n ∷ 0 ∷ []) (named-filled d i row (n ∷ 0 ∷ []) at two_fits) (unwritten row.way kept) in
+    ap (λ p. name_meaning d (filled p (n ∷ []))) (sym pattern) ∙ means_one ∙ ap (λ text. row_meaning other.way text (n ∷ [])) meaning
+    ∙ one-meaning n row.meaning other.way row.way unread (not-false _ may.1) kept ways.1 ∙ sym means_two
+
+-- what a name means is canonical
+
+triple-canonical : (way : Way) (text : List ℕ) (stars : Bool) → (not (has_triple way) || (is_canonical text && stars)) ≡ true → has_triple way ≡ true → (is_canonical text ≡ true) × (stars ≡ true)
+triple-canonical way text stars h is = and_parts _ _ (rw is at h)
+
+canonical-at : (d : Dialect) (i : ℕ) (row : Row) → slice_get (rows_of d) i ≡ Some row → has_triple row.way ≡ true → (is_canonical row.meaning ≡ true) × ((nat_eq (star_count row.pattern) 0 || gives_no_special_text (reading row.meaning)) ≡ true)
+canonical-at d i row at is = triple-canonical row.way row.meaning (nat_eq (star_count row.pattern) 0 || gives_no_special_text (reading row.meaning)) (all-at has_canonical (rows_of d) i row (rows-canonical d) at) is
+
+-- with numbers the version is in range
+numbers-range : (ns : List ℕ) → are_within all_limits ns ≡ true → IsVersionInRange (version_of_numbers ns)
+numbers-range [] within = (omega arith, omega arith, omega arith)
+numbers-range (n ∷ []) within = (omega (arith, leb-true n 65535 (and_parts (nat_le n 65535) true within).0), omega arith, omega arith)
+numbers-range (n ∷ m ∷ ns) within =
+    let parts = and_parts (nat_le n 65535) (are_within (255 ∷ []) (m ∷ ns)) within in
+    (omega (arith, leb-true n 65535 parts.0), omega (arith, leb-true m 255 (and_parts (nat_le m 255) (are_within [] ns) parts.1).0), omega arith)
+
+version-plain : (ns : List ℕ) (s : OperatingSystem) → are_within all_limits ns ≡ true → HasVersionInRange s → HasVersionInRange (system_with ns s)
+version-plain [] s within plain = plain
+version-plain (n ∷ ns) (operating_system.MacOSX version) within plain = numbers-range (n ∷ ns) within
+version-plain (n ∷ ns) (operating_system.IOS version) within plain = numbers-range (n ∷ ns) within
+version-plain (n ∷ ns) _ within plain = plain
+
+numbered-canonical : RoundIsNormalStep → ReadTriplesArePlain → (text ns : List ℕ) (t u : Values) → IsRow text u → (ns ≢ [] → has_no_special_text u.vendor ≡ true) → are_within all_limits ns ≡ true
+    → record u { operating_system = system_with ns u.operating_system } ≡ t → IsCanonical t
+numbered-canonical round_trip read_plain text [] t u row no_special within is = subst IsCanonical is (row-canonical round_trip read_plain text u row)
+numbered-canonical round_trip read_plain text (n ∷ ns) t u row no_special within is =
+    let plain = read_plain (text_of u) u (row-comes_back text u row) in
+    subst IsCanonical is
+    (no_special-canonical round_trip (record u { operating_system = system_with (n ∷ ns) u.operating_system })
+    (record { vendor = plain.vendor; version = version-plain (n ∷ ns) u.operating_system within plain.version }) (no_special (λ none. cc)) row.not_clever)
+
+numbers-special : (stars : ℕ) (ns : List ℕ) (b : Bool) → stars ≡ length ns → (nat_eq stars 0 || b) ≡ true → ns ≢ [] → b ≡ true
+numbers-special stars [] b counted test some = absurd (some refl)
+numbers-special stars (n ∷ ns) b counted test some = by_none (nat_eq stars 0) refl test
+  where
+    by_none : (none : Bool) → nat_eq stars 0 ≡ none → (none || b) ≡ true → b ≡ true
+    by_none true is h = absurd (omega (arith, eqb-true stars 0 is, counted))
+    by_none false is h = h
+
+found-canonical : RoundIsNormalStep → ReadTriplesArePlain → (d : Dialect) (name : List ℕ) (found : Row × List ℕ) (t : Values) → row_named (rules_of d).tags (rows_of d) name ≡ Some found → has_triple found.0.way ≡ true
+    → with_numbers found.1 (read_or_unknown (reading found.0.meaning)) ≡ Ok t → IsCanonical t
+found-canonical round_trip read_plain d name found t is triple means =
+    let at = named-at (rules_of d).tags (rows_of d) name found is in
+    let canonical = canonical-at d at.0 found.0 at.1 triple in
+    let row = canonical-row found.0.meaning canonical.0 in
+    let fit = match_fits (rules_of d).tags found.0.pattern name found.1 at.2 in
+    let special = λ (some : found.1 ≢ []). subst (λ r. gives_no_special_text r ≡ true) row.1.reads (numbers-special (star_count found.0.pattern) found.1 (gives_no_special_text (reading found.0.meaning)) (fits_counted found.0.pattern found.1 fit) canonical.1 some) in
+    let same : Ok (record row.0 { operating_system = system_with found.1 row.0.operating_system }) ≡ Ok t = sym (ap (λ r. with_numbers found.1 (read_or_unknown r)) row.1.reads) ∙ means in
+    numbered-canonical round_trip read_plain found.0.meaning found.1 t row.0 row.1 special (fits_are_within found.0.pattern found.1 fit) cc
+
+pub names_canonical : RoundIsNormalStep → ReadTriplesArePlain → NamesAreCanonical
 unfolding name_meaning
-one_number_enough s major machine keeps within own none =
-    let v = version_of_two major 0 in
-    rw (
-      tag_of-short s major machine (omega (arith, within)) own,
-      short-read s major machine keeps within none,
-      tag_of-tag s v machine (omega (arith, within)) (omega arith) own,
-      parts-read s v machine (keeps-two s keeps) (omega (arith, within)) (omega arith),
-    ) refl
-
--- the shape without the version that a name keeps
-
-abbrev without_kept : Values → Option (VersionedSystem × DeploymentTarget) → Values
-without_kept t None = t
-without_kept t (Some version) = triple_with version.0 None t
-
-abbrev versionless : Dialect → Values → Values
-versionless d t = without_kept (shape d t) (kept_version (shape d t).operating_system)
-
-unkept-plain : (d : Dialect) (t : Values) → kept_version (shape d t).operating_system ≡ None → IsPlainTriple (shape d t)
-unfolding shape
-unkept-plain d t none = record { vendor = refl; version = unkept-range d t.operating_system none }
-
-kept-in-python : (d : Dialect) (t : Values) (version : VersionedSystem × DeploymentTarget) → kept_version (shape d t).operating_system ≡ Some version → (d ≡ Python) × (version.1.patch ≡ 0)
-unfolding shape
-kept-in-python d t version is = kept-python d t.operating_system version is
-
-versionless-plain : (d : Dialect) (t : Values) → IsPlainTriple (versionless d t)
-versionless-plain d t = by_kept (kept_version (shape d t).operating_system) refl
+names_canonical round_trip read_plain d name t means = by_found (row_named (rules_of d).tags (rows_of d) name) refl means
   where
-    by_kept : (o : Option (VersionedSystem × DeploymentTarget)) → kept_version (shape d t).operating_system ≡ o → IsPlainTriple (without_kept (shape d t) o)
-    by_kept None is = unkept-plain d t is
-    by_kept (Some version) is =
-        record { vendor = (no_special-known (shape d t).vendor (shape-no_special d t)).0; version = (kept-is (shape d t).operating_system version is).unversioned }
+    by_way : (found : Row × List ℕ) → row_named (rules_of d).tags (rows_of d) name ≡ Some found → (way : Way) → found.0.way ≡ way → row_meaning way found.0.meaning found.1 ≡ Ok t → IsCanonical t
+    by_way found is Both way h = found-canonical round_trip read_plain d name found t is (rw way refl) h
+    by_way found is Read way h = found-canonical round_trip read_plain d name found t is (rw way refl) h
+    by_way found is Written way h = absurd cc
+    by_way found is NoTriple way h = absurd cc
 
-versionless-no_special : (d : Dialect) (t : Values) → has_no_special_text (versionless d t).vendor ≡ true
-versionless-no_special d t = by_kept (kept_version (shape d t).operating_system)
+    by_found : (o : Option (Row × List ℕ)) → row_named (rules_of d).tags (rows_of d) name ≡ o → found_meaning o ≡ Ok t → IsCanonical t
+    by_found None is h = absurd cc
+    by_found (Some found) is h = by_way found is found.0.way refl h
+
+-- the row that is written for a shape
+
+abbrev base : Dialect → Values → Values
+base d t = record (shape d t) { operating_system = without_numbers (shape d t).operating_system }
+
+base-plain : (d : Dialect) (t : Values) → IsPlainTriple (base d t)
+base-plain d t = record { vendor = (no_special-known (shape d t).vendor (shape-no_special d t)).0; version = without-range d t }
+
+no-numbers : (ns : List ℕ) → length ns ≡ 0 → ns ≡ []
+no-numbers [] is = refl
+no-numbers (n ∷ ns) is = absurd (omega (arith, is))
+
+record IsNameOf (d : Dialect) (t : Values) (name : List ℕ) : Type 0 where
+  row : Row
+  is : shape_row d (shape d t) ≡ Some row
+  written : IsWrittenFor d (length (numbers_in (shape d t).operating_system)) (text_without_numbers (shape d t)) row
+  name_is : filled row.pattern (numbers_in (shape d t).operating_system) ≡ name
+  canonical : is_canonical (text_of (base d t)) ≡ true
+
+written-triple : (way : Way) → is_written way ≡ true → has_triple way ≡ true
+written-triple NoTriple is = absurd cc
+written-triple _ is = refl
+
+name-row : (d : Dialect) (t : Values) (name : List ℕ) → triple_name d t ≡ Some name → IsNameOf d t name
+unfolding triple_name
+name-row d t name h = by_row (shape_row d (shape d t)) refl h
   where
-    by_kept : (o : Option (VersionedSystem × DeploymentTarget)) → has_no_special_text (without_kept (shape d t) o).vendor ≡ true
-    by_kept None = shape-no_special d t
-    by_kept (Some version) = shape-no_special d t
+    by_row : (o : Option Row) → shape_row d (shape d t) ≡ o → option_map (λ (row : Row). filled row.pattern (numbers_in (shape d t).operating_system)) o ≡ Some name → IsNameOf d t name
+    by_row None is h = absurd cc
+    by_row (Some row) is h =
+        let written = row-written d (length (numbers_in (shape d t).operating_system)) (text_without_numbers (shape d t)) row is in
+        let canonical = (canonical-at d written.place row written.listed (written-triple row.way written.written)).0 in
+        record { row = row; is = is; written = written; name_is = cc; canonical = subst (λ x. is_canonical x ≡ true) (sym written.text_is) canonical }
 
-versionless-row : RoundIsNormalStep → (d : Dialect) (t : Values) → is_canonical (text_of (versionless d t)) ≡ true → (reading (text_of (versionless d t)) ≡ Ok (versionless d t)) × (is_ordinary (versionless d t) ≡ true)
-versionless-row round_trip d t canonical = text-row round_trip (versionless d t) (versionless-plain d t) (versionless-no_special d t) canonical
-
--- the name of a triple without a version is that of a row with the text of the shape, which is read as this text or isn't
--- read
-record IsPlainlyNamed (d : Dialect) (text name : List ℕ) : Type 0 where
-  canonical : is_canonical text ≡ true
-  own : is_own_key d name ≡ true
-  seen : (triple_text d name ≡ Some text) ⊎ ((triple_text d name ≡ None) × (name_with (both_ways d) text ≡ None))
-
-plainly-named : (d : Dialect) (text name : List ℕ) → name_of_text d text ≡ Some name → IsPlainlyNamed d text name
-unfolding name_of_text
-plainly-named d text name h = by_first (name_with (both_ways d) text) refl h
-  where
-    by_first : (o : Option (List ℕ)) → name_with (both_ways d) text ≡ o → option_or o (name_with (only_written d) text) ≡ Some name → IsPlainlyNamed d text name
-    by_first (Some other) is same =
-        let the_name : other ≡ name = cc in
-        let passes = value_named-all (λ pair. is_canonical pair.0 && is_this (triple_text d pair.1) pair.0 && is_own_key d pair.1) (swapped (both_ways d)) text other (both_ways-seen d) is in
-        let own = and_parts _ _ passes in let parts = and_parts _ _ own.0 in
-        record { canonical = parts.0; own = subst (λ n. is_own_key d n ≡ true) the_name own.1; seen = inl (subst (λ n. triple_text d n ≡ Some text) the_name (is_this-same _ _ parts.1)) }
-    by_first None is same =
-        let passes = value_named-all (λ pair. is_canonical pair.0 && is_none (triple_text d pair.1) && is_own_key d pair.1) (swapped (only_written d)) text name (only_written-seen d) same in
-        let own = and_parts _ _ passes in let parts = and_parts _ _ own.0 in
-        record { canonical = parts.0; own = own.1; seen = inr (is_none-same _ parts.1, is) }
-
--- and of one with a version that of a machine, which is its own tag
-record IsMachineOf (s : VersionedSystem) (text machine : List ℕ) : Type 0 where
-  canonical : is_canonical text ≡ true
-  seen : value_named (machines s) machine ≡ Some text
-  tag : tag_of machine ≡ machine
-
-machine-named : (s : VersionedSystem) (text machine : List ℕ) → name_with (machines s) text ≡ Some machine → IsMachineOf s text machine
-machine-named s text machine is =
-    let passes = value_named-all (λ pair. is_canonical pair.0 && is_this (value_named (machines s) pair.1) pair.0 && bytes_eq (tag_of pair.1) pair.1) (swapped (machines s)) text machine (machines-seen s) is in
-    let tag = and_parts _ _ passes in let parts = and_parts _ _ tag.0 in
-    record { canonical = parts.0; seen = is_this-same _ _ parts.1; tag = (bytes_eq-Decides (tag_of machine) machine).0 tag.1 }
-
-named-canonical : (d : Dialect) (t : Values) (name : List ℕ) → triple_name d t ≡ Some name → is_canonical (text_of (versionless d t)) ≡ true
-named-canonical d t name h = by_kept (kept_version (shape d t).operating_system) h
-  where
-    by_kept : (o : Option (VersionedSystem × DeploymentTarget)) → name_by_version d (shape d t) o ≡ Some name → is_canonical (text_of (without_kept (shape d t) o)) ≡ true
-    by_kept None h = (plainly-named d (text_of (shape d t)) name h).canonical
-    by_kept (Some version) h = by_machine (name_with (machines version.0) (text_of (triple_with version.0 None (shape d t)))) refl h
-      where
-        by_machine : (o : Option (List ℕ)) → name_with (machines version.0) (text_of (triple_with version.0 None (shape d t))) ≡ o → option_map (versioned_tag version.0 version.1) o ≡ Some name
-            → is_canonical (text_of (triple_with version.0 None (shape d t))) ≡ true
-        by_machine None is h = absurd cc
-        by_machine (Some machine) is h = (machine-named version.0 _ machine is).canonical
-
-unread-apart : (d : Dialect) (name : List ℕ) (u : Values) → is_own_key d name ≡ true → triple_text d name ≡ None → name_meaning d name ≡ Ok u → ⊥
-unread-apart d name u own none means = let h = sym (own-meaning d name own) ∙ means in let bad = rw none at h in cc
-
-plain-means : RoundIsNormalStep → (d : Dialect) (t : Values) (name : List ℕ) → kept_version (shape d t).operating_system ≡ None → name_of_text d (text_of (shape d t)) ≡ Some name → MeansTheShape d t name
-plain-means round_trip d t name unkept h =
-    let is = plainly-named d (text_of (shape d t)) name h in
-    let base : versionless d t ≡ shape d t = ap (without_kept (shape d t)) unkept in
-    let row = versionless-row round_trip d t (subst (λ u. is_canonical (text_of u) ≡ true) (sym base) is.canonical) in
-    let reads : reading (text_of (shape d t)) ≡ Ok (shape d t) = subst (λ u. reading (text_of u) ≡ Ok u) base row.0 in
-    elim is.seen [
-      | inl found ↦
-          let means = meaning-of d name (text_of (shape d t)) (shape d t) is.own found reads in
-          record { if_read = λ u is_u. let both : Ok (shape d t) ≡ Ok u = sym means ∙ is_u in cc; both_ways = λ _. means; versioned = λ kept. absurd (kept unkept) }
-      | inr unread ↦ record {
-        if_read = λ u is_u. absurd (unread-apart d name u is.own unread.0 is_u);
-        both_ways = λ is_some. let none = unread.1 in absurd cc;
-        versioned = λ kept. absurd (kept unkept);
-      }
-    ]
-
--- a version with two numbers is made of them
-two-numbers : (v : DeploymentTarget) → v.patch ≡ 0 → version_of_two v.major v.minor ≡ v
-two-numbers v none = ap (λ p. record { major = v.major; minor = v.minor; patch = p }) (sym none)
-
-versioned-means : RoundIsNormalStep → (t : Values) (version : VersionedSystem × DeploymentTarget) (machine : List ℕ) → HasVersionInRange (shape Python t).operating_system
-    → kept_version (shape Python t).operating_system ≡ Some version → version.1.patch ≡ 0 → name_with (machines version.0) (text_of (triple_with version.0 None (shape Python t))) ≡ Some machine
-    → name_meaning Python (versioned_tag version.0 version.1 machine) ≡ Ok (shape Python t)
-unfolding name_meaning
-versioned-means round_trip t version machine range kept_is patch is =
-    let known = kept-is (shape Python t).operating_system version kept_is in
-    let in_range = known.range range in
-    let named = machine-named version.0 _ machine is in
-    let base : versionless Python t ≡ triple_with version.0 None (shape Python t) = ap (without_kept (shape Python t)) kept_is in
-    let row = versionless-row round_trip Python t (subst (λ u. is_canonical (text_of u) ≡ true) (sym base) named.canonical) in
-    let reads : reading (text_of (triple_with version.0 None (shape Python t))) ≡ Ok (triple_with version.0 None (shape Python t)) = subst (λ u. reading (text_of u) ≡ Ok u) base row.0 in
-    let parts = parts-read version.0 version.1 machine (keeps-two version.0 known.keeps) in_range.0 in_range.1 in
-    let tag = tag_of-tag version.0 version.1 machine (omega (arith, in_range.0)) (omega (arith, in_range.1)) named.tag in
-    let again : triple_with version.0 (Some (version_of_two version.1.major version.1.minor)) (triple_with version.0 None (shape Python t)) ≡ shape Python t =
-    ap (λ v. triple_with version.0 (Some v) (triple_with version.0 None (shape Python t))) (two-numbers version.1 patch) ∙ ap (λ s. record (shape Python t) { operating_system = s }) known.again in
-    rw (tag, parts, named.seen, reads) (ap Ok again)
+base-row : RoundIsNormalStep → (d : Dialect) (t : Values) → is_canonical (text_of (base d t)) ≡ true → (reading (text_of (base d t)) ≡ Ok (base d t)) × (is_ordinary (base d t) ≡ true)
+base-row round_trip d t canonical = text-row round_trip (base d t) (base-plain d t) (shape-no_special d t) canonical
 
 pub names_mean_shape : RoundIsNormalStep → NamesMeanTheShape
-names_mean_shape round_trip d t name range h = by_kept (kept_version (shape d t).operating_system) refl h
+names_mean_shape round_trip d t name range h =
+    let it = name-row d t name h in
+    let fit = counted_fits it.row.pattern (numbers_in (shape d t).operating_system) it.written.counted (numbers-within (shape d t).operating_system range) in
+    subst (MeansTheShape d t) it.name_is (by_way it (named-filled d it.written.place it.row (numbers_in (shape d t).operating_system) it.written.listed fit) it.row.way refl)
   where
-    all : name_meaning d name ≡ Ok (shape d t) → MeansTheShape d t name
-    all means = record { if_read = λ u is_u. let both : Ok (shape d t) ≡ Ok u = sym means ∙ is_u in cc; both_ways = λ _. means; versioned = λ _. means }
+    numbers : List ℕ
+    numbers = numbers_in (shape d t).operating_system
 
-    in_python : (e : Dialect) (version : VersionedSystem × DeploymentTarget) (machine : List ℕ) → e ≡ Python → HasVersionInRange (shape e t).operating_system
-        → kept_version (shape e t).operating_system ≡ Some version → version.1.patch ≡ 0 → name_with (machines version.0) (text_of (triple_with version.0 None (shape e t))) ≡ Some machine
-        → name_meaning e (versioned_tag version.0 version.1 machine) ≡ Ok (shape e t)
-    in_python Python version machine python range kept_is patch is = versioned-means round_trip t version machine range kept_is patch is
-    in_python _ version machine python range kept_is patch is = absurd cc
+    shape-read : IsNameOf d t name → with_numbers numbers (read_or_unknown (reading (text_of (base d t)))) ≡ Ok (shape d t)
+    shape-read it = ap (λ r. with_numbers numbers (read_or_unknown r)) (base-row round_trip d t it.canonical).0 ∙ ap (λ s. Ok (record (shape d t) { operating_system = s })) (with-again d t)
 
-    by_machine : (version : VersionedSystem × DeploymentTarget) (o : Option (List ℕ)) → kept_version (shape d t).operating_system ≡ Some version
-        → name_with (machines version.0) (text_of (triple_with version.0 None (shape d t))) ≡ o → option_map (versioned_tag version.0 version.1) o ≡ Some name → MeansTheShape d t name
-    by_machine version None is found h = absurd cc
-    by_machine version (Some machine) is found h =
-        let same : versioned_tag version.0 version.1 machine ≡ name = cc in
-        let python = kept-in-python d t version is in
-        all (subst (λ n. name_meaning d n ≡ Ok (shape d t)) same (in_python d version machine python.0 range is python.1 found))
-
-    by_kept : (o : Option (VersionedSystem × DeploymentTarget)) → kept_version (shape d t).operating_system ≡ o → name_by_version d (shape d t) o ≡ Some name → MeansTheShape d t name
-    by_kept None is h = plain-means round_trip d t name is h
-    by_kept (Some version) is h = by_machine version (name_with (machines version.0) (text_of (triple_with version.0 None (shape d t)))) is refl h
+    by_way : (it : IsNameOf d t name) → IsNamed d it.row (filled it.row.pattern numbers) numbers → (way : Way) → it.row.way ≡ way → MeansTheShape d t (filled it.row.pattern numbers)
+    by_way it named Both way =
+        let means = names_mean_rows d it.row (filled it.row.pattern numbers) numbers named (λ (other : it.row.way ≡ Written). let bad = sym way ∙ other in cc) in
+        let read : name_meaning d (filled it.row.pattern numbers) ≡ Ok (shape d t) =
+        means ∙ ap (λ w. row_meaning w it.row.meaning numbers) way ∙ ap (λ text. with_numbers numbers (read_or_unknown (reading text))) (sym it.written.text_is) ∙ shape-read it in
+        record { if_read = λ u is_u. let both : Ok (shape d t) ≡ Ok u = sym read ∙ is_u in cc; both_ways = λ row is both. read; versioned = λ some. read }
+    by_way it named Written way =
+        let refused = written-refused d it.row (filled it.row.pattern numbers) numbers named (rw way refl) in
+        let none : star_count it.row.pattern ≡ 0 = eqb-true (star_count it.row.pattern) 0 (rw way at (form-at d it.written.place it.row it.written.listed).numbers) in
+        record {
+          if_read = λ u is_u. absurd (let bad = sym refused.1 ∙ is_u in cc);
+          both_ways = λ row is both. absurd (let same : Some it.row ≡ Some row = sym it.is ∙ is in let bad : it.row ≡ row = cc in let ways = sym way ∙ ap (λ (r : Row). r.way) bad ∙ both in cc);
+          versioned = λ some. absurd (some (no-numbers numbers (omega (arith, it.written.counted, none))));
+        }
+    by_way it named Read way = absurd (let bad = rw way at it.written.written in cc)
+    by_way it named NoTriple way = absurd (let bad = rw way at it.written.written in cc)
 
 -- toolchains write the format of an ordinary triple
 
@@ -438,37 +419,32 @@ ordinary-format t ordinary =
       ]
     ]
 
-ordinary-machine : (d : Dialect) (a : Architecture) → is_ordinary_architecture (machine_in d a) ≡ is_ordinary_architecture a
-ordinary-machine d architecture.X86_64 = refl
-ordinary-machine d _ = refl
+ordinary-machine : (b : Bool) (a : Architecture) → is_ordinary_architecture (machine_by b a) ≡ is_ordinary_architecture a
+ordinary-machine b architecture.X86_64 = refl
+ordinary-machine b _ = refl
 
-unversioned-ordinary : (s : OperatingSystem) → is_ordinary_system (unversioned s) ≡ is_ordinary_system s
+unversioned-ordinary : (s : OperatingSystem) → is_ordinary_system (without_numbers (unversioned s)) ≡ is_ordinary_system s
 unversioned-ordinary operating_system.Linux = refl
 unversioned-ordinary _ = refl
 
-two_numbers-ordinary : (s : OperatingSystem) → is_ordinary_system (with_two_numbers s) ≡ is_ordinary_system s
+two_numbers-ordinary : (s : OperatingSystem) → is_ordinary_system (without_numbers (with_two_numbers s)) ≡ is_ordinary_system s
 two_numbers-ordinary operating_system.Linux = refl
 two_numbers-ordinary _ = refl
 
-ordinary-system : (d : Dialect) (s : OperatingSystem) → is_ordinary_system (system_in d s) ≡ is_ordinary_system s
-ordinary-system Python s = two_numbers-ordinary s
-ordinary-system _ s = unversioned-ordinary s
+ordinary-system : (b : Bool) (s : OperatingSystem) → is_ordinary_system (without_numbers (system_by b s)) ≡ is_ordinary_system s
+ordinary-system true s = two_numbers-ordinary s
+ordinary-system false s = unversioned-ordinary s
 
-ordinary-shape : (d : Dialect) (t : Values) → is_ordinary (shape d t) ≡ is_ordinary t
+without-ordinary : (s : OperatingSystem) → is_ordinary_system (without_numbers s) ≡ is_ordinary_system s
+without-ordinary operating_system.Linux = refl
+without-ordinary _ = refl
+
+base-ordinary : (d : Dialect) (t : Values) → is_ordinary (base d t) ≡ is_ordinary t
 unfolding shape
-ordinary-shape d t = rw (ordinary-machine d t.architecture, ordinary-system d t.operating_system) refl
+base-ordinary d t = rw (ordinary-machine (rules_of d).arm_version t.architecture, ordinary-system (rules_of d).versions t.operating_system) refl
 
-ordinary-versionless : (d : Dialect) (t : Values) → is_ordinary (versionless d t) ≡ is_ordinary (shape d t)
-ordinary-versionless d t = by_kept (kept_version (shape d t).operating_system) refl
-  where
-    by_system : (s : OperatingSystem) (version : VersionedSystem × DeploymentTarget) → kept_version s ≡ Some version → is_ordinary_system (system_with version.0 None s) ≡ is_ordinary_system s
-    by_system (operating_system.MacOSX (Some v)) version is = let same : (MacOs, v) ≡ version = cc in subst (λ (k : VersionedSystem × DeploymentTarget). is_ordinary_system (system_with k.0 None (operating_system.MacOSX (Some v))) ≡ true) same refl
-    by_system (operating_system.IOS (Some v)) version is = let same : (Ios, v) ≡ version = cc in subst (λ (k : VersionedSystem × DeploymentTarget). is_ordinary_system (system_with k.0 None (operating_system.IOS (Some v))) ≡ true) same refl
-    by_system _ version is = absurd cc
-
-    by_kept : (o : Option (VersionedSystem × DeploymentTarget)) → kept_version (shape d t).operating_system ≡ o → is_ordinary (without_kept (shape d t) o) ≡ is_ordinary (shape d t)
-    by_kept None is = refl
-    by_kept (Some version) is = ap (λ b. is_ordinary_architecture (shape d t).architecture && b && is_known_format (shape d t).binary_format) (by_system (shape d t).operating_system version is)
+shape-ordinary : (d : Dialect) (t : Values) → is_ordinary (base d t) ≡ is_ordinary (shape d t)
+shape-ordinary d t = rw (without-ordinary (shape d t).operating_system) refl
 
 shape-format : (d : Dialect) (t : Values) → (shape d t).binary_format ≡ t.binary_format
 unfolding shape
@@ -476,9 +452,9 @@ shape-format d t = refl
 
 pub names_keep_answers : RoundIsNormalStep → NamesKeepAnswers
 names_keep_answers round_trip d t name h =
-    let ordinary = sym (ordinary-versionless d t) ∙ (versionless-row round_trip d t (named-canonical d t name h)).1 in
+    let ordinary = (base-row round_trip d t (name-row d t name h).canonical).1 in
     record {
       endianness = shape-endianness d t;
       pointer_width = shape-width d t;
-      object_format = ordinary-format (shape d t) ordinary ∙ shape-format d t ∙ sym (ordinary-format t (sym (ordinary-shape d t) ∙ ordinary));
+      object_format = ordinary-format (shape d t) (sym (shape-ordinary d t) ∙ ordinary) ∙ shape-format d t ∙ sym (ordinary-format t (sym (base-ordinary d t) ∙ ordinary));
     }

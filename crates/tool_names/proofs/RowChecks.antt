@@ -1,8 +1,9 @@
--- Tests that the rows of the tables pass, by computation.
-use Rattle.std.proofs.Common.{◌≡◌, ℕ, List, Option, Some, None, Result, Ok, Err, Bool, true, false, refl}
-use Rattle.std.specs.Prelude.{not, ◌&&◌, is_none}
-use Rattle.std.specs.List.{list_all}
-use Rattle.std.specs.Str.{bytes_eq}
+-- Tests that the rows pass, by computation.
+use Rattle.std.proofs.Common.{◌≡◌, ◌<◌, ◌≤◌, ℕ, List, [], ◌∷◌, Option, Some, None, Result, Ok, Err, Bool, true, false, cond, length, map, nat_eq, nat_le, refl, ap, arith, subst}
+use Rattle.std.specs.Prelude.{not, ◌&&◌, ◌||◌, option_map, slice_get}
+use Rattle.std.specs.{List.list_all, List.list_any, Str.bytes_eq}
+use Rattle.std.proofs.lemmas.Bool.{and_parts, eqb-true, leb-true}
+use Rattle.std.proofs.lemmas.Slice.Eq.{bytes_eq-Decides}
 use Rattle.lexicon_fields.specs.{Architecture.architecture_of, ArchitectureQueries.is_clever, BinaryFormat.binary_format_of, Environment.environment_of, OperatingSystem.fixed_operating_system_of, OperatingSystem.operating_system_of, Vendor.is_admitted, Vendor.is_custom, Vendor.known_vendor_of, Vendor.vendor_of, Version.version_of}
 use Rattle.target_lexicon.specs.{GreedyReading.reading, ImpliedFormat.implied_format, Refusal.Refusal, SpecialTexts.special_text, SpecialTexts.special_values, Values.BinaryFormat, Values.Architecture, Values.OperatingSystem, Values.Values}
 use Rattle.target_lexicon.specs.Values.architecture
@@ -10,12 +11,16 @@ use Rattle.target_lexicon.specs.Values.operating_system
 use Rattle.target_lexicon.specs.Values.binary_format
 use Rattle.target_lexicon.specs.Printing.{shows_vendor, shows_operating_system, shows_environment, shows_binary_format, shown_names, text_of}
 use Rattle.tool_names.specs.declared.dialect.Dialect.{Dialect}
-use Rattle.tool_names.specs.declared.dialect.Dialect.TheVariants.{Debian, Go, Oci, Node, Gnu, Python}
-use Rattle.tool_names.specs.Platform.{short_name_of, versioned_name_of, versioned_system_of}
-use Rattle.tool_names.specs.Shape.{shape}
-use Rattle.tool_names.specs.Tables.{both_ways, only_read, only_written, without_a_triple, debian_both_ways, go_both_ways, oci_both_ways, node_both_ways, oci_only_read, node_only_written, gnu_only_written, debian_without_a_triple, go_without_a_triple, oci_without_a_triple, node_without_a_triple, gnu_without_a_triple, python_both_ways, python_only_read, python_without_a_triple}
-use Rattle.tool_names.specs.ToolNames.{key_of, name_of_text, triple_name, triple_text, versioned_name_in}
-use Rattle.tool_names.proofs.NameTables.{swapped}
+use Rattle.tool_names.specs.declared.dialect.Dialect.TheVariants.{Debian}
+use Rattle.tool_names.specs.declared.tables.Way.{Way}
+use Rattle.tool_names.specs.declared.tables.Way.TheVariants.{Both, Written, NoTriple}
+use Rattle.tool_names.specs.{Dialects.rows_of, Dialects.rules_of, Laws.may_be_short, Private.is_short_pattern, Shape.shape}
+use Rattle.tool_names.specs.Patterns.{filled, star_count, without_number}
+use Rattle.tool_names.specs.Tables.{Row, is_written, row_for}
+use Rattle.tool_names.specs.ToolNames.{Unread, read_or_unknown, triple_name, with_numbers}
+use Rattle.tool_names.proofs.Filling.{is_own_tag, is_spaced}
+use Rattle.tool_names.proofs.RowLemmas.{all-at, all_apart, for-at, is_only_written}
+use Rattle.tool_names.proofs.ShapeLemmas.{has_no_special_text}
 
 -- the architectures, systems and formats for which toolchains write the format of the triple
 
@@ -44,75 +49,128 @@ is_canonical_as text (Err _) = false
 abbrev pub is_canonical : List ℕ → Bool
 is_canonical text = is_canonical_as text (reading text)
 
-abbrev pub is_this : Option (List ℕ) → List ℕ → Bool
-is_this None text = false
-is_this (Some other) text = bytes_eq other text
+-- what each row passes
 
--- the name of the triple that a text parses as
-abbrev pub is_written_as : Dialect → List ℕ → Result Values Refusal → Bool
-is_written_as d name (Ok t) = is_this (triple_name d t) name
-is_written_as d name (Err _) = false
+abbrev pub has_triple : Way → Bool
+has_triple NoTriple = false
+has_triple _ = true
 
--- a name is the one by which its row is found, and has no version
-abbrev pub is_own_key : Dialect → List ℕ → Bool
-is_own_key d name = bytes_eq (key_of d name) name && is_none (versioned_name_in d name)
+abbrev pub is_both : Way → Bool
+is_both Both = true
+is_both _ = false
 
--- each triple of a table is canonical
-pub both_ways-canonical : (d : Dialect) → list_all (λ row. is_canonical row.1) (both_ways d) ≡ true
-unfolding debian_both_ways go_both_ways oci_both_ways node_both_ways python_both_ways architecture_of known_vendor_of is_admitted vendor_of version_of fixed_operating_system_of operating_system_of environment_of binary_format_of implied_format special_values special_text shows_vendor shows_operating_system shows_environment shows_binary_format shown_names text_of reading
-both_ways-canonical Debian = refl
-both_ways-canonical Go = refl
-both_ways-canonical Oci = refl
-both_ways-canonical Node = refl
-both_ways-canonical Gnu = refl
-both_ways-canonical Python = refl
+-- a row with a triple has a canonical one; if it has numbers, its vendor has no special string
+abbrev pub gives_no_special_text : Result Values Refusal → Bool
+gives_no_special_text (Ok t) = has_no_special_text t.vendor
+gives_no_special_text (Err _) = false
 
--- each triple of a name that is only read
-pub only_read-canonical : (d : Dialect) → list_all (λ row. is_canonical row.1) (only_read d) ≡ true
-unfolding oci_only_read python_only_read architecture_of known_vendor_of is_admitted vendor_of version_of fixed_operating_system_of operating_system_of environment_of binary_format_of implied_format special_values special_text shows_vendor shows_operating_system shows_environment shows_binary_format shown_names text_of reading
-only_read-canonical Debian = refl
-only_read-canonical Go = refl
-only_read-canonical Oci = refl
-only_read-canonical Node = refl
-only_read-canonical Gnu = refl
-only_read-canonical Python = refl
+abbrev pub has_canonical : Row → Bool
+has_canonical row = not (has_triple row.way) || (is_canonical row.meaning && (nat_eq (star_count row.pattern) 0 || gives_no_special_text (reading row.meaning)))
 
--- a name that is written for a triple is read as it
-pub both_ways-seen : (d : Dialect) → list_all (λ pair. is_canonical pair.0 && is_this (triple_text d pair.1) pair.0 && is_own_key d pair.1) (swapped (both_ways d)) ≡ true
-unfolding versioned_name_of short_name_of versioned_system_of debian_both_ways go_both_ways oci_both_ways node_both_ways python_both_ways oci_only_read python_only_read triple_text architecture_of known_vendor_of is_admitted vendor_of version_of fixed_operating_system_of operating_system_of environment_of binary_format_of implied_format special_values special_text shows_vendor shows_operating_system shows_environment shows_binary_format shown_names text_of reading
-both_ways-seen Debian = refl
-both_ways-seen Go = refl
-both_ways-seen Oci = refl
-both_ways-seen Node = refl
-both_ways-seen Gnu = refl
-both_ways-seen Python = refl
+-- a name has its numbers apart, and is its own tag where names are tags; one that is written has none, or two and is read too,
+-- and it and its triple are short
+abbrev pub has_numbers : Way → ℕ → Bool
+has_numbers Both stars = nat_eq stars 0 || nat_eq stars 2
+has_numbers Written stars = nat_eq stars 0
+has_numbers _ stars = true
 
--- a name that is only written isn't read
-pub only_written-seen : (d : Dialect) → list_all (λ pair. is_canonical pair.0 && is_none (triple_text d pair.1) && is_own_key d pair.1) (swapped (only_written d)) ≡ true
-unfolding versioned_name_of short_name_of versioned_system_of debian_both_ways go_both_ways oci_both_ways node_both_ways python_both_ways oci_only_read python_only_read node_only_written gnu_only_written triple_text architecture_of known_vendor_of is_admitted vendor_of version_of fixed_operating_system_of operating_system_of environment_of binary_format_of implied_format special_values special_text shows_vendor shows_operating_system shows_environment shows_binary_format shown_names text_of reading
-only_written-seen Debian = refl
-only_written-seen Go = refl
-only_written-seen Oci = refl
-only_written-seen Node = refl
-only_written-seen Gnu = refl
-only_written-seen Python = refl
+abbrev pub has_form : Bool → Row → Bool
+has_form tags row =
+    is_spaced row.pattern && (not tags || is_own_tag row.pattern) && has_numbers row.way (star_count row.pattern)
+    && (not (is_written row.way) || (is_short_pattern row.pattern && nat_le (length row.meaning) 64))
 
--- a name that goes both ways is the name of its triple
-pub both_ways-back : (d : Dialect) → list_all (λ row. is_written_as d row.0 (reading row.1) && is_own_key d row.0) (both_ways d) ≡ true
-unfolding versioned_name_of short_name_of versioned_system_of debian_both_ways go_both_ways oci_both_ways node_both_ways python_both_ways node_only_written gnu_only_written shape name_of_text architecture_of known_vendor_of is_admitted vendor_of version_of fixed_operating_system_of operating_system_of environment_of binary_format_of implied_format special_values special_text shows_vendor shows_operating_system shows_environment shows_binary_format shown_names text_of reading
-both_ways-back Debian = refl
-both_ways-back Go = refl
-both_ways-back Oci = refl
-both_ways-back Node = refl
-both_ways-back Gnu = refl
-both_ways-back Python = refl
+-- where names are tags, a name that may be short has a row for that
+abbrev pub is_short_of : Row → Row → Bool
+is_short_of row other =
+    bytes_eq other.pattern (without_number row.pattern) && bytes_eq other.meaning row.meaning && nat_eq (star_count other.pattern) 1 && not (is_only_written other.way)
+    && cond (has_triple row.way) (has_triple other.way) (not (has_triple other.way))
 
--- a name without a triple has none
-pub without_a_triple-unread : (d : Dialect) → list_all (λ row. is_none (triple_text d row.0) && is_own_key d row.0) (without_a_triple d) ≡ true
-unfolding debian_both_ways go_both_ways oci_both_ways node_both_ways python_both_ways oci_only_read python_only_read debian_without_a_triple go_without_a_triple oci_without_a_triple node_without_a_triple gnu_without_a_triple python_without_a_triple triple_text versioned_name_of short_name_of versioned_system_of
-without_a_triple-unread Debian = refl
-without_a_triple-unread Go = refl
-without_a_triple-unread Oci = refl
-without_a_triple-unread Node = refl
-without_a_triple-unread Gnu = refl
-without_a_triple-unread Python = refl
+abbrev pub has_short : List Row → Row → Bool
+has_short rows row = not (may_be_short row) || list_any (is_short_of row) rows
+
+pub rows-apart : (d : Dialect) → all_apart (rows_of d) ≡ true
+unfolding rows_of
+rows-apart Debian = refl
+rows-apart _ = refl
+
+pub rows-canonical : (d : Dialect) → list_all has_canonical (rows_of d) ≡ true
+unfolding rows_of architecture_of known_vendor_of is_admitted vendor_of version_of fixed_operating_system_of operating_system_of environment_of binary_format_of implied_format special_values special_text shows_vendor shows_operating_system shows_environment shows_binary_format shown_names text_of reading
+rows-canonical Debian = refl
+rows-canonical _ = refl
+
+pub rows-formed : (d : Dialect) → list_all (has_form (rules_of d).tags) (rows_of d) ≡ true
+unfolding rows_of
+rows-formed Debian = refl
+rows-formed _ = refl
+
+pub rows-short : (d : Dialect) → (not (rules_of d).tags || list_all (has_short (rows_of d)) (rows_of d)) ≡ true
+unfolding rows_of
+rows-short Debian = refl
+rows-short _ = refl
+
+-- the rows that go both ways, with this many numbers, are the names of what they mean
+
+abbrev pub both_rows : ℕ → List Row → List Row
+both_rows stars [] = []
+both_rows stars (row ∷ rows) = cond (is_both row.way && nat_eq (star_count row.pattern) stars) (row ∷ both_rows stars rows) (both_rows stars rows)
+
+abbrev pub name_of : Dialect → Result Values Unread → Option (List ℕ)
+name_of d (Ok t) = triple_name d t
+name_of d (Err _) = None
+
+abbrev pub written_back : Dialect → List ℕ → Row → Option (List ℕ)
+written_back d numbers row = name_of d (with_numbers numbers (read_or_unknown (reading row.meaning)))
+
+pub plain-back : (d : Dialect) → map (written_back d []) (both_rows 0 (rows_of d)) ≡ map (λ (row : Row). Some (filled row.pattern [])) (both_rows 0 (rows_of d))
+unfolding shape triple_name rows_of architecture_of known_vendor_of is_admitted vendor_of version_of fixed_operating_system_of operating_system_of environment_of binary_format_of implied_format special_values special_text shows_vendor shows_operating_system shows_environment shows_binary_format shown_names text_of reading
+plain-back Debian = refl
+plain-back _ = refl
+
+pub versioned-back : (d : Dialect) (a b : ℕ) → map (written_back d (a ∷ b ∷ [])) (both_rows 2 (rows_of d)) ≡ map (λ (row : Row). Some (filled row.pattern (a ∷ b ∷ []))) (both_rows 2 (rows_of d))
+unfolding shape triple_name rows_of architecture_of known_vendor_of is_admitted vendor_of version_of fixed_operating_system_of operating_system_of environment_of binary_format_of implied_format special_values special_text shows_vendor shows_operating_system shows_environment shows_binary_format shown_names text_of reading
+versioned-back Debian a b = refl
+versioned-back _ a b = refl
+
+-- what follows of the row that is written for a string
+
+pub record IsWrittenFor (d : Dialect) (numbers : ℕ) (text : List ℕ) (row : Row) : Type 0 where
+  pub place : ℕ
+  pub listed : slice_get (rows_of d) place ≡ Some row
+  pub written : is_written row.way ≡ true
+  pub text_is : text ≡ row.meaning
+  pub counted : star_count row.pattern ≡ numbers
+  pub short : is_short_pattern row.pattern ≡ true
+  pub text_short : length text ≤ 64
+
+pub row-written : (d : Dialect) (numbers : ℕ) (text : List ℕ) (row : Row) → row_for (rows_of d) numbers text ≡ Some row → IsWrittenFor d numbers text row
+row-written d numbers text row is =
+    let found = for-at (rows_of d) numbers text row is in
+    let parts = and_parts (is_written row.way && bytes_eq text row.meaning) (nat_eq (star_count row.pattern) numbers) found.2 in
+    let first = and_parts (is_written row.way) (bytes_eq text row.meaning) parts.0 in
+    let form = and_parts (is_spaced row.pattern && (not (rules_of d).tags || is_own_tag row.pattern) && has_numbers row.way (star_count row.pattern)) (not (is_written row.way) || (is_short_pattern row.pattern && nat_le (length row.meaning) 64)) (all-at (has_form (rules_of d).tags) (rows_of d) found.0 row (rows-formed d) found.1) in
+    let sizes : (is_short_pattern row.pattern && nat_le (length row.meaning) 64) ≡ true = rw first.0 at form.1 in
+    let short = and_parts (is_short_pattern row.pattern) (nat_le (length row.meaning) 64) sizes in
+    let same : text ≡ row.meaning = (bytes_eq-Decides text row.meaning).0 first.1 in
+    record {
+      place = found.0;
+      listed = found.1;
+      written = first.0;
+      text_is = same;
+      counted = eqb-true (star_count row.pattern) numbers parts.1;
+      short = short.0;
+      text_short = omega (arith, ap length same, leb-true (length row.meaning) 64 short.1);
+    }
+
+pub long-unnamed : (d : Dialect) (numbers : ℕ) (text : List ℕ) → 64 < length text → row_for (rows_of d) numbers text ≡ None
+long-unnamed d numbers text long = by_row (row_for (rows_of d) numbers text) refl
+  where
+    by_row : (o : Option Row) → row_for (rows_of d) numbers text ≡ o → row_for (rows_of d) numbers text ≡ None
+    by_row None is = is
+    by_row (Some row) is = absurd (omega (arith, (row-written d numbers text row is).text_short))
+
+pub pattern-short : (d : Dialect) (numbers : ℕ) (text pattern : List ℕ) → option_map (λ (row : Row). row.pattern) (row_for (rows_of d) numbers text) ≡ Some pattern → is_short_pattern pattern ≡ true
+pattern-short d numbers text pattern h = by_row (row_for (rows_of d) numbers text) refl h
+  where
+    by_row : (o : Option Row) → row_for (rows_of d) numbers text ≡ o → option_map (λ (row : Row). row.pattern) o ≡ Some pattern → is_short_pattern pattern ≡ true
+    by_row None is h = absurd cc
+    by_row (Some row) is h = let same : row.pattern ≡ pattern = cc in subst (λ (p : List ℕ). is_short_pattern p ≡ true) same (row-written d numbers text row is).short

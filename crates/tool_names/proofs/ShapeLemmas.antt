@@ -1,20 +1,22 @@
 -- The shape of a triple: what it keeps, and that it is its own shape.
-use Rattle.std.proofs.Common.{◌≡◌, Some, None, Bool, true, false, refl, sym, ap, subst}
-use Rattle.lexicon_fields.specs.{declared.architecture.arm.ArmArchitecture.ArmArchitecture, ArchitectureQueries.arm_endianness, ArchitectureQueries.architecture_endianness, ArchitectureQueries.architecture_width, Laws.HasVersionInRange, Laws.IsVersionInRange, declared.deployment_target.DeploymentTarget.DeploymentTarget}
+use Rattle.std.proofs.Common.{◌≡◌, Some, None, Bool, true, false, refl, ap, arith}
+use Rattle.std.proofs.lemmas.Bool.{le-leb}
+use Rattle.lexicon_fields.specs.{declared.architecture.arm.ArmArchitecture.ArmArchitecture, ArchitectureQueries.arm_endianness, ArchitectureQueries.architecture_endianness, ArchitectureQueries.architecture_width, Laws.HasVersionInRange}
 use Rattle.lexicon_fields.specs.declared.known_vendor.KnownVendor.TheVariants.{Nintendo, Espressif}
-use Rattle.target_lexicon.specs.{FixedPoints.IsPlainTriple, Queries.endianness, Queries.is_ilp32, Queries.pointer_width}
+use Rattle.target_lexicon.specs.{Queries.endianness, Queries.is_ilp32, Queries.pointer_width}
 use Rattle.target_lexicon.specs.Values.{Architecture, OperatingSystem, Environment, VendorValue, Known, Custom, Values}
 use Rattle.target_lexicon.specs.Values.architecture
 use Rattle.target_lexicon.specs.Values.arm
 use Rattle.target_lexicon.specs.Values.operating_system
 use Rattle.target_lexicon.specs.Values.environment
 use Rattle.tool_names.specs.declared.dialect.Dialect.{Dialect}
-use Rattle.tool_names.specs.declared.dialect.Dialect.TheVariants.{Debian, Go, Oci, Node, Gnu, Python}
-use Rattle.tool_names.specs.declared.platform.VersionedSystem.{VersionedSystem}
-use Rattle.tool_names.specs.declared.platform.VersionedSystem.TheVariants.{MacOs, Ios}
+use Rattle.tool_names.specs.declared.shape.AbiRule.{AbiRule}
+use Rattle.tool_names.specs.declared.shape.AbiRule.TheVariants.{Kept, Dropped, KeptOnLinux}
+use Rattle.tool_names.specs.Dialects.{rules_of}
 use Rattle.tool_names.specs.Laws.{ShapesAreFixed}
-use Rattle.tool_names.specs.Platform.{keeps_version, kept_version, system_with}
-use Rattle.tool_names.specs.Shape.{abi_in, abi_in_node, arm_in, arm_of_order, arm_of_version, is_bare_abi, is_dropped_abi, machine_in, shape, system_in, two_numbers, unknown_if, unversioned, usual_vendor, with_two_numbers}
+use Rattle.tool_names.specs.Patterns.{all_limits, are_within}
+use Rattle.tool_names.specs.Shape.{abi_by, abi_on, arm_of_order, arm_of_version, is_bare_abi, is_dropped_abi, machine_by, shape, system_by, unknown_if, unversioned, usual_vendor, with_two_numbers}
+use Rattle.tool_names.specs.ToolNames.{numbers_in, system_with, without_numbers}
 
 -- once is enough
 
@@ -26,14 +28,10 @@ version-once : (a : ArmArchitecture) → arm_of_version (arm_of_version a) ≡ a
 version-once arm.Arm = refl
 version-once _ = refl
 
-arm-once : (d : Dialect) (a : ArmArchitecture) → arm_in d (arm_in d a) ≡ arm_in d a
-arm-once Oci a = version-once a
-arm-once Python a = version-once a
-arm-once _ a = order-once a
-
-machine-once : (d : Dialect) (a : Architecture) → machine_in d (machine_in d a) ≡ machine_in d a
-machine-once d (architecture.Arm a) = ap architecture.Arm (arm-once d a)
-machine-once d _ = refl
+machine-once : (b : Bool) (a : Architecture) → machine_by b (machine_by b a) ≡ machine_by b a
+machine-once true (architecture.Arm a) = ap architecture.Arm (version-once a)
+machine-once false (architecture.Arm a) = ap architecture.Arm (order-once a)
+machine-once b _ = refl
 
 unversioned-once : (s : OperatingSystem) → unversioned (unversioned s) ≡ unversioned s
 unversioned-once operating_system.Linux = refl
@@ -46,9 +44,9 @@ two_numbers-once (operating_system.IOS None) = refl
 two_numbers-once (operating_system.IOS (Some version)) = refl
 two_numbers-once _ = refl
 
-system-once : (d : Dialect) (s : OperatingSystem) → system_in d (system_in d s) ≡ system_in d s
-system-once Python s = two_numbers-once s
-system-once _ s = unversioned-once s
+system-once : (b : Bool) (s : OperatingSystem) → system_by b (system_by b s) ≡ system_by b s
+system-once true s = two_numbers-once s
+system-once false s = unversioned-once s
 
 unversioned-vendor : (s : OperatingSystem) → usual_vendor (unversioned s) ≡ usual_vendor s
 unversioned-vendor operating_system.Linux = refl
@@ -58,9 +56,9 @@ two_numbers-vendor : (s : OperatingSystem) → usual_vendor (with_two_numbers s)
 two_numbers-vendor operating_system.Linux = refl
 two_numbers-vendor _ = refl
 
-vendor-once : (d : Dialect) (s : OperatingSystem) → usual_vendor (system_in d s) ≡ usual_vendor s
-vendor-once Python s = two_numbers-vendor s
-vendor-once _ s = unversioned-vendor s
+vendor-once : (b : Bool) (s : OperatingSystem) → usual_vendor (system_by b s) ≡ usual_vendor s
+vendor-once true s = two_numbers-vendor s
+vendor-once false s = unversioned-vendor s
 
 library-once : (e : Environment) → unknown_if (is_dropped_abi (unknown_if (is_dropped_abi e) e)) (unknown_if (is_dropped_abi e) e) ≡ unknown_if (is_dropped_abi e) e
 library-once environment.Unknown = refl
@@ -70,22 +68,22 @@ bare-once : (e : Environment) → unknown_if (is_bare_abi (unknown_if (is_bare_a
 bare-once environment.Unknown = refl
 bare-once _ = refl
 
-node-once : (s : OperatingSystem) (e : Environment) → abi_in_node (unversioned s) (abi_in_node s e) ≡ abi_in_node s e
-node-once operating_system.Linux e = bare-once e
-node-once _ e = library-once e
+linux-once : (b : Bool) (s : OperatingSystem) (e : Environment) → abi_on (system_by b s) (abi_on s e) ≡ abi_on s e
+linux-once true operating_system.Linux e = bare-once e
+linux-once true _ e = library-once e
+linux-once false operating_system.Linux e = bare-once e
+linux-once false _ e = library-once e
 
-abi-once : (d : Dialect) (s : OperatingSystem) (e : Environment) → abi_in d (system_in d s) (abi_in d s e) ≡ abi_in d s e
-abi-once Go s e = library-once e
-abi-once Oci s e = library-once e
-abi-once Python s e = library-once e
-abi-once Node s e = node-once s e
-abi-once Debian s e = refl
-abi-once Gnu s e = refl
+abi-once : (rule : AbiRule) (b : Bool) (s : OperatingSystem) (e : Environment) → abi_by rule (system_by b s) (abi_by rule s e) ≡ abi_by rule s e
+abi-once Kept b s e = refl
+abi-once Dropped b s e = library-once e
+abi-once KeptOnLinux b s e = linux-once b s e
 
 pub shapes_fixed : ShapesAreFixed
 unfolding shape
 shapes_fixed = record {
-  again = λ d t. rw (machine-once d t.architecture, vendor-once d t.operating_system, system-once d t.operating_system, abi-once d t.operating_system t.environment) refl;
+  again = λ d t. let r = rules_of d in
+      rw (machine-once r.arm_version t.architecture, vendor-once r.versions t.operating_system, system-once r.versions t.operating_system, abi-once r.abi r.versions t.operating_system t.environment) refl;
   vendor = λ d t v. refl;
 }
 
@@ -99,18 +97,14 @@ version-endianness : (a : ArmArchitecture) → arm_endianness (arm_of_version a)
 version-endianness arm.Arm = refl
 version-endianness _ = refl
 
-arm-endianness : (d : Dialect) (a : ArmArchitecture) → arm_endianness (arm_in d a) ≡ arm_endianness a
-arm-endianness Oci a = version-endianness a
-arm-endianness Python a = version-endianness a
-arm-endianness _ a = order-endianness a
+machine-endianness : (b : Bool) (a : Architecture) → architecture_endianness (machine_by b a) ≡ architecture_endianness a
+machine-endianness true (architecture.Arm a) = ap Some (version-endianness a)
+machine-endianness false (architecture.Arm a) = ap Some (order-endianness a)
+machine-endianness b _ = refl
 
-machine-endianness : (d : Dialect) (a : Architecture) → architecture_endianness (machine_in d a) ≡ architecture_endianness a
-machine-endianness d (architecture.Arm a) = ap Some (arm-endianness d a)
-machine-endianness d _ = refl
-
-machine-width : (d : Dialect) (a : Architecture) → architecture_width (machine_in d a) ≡ architecture_width a
-machine-width d architecture.X86_64 = refl
-machine-width d _ = refl
+machine-width : (b : Bool) (a : Architecture) → architecture_width (machine_by b a) ≡ architecture_width a
+machine-width b architecture.X86_64 = refl
+machine-width b _ = refl
 
 library-ilp32 : (e : Environment) → is_ilp32 (unknown_if (is_dropped_abi e) e) ≡ is_ilp32 e
 library-ilp32 environment.Unknown = refl
@@ -120,68 +114,55 @@ bare-ilp32 : (e : Environment) → is_ilp32 (unknown_if (is_bare_abi e) e) ≡ i
 bare-ilp32 environment.Unknown = refl
 bare-ilp32 _ = refl
 
-node-ilp32 : (s : OperatingSystem) (e : Environment) → is_ilp32 (abi_in_node s e) ≡ is_ilp32 e
-node-ilp32 operating_system.Linux e = bare-ilp32 e
-node-ilp32 _ e = library-ilp32 e
+linux-ilp32 : (s : OperatingSystem) (e : Environment) → is_ilp32 (abi_on s e) ≡ is_ilp32 e
+linux-ilp32 operating_system.Linux e = bare-ilp32 e
+linux-ilp32 _ e = library-ilp32 e
 
-abi-ilp32 : (d : Dialect) (s : OperatingSystem) (e : Environment) → is_ilp32 (abi_in d s e) ≡ is_ilp32 e
-abi-ilp32 Go s e = library-ilp32 e
-abi-ilp32 Oci s e = library-ilp32 e
-abi-ilp32 Python s e = library-ilp32 e
-abi-ilp32 Node s e = node-ilp32 s e
-abi-ilp32 Debian s e = refl
-abi-ilp32 Gnu s e = refl
+abi-ilp32 : (rule : AbiRule) (s : OperatingSystem) (e : Environment) → is_ilp32 (abi_by rule s e) ≡ is_ilp32 e
+abi-ilp32 Kept s e = refl
+abi-ilp32 Dropped s e = library-ilp32 e
+abi-ilp32 KeptOnLinux s e = linux-ilp32 s e
 
 pub shape-endianness : (d : Dialect) (t : Values) → endianness (shape d t) ≡ endianness t
 unfolding shape
-shape-endianness d t = machine-endianness d t.architecture
+shape-endianness d t = machine-endianness (rules_of d).arm_version t.architecture
 
 pub shape-width : (d : Dialect) (t : Values) → pointer_width (shape d t) ≡ pointer_width t
 unfolding shape pointer_width
-shape-width d t = rw (abi-ilp32 d t.operating_system t.environment, machine-width d t.architecture) refl
+shape-width d t = rw (abi-ilp32 (rules_of d).abi t.operating_system t.environment, machine-width (rules_of d).arm_version t.architecture) refl
 
--- a shape is plain: its vendor is known, and its version, if it has one, is in range
-pub shape-plain : (d : Dialect) (t : Values) → HasVersionInRange (shape d t).operating_system → IsPlainTriple (shape d t)
+-- the numbers of a shape
+
+-- without them the system has no version
+pub without-range : (d : Dialect) (t : Values) → HasVersionInRange (without_numbers (shape d t).operating_system)
 unfolding shape
-shape-plain d t range = record { vendor = refl; version = range }
-
--- where no version is kept, the system of a shape has a version in range: none
-pub unkept-range : (d : Dialect) (s : OperatingSystem) → kept_version (system_in d s) ≡ None → HasVersionInRange (system_in d s)
-unkept-range Python (operating_system.MacOSX None) none = tt
-unkept-range Python (operating_system.MacOSX (Some version)) none = absurd cc
-unkept-range Python (operating_system.IOS None) none = tt
-unkept-range Python (operating_system.IOS (Some version)) none = absurd cc
-unkept-range Python _ none = tt
-unkept-range _ s none = by_system s
+without-range d t = by_rule (rules_of d).versions t.operating_system
   where
-    by_system : (r : OperatingSystem) → HasVersionInRange (unversioned r)
-    by_system operating_system.Linux = tt
-    by_system _ = tt
+    by_rule : (b : Bool) (s : OperatingSystem) → HasVersionInRange (without_numbers (system_by b s))
+    by_rule true operating_system.Linux = tt
+    by_rule true _ = tt
+    by_rule false operating_system.Linux = tt
+    by_rule false _ = tt
 
--- only Python keeps one, with two numbers
-pub kept-python : (d : Dialect) (s : OperatingSystem) (kept : VersionedSystem × DeploymentTarget) → kept_version (system_in d s) ≡ Some kept → (d ≡ Python) × (kept.1.patch ≡ 0)
-kept-python Python (operating_system.MacOSX (Some version)) kept is = let same : (MacOs, two_numbers version) ≡ kept = cc in (refl, sym (ap (λ (k : VersionedSystem × DeploymentTarget). k.1.patch) same))
-kept-python Python (operating_system.IOS (Some version)) kept is = let same : (Ios, two_numbers version) ≡ kept = cc in (refl, sym (ap (λ (k : VersionedSystem × DeploymentTarget). k.1.patch) same))
-kept-python Python _ kept is = absurd cc
-kept-python _ s kept is = absurd (by_system s is)
+-- and with them it is as before
+pub with-again : (d : Dialect) (t : Values) → system_with (numbers_in (shape d t).operating_system) (without_numbers (shape d t).operating_system) ≡ (shape d t).operating_system
+unfolding shape
+with-again d t = by_rule (rules_of d).versions t.operating_system
   where
-    by_system : (r : OperatingSystem) → kept_version (unversioned r) ≡ Some kept → ⊥
-    by_system operating_system.Linux is = cc
-    by_system _ is = cc
+    by_rule : (b : Bool) (s : OperatingSystem) → system_with (numbers_in (system_by b s)) (without_numbers (system_by b s)) ≡ system_by b s
+    by_rule true (operating_system.MacOSX None) = refl
+    by_rule true (operating_system.MacOSX (Some version)) = refl
+    by_rule true (operating_system.IOS None) = refl
+    by_rule true (operating_system.IOS (Some version)) = refl
+    by_rule true _ = refl
+    by_rule false operating_system.Linux = refl
+    by_rule false _ = refl
 
--- what is known of a system whose version is kept
-pub record IsKept (s : OperatingSystem) (kept : VersionedSystem × DeploymentTarget) : Type 0 where
-  pub again : system_with kept.0 (Some kept.1) (system_with kept.0 None s) ≡ s
-  pub keeps : keeps_version kept.0 ≡ true
-  pub range : HasVersionInRange s → IsVersionInRange kept.1
-  pub unversioned : HasVersionInRange (system_with kept.0 None s)
-
-pub kept-is : (s : OperatingSystem) (kept : VersionedSystem × DeploymentTarget) → kept_version s ≡ Some kept → IsKept s kept
-kept-is (operating_system.MacOSX (Some version)) kept is =
-    let same : (MacOs, version) ≡ kept = cc in subst (IsKept (operating_system.MacOSX (Some version))) same (record { again = refl; keeps = refl; range = λ range. range; unversioned = tt })
-kept-is (operating_system.IOS (Some version)) kept is =
-    let same : (Ios, version) ≡ kept = cc in subst (IsKept (operating_system.IOS (Some version))) same (record { again = refl; keeps = refl; range = λ range. range; unversioned = tt })
-kept-is _ kept is = absurd cc
+-- there are none or two, which fit
+pub numbers-within : (s : OperatingSystem) → HasVersionInRange s → are_within all_limits (numbers_in s) ≡ true
+numbers-within (operating_system.MacOSX (Some version)) range = rw (le-leb version.major 65535 (omega (arith, range.0)), le-leb version.minor 255 (omega (arith, range.1))) refl
+numbers-within (operating_system.IOS (Some version)) range = rw (le-leb version.major 65535 (omega (arith, range.0)), le-leb version.minor 255 (omega (arith, range.1))) refl
+numbers-within _ range = refl
 
 -- and its vendor is a known one whose triples print no special string
 abbrev pub has_no_special_text : VendorValue → Bool

@@ -1,21 +1,55 @@
--- The dialects and their names.
-use Rattle.std.specs.Prelude.{ℕ, List, [], ◌∷◌, codes, Option}
+-- The dialects: their names, what they state, and their rows.
+use Rattle.std.specs.Prelude.{ℕ, true, false, List, [], ◌∷◌, codes, Option}
 use Rattle.lexicon_fields.specs.Names.{named_values, value_named}
 use Rattle.tool_names.specs.declared.dialect.Dialect.{Dialect}
-use Rattle.tool_names.specs.declared.dialect.Dialect.TheVariants.{Debian, Go, Oci, Node, Gnu, Python}
+use Rattle.tool_names.specs.declared.dialect.Dialect.TheVariants as dialect
+use Rattle.tool_names.specs.declared.shape.AbiRule.TheVariants as abi
+use Rattle.tool_names.specs.declared.shape.Rules.{Rules}
+use Rattle.tool_names.specs.declared.tables.TheConstants as table
+use Rattle.tool_names.specs.Tables.{Row, constant_rows}
 
 -- the name of a dialect
 abbrev pub dialect_name : Dialect → List ℕ
-dialect_name Debian = codes "debian"
-dialect_name Go = codes "go"
-dialect_name Oci = codes "oci"
-dialect_name Node = codes "node"
-dialect_name Gnu = codes "gnu"
-dialect_name Python = codes "python"
+-- written by tools/names/write: dialect_name
+dialect_name dialect.Debian = codes "debian"
+dialect_name dialect.Go = codes "go"
+dialect_name dialect.Oci = codes "oci"
+dialect_name dialect.Node = codes "node"
+dialect_name dialect.Gnu = codes "gnu"
+dialect_name dialect.Python = codes "python"
+
+-- end of what is written
 
 abbrev pub dialects : List Dialect
-dialects = Debian ∷ Go ∷ Oci ∷ Node ∷ Gnu ∷ Python ∷ []
+-- written by tools/names/write: dialects
+dialects = dialect.Debian ∷ dialect.Go ∷ dialect.Oci ∷ dialect.Node ∷ dialect.Gnu ∷ dialect.Python ∷ []
+
+-- end of what is written
 
 -- the dialect with this name
 unfoldable pub dialect_of : List ℕ → Option Dialect
 dialect_of name = value_named (named_values dialect_name dialects) name
+
+-- what names state in a dialect
+abbrev pub rules_of : Dialect → Rules
+-- written by tools/names/write: rules_of
+rules_of dialect.Debian = record { arm_version = false; abi = abi.Kept; versions = false; tags = false }
+rules_of dialect.Go = record { arm_version = false; abi = abi.Dropped; versions = false; tags = false }
+rules_of dialect.Oci = record { arm_version = true; abi = abi.Dropped; versions = false; tags = false }
+rules_of dialect.Node = record { arm_version = false; abi = abi.KeptOnLinux; versions = false; tags = false }
+rules_of dialect.Gnu = record { arm_version = false; abi = abi.Kept; versions = false; tags = false }
+rules_of dialect.Python = record { arm_version = true; abi = abi.Dropped; versions = true; tags = true }
+
+-- end of what is written
+
+-- the rows of a dialect, in the order in which they are tried
+unfoldable pub rows_of : Dialect → List Row
+-- written by tools/names/write: rows_of
+rows_of dialect.Debian = constant_rows table.DEBIAN
+rows_of dialect.Go = constant_rows table.GO
+rows_of dialect.Oci = constant_rows table.OCI
+rows_of dialect.Node = constant_rows table.NODE
+rows_of dialect.Gnu = constant_rows table.GNU
+rows_of dialect.Python = constant_rows table.PYTHON
+
+-- end of what is written

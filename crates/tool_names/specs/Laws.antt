@@ -1,14 +1,13 @@
 -- Laws of the names in dialects.
-use Rattle.std.specs.Prelude.{◌≡◌, ◌≢◌, ◌≤◌, true, false, ℕ, List, Some, None, Ok, Err}
-use Rattle.lexicon_fields.specs.{Laws.HasVersionInRange, Names.value_named, Vendor.is_custom, Vendor.VendorValue}
-use Rattle.target_lexicon.specs.{FixedPoints.settled_values, Laws.ComesBack, Printing.text_of, Queries.endianness, Queries.pointer_width, Values.Values}
+use Rattle.std.specs.Prelude.{◌≡◌, ◌≢◌, ◌≤◌, ◌==◌, ◌&&◌, not, Bool, true, false, ℕ, List, [], ◌∷◌, Some, Ok, Err, slice_get}
+use Rattle.lexicon_fields.specs.{Laws.HasVersionInRange, Vendor.is_custom, Vendor.VendorValue}
+use Rattle.target_lexicon.specs.{FixedPoints.settled_values, Laws.ComesBack, Queries.endianness, Queries.pointer_width, Values.Values}
 use Rattle.tool_names.specs.declared.dialect.Dialect.{Dialect}
-use Rattle.tool_names.specs.declared.dialect.Dialect.TheVariants.{Python}
-use Rattle.tool_names.specs.{ObjectFormat.object_format, Shape.shape}
-use Rattle.tool_names.specs.declared.platform.VersionedSystem.{VersionedSystem}
-use Rattle.tool_names.specs.Platform.{NameParts, keeps_version, kept_version, number_first, read_name_of, short_tag, tag_of, version_of_two, versioned_name_of, versioned_tag}
-use Rattle.tool_names.specs.Tables.{both_ways, machines, machines_without_a_triple, without_a_triple}
-use Rattle.tool_names.specs.ToolNames.{HasNoTriple, name_meaning, name_with, triple_name}
+use Rattle.tool_names.specs.declared.tables.Way.TheVariants.{Both, Written, NoTriple}
+use Rattle.tool_names.specs.{Dialects.rows_of, Dialects.rules_of, ObjectFormat.object_format, Shape.shape}
+use Rattle.tool_names.specs.Patterns.{filled, fits, matched, star_count, tag_of, without_number}
+use Rattle.tool_names.specs.Tables.{Row, is_read_and}
+use Rattle.tool_names.specs.ToolNames.{HasNoTriple, name_meaning, numbers_in, row_meaning, shape_row, triple_name}
 
 -- what a name means is canonical, comes back, and has a known vendor
 pub record IsCanonical (t : Values) : Type 0 where
@@ -19,40 +18,53 @@ pub record IsCanonical (t : Values) : Type 0 where
 abbrev pub NamesAreCanonical : Type 0
 NamesAreCanonical = (d : Dialect) (name : List ℕ) (t : Values) → name_meaning d name ≡ Ok t → IsCanonical t
 
--- a name that goes both ways is read, and is the name of the triple that it means
+-- a row of a dialect has a name, with these numbers
+pub record IsNamed (d : Dialect) (row : Row) (name numbers : List ℕ) : Type 0 where
+  pub place : ℕ
+  pub listed : slice_get (rows_of d) place ≡ Some row
+  pub has_name : matched (rules_of d).tags row.pattern name ≡ Some numbers
+
+-- a name means what its row says, which is the only one. Rows that are only written may share a name with rows before them
+abbrev pub NamesMeanTheirRows : Type 0
+NamesMeanTheirRows = (d : Dialect) (row : Row) (name numbers : List ℕ) → IsNamed d row name numbers → row.way ≢ Written
+    → name_meaning d name ≡ row_meaning row.way row.meaning numbers
+
+-- a name is read, and is the name of the triple that it means
 pub record ReadsBack (d : Dialect) (name : List ℕ) (t : Values) : Type 0 where
   pub read : name_meaning d name ≡ Ok t
   pub written : triple_name d t ≡ Some name
 
--- this holds for the names of the rows of `both_ways`, and in Python for each tag of a machine with a version that is kept
-pub record NamesReadBack : Type 0 where
-  pub plain : (d : Dialect) (name text : List ℕ) → value_named (both_ways d) name ≡ Some text → (t : Values) × ReadsBack d name t
-  pub versioned : (name : List ℕ) (it : NameParts) (text : List ℕ) → tag_of name ≡ name → versioned_name_of name ≡ Some it → keeps_version it.system ≡ true
-      → value_named (machines it.system) it.machine ≡ Some text → (t : Values) × ReadsBack Python name t
+-- this holds for each name of a row that goes both ways, whatever its numbers
+abbrev pub NamesReadBack : Type 0
+NamesReadBack = (d : Dialect) (i : ℕ) (row : Row) (numbers : List ℕ) → slice_get (rows_of d) i ≡ Some row → row.way ≡ Both → fits row.pattern numbers ≡ true
+    → (t : Values) × ReadsBack d (filled row.pattern numbers) t
 
--- a name without a triple isn't read, whatever its version, and the reason is given
+-- a name without a triple isn't read, whatever its numbers, and neither is one that is only written; a reason is given
 pub record NamesWithoutTripleAreRefused : Type 0 where
-  pub plain : (d : Dialect) (name why : List ℕ) → value_named (without_a_triple d) name ≡ Some why → name_meaning d name ≡ Err (HasNoTriple why)
-  pub versioned : (name : List ℕ) (it : NameParts) (why : List ℕ) → read_name_of (tag_of name) ≡ Some it
-      → value_named (machines_without_a_triple it.system) it.machine ≡ Some why → name_meaning Python name ≡ Err (HasNoTriple why)
+  pub no_triple : (d : Dialect) (row : Row) (name numbers : List ℕ) → IsNamed d row name numbers → row.way ≡ NoTriple → name_meaning d name ≡ Err (HasNoTriple row.meaning)
+  pub only_written : (d : Dialect) (row : Row) (name numbers : List ℕ) → IsNamed d row name numbers → row.way ≡ Written
+      → (why : List ℕ) × (name_meaning d name ≡ Err (HasNoTriple why))
 
--- a name of Python means what its tag means
+-- where names are tags, a name means what its tag means
 abbrev pub TagsMeanTheSame : Type 0
-TagsMeanTheSame = (name : List ℕ) → name_meaning Python (tag_of name) ≡ name_meaning Python name
+TagsMeanTheSame = (d : Dialect) (name : List ℕ) → (rules_of d).tags ≡ true → name_meaning d (tag_of name) ≡ name_meaning d name
 
--- a tag of macOS or iOS whose version is one number means the same with 0 as the second number. The machine doesn't begin
--- with a number
+-- whether a row has two numbers, and isn't only read
+abbrev pub may_be_short : Row → Bool
+may_be_short row = star_count row.pattern == 2 && not (is_read_and false row.way)
+
+-- where names are tags, one number is enough in the names of such a row, as in those of macOS and iOS: they mean the same
+-- with 0 as the second number
 abbrev pub OneNumberIsEnough : Type 0
-OneNumberIsEnough =
-    (system : VersionedSystem) (major : ℕ) (machine : List ℕ) → keeps_version system ≡ true → major ≤ 65535 → tag_of machine ≡ machine → number_first 255 machine ≡ None
-    → name_meaning Python (short_tag system major machine) ≡ name_meaning Python (versioned_tag system (version_of_two major 0) machine)
+OneNumberIsEnough = (d : Dialect) (i : ℕ) (row : Row) (n : ℕ) → (rules_of d).tags ≡ true → slice_get (rows_of d) i ≡ Some row → may_be_short row ≡ true → n ≤ 65535
+    → name_meaning d (filled (without_number row.pattern) (n ∷ [])) ≡ name_meaning d (filled row.pattern (n ∷ 0 ∷ []))
 
--- the name of a triple means the shape of the triple, if it is read; and it is, if it goes both ways, as each name with a
--- version does that is written
+-- the name of a triple means the shape of the triple, if it is read; and it is, if its row goes both ways, as each row with
+-- numbers does that is written
 pub record MeansTheShape (d : Dialect) (t : Values) (name : List ℕ) : Type 0 where
   pub if_read : (u : Values) → name_meaning d name ≡ Ok u → u ≡ shape d t
-  pub both_ways : name_with (both_ways d) (text_of (shape d t)) ≡ Some name → name_meaning d name ≡ Ok (shape d t)
-  pub versioned : kept_version (shape d t).operating_system ≢ None → name_meaning d name ≡ Ok (shape d t)
+  pub both_ways : (row : Row) → shape_row d (shape d t) ≡ Some row → row.way ≡ Both → name_meaning d name ≡ Ok (shape d t)
+  pub versioned : numbers_in (shape d t).operating_system ≢ [] → name_meaning d name ≡ Ok (shape d t)
 
 -- this holds for each triple whose version is in range, if its shape has one, as the types of the code ensure
 abbrev pub NamesMeanTheShape : Type 0

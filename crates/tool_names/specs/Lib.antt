@@ -2,7 +2,7 @@ pub mod Changes
 pub mod Dialects
 pub mod ObjectFormat
 pub mod Laws
-pub mod Platform
+pub mod Patterns
 pub mod Private
 pub mod Shape
 pub mod Spelling

@@ -1,12 +1,12 @@
 -- Definitions for the contracts of private functions; no public contract cites them.
-use Rattle.target_lexicon.specs.Placement.{parts_after}
-use Rattle.std.specs.Prelude.{ℕ, List, [], ◌∷◌, ◌++◌, Option, Some, None, map, if◌then◌else◌}
-use Rattle.std.specs.{Borrow.Bor, Option.option_or}
+use Rattle.std.specs.Prelude.{⊤, ℕ, ◌+◌, ◌^◌, ◌<◌, ◌==◌, ◌&&◌, nat_le, nat_lt, Bool, List, [], ◌∷◌, ◌++◌, Option, Some, None, map, option_map, if◌then◌else◌}
+use Rattle.std.specs.{Borrow.Bor, List.list_all}
 use Rattle.lexicon_fields.specs.Names.{Pair}
-use Rattle.target_lexicon.specs.{Placement.parts_of}
-use Rattle.tool_names.specs.{declared.names_left.Left.Left, declared.platform.VersionedName.VersionedName, declared.platform.VersionedSystem.VersionedSystem}
+use Rattle.target_lexicon.specs.Placement.{parts_after, parts_of}
+use Rattle.tool_names.specs.{declared.names_left.Left.Left, declared.pattern.Numbers.Numbers, declared.tables.Way.Way}
+use Rattle.tool_names.specs.declared.pattern.Numbers.TheVariants.{NoNumber, One, Two}
 use Rattle.tool_names.specs.Changes.{name_text}
-use Rattle.tool_names.specs.Platform.{NameParts, keeps_version, number_first, tag_of}
+use Rattle.tool_names.specs.{Patterns.plain_number, Patterns.rest_of, Patterns.star, Tables.Row, Tables.plain_row}
 use Rattle.tool_names.specs.Spelling.{SpelledName, later_names, spelled_by}
 
 -- a table in the code as a list of pairs
@@ -22,14 +22,37 @@ abbrev pub left_names : Option Left → List SpelledName
 left_names None = []
 left_names (Some left) = spelled_by (parts_of left.from.now) (name_text left.name ∷ parts_after left.others) ++ later_names (parts_after left.rest)
 
--- a table of texts in the code as a list of pairs
-abbrev pub text_table : List (Bor (List ℕ) × Bor (List ℕ)) → List (Pair (List ℕ))
-text_table rows = map (λ (row : Bor (List ℕ) × Bor (List ℕ)). (row.0.now, row.1.now)) rows
+-- the numbers of a name, as a list
+abbrev pub numbers_of : Numbers → List ℕ
+numbers_of NoNumber = []
+numbers_of (One major) = major ∷ []
+numbers_of (Two major minor) = major ∷ minor ∷ []
 
--- the second number of a version and the machine; 0 and all that is left if a deployment target is one number
-abbrev pub minor_or_zero : VersionedSystem → List ℕ → Option (ℕ × List ℕ)
-minor_or_zero system tag = option_or (number_first 255 tag) (if keeps_version system then Some (0, tag) else None)
+-- each number is in the range of its type
+abbrev pub AreInRange : Numbers → Type 0
+AreInRange NoNumber = ⊤
+AreInRange (One major) = major < 2 ^ 16
+AreInRange (Two major minor) = (major < 2 ^ 16) × (minor < 2 ^ 8)
 
--- the parts of a name with a version, whose machine is read by its tag
-abbrev pub parts_seen : VersionedName → NameParts
-parts_seen name = record { system = name.system; version = name.version; machine = tag_of name.machine.now }
+-- one more number
+abbrev pub with_number : Numbers → List ℕ → Option Numbers
+with_number NoNumber text = option_map One (plain_number 65535 text)
+with_number (One major) text = option_map (Two major) (plain_number 255 text)
+with_number (Two _ _) text = None
+
+-- the row of a name, and its numbers
+abbrev pub found_row : (Bor (List ℕ) × Bor (List ℕ) × Way) × Numbers → Row × List ℕ
+found_row found = (plain_row found.0, numbers_of found.1)
+
+-- the most bytes of a name with a pattern, whose numbers have at most this many digits
+abbrev pub first_width : List ℕ → ℕ
+first_width [] = 0
+first_width (w ∷ ws) = w
+
+abbrev pub longest : List ℕ → List ℕ → ℕ
+longest widths [] = 0
+longest widths (p ∷ ps) = if p == star then first_width widths + longest (rest_of widths) ps else 1 + longest widths ps
+
+-- whether a pattern is ASCII, and its names have at most 36 bytes
+abbrev pub is_short_pattern : List ℕ → Bool
+is_short_pattern pattern = list_all (λ (c : ℕ). nat_lt c 128) pattern && nat_le (longest (5 ∷ 3 ∷ []) pattern) 36

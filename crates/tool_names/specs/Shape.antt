@@ -1,7 +1,6 @@
--- The shape of a triple in a dialect: the triple without what the dialect doesn't name. The architecture gives up the
--- versions that are listed here, the vendor is the usual one of the system, the system has no version, except `macosx` and
--- `ios` in Python, and Go, OCI, Node and Python don't state every ABI. The binary format stays, so that a name never stands
--- for another one.
+-- The shape of a triple in a dialect: the triple without what its names don't state, by the rules of the dialect. The
+-- architecture gives up the versions that are listed here, and the vendor is the usual one of the system. The binary format
+-- stays, so that a name never stands for another one.
 use Rattle.std.specs.Prelude.{Bool, true, false, None, option_map, if◌then◌else◌}
 use Rattle.lexicon_fields.specs.{declared.architecture.arm.ArmArchitecture.ArmArchitecture, declared.deployment_target.DeploymentTarget.DeploymentTarget, declared.known_vendor.KnownVendor.KnownVendor}
 use Rattle.lexicon_fields.specs.declared.known_vendor.KnownVendor.TheVariants as vendor
@@ -14,7 +13,9 @@ use Rattle.target_lexicon.specs.Values.riscv32
 use Rattle.target_lexicon.specs.Values.operating_system
 use Rattle.target_lexicon.specs.Values.environment
 use Rattle.tool_names.specs.declared.dialect.Dialect.{Dialect}
-use Rattle.tool_names.specs.declared.dialect.Dialect.TheVariants.{Debian, Go, Oci, Node, Gnu, Python}
+use Rattle.tool_names.specs.declared.shape.{AbiRule.AbiRule, Rules.Rules}
+use Rattle.tool_names.specs.declared.shape.AbiRule.TheVariants as abi
+use Rattle.tool_names.specs.Dialects.{rules_of}
 
 -- one Arm for each byte order
 abbrev pub arm_of_order : ArmArchitecture → ArmArchitecture
@@ -40,21 +41,15 @@ arm_of_version arm.Thumbv7neon = arm.Armv7
 arm_of_version arm.Armv8a = arm.Armv8
 arm_of_version a = a
 
--- of Arm, OCI and Python state the version
-abbrev pub arm_in : Dialect → ArmArchitecture → ArmArchitecture
-arm_in Oci a = arm_of_version a
-arm_in Python a = arm_of_version a
-arm_in _ a = arm_of_order a
-
--- the architecture without the version that a dialect doesn't state
-abbrev pub machine_in : Dialect → Architecture → Architecture
-machine_in d (architecture.Arm a) = architecture.Arm (arm_in d a)
-machine_in d (architecture.X86_32 _) = architecture.X86_32 I686
-machine_in d (architecture.Riscv32 _) = architecture.Riscv32 riscv32.Riscv32
-machine_in d (architecture.Riscv64 _) = architecture.Riscv64 Riscv64
-machine_in d architecture.X86_64h = architecture.X86_64
-machine_in d architecture.Sparcv9 = architecture.Sparc64
-machine_in d a = a
+-- the architecture without what isn't stated: of Arm the version, or all but the byte order
+abbrev pub machine_by : Bool → Architecture → Architecture
+machine_by by_version (architecture.Arm a) = architecture.Arm (if by_version then arm_of_version a else arm_of_order a)
+machine_by by_version (architecture.X86_32 _) = architecture.X86_32 I686
+machine_by by_version (architecture.Riscv32 _) = architecture.Riscv32 riscv32.Riscv32
+machine_by by_version (architecture.Riscv64 _) = architecture.Riscv64 Riscv64
+machine_by by_version architecture.X86_64h = architecture.X86_64
+machine_by by_version architecture.Sparcv9 = architecture.Sparc64
+machine_by by_version a = a
 
 -- the system without a version; macOS has one name
 abbrev pub unversioned : OperatingSystem → OperatingSystem
@@ -77,10 +72,8 @@ with_two_numbers (operating_system.MacOSX version) = operating_system.MacOSX (op
 with_two_numbers (operating_system.IOS version) = operating_system.IOS (option_map two_numbers version)
 with_two_numbers s = unversioned s
 
--- what a dialect states of the system
-abbrev pub system_in : Dialect → OperatingSystem → OperatingSystem
-system_in Python s = with_two_numbers s
-system_in _ s = unversioned s
+abbrev pub system_by : Bool → OperatingSystem → OperatingSystem
+system_by versions s = if versions then with_two_numbers s else unversioned s
 
 -- the vendor that triples on a system usually have
 abbrev pub usual_vendor : OperatingSystem → KnownVendor
@@ -126,22 +119,22 @@ is_dropped_abi e = is_bare_abi e
 abbrev pub unknown_if : Bool → Environment → Environment
 unknown_if forgotten e = if forgotten then environment.Unknown else e
 
--- Node's packages state the C library on Linux
-abbrev pub abi_in_node : OperatingSystem → Environment → Environment
-abi_in_node operating_system.Linux e = unknown_if (is_bare_abi e) e
-abi_in_node _ e = unknown_if (is_dropped_abi e) e
+-- Linux keeps the C library
+abbrev pub abi_on : OperatingSystem → Environment → Environment
+abi_on operating_system.Linux e = unknown_if (is_bare_abi e) e
+abi_on _ e = unknown_if (is_dropped_abi e) e
 
--- what a dialect states of the ABI
-abbrev pub abi_in : Dialect → OperatingSystem → Environment → Environment
-abi_in Debian s e = e
-abi_in Gnu s e = e
-abi_in Go s e = unknown_if (is_dropped_abi e) e
-abi_in Oci s e = unknown_if (is_dropped_abi e) e
-abi_in Python s e = unknown_if (is_dropped_abi e) e
-abi_in Node s e = abi_in_node s e
+-- the environment without an ABI that isn't stated
+abbrev pub abi_by : AbiRule → OperatingSystem → Environment → Environment
+abi_by abi.Kept s e = e
+abi_by abi.Dropped s e = unknown_if (is_dropped_abi e) e
+abi_by abi.KeptOnLinux s e = abi_on s e
+
+abbrev pub shape_by : Rules → Values → Values
+shape_by rules t =
+    values (machine_by rules.arm_version t.architecture) (Known (usual_vendor t.operating_system)) (system_by rules.versions t.operating_system)
+    (abi_by rules.abi t.operating_system t.environment) t.binary_format
 
 -- the shape of a triple
 unfoldable pub shape : Dialect → Values → Values
-shape d t =
-    values (machine_in d t.architecture) (Known (usual_vendor t.operating_system)) (system_in d t.operating_system)
-    (abi_in d t.operating_system t.environment) t.binary_format
+shape d t = shape_by (rules_of d) t

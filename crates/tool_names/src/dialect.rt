@@ -10,20 +10,20 @@ use std::str::FromStr;
 /// A tool, or a group of tools, that names targets in its own way.
 #[derive(Clone, Copy, Debug, PartialEq, Eq, Hash)]
 pub enum Dialect {
+    // written by tools/names/write: the dialects
     /// Debian's architectures, as `dpkg` names them: `amd64`, `armhf`, `musl-linux-arm64`.
     Debian,
     /// Go's ports, as `go tool dist list` prints them: `linux/amd64`.
     Go,
     /// Platforms of container images, as containerd writes them: `linux/arm/v7`.
     Oci,
-    /// `process.platform` and `process.arch` of Node, as packages of npm join them: `linux-x64`. A C library follows in
-    /// npm's words: `linux-x64-musl`.
+    /// `process.platform` and `process.arch` of Node, as npm joins them: `linux-x64`, `linux-x64-musl`.
     Node,
-    /// Prefixes of GNU's cross compilers: `x86_64-w64-mingw32`. They are only written; [`read`](crate::read) reads them.
+    /// Prefixes of GNU's cross compilers, which are only written: `x86_64-w64-mingw32`.
     Gnu,
-    /// Platforms of Python, as tags of wheels: `manylinux_2_17_x86_64`, `macosx_11_0_arm64`. What
-    /// `sysconfig.get_platform()` prints is read too: `macosx-11.0-arm64` means the same as its tag.
+    /// Platforms of Python, as tags of wheels such as `macosx_11_0_arm64`, and as `sysconfig.get_platform()` prints them.
     Python,
+    // end of what is written
 }
 
 impl Dialect {
@@ -32,12 +32,14 @@ impl Dialect {
         ensures { result.now ≡ dialect_name self }
     {
         match self {
+            // written by tools/names/write: the names of the dialects
             Dialect::Debian => "debian",
             Dialect::Go => "go",
             Dialect::Oci => "oci",
             Dialect::Node => "node",
             Dialect::Gnu => "gnu",
             Dialect::Python => "python",
+            // end of what is written
         }
     }
 
@@ -50,6 +52,7 @@ impl Dialect {
     }
 }
 
+// written by tools/names/write: the dialects by name
 static DIALECTS: [(&str, Dialect); 6] = [
     ("debian", Dialect::Debian),
     ("go", Dialect::Go),
@@ -58,6 +61,7 @@ static DIALECTS: [(&str, Dialect); 6] = [
     ("gnu", Dialect::Gnu),
     ("python", Dialect::Python),
 ];
+// end of what is written
 
 impl FromStr for Dialect {
     type Err = ();

@@ -2,7 +2,7 @@
 ghost use Rattle.std.specs.Prelude.{◌≡◌, ◌↔◌, IsTrue};
 ghost use Rattle.lexicon_fields.specs.Laws.{ComparesByValue, CopiesEqualTheirSources};
 ghost use Rattle.tool_names.specs.Changes.{change_value, spelling_names, ChangedPartsAreInTheString, KnownNamesStay, UnchangedStringsAreReadAsTheyParse};
-ghost use Rattle.tool_names.specs.Laws.{NamesAreCanonical, NamesKeepAnswers, NamesMeanTheShape, NamesReadBack, NamesWithoutTripleAreRefused, OneNumberIsEnough, ShapesAreFixed, TagsMeanTheSame};
+ghost use Rattle.tool_names.specs.Laws.{NamesAreCanonical, NamesKeepAnswers, NamesMeanTheShape, NamesMeanTheirRows, NamesReadBack, NamesWithoutTripleAreRefused, OneNumberIsEnough, ShapesAreFixed, TagsMeanTheSame};
 ghost use Rattle.tool_names.specs.ObjectFormat.{GivenFormatsAreKept};
 ghost use Rattle.tool_names.specs.Spelling.{KnownNamesAreReadAsBefore, ListedPartsAreUnknown, OnceIsEnough, ReadingAgainIsTheSame, RefusalsAreAtTheRefusedName, RefusedPartsAreInTheString};
 ghost use Rattle.tool_names.specs.ToolNames.{name_bytes, unread_of};
@@ -87,14 +87,19 @@ pub fn names_are_canonical()
     read_triples_are_plain();
 }
 
-/// Each name that goes both ways is read, and is the name of the triple that it means; so is each tag of Python with a
-/// version that is kept. So no two such names mean one triple.
+/// A name means what its row says: no name has two rows, except that rows that are only written share names.
+pub fn names_mean_their_rows()
+    ensures { NamesMeanTheirRows }
+{}
+
+/// Each name that goes both ways is read, whatever its numbers, and is the name of the triple that it means. So no two such
+/// names mean one triple.
 #[tactic(auto, using(crate::proofs::NameLaws::names_read_back))]
 pub fn names_read_back()
     ensures { NamesReadBack }
 {}
 
-/// A name without a triple isn't read, and the reason is given.
+/// A name without a triple isn't read, nor one that is only written, and a reason is given.
 #[tactic(auto, using(crate::proofs::NameLaws::without_triple_refused))]
 pub fn names_without_triple_are_refused()
     ensures { NamesWithoutTripleAreRefused }

@@ -10,13 +10,12 @@ mod macos;
 mod name;
 mod names;
 mod names_left;
-mod platform;
+mod pattern;
 mod reading;
 mod shape;
 mod spelling;
 mod suggestions;
 mod tables;
-mod tags;
 
 pub use change::{Change, ChangedParts, changes};
 pub use dialect::Dialect;

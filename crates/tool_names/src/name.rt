@@ -1,13 +1,13 @@
 //! A name of a target in a dialect.
-ghost use Rattle.std.specs.Prelude.{◌≡◌, ◌+◌, ◌≤◌, ◌∷◌, [], length, take, IsUtf8, Some};
-ghost use Rattle.std.specs.Fmt.{decimal};
+ghost use Rattle.std.specs.Prelude.{◌≡◌, ◌+◌, ◌≤◌, length, take, IsUtf8, Some, true};
 ghost use Rattle.lexicon_fields.specs.Put.{Puts};
-ghost use Rattle.tool_names.specs.Platform.{system_tag, underscore, versioned_tag};
+ghost use Rattle.tool_names.specs.Patterns.{filled, first_text};
+ghost use Rattle.tool_names.specs.Private.{AreInRange, is_short_pattern, numbers_of};
 
-use crate::platform::VersionedSystem;
+use crate::pattern::Numbers;
 use std::fmt;
 use std::str::from_utf8;
-use target_lexicon::{DeploymentTarget, MAX_DECIMAL_LENGTH, decimal_text};
+use target_lexicon::{MAX_DECIMAL_LENGTH, decimal_text};
 
 /// The length of the longest name, `ios_65535_255_x86_64_iphonesimulator`.
 const MAX_NAME_LENGTH: usize = 36;
@@ -35,65 +35,43 @@ impl Name {
         }
     }
 
-    /// The name of a row.
-    pub(crate) fn of_text(text: &str) -> Name
-        requires { length text.now ≤ 36 }
-        ensures { name_bytes result ≡ text.now }
+    /// The name that a pattern makes with these numbers.
+    pub(crate) fn filled(pattern: &str, numbers: Numbers) -> Name
+        requires short { is_short_pattern pattern.now ≡ true }
+        requires in_range { AreInRange numbers }
+        ensures { name_bytes result ≡ filled pattern.now (numbers_of numbers) }
     {
         let mut bytes = [0; MAX_NAME_LENGTH];
-        let length = put(&mut bytes, 0, text.as_bytes());
-        Name { bytes, length }
-    }
-
-    /// The tag of a machine on a system with this version.
-    pub(crate) fn with_version(
-        system: VersionedSystem,
-        version: DeploymentTarget,
-        machine: &str,
-    ) -> Name
-        requires { length (system_tag system) + length machine.now ≤ 25 }
-        ensures { name_bytes result ≡ versioned_tag system version machine.now }
-    {
-        let mut bytes = [0; MAX_NAME_LENGTH];
-        let length = put_versioned(&mut bytes, system, version, machine);
+        let mut length = 0;
+        let mut left = numbers;
+        for byte in pattern.as_bytes() {
+            if *byte == b'*' {
+                length = put_first(&mut bytes, length, left);
+                left = left.rest();
+            } else {
+                length = put(&mut bytes, length, &[*byte]);
+            }
+        }
         Name { bytes, length }
     }
 }
 
-/// Writes a tag with a version to the front of a buffer.
-fn put_versioned(
-    out: &mut [u8],
-    system: VersionedSystem,
-    version: DeploymentTarget,
-    machine: &str,
-) -> usize
-    requires { length (versioned_tag system version machine.now) ≤ length out.old }
-    ensures { Puts (versioned_tag system version machine.now) out.old 0 out.new result }
+/// Writes the first number after what ends at `at`, if there is one. Returns the end.
+fn put_first(out: &mut [u8], at: usize, numbers: Numbers) -> usize
+    requires { at + length (first_text (numbers_of numbers)) ≤ length out.old }
+    ensures { Puts (first_text (numbers_of numbers)) out.old at out.new result }
 {
-    let at = put(out, 0, system.as_str().as_bytes());
-    let at = put_number(out, at, usize::from(version.major));
-    let at = put_number(out, at, usize::from(version.minor));
-    put_part(out, at, machine)
+    match numbers {
+        Numbers::NoNumber => at,
+        Numbers::One(number) | Numbers::Two(number, _) => put(
+            out,
+            at,
+            decimal_text(usize::from(number), &mut [0; MAX_DECIMAL_LENGTH]).as_bytes(),
+        ),
+    }
 }
 
-/// Writes `_` and a number after what ends at `at`. Returns the end.
-fn put_number(out: &mut [u8], at: usize, number: usize) -> usize
-    requires { at + length (underscore ∷ decimal number) ≤ length out.old }
-    ensures { Puts (underscore ∷ decimal number) out.old at out.new result }
-{
-    put_part(out, at, decimal_text(number, &mut [0; MAX_DECIMAL_LENGTH]))
-}
-
-/// Writes `_` and a text, in the same way.
-fn put_part(out: &mut [u8], at: usize, text: &str) -> usize
-    requires { at + length (underscore ∷ text.now) ≤ length out.old }
-    ensures { Puts (underscore ∷ text.now) out.old at out.new result }
-{
-    let at = put(out, at, b"_");
-    put(out, at, text.as_bytes())
-}
-
-/// Writes a text, in the same way.
+/// Writes a text after what ends at `at`. Returns the end.
 fn put(out: &mut [u8], at: usize, text: &[u8]) -> usize
     requires { at + length text.now ≤ length out.old }
     ensures { Puts text.now out.old at out.new result }

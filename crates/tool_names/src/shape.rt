@@ -1,13 +1,36 @@
 //! The shape of a triple in a dialect.
 ghost use Rattle.std.specs.Prelude.{◌≡◌, option_map};
 ghost use Rattle.target_lexicon.specs.ValuesRef.{values_of_ref};
-ghost use Rattle.tool_names.specs.Shape.{abi_in, abi_in_node, arm_in, arm_of_order, arm_of_version, is_bare_abi, is_dropped_abi, machine_in, shape, system_in, two_numbers, unversioned, usual_vendor, with_two_numbers};
+ghost use Rattle.tool_names.specs.Shape.{abi_by, arm_of_order, arm_of_version, is_bare_abi, is_dropped_abi, machine_by, shape, system_by, two_numbers, unversioned, usual_vendor, with_two_numbers};
 
 use crate::dialect::Dialect;
 use target_lexicon::{
     Architecture, ArmArchitecture, DeploymentTarget, Environment, KnownVendor, OperatingSystem,
     Riscv32Architecture, Riscv64Architecture, TripleRef, VendorRef, X86_32Architecture,
 };
+
+/// How a dialect states the ABI.
+#[derive(Clone, Copy, Debug, PartialEq, Eq)]
+pub(crate) enum AbiRule {
+    /// Every environment is kept.
+    Kept,
+    /// C libraries and floating-point ABIs aren't stated.
+    Dropped,
+    /// C libraries are stated on Linux only.
+    KeptOnLinux,
+}
+
+/// What names state in a dialect.
+#[derive(Clone, Copy, Debug, PartialEq, Eq)]
+pub(crate) struct Rules {
+    /// The versions 5 to 8 of Arm.
+    pub arm_version: bool,
+    pub abi: AbiRule,
+    /// The version of macOS and iOS, in two numbers.
+    pub versions: bool,
+    /// `-` and `.` of a name are `_` in the names of the rows.
+    pub tags: bool,
+}
 
 impl Dialect {
     /// The triple without what the dialect doesn't name: the vendor, which is the usual one of the system; the version
@@ -18,54 +41,28 @@ impl Dialect {
     pub fn shape(self, triple: &TripleRef<'_>) -> TripleRef<'static>
         ensures { values_of_ref result ≡ shape self (values_of_ref triple.now) }
     {
+        let rules = self.rules();
         TripleRef {
-            architecture: self.machine(triple.architecture),
+            architecture: machine_by(rules.arm_version, triple.architecture),
             vendor: VendorRef::Known(usual_vendor(triple.operating_system)),
-            operating_system: self.system(triple.operating_system),
-            environment: self.abi(triple.operating_system, triple.environment),
+            operating_system: system_by(rules.versions, triple.operating_system),
+            environment: rules
+                .abi
+                .environment(triple.operating_system, triple.environment),
             binary_format: triple.binary_format,
         }
     }
+}
 
-    fn machine(self, architecture: Architecture) -> Architecture
-        ensures { result ≡ machine_in self architecture }
-    {
-        match architecture {
-            Architecture::Arm(arm) => Architecture::Arm(self.arm(arm)),
-            Architecture::X86_32(_) => Architecture::X86_32(X86_32Architecture::I686),
-            Architecture::Riscv32(_) => Architecture::Riscv32(Riscv32Architecture::Riscv32),
-            Architecture::Riscv64(_) => Architecture::Riscv64(Riscv64Architecture::Riscv64),
-            Architecture::X86_64h => Architecture::X86_64,
-            Architecture::Sparcv9 => Architecture::Sparc64,
-            other => other,
-        }
-    }
-
-    fn arm(self, arm: ArmArchitecture) -> ArmArchitecture
-        ensures { result ≡ arm_in self arm }
-    {
-        match self {
-            Dialect::Oci | Dialect::Python => arm_of_version(arm),
-            _ => arm_of_order(arm),
-        }
-    }
-
-    fn system(self, operating_system: OperatingSystem) -> OperatingSystem
-        ensures { result ≡ system_in self operating_system }
-    {
-        match self {
-            Dialect::Python => with_two_numbers(operating_system),
-            _ => unversioned(operating_system),
-        }
-    }
-
-    fn abi(self, operating_system: OperatingSystem, environment: Environment) -> Environment
-        ensures { result ≡ abi_in self operating_system environment }
+impl AbiRule {
+    /// The environment without an ABI that isn't stated.
+    fn environment(self, operating_system: OperatingSystem, environment: Environment) -> Environment
+        ensures { result ≡ abi_by self operating_system environment }
     {
         let forgotten = match self {
-            Dialect::Debian | Dialect::Gnu => false,
-            Dialect::Go | Dialect::Oci | Dialect::Python => is_dropped_abi(environment),
-            Dialect::Node => match operating_system {
+            AbiRule::Kept => false,
+            AbiRule::Dropped => is_dropped_abi(environment),
+            AbiRule::KeptOnLinux => match operating_system {
                 OperatingSystem::Linux => is_bare_abi(environment),
                 _ => is_dropped_abi(environment),
             },
@@ -75,6 +72,35 @@ impl Dialect {
         } else {
             environment
         }
+    }
+}
+
+/// The architecture without what isn't stated: of Arm the version, or all but the byte order.
+fn machine_by(arm_version: bool, architecture: Architecture) -> Architecture
+    ensures { result ≡ machine_by arm_version architecture }
+{
+    match architecture {
+        Architecture::Arm(arm) => Architecture::Arm(if arm_version {
+            arm_of_version(arm)
+        } else {
+            arm_of_order(arm)
+        }),
+        Architecture::X86_32(_) => Architecture::X86_32(X86_32Architecture::I686),
+        Architecture::Riscv32(_) => Architecture::Riscv32(Riscv32Architecture::Riscv32),
+        Architecture::Riscv64(_) => Architecture::Riscv64(Riscv64Architecture::Riscv64),
+        Architecture::X86_64h => Architecture::X86_64,
+        Architecture::Sparcv9 => Architecture::Sparc64,
+        other => other,
+    }
+}
+
+fn system_by(versions: bool, operating_system: OperatingSystem) -> OperatingSystem
+    ensures { result ≡ system_by versions operating_system }
+{
+    if versions {
+        with_two_numbers(operating_system)
+    } else {
+        unversioned(operating_system)
     }
 }
 

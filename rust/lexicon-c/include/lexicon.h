@@ -83,13 +83,15 @@ enum lexicon_status {
 
 /* A tool, or a group of tools, that names targets in its own way. */
 enum lexicon_dialect {
-  LEXICON_DIALECT_NONE = 0,   /* none: strings that are spelled like triples, as tools of GNU and LLVM print them */
+  LEXICON_DIALECT_NONE = 0, /* none: strings that are spelled like triples, as tools of GNU and LLVM print them */
+  /* written by tools/names/write: the dialects for C */
   LEXICON_DIALECT_DEBIAN = 1, /* Debian's architectures, as dpkg names them: amd64, armhf, musl-linux-arm64 */
-  LEXICON_DIALECT_GO = 2,     /* Go's ports: linux/amd64 */
-  LEXICON_DIALECT_OCI = 3,    /* platforms of container images: linux/arm/v7 */
-  LEXICON_DIALECT_NODE = 4,   /* process.platform and process.arch of Node, as npm joins them: linux-x64, linux-x64-musl */
-  LEXICON_DIALECT_GNU = 5,    /* prefixes of GNU's cross compilers; they are only written: x86_64-w64-mingw32 */
-  LEXICON_DIALECT_PYTHON = 6  /* Python's platforms, as sysconfig.get_platform() prints them, and as tags of wheels: macosx_11_0_arm64 */
+  LEXICON_DIALECT_GO = 2, /* Go's ports, as go tool dist list prints them: linux/amd64 */
+  LEXICON_DIALECT_OCI = 3, /* Platforms of container images, as containerd writes them: linux/arm/v7 */
+  LEXICON_DIALECT_NODE = 4, /* process.platform and process.arch of Node, as npm joins them: linux-x64, linux-x64-musl */
+  LEXICON_DIALECT_GNU = 5, /* Prefixes of GNU's cross compilers, which are only written: x86_64-w64-mingw32 */
+  LEXICON_DIALECT_PYTHON = 6, /* Platforms of Python, as tags of wheels such as macosx_11_0_arm64, and as sysconfig.get_platform() prints them */
+  /* end of what is written */
 };
 
 enum lexicon_field {

@@ -99,12 +99,14 @@ enum class Family : std::uint8_t {
 
 // The tools whose names of targets are read and written.
 enum class Dialect : std::uint8_t {
+  // written by tools/names/write: the dialects for C++
   Debian = LEXICON_DIALECT_DEBIAN,
   Go = LEXICON_DIALECT_GO,
   Oci = LEXICON_DIALECT_OCI,
   Node = LEXICON_DIALECT_NODE,
   Gnu = LEXICON_DIALECT_GNU,
-  Python = LEXICON_DIALECT_PYTHON
+  Python = LEXICON_DIALECT_PYTHON,
+  // end of what is written
 };
 
 enum class Endianness : std::uint8_t { Little = LEXICON_ENDIANNESS_LITTLE, Big = LEXICON_ENDIANNESS_BIG };
@@ -176,7 +178,9 @@ inline std::string_view name(Field field) {
   return detail::name_at(names, static_cast<std::size_t>(field));
 }
 inline std::string_view name(Dialect value) {
+  // written by tools/names/write: the dialects' names for C++
   constexpr const char* names[] = {"", "debian", "go", "oci", "node", "gnu", "python"};
+  // end of what is written
   return detail::name_at(names, static_cast<std::size_t>(value));
 }
 inline std::string_view name(Endianness value) {

@@ -85,9 +85,13 @@ static bool has_zeros(const struct lexicon_triple *it) {
   return (it->vendor == LEXICON_VENDOR_CUSTOM || no_vendor) && (it->has_version || no_version);
 }
 
+/* written by tools/names/write: the last dialect */
+enum { LAST_DIALECT = 6 };
+/* end of what is written */
+
 /* The names of a triple that is well: each that is read means the shape, which has the same name and the same answers. */
 static void try_names(const struct lexicon_triple *triple) {
-  for (uint32_t dialect = LEXICON_DIALECT_DEBIAN; dialect <= LEXICON_DIALECT_PYTHON; dialect++) {
+  for (uint32_t dialect = LEXICON_DIALECT_DEBIAN; dialect <= LAST_DIALECT; dialect++) {
     struct lexicon_triple shape;
     struct lexicon_error error;
     struct lexicon_triple_facts facts, shape_facts;
@@ -262,13 +266,13 @@ static void try_parsed(const char *text, size_t size, const struct lexicon_tripl
 
 /* A text as a name of each dialect, and of none, where parsing it gave this status and, if that is LEXICON_OK, this triple. */
 static void try_read(const char *text, size_t size, uint32_t parsed, const struct lexicon_triple *same) {
-  for (uint32_t dialect = LEXICON_DIALECT_NONE; dialect <= LEXICON_DIALECT_PYTHON + 1; dialect++) {
+  for (uint32_t dialect = LEXICON_DIALECT_NONE; dialect <= LAST_DIALECT + 1; dialect++) {
     struct lexicon_triple triple;
     struct lexicon_error error;
     memset(&triple, 0xa5, sizeof triple);
     memset(&error, 0xa5, sizeof error);
     uint32_t status = lexicon_read(dialect, text, size, &triple, &error);
-    CHECK((status == LEXICON_NO_SUCH_DIALECT) == (dialect > LEXICON_DIALECT_PYTHON));
+    CHECK((status == LEXICON_NO_SUCH_DIALECT) == (dialect > LAST_DIALECT));
     CHECK((lexicon_reason(dialect, text, size) != NULL) == (status == LEXICON_NAME_WITHOUT_TRIPLE));
     const char *meant = lexicon_name_suggestion(dialect, text, size);
     if (meant != NULL) {

@@ -14,7 +14,8 @@ pub const FIELDS: [(&str, Field); 5] = [
     ("binary_format", Field::BinaryFormat),
 ];
 
-/// The tools whose names are known, in the order of answers. Those of the last one are only written.
+/// The tools whose names are known, in the order of answers: first those whose names are read.
+// written by tools/names/write: the dialects for the command
 pub const DIALECTS: [Dialect; 6] = [
     Dialect::Debian,
     Dialect::Go,
@@ -23,6 +24,8 @@ pub const DIALECTS: [Dialect; 6] = [
     Dialect::Python,
     Dialect::Gnu,
 ];
+const READ: usize = 5;
+// end of what is written
 
 /// An option for one of the dialects.
 fn dialect(name: &'static str, dialects: &[Dialect], help: &'static str) -> Arg {
@@ -123,7 +126,7 @@ pub fn command() -> Command {
                  Examples:\n  $ lexicon read --from oci linux/arm/v7\n  $ lexicon read \"$(cc -dumpmachine)\"",
             )
             .mut_arg("target", |names| names.value_name("NAME"))
-            .arg(dialect("from", &DIALECTS[..5], "The tool whose names are read"))
+            .arg(dialect("from", &DIALECTS[..READ], "The tool whose names are read"))
             .arg(
                 flag("changes", "Show which parts of a name are read as others, such as amd64 as x86_64")
                     .conflicts_with("from"),

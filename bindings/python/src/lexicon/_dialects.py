@@ -9,18 +9,20 @@ from ._named import NamedValue
 class Dialect(NamedValue):
     """A tool, or a group of tools, that names targets in its own way."""
 
-    #: Debian's architectures, as dpkg names them: `amd64`, `armhf`, `musl-linux-arm64`.
+    # written by tools/names/write: the dialects for Python
+    #: Debian's architectures, as `dpkg` names them: `amd64`, `armhf`, `musl-linux-arm64`.
     DEBIAN = "debian"
-    #: Go's ports: `linux/amd64`.
+    #: Go's ports, as `go tool dist list` prints them: `linux/amd64`.
     GO = "go"
-    #: Platforms of container images: `linux/arm/v7`.
+    #: Platforms of container images, as containerd writes them: `linux/arm/v7`.
     OCI = "oci"
     #: `process.platform` and `process.arch` of Node, as npm joins them: `linux-x64`, `linux-x64-musl`.
     NODE = "node"
     #: Prefixes of GNU's cross compilers, which are only written: `x86_64-w64-mingw32`.
     GNU = "gnu"
-    #: Python's platforms: tags of wheels such as `macosx_11_0_arm64`, and what `sysconfig.get_platform()` returns.
+    #: Platforms of Python, as tags of wheels such as `macosx_11_0_arm64`, and as `sysconfig.get_platform()` prints them.
     PYTHON = "python"
+    # end of what is written
 
 
 #: The names of the dialects that are read, and of all.

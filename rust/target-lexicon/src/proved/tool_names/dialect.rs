@@ -25,13 +25,11 @@ pub enum Dialect {
     Go,
     /// Platforms of container images, as containerd writes them: `linux/arm/v7`.
     Oci,
-    /// `process.platform` and `process.arch` of Node, as packages of npm join them: `linux-x64`. A C library follows in
-    /// npm's words: `linux-x64-musl`.
+    /// `process.platform` and `process.arch` of Node, as npm joins them: `linux-x64`, `linux-x64-musl`.
     Node,
-    /// Prefixes of GNU's cross compilers: `x86_64-w64-mingw32`. They are only written; [`read`](crate::proved::tool_names::read) reads them.
+    /// Prefixes of GNU's cross compilers, which are only written: `x86_64-w64-mingw32`.
     Gnu,
-    /// Platforms of Python, as tags of wheels: `manylinux_2_17_x86_64`, `macosx_11_0_arm64`. What
-    /// `sysconfig.get_platform()` prints is read too: `macosx-11.0-arm64` means the same as its tag.
+    /// Platforms of Python, as tags of wheels such as `macosx_11_0_arm64`, and as `sysconfig.get_platform()` prints them.
     Python,
 }
 

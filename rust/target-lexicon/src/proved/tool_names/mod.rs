@@ -16,7 +16,7 @@ pub(crate) mod names;
 #[cfg(feature = "tool_names")]
 pub(crate) mod names_left;
 #[cfg(feature = "tool_names")]
-pub(crate) mod platform;
+pub(crate) mod pattern;
 #[cfg(feature = "tool_names")]
 pub(crate) mod reading;
 #[cfg(feature = "tool_names")]
@@ -25,8 +25,6 @@ pub(crate) mod spelling;
 pub(crate) mod suggestions;
 #[cfg(feature = "tool_names")]
 pub(crate) mod tables;
-#[cfg(feature = "tool_names")]
-pub(crate) mod tags;
 
 #[cfg(feature = "tool_names")]
 pub use change::{changes, Change, ChangedParts};

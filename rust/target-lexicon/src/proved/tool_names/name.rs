@@ -1,8 +1,8 @@
 // Erased from crates/tool_names/src/name.rt by tools/erase. Don't edit it here.
 //! A name of a target in a dialect.
 
-use crate::proved::tool_names::platform::VersionedSystem;
-use crate::proved::{decimal_text, DeploymentTarget, MAX_DECIMAL_LENGTH};
+use crate::proved::tool_names::pattern::Numbers;
+use crate::proved::{decimal_text, MAX_DECIMAL_LENGTH};
 use core::fmt;
 use core::str::from_utf8;
 
@@ -44,50 +44,36 @@ impl Name {
         }
     }
 
-    /// The name of a row.
-    pub(crate) fn of_text(text: &str) -> Name {
+    /// The name that a pattern makes with these numbers.
+    pub(crate) fn filled(pattern: &str, numbers: Numbers) -> Name {
         let mut bytes = [0; MAX_NAME_LENGTH];
-        let length = put(&mut bytes, 0, text.as_bytes());
+        let mut length = 0;
+        let mut left = numbers;
+        for byte in pattern.as_bytes() {
+            if *byte == b'*' {
+                length = put_first(&mut bytes, length, left);
+                left = left.rest();
+            } else {
+                length = put(&mut bytes, length, &[*byte]);
+            }
+        }
         Name { bytes, length }
     }
+}
 
-    /// The tag of a machine on a system with this version.
-    pub(crate) fn with_version(
-        system: VersionedSystem,
-        version: DeploymentTarget,
-        machine: &str,
-    ) -> Name {
-        let mut bytes = [0; MAX_NAME_LENGTH];
-        let length = put_versioned(&mut bytes, system, version, machine);
-        Name { bytes, length }
+/// Writes the first number after what ends at `at`, if there is one. Returns the end.
+fn put_first(out: &mut [u8], at: usize, numbers: Numbers) -> usize {
+    match numbers {
+        Numbers::NoNumber => at,
+        Numbers::One(number) | Numbers::Two(number, _) => put(
+            out,
+            at,
+            decimal_text(usize::from(number), &mut [0; MAX_DECIMAL_LENGTH]).as_bytes(),
+        ),
     }
 }
 
-/// Writes a tag with a version to the front of a buffer.
-fn put_versioned(
-    out: &mut [u8],
-    system: VersionedSystem,
-    version: DeploymentTarget,
-    machine: &str,
-) -> usize {
-    let at = put(out, 0, system.as_str().as_bytes());
-    let at = put_number(out, at, usize::from(version.major));
-    let at = put_number(out, at, usize::from(version.minor));
-    put_part(out, at, machine)
-}
-
-/// Writes `_` and a number after what ends at `at`. Returns the end.
-fn put_number(out: &mut [u8], at: usize, number: usize) -> usize {
-    put_part(out, at, decimal_text(number, &mut [0; MAX_DECIMAL_LENGTH]))
-}
-
-/// Writes `_` and a text, in the same way.
-fn put_part(out: &mut [u8], at: usize, text: &str) -> usize {
-    let at = put(out, at, b"_");
-    put(out, at, text.as_bytes())
-}
-
-/// Writes a text, in the same way.
+/// Writes a text after what ends at `at`. Returns the end.
 fn put(out: &mut [u8], at: usize, text: &[u8]) -> usize {
     let end = at + text.len();
     out[at..end].copy_from_slice(text);

@@ -5,11 +5,9 @@ use crate::proved::names::misspelling::{misspelling, TOO_MANY_EDITS};
 use crate::proved::names::nearest::nearer;
 use crate::proved::tool_names::dialect::Dialect;
 use crate::proved::tool_names::name::Name;
-use crate::proved::tool_names::platform::{kept_version, VersionedName, VersionedSystem};
-use crate::proved::tool_names::spelling::look_up;
-use crate::proved::tool_names::tables::Row;
-use crate::proved::tool_names::tags::look_up_tag;
-use crate::proved::TripleRef;
+use crate::proved::tool_names::pattern::{matched, star_count, Numbers};
+use crate::proved::tool_names::tables::{Row, Way, ONLY_WRITTEN};
+use crate::proved::{DeploymentTarget, OperatingSystem, TripleRef};
 
 /// Why a name isn't read.
 ///
@@ -36,7 +34,8 @@ impl Dialect {
     /// The triple that a name of this dialect means. It is canonical, and has a known vendor. What the name doesn't
     /// state is unknown: `linux/arm64` of Go is `aarch64-unknown-linux`, without a C library. Nothing is allocated.
     ///
-    /// A name of Python is read by its tag: `macosx-11.0-arm64` and `macosx_11_0_arm64` mean the same.
+    /// A name of Python is read by its tag: `macosx-11.0-arm64` and `macosx_11_0_arm64` mean the same. Prefixes of GNU's
+    /// cross compilers are spelled like triples: [`read`](crate::proved::tool_names::read) reads them.
     ///
     /// # Errors
     ///
@@ -52,9 +51,9 @@ impl Dialect {
     /// assert_eq!(Dialect::Go.read("linux/foo"), Err(NameError::Unknown));
     /// ```
     pub fn read(self, name: &str) -> Result<TripleRef<'static>, NameError> {
-        match self.versioned_name(name) {
-            Some(versioned) => versioned.read(),
-            None => self.read_plain(name),
+        match row_named(self.rows(), name, self.rules().tags) {
+            Some((row, numbers)) => row_meaning(row, numbers),
+            None => Err(NameError::Unknown),
         }
     }
 
@@ -71,16 +70,15 @@ impl Dialect {
     /// ```
     pub fn write(self, triple: &TripleRef<'_>) -> Option<Name> {
         let shape = self.shape(triple);
-        match kept_version(shape.operating_system) {
-            Some((system, version)) => {
-                let machine = system.machine_of(&TripleRef {
-                    operating_system: system.with(None, shape.operating_system),
-                    ..shape
-                })?;
-                Some(Name::with_version(system, version, machine))
-            }
-            None => Some(Name::of_text(self.name_of_shape(&shape)?)),
-        }
+        let numbers = Numbers::of_system(shape.operating_system);
+        let pattern = self.pattern_for(
+            numbers.count(),
+            &TripleRef {
+                operating_system: without_numbers(shape.operating_system),
+                ..shape
+            },
+        )?;
+        Some(Name::filled(pattern, numbers))
     }
 
     /// The name that is suggested for an unknown one: the nearest of the names without a version that
@@ -88,96 +86,63 @@ impl Dialect {
     pub fn suggestion(self, name: &str) -> Option<&'static str> {
         nearer(
             name,
-            nearest_name(name, self.both_ways()),
-            nearest_name(name, self.only_read()),
+            nearest_name(name, self.rows(), true),
+            nearest_name(name, self.rows(), false),
         )
     }
 
-    /// The parts of a name with a version, which only Python has.
-    fn versioned_name(self, name: &str) -> Option<VersionedName<'_>> {
-        match self {
-            Dialect::Python => VersionedName::of(name),
-            _ => None,
-        }
-    }
-
-    /// The triple that a name without a version means.
-    fn read_plain(self, name: &str) -> Result<TripleRef<'static>, NameError> {
-        match self.triple_text(name) {
-            Some(text) => triple_of(text),
-            None => Err(unread(self.look_up(self.without_a_triple(), name))),
-        }
-    }
-
-    /// The triple that a name means, as a string.
-    fn triple_text(self, name: &str) -> Option<&'static str> {
-        match self.look_up(self.both_ways(), name) {
-            Some(text) => Some(text),
-            None => self.look_up(self.only_read(), name),
-        }
-    }
-
-    /// The second text of the first row whose first text is the name, or in Python its tag.
-    fn look_up(self, rows: &[Row], name: &str) -> Option<&'static str> {
-        match self {
-            Dialect::Python => look_up_tag_text(rows, name),
-            _ => look_up_text(rows, name),
-        }
-    }
-
-    /// The name of a shape without a version.
-    fn name_of_shape(self, shape: &TripleRef<'_>) -> Option<&'static str> {
-        let mut buffer = [0; MAX_LENGTH];
-        let length = shape.write_to(&mut buffer);
-        if MAX_LENGTH < length {
-            return None;
-        }
-        self.name_of_text(&buffer[..length])
-    }
-
-    /// The name of a shape's string.
-    fn name_of_text(self, text: &[u8]) -> Option<&'static str> {
-        match name_with(self.both_ways(), text) {
-            Some(name) => Some(name),
-            None => name_with(self.only_written(), text),
-        }
-    }
-}
-
-impl VersionedSystem {
-    /// The machine of a triple without a version.
-    fn machine_of(self, triple: &TripleRef<'_>) -> Option<&'static str> {
+    /// The pattern of the name of a triple without a version, with this many numbers.
+    fn pattern_for(self, numbers: usize, triple: &TripleRef<'_>) -> Option<&'static str> {
         let mut buffer = [0; MAX_LENGTH];
         let length = triple.write_to(&mut buffer);
         if MAX_LENGTH < length {
             return None;
         }
-        name_with(self.machines(), &buffer[..length])
+        pattern_for(self.rows(), numbers, &buffer[..length])
     }
 }
 
-impl VersionedName<'_> {
-    /// The triple that the name means.
-    fn read(&self) -> Result<TripleRef<'static>, NameError> {
-        match look_up_tag_text(self.system.machines(), self.machine) {
-            Some(text) => {
-                let triple = triple_of(text)?;
-                Ok(TripleRef {
-                    operating_system: self
-                        .system
-                        .with(Some(self.version), triple.operating_system),
-                    ..triple
-                })
-            }
-            None => Err(unread(look_up_tag_text(
-                self.system.machines_without_a_triple(),
-                self.machine,
-            ))),
+/// The first row that has a name, or its tag, and the numbers of the name.
+fn row_named(rows: &[Row], name: &str, tags: bool) -> Option<(Row, Numbers)> {
+    for row in rows {
+        if let Some(numbers) = matched(row.0.as_bytes(), name.as_bytes(), tags) {
+            return Some((*row, numbers));
         }
     }
+    None
 }
 
-/// The triple of a row.
+/// The name of the first row that is written for a triple's string and this many numbers.
+fn pattern_for(rows: &[Row], numbers: usize, text: &[u8]) -> Option<&'static str> {
+    for row in rows {
+        if is_written(row.2) && text == row.1.as_bytes() && star_count(row.0.as_bytes()) == numbers
+        {
+            return Some(row.0);
+        }
+    }
+    None
+}
+
+fn is_written(way: Way) -> bool {
+    matches!(way, Way::Both | Way::Written)
+}
+
+/// What a row means, with the numbers of a name.
+fn row_meaning(row: Row, numbers: Numbers) -> Result<TripleRef<'static>, NameError> {
+    match row.2 {
+        Way::Both | Way::Read => {
+            let triple = triple_of(row.1)?;
+            Ok(TripleRef {
+                operating_system: numbers.in_system(triple.operating_system),
+                ..triple
+            })
+        }
+        Way::Written => Err(NameError::WithoutTriple(ONLY_WRITTEN)),
+        Way::NoTriple => Err(NameError::WithoutTriple(row.1)),
+    }
+}
+
+/// The triple of a row's string.
 fn triple_of(text: &'static str) -> Result<TripleRef<'static>, NameError> {
     match TripleRef::from_str(text) {
         Ok(triple) => Ok(triple),
@@ -185,44 +150,69 @@ fn triple_of(text: &'static str) -> Result<TripleRef<'static>, NameError> {
     }
 }
 
-/// Why a name without a triple isn't read, if there is a reason.
-fn unread(why: Option<&'static str>) -> NameError {
-    match why {
-        Some(why) => NameError::WithoutTriple(why),
-        None => NameError::Unknown,
+impl Numbers {
+    /// The numbers of a system's version, which names may have: those of macOS and iOS.
+    fn of_system(system: OperatingSystem) -> Numbers {
+        match system {
+            OperatingSystem::MacOSX(Some(version)) | OperatingSystem::IOS(Some(version)) => {
+                Numbers::Two(version.major, version.minor)
+            }
+            _ => Numbers::NoNumber,
+        }
+    }
+
+    /// The system with these numbers as its version, if it is macOS or iOS.
+    fn in_system(self, system: OperatingSystem) -> OperatingSystem {
+        let (major, minor) = match self {
+            Numbers::NoNumber => return system,
+            Numbers::One(major) => (major, 0),
+            Numbers::Two(major, minor) => (major, minor),
+        };
+        let version = Some(DeploymentTarget {
+            major,
+            minor,
+            patch: 0,
+        });
+        match system {
+            OperatingSystem::MacOSX(_) => OperatingSystem::MacOSX(version),
+            OperatingSystem::IOS(_) => OperatingSystem::IOS(version),
+            other => other,
+        }
     }
 }
 
-/// The second text of the first row with this first text.
-fn look_up_text(rows: &[Row], text: &str) -> Option<&'static str> {
-    look_up(rows, text)
+/// The system without the numbers that a name has.
+fn without_numbers(system: OperatingSystem) -> OperatingSystem {
+    match system {
+        OperatingSystem::MacOSX(_) => OperatingSystem::MacOSX(None),
+        OperatingSystem::IOS(_) => OperatingSystem::IOS(None),
+        other => other,
+    }
 }
 
-/// The second text of the first row whose first text is the tag of a name.
-fn look_up_tag_text(rows: &[Row], name: &str) -> Option<&'static str> {
-    look_up_tag(rows, name)
-}
-
-/// The nearest of the names of the rows, if a name may be a misspelling of it.
-fn nearest_name(name: &str, rows: &'static [Row]) -> Option<&'static str> {
+/// The nearest of the rows' names without a number that are read, and are written or aren't, if a name may be a misspelling
+/// of it.
+fn nearest_name(name: &str, rows: &'static [Row], written: bool) -> Option<&'static str> {
     let mut nearest = None;
     let mut limit = TOO_MANY_EDITS;
     for row in rows {
-        let edits = misspelling(name, row.0);
-        if edits < limit {
-            nearest = Some(row.0);
-            limit = edits;
+        if has_plain_name(written, *row) {
+            let edits = misspelling(name, row.0);
+            if edits < limit {
+                nearest = Some(row.0);
+                limit = edits;
+            }
         }
     }
     nearest
 }
 
-/// The first text of the first row with this second text.
-fn name_with(rows: &[Row], text: &[u8]) -> Option<&'static str> {
-    for row in rows {
-        if text == row.1.as_bytes() {
-            return Some(row.0);
-        }
-    }
-    None
+/// Whether a row has a name without a number that is read, and is written or isn't.
+fn has_plain_name(written: bool, row: Row) -> bool {
+    let fits = match row.2 {
+        Way::Both => written,
+        Way::Read => !written,
+        Way::Written | Way::NoTriple => false,
+    };
+    fits && star_count(row.0.as_bytes()) == 0
 }

@@ -7,6 +7,29 @@ use crate::proved::{
     Riscv32Architecture, Riscv64Architecture, TripleRef, VendorRef, X86_32Architecture,
 };
 
+/// How a dialect states the ABI.
+#[derive(Clone, Copy, Debug, PartialEq, Eq)]
+pub(crate) enum AbiRule {
+    /// Every environment is kept.
+    Kept,
+    /// C libraries and floating-point ABIs aren't stated.
+    Dropped,
+    /// C libraries are stated on Linux only.
+    KeptOnLinux,
+}
+
+/// What names state in a dialect.
+#[derive(Clone, Copy, Debug, PartialEq, Eq)]
+pub(crate) struct Rules {
+    /// The versions 5 to 8 of Arm.
+    pub arm_version: bool,
+    pub abi: AbiRule,
+    /// The version of macOS and iOS, in two numbers.
+    pub versions: bool,
+    /// `-` and `.` of a name are `_` in the names of the rows.
+    pub tags: bool,
+}
+
 impl Dialect {
     /// The triple without what the dialect doesn't name: the vendor, which is the usual one of the system; the version
     /// of the system, and how much of that of the architecture isn't stated; in Go, OCI, Node and Python also the C
@@ -22,46 +45,30 @@ impl Dialect {
     /// assert_eq!(Dialect::Go.shape(&triple).to_string(), "x86_64-unknown-linux");
     /// ```
     pub fn shape(self, triple: &TripleRef<'_>) -> TripleRef<'static> {
+        let rules = self.rules();
         TripleRef {
-            architecture: self.machine(triple.architecture),
+            architecture: machine_by(rules.arm_version, triple.architecture),
             vendor: VendorRef::Known(usual_vendor(triple.operating_system)),
-            operating_system: self.system(triple.operating_system),
-            environment: self.abi(triple.operating_system, triple.environment),
+            operating_system: system_by(rules.versions, triple.operating_system),
+            environment: rules
+                .abi
+                .environment(triple.operating_system, triple.environment),
             binary_format: triple.binary_format,
         }
     }
+}
 
-    fn machine(self, architecture: Architecture) -> Architecture {
-        match architecture {
-            Architecture::Arm(arm) => Architecture::Arm(self.arm(arm)),
-            Architecture::X86_32(_) => Architecture::X86_32(X86_32Architecture::I686),
-            Architecture::Riscv32(_) => Architecture::Riscv32(Riscv32Architecture::Riscv32),
-            Architecture::Riscv64(_) => Architecture::Riscv64(Riscv64Architecture::Riscv64),
-            Architecture::X86_64h => Architecture::X86_64,
-            Architecture::Sparcv9 => Architecture::Sparc64,
-            other => other,
-        }
-    }
-
-    fn arm(self, arm: ArmArchitecture) -> ArmArchitecture {
-        match self {
-            Dialect::Oci | Dialect::Python => arm_of_version(arm),
-            _ => arm_of_order(arm),
-        }
-    }
-
-    fn system(self, operating_system: OperatingSystem) -> OperatingSystem {
-        match self {
-            Dialect::Python => with_two_numbers(operating_system),
-            _ => unversioned(operating_system),
-        }
-    }
-
-    fn abi(self, operating_system: OperatingSystem, environment: Environment) -> Environment {
+impl AbiRule {
+    /// The environment without an ABI that isn't stated.
+    fn environment(
+        self,
+        operating_system: OperatingSystem,
+        environment: Environment,
+    ) -> Environment {
         let forgotten = match self {
-            Dialect::Debian | Dialect::Gnu => false,
-            Dialect::Go | Dialect::Oci | Dialect::Python => is_dropped_abi(environment),
-            Dialect::Node => match operating_system {
+            AbiRule::Kept => false,
+            AbiRule::Dropped => is_dropped_abi(environment),
+            AbiRule::KeptOnLinux => match operating_system {
                 OperatingSystem::Linux => is_bare_abi(environment),
                 _ => is_dropped_abi(environment),
             },
@@ -71,6 +78,31 @@ impl Dialect {
         } else {
             environment
         }
+    }
+}
+
+/// The architecture without what isn't stated: of Arm the version, or all but the byte order.
+fn machine_by(arm_version: bool, architecture: Architecture) -> Architecture {
+    match architecture {
+        Architecture::Arm(arm) => Architecture::Arm(if arm_version {
+            arm_of_version(arm)
+        } else {
+            arm_of_order(arm)
+        }),
+        Architecture::X86_32(_) => Architecture::X86_32(X86_32Architecture::I686),
+        Architecture::Riscv32(_) => Architecture::Riscv32(Riscv32Architecture::Riscv32),
+        Architecture::Riscv64(_) => Architecture::Riscv64(Riscv64Architecture::Riscv64),
+        Architecture::X86_64h => Architecture::X86_64,
+        Architecture::Sparcv9 => Architecture::Sparc64,
+        other => other,
+    }
+}
+
+fn system_by(versions: bool, operating_system: OperatingSystem) -> OperatingSystem {
+    if versions {
+        with_two_numbers(operating_system)
+    } else {
+        unversioned(operating_system)
     }
 }
 

@@ -1,0 +1,129 @@
+// Erased from crates/tool_names/src/pattern.rt by tools/erase. Don't edit it here.
+//! Names with numbers: a star in the name of a row is a number.
+
+use core::str::from_utf8;
+
+/// The numbers of a name.
+#[derive(Clone, Copy, Debug, PartialEq, Eq)]
+pub(crate) enum Numbers {
+    NoNumber,
+    One(u16),
+    Two(u16, u8),
+}
+
+/// The numbers that a name, or its tag, has where a pattern has stars. `None` if it doesn't have the pattern.
+pub(crate) fn matched(pattern: &[u8], name: &[u8], tags: bool) -> Option<Numbers> {
+    let mut numbers = Numbers::NoNumber;
+    let mut rest = name;
+    for byte in pattern {
+        if *byte == b'*' {
+            let (digits, others) = rest.split_at(digit_count(rest));
+            numbers = numbers.with(digits)?;
+            rest = others;
+        } else {
+            rest = after_byte(rest, *byte, tags)?;
+        }
+    }
+    if rest.is_empty() {
+        Some(numbers)
+    } else {
+        None
+    }
+}
+
+/// What follows a byte, which of a tag may be a separator.
+fn after_byte(text: &[u8], byte: u8, tags: bool) -> Option<&[u8]> {
+    match text {
+        [first, rest @ ..] if byte == key_byte(*first, tags) => Some(rest),
+        _ => None,
+    }
+}
+
+/// How many stars a pattern has.
+pub(crate) fn star_count(pattern: &[u8]) -> usize {
+    let mut count = 0;
+    for byte in pattern {
+        if *byte == b'*' {
+            count += 1;
+        }
+    }
+    count
+}
+
+impl Numbers {
+    /// How many there are. Each is in the range of its type.
+    pub(crate) fn count(self) -> usize {
+        match self {
+            Numbers::NoNumber => 0,
+            Numbers::One(_) => 1,
+            Numbers::Two(_, _) => 2,
+        }
+    }
+
+    /// The numbers after the first.
+    pub(crate) fn rest(self) -> Numbers {
+        match self {
+            Numbers::NoNumber | Numbers::One(_) => Numbers::NoNumber,
+            Numbers::Two(_, minor) => Numbers::One(u16::from(minor)),
+        }
+    }
+
+    /// One more number, in plain digits.
+    fn with(self, digits: &[u8]) -> Option<Numbers> {
+        match self {
+            Numbers::NoNumber => Some(Numbers::One(major_number(digits)?)),
+            Numbers::One(major) => Some(Numbers::Two(major, minor_number(digits)?)),
+            Numbers::Two(_, _) => None,
+        }
+    }
+}
+
+/// The byte by which a name is looked up: in a tag `_` for each separator.
+fn key_byte(byte: u8, tags: bool) -> u8 {
+    if tags && (byte == b'-' || byte == b'.') {
+        b'_'
+    } else {
+        byte
+    }
+}
+
+/// How many digits a text begins with.
+fn digit_count(text: &[u8]) -> usize {
+    let mut end = 0;
+    while end < text.len() && text[end].is_ascii_digit() {
+        end += 1;
+    }
+    end
+}
+
+fn major_number(digits: &[u8]) -> Option<u16> {
+    if is_plain(digits) {
+        match from_utf8(digits) {
+            Ok(text) => text.parse::<u16>().ok(),
+            // Digits are UTF-8.
+            Err(_) => None,
+        }
+    } else {
+        None
+    }
+}
+
+fn minor_number(digits: &[u8]) -> Option<u8> {
+    if is_plain(digits) {
+        match from_utf8(digits) {
+            Ok(text) => text.parse::<u8>().ok(),
+            // Digits are UTF-8.
+            Err(_) => None,
+        }
+    } else {
+        None
+    }
+}
+
+/// Whether a text begins with a digit, which is a zero only if nothing follows it.
+fn is_plain(text: &[u8]) -> bool {
+    match text.first() {
+        Some(first) => first.is_ascii_digit() && (*first != b'0' || text.len() == 1),
+        None => false,
+    }
+}
