@@ -5,6 +5,7 @@ const LABELS = {
   architecture: "Architecture", vendor: "Vendor", operatingSystem: "System", environment: "Environment", binaryFormat: "Format",
 };
 const TOOLS = { oci: "Container images", gnu: "GNU prefix" };
+const toolName = (dialect) => TOOLS[dialect] ?? dialect[0].toUpperCase() + dialect.slice(1);
 // The targets of which there are chips, with the word for one and for more. Those of a kind that is a mistake come first.
 const KINDS = { all: ["target", "targets"], refused: ["refused"], suspicious: ["suspicious"], duplicate: ["duplicate", "duplicates"] };
 const ORDER = ["refused", "suspicious", "other"];
@@ -101,7 +102,7 @@ function namesCells(triple, text) {
     if (!isOpen || list.firstChild) return;
     for (const dialect of DIALECTS) {
       const name = triple.nameIn(dialect), shown = name === null ? element("span", { class: "dim" }, "none") : code(name);
-      list.append(element("div", {}, element("dt", {}, TOOLS[dialect] ?? dialect[0].toUpperCase() + dialect.slice(1)), element("dd", {}, shown)));
+      list.append(element("div", {}, element("dt", {}, toolName(dialect)), element("dd", {}, shown)));
     }
   };
   button.addEventListener("click", () => show(cell.hidden));
@@ -155,7 +156,7 @@ function* knownNames(text) {
     }
   }
   for (const { meant, reason, tools } of found.values()) {
-    const known = ["A name of ", listOf(tools.map((it) => it === "oci" ? "container images" : TOOLS[it]))];
+    const known = ["A name of ", listOf(tools.map((it) => it === "oci" ? "container images" : toolName(it)))];
     yield element("p", {}, ...known, ...(meant ? [", which is ", offer(meant, text, meant), "."] : [`. No triple means it: ${reason}.`]));
   }
 }

@@ -24,9 +24,19 @@ pub record IsNamed (d : Dialect) (row : Row) (name numbers : List ℕ) : Type 0 
   pub listed : slice_get (rows_of d) place ≡ Some row
   pub has_name : matched (rules_of d).tags row.pattern name ≡ Some numbers
 
+-- the name of a row is read and written; it is only written; it has no triple
+abbrev pub GoesBothWays : Row → Type 0
+GoesBothWays row = row.way ≡ Both
+
+abbrev pub IsOnlyWritten : Row → Type 0
+IsOnlyWritten row = row.way ≡ Written
+
+abbrev pub IsWithoutTriple : Row → Type 0
+IsWithoutTriple row = row.way ≡ NoTriple
+
 -- a name means what its row says, which is the only one. Rows that are only written may share a name with rows before them
 abbrev pub NamesMeanTheirRows : Type 0
-NamesMeanTheirRows = (d : Dialect) (row : Row) (name numbers : List ℕ) → IsNamed d row name numbers → row.way ≢ Written
+NamesMeanTheirRows = (d : Dialect) (row : Row) (name numbers : List ℕ) → IsNamed d row name numbers → ¬ IsOnlyWritten row
     → name_meaning d name ≡ row_meaning row.way row.meaning numbers
 
 -- a name is read, and is the name of the triple that it means
@@ -36,13 +46,13 @@ pub record ReadsBack (d : Dialect) (name : List ℕ) (t : Values) : Type 0 where
 
 -- this holds for each name of a row that goes both ways, whatever its numbers
 abbrev pub NamesReadBack : Type 0
-NamesReadBack = (d : Dialect) (i : ℕ) (row : Row) (numbers : List ℕ) → slice_get (rows_of d) i ≡ Some row → row.way ≡ Both → fits row.pattern numbers ≡ true
+NamesReadBack = (d : Dialect) (i : ℕ) (row : Row) (numbers : List ℕ) → slice_get (rows_of d) i ≡ Some row → GoesBothWays row → fits row.pattern numbers ≡ true
     → (t : Values) × ReadsBack d (filled row.pattern numbers) t
 
 -- a name without a triple isn't read, whatever its numbers, and neither is one that is only written; a reason is given
 pub record NamesWithoutTripleAreRefused : Type 0 where
-  pub no_triple : (d : Dialect) (row : Row) (name numbers : List ℕ) → IsNamed d row name numbers → row.way ≡ NoTriple → name_meaning d name ≡ Err (HasNoTriple row.meaning)
-  pub only_written : (d : Dialect) (row : Row) (name numbers : List ℕ) → IsNamed d row name numbers → row.way ≡ Written
+  pub no_triple : (d : Dialect) (row : Row) (name numbers : List ℕ) → IsNamed d row name numbers → IsWithoutTriple row → name_meaning d name ≡ Err (HasNoTriple row.meaning)
+  pub only_written : (d : Dialect) (row : Row) (name numbers : List ℕ) → IsNamed d row name numbers → IsOnlyWritten row
       → (why : List ℕ) × (name_meaning d name ≡ Err (HasNoTriple why))
 
 -- where names are tags, a name means what its tag means
@@ -63,7 +73,7 @@ OneNumberIsEnough = (d : Dialect) (i : ℕ) (row : Row) (n : ℕ) → (rules_of 
 -- numbers does that is written
 pub record MeansTheShape (d : Dialect) (t : Values) (name : List ℕ) : Type 0 where
   pub if_read : (u : Values) → name_meaning d name ≡ Ok u → u ≡ shape d t
-  pub both_ways : (row : Row) → shape_row d (shape d t) ≡ Some row → row.way ≡ Both → name_meaning d name ≡ Ok (shape d t)
+  pub both_ways : (row : Row) → shape_row d (shape d t) ≡ Some row → GoesBothWays row → name_meaning d name ≡ Ok (shape d t)
   pub versioned : numbers_in (shape d t).operating_system ≢ [] → name_meaning d name ≡ Ok (shape d t)
 
 -- this holds for each triple whose version is in range, if its shape has one, as the types of the code ensure

@@ -1,9 +1,8 @@
 //! Names of other tools: what a caller concludes from each law about them.
-ghost use Rattle.std.specs.Prelude.{◌≡◌, ◌≢◌, ℕ, List, [], ◌∷◌, codes, true, false, is_none, IsTrue, None, Some, Ok, Err, not, ◌++◌};
+ghost use Rattle.std.specs.Prelude.{◌≡◌, ◌≢◌, ℕ, List, [], ◌∷◌, codes, true, false, is_none, IsTrue, Some, Ok, Err, not, ◌++◌, slice_get};
 ghost use Rattle.std.specs.List.{AllPass};
 ghost use Rattle.lexicon_fields.specs.Architecture.{architecture_of};
 ghost use Rattle.lexicon_fields.specs.Laws.{HasVersionInRange};
-ghost use Rattle.lexicon_fields.specs.Names.{value_named};
 ghost use Rattle.lexicon_fields.specs.Vendor.{VendorValue, is_custom};
 ghost use Rattle.target_lexicon.specs.Explanation.{IsInText};
 ghost use Rattle.target_lexicon.specs.FixedPoints.{canonical_text};
@@ -17,12 +16,14 @@ ghost use Rattle.target_lexicon.specs.Refusal.{Refusal};
 ghost use Rattle.target_lexicon.specs.Values.{Values, host_values};
 ghost use Rattle.tool_names.specs.Changes.{PartChange, change_value, changes, spelling_names};
 ghost use Rattle.tool_names.specs.ObjectFormat.{object_format};
-ghost use Rattle.tool_names.specs.Platform.{NameParts, keeps_version, kept_version, read_name_of, short_tag, tag_of, version_of_two, versioned_name_of, versioned_tag};
+ghost use Rattle.tool_names.specs.Dialects.{rows_of};
+ghost use Rattle.tool_names.specs.Laws.{GoesBothWays, IsNamed, IsOnlyWritten, IsWithoutTriple, may_be_short};
+ghost use Rattle.tool_names.specs.Patterns.{filled, fits, without_number};
 ghost use Rattle.tool_names.specs.Shape.{shape};
 ghost use Rattle.target_lexicon.specs.ValuesRef.{PlacedRefusal};
 ghost use Rattle.tool_names.specs.Spelling.{first_spelling, first_spellings, is_known_name, later_spelling, later_spellings, name_texts, spelled_names, spelled_reading, versioned_spellings};
-ghost use Rattle.tool_names.specs.Tables.{both_ways, machines, machines_without_a_triple, without_a_triple};
-ghost use Rattle.tool_names.specs.ToolNames.{name_bytes, name_meaning, name_with, triple_name, unread_of};
+ghost use Rattle.tool_names.specs.Tables.{Row};
+ghost use Rattle.tool_names.specs.ToolNames.{name_bytes, name_meaning, numbers_in, row_meaning, shape_row, triple_name, unread_of};
 ghost use Rattle.tool_names.specs.declared.change.Change.{Change};
 ghost use Rattle.tool_names.specs.declared.name.Name.{Name};
 ghost use Rattle.tool_names.specs.declared.spelling.Spelling.{Spelling};
@@ -127,31 +128,39 @@ pub fn meanings_are_keys()
     tool_names::laws::names_are_canonical();
 }
 
-/// What a name that goes both ways means, and what a kept tag with a version means, has that name.
+/// What a name that goes both ways means has that name, whatever its numbers.
 pub fn meanings_are_named()
-    ensures plain { (d : Dialect) (name text : List ℕ) (t : Values) →
-        value_named (both_ways d) name ≡ Some text →
-        name_meaning d name ≡ Ok t →
-        triple_name d t ≡ Some name }
-    ensures versioned { (name : List ℕ) (it : NameParts) (text : List ℕ) →
-        tag_of name ≡ name →
-        versioned_name_of name ≡ Some it →
-        keeps_version it.system ≡ true →
-        value_named (machines it.system) it.machine ≡ Some text →
-        (t : Values) × (triple_name Dialect.Python t ≡ Some name) }
+    ensures { (d : Dialect) (i : ℕ) (row : Row) (numbers : List ℕ) (t : Values) →
+        slice_get (rows_of d) i ≡ Some row →
+        GoesBothWays row →
+        fits row.pattern numbers ≡ true →
+        name_meaning d (filled row.pattern numbers) ≡ Ok t →
+        triple_name d t ≡ Some (filled row.pattern numbers) }
 {
     tool_names::laws::names_read_back();
 }
 
-/// A name without a triple isn't read.
+/// A name is read as its row says.
+pub fn rows_are_read()
+    ensures { (d : Dialect) (row : Row) (name numbers : List ℕ) (t : Values) →
+        IsNamed d row name numbers →
+        ¬ IsOnlyWritten row →
+        row_meaning row.way row.meaning numbers ≡ Ok t →
+        name_meaning d name ≡ Ok t }
+{
+    tool_names::laws::names_mean_their_rows();
+}
+
+/// A name without a triple isn't read, nor one that is only written.
 pub fn names_without_triple_are_not_read()
-    ensures versioned { (name : List ℕ) (it : NameParts) (why : List ℕ) (t : Values) →
-        read_name_of (tag_of name) ≡ Some it →
-        value_named (machines_without_a_triple it.system) it.machine ≡ Some why →
-        name_meaning Dialect.Python name ≡ Ok t →
+    ensures no_triple { (d : Dialect) (row : Row) (name numbers : List ℕ) (t : Values) →
+        IsNamed d row name numbers →
+        IsWithoutTriple row →
+        name_meaning d name ≡ Ok t →
         ⊥ }
-    ensures plain { (d : Dialect) (name why : List ℕ) (t : Values) →
-        value_named (without_a_triple d) name ≡ Some why →
+    ensures only_written { (d : Dialect) (row : Row) (name numbers : List ℕ) (t : Values) →
+        IsNamed d row name numbers →
+        IsOnlyWritten row →
         name_meaning d name ≡ Ok t →
         ⊥ }
 {
@@ -168,11 +177,11 @@ pub fn platforms_mean_their_tags()
 
 /// A tag of macOS may have one number.
 pub fn one_number_names_a_platform()
-    ensures { (it : NameParts) →
-        keeps_version it.system ≡ true →
-        name_meaning Dialect.Python (short_tag it.system 14 (codes "arm64"))
-        ≡ name_meaning Dialect.Python
-        (versioned_tag it.system (version_of_two 14 0) (codes "arm64")) }
+    ensures { (i : ℕ) (row : Row) →
+        slice_get (rows_of Dialect.Python) i ≡ Some row →
+        may_be_short row ≡ true →
+        name_meaning Dialect.Python (filled (without_number row.pattern) (14 ∷ []))
+        ≡ name_meaning Dialect.Python (filled row.pattern (14 ∷ 0 ∷ [])) }
 {
     tool_names::laws::one_number_is_enough();
 }
@@ -184,15 +193,16 @@ pub fn names_mean_shapes()
         triple_name d t ≡ Some name →
         name_meaning d name ≡ Ok u →
         u ≡ shape d t }
-    ensures both_ways { (d : Dialect) (t : Values) (name : List ℕ) →
+    ensures both_ways { (d : Dialect) (t : Values) (name : List ℕ) (row : Row) →
         HasVersionInRange (shape d t).operating_system →
         triple_name d t ≡ Some name →
-        name_with (both_ways d) (text_of (shape d t)) ≡ Some name →
+        shape_row d (shape d t) ≡ Some row →
+        GoesBothWays row →
         name_meaning d name ≡ Ok (shape d t) }
     ensures versioned { (d : Dialect) (t : Values) (name : List ℕ) →
         HasVersionInRange (shape d t).operating_system →
         triple_name d t ≡ Some name →
-        kept_version (shape d t).operating_system ≢ None →
+        numbers_in (shape d t).operating_system ≢ [] →
         name_meaning d name ≡ Ok (shape d t) }
 {
     tool_names::laws::names_mean_the_shape();

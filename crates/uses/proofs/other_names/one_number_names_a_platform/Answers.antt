@@ -1,5 +1,6 @@
-use Rattle.std.proofs.Common.{codes, refl, arith}
+use Rattle.std.proofs.Common.{refl, arith}
+use Rattle.tool_names.specs.declared.dialect.Dialect.TheVariants as dialect
 use Rattle.uses.proofs.other_names.one_number_names_a_platform.Goals as goal
 
 pub returns : goal.returns
-returns c = λ it keeps. c.one_number_is_enough.ensures it.system 14 (codes "arm64") keeps (omega arith) refl refl
+returns c = λ i row listed short. c.one_number_is_enough.ensures dialect.Python i row 14 refl listed short (omega arith)
