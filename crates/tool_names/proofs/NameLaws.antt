@@ -1,7 +1,7 @@
 -- The laws of the names in dialects, from the tests that the rows pass.
-use Rattle.std.proofs.Common.{◌≡◌, ◌≢◌, ◌∙◌, ℕ, zero, suc, List, [], ◌∷◌, Option, Some, None, Result, Ok, Err, Bool, true, false, cond, length, map, nat_eq, refl, sym, ap, subst, inl, inr, arith}
+use Rattle.std.proofs.Common.{◌≤◌, ◌≡◌, ◌≢◌, ◌∙◌, ℕ, zero, suc, List, [], ◌∷◌, Option, Some, None, Result, Ok, Err, Bool, true, false, cond, length, map, nat_eq, refl, sym, ap, subst, inl, inr, arith}
 use Rattle.std.specs.Prelude.{not, ◌&&◌, ◌||◌, nat_le, option_map, slice_get}
-use Rattle.std.specs.Str.{bytes_eq}
+use Rattle.std.specs.{List.list_any, Str.bytes_eq}
 use Rattle.std.proofs.lemmas.Bool.{and_parts, eq-eqb, eqb-true, le-leb, leb-true}
 use Rattle.std.proofs.lemmas.Slice.Eq.{bytes_eq-Decides}
 use Rattle.lexicon_fields.specs.{ArchitectureQueries.is_clever, Laws.HasVersionInRange, Laws.IsVersionInRange, Vendor.is_custom, Vendor.is_plain}
@@ -14,14 +14,14 @@ use Rattle.tool_names.specs.declared.dialect.Dialect.{Dialect}
 use Rattle.tool_names.specs.declared.tables.Way.{Way}
 use Rattle.tool_names.specs.declared.tables.Way.TheVariants.{Both, Read, Written, NoTriple}
 use Rattle.tool_names.specs.{Dialects.rows_of, Dialects.rules_of, Private.is_short_pattern}
-use Rattle.tool_names.specs.{Laws.IsCanonical, Laws.IsNamed, Laws.NamesAreCanonical, Laws.NamesKeepAnswers, Laws.NamesMeanTheShape, Laws.NamesMeanTheirRows, Laws.MeansTheShape, Laws.ReadsBack, Laws.NamesReadBack, Laws.NamesWithoutTripleAreRefused, Laws.OneNumberIsEnough, Laws.TagsMeanTheSame}
+use Rattle.tool_names.specs.{Laws.IsCanonical, Laws.IsNamed, Laws.NamesAreCanonical, Laws.NamesKeepAnswers, Laws.NamesMeanTheShape, Laws.NamesMeanTheirRows, Laws.MeansTheShape, Laws.ReadsBack, Laws.NamesReadBack, Laws.NamesWithoutTripleAreRefused, Laws.OneNumberIsEnough, Laws.TagsMeanTheSame, Laws.may_be_long, Laws.may_be_short}
 use Rattle.tool_names.specs.{ObjectFormat.object_format, Shape.machine_by, Shape.shape, Shape.system_by, Shape.unversioned, Shape.with_two_numbers}
-use Rattle.tool_names.specs.Patterns.{all_limits, are_within, filled, fits, star_count, without_number}
+use Rattle.tool_names.specs.Patterns.{all_limits, are_within, filled, fits, star_count, with_number, without_number}
 use Rattle.tool_names.specs.Tables.{Row, is_read_and, is_written, row_named}
 use Rattle.tool_names.specs.ToolNames.{HasNoTriple, Unread, found_meaning, name_meaning, numbers_in, read_or_unknown, row_meaning, shape_row, system_with, text_without_numbers, triple_name, version_of_numbers, with_numbers, without_numbers}
 use Rattle.tool_names.proofs.Filling.{counted_fits, filled_matches, fits_are_within, fits_counted, is_own_tag, is_spaced, match_fits}
 use Rattle.tool_names.proofs.ObjectFormats.{given_kept}
-use Rattle.tool_names.proofs.RowChecks.{IsWrittenFor, both_rows, gives_no_special_text, has_canonical, has_form, has_numbers, has_short, has_triple, is_both, is_canonical, is_canonical_as, is_known_format, is_ordinary, is_ordinary_architecture, is_ordinary_system, is_short_of, name_of, plain-back, row-written, rows-apart, rows-canonical, rows-formed, rows-short, versioned-back, written_back}
+use Rattle.tool_names.proofs.RowChecks.{IsWrittenFor, both_rows, gives_no_special_text, has_canonical, has_form, has_numbers, has_pair, has_triple, is_both, is_canonical, is_canonical_as, is_known_format, is_ordinary, is_ordinary_architecture, is_ordinary_system, is_long_of, is_pair, is_short_of, name_of, plain-back, row-written, rows-apart, rows-canonical, rows-formed, rows-paired, versioned-back, written_back}
 use Rattle.tool_names.proofs.RowLemmas.{all-at, any-at, is_only_written, is_refused, named-at, row-found}
 use Rattle.tool_names.proofs.Tags.{named_tag}
 use Rattle.tool_names.proofs.ShapeLemmas.{has_no_special_text, numbers-within, shape-endianness, shape-no_special, shape-width, with-again, without-range}
@@ -242,28 +242,41 @@ two-unwritten _ stars has two = refl
 unwritten : (way : Way) → is_only_written way ≡ false → way ≢ Written
 unwritten way is other = let bad = rw other at is in cc
 
-pub one_number_enough : OneNumberIsEnough
-one_number_enough d i row n tags at short small =
-    let test = all-at (has_short (rows_of d)) (rows_of d) i row (implied _ _ tags (rows-short d)) at in
-    let found = any-at (is_short_of row) (rows_of d) (implied _ _ short test) in
-    let other : Row = found.row in
-    let ways = and_parts _ _ found.holds in
-    let read = and_parts _ _ ways.0 in
-    let counted = and_parts _ _ read.0 in
-    let texts = and_parts (bytes_eq other.pattern (without_number row.pattern)) (bytes_eq other.meaning row.meaning) counted.0 in
-    let pattern = (bytes_eq-Decides other.pattern (without_number row.pattern)).0 texts.0 in
-    let meaning = (bytes_eq-Decides other.meaning row.meaning).0 texts.1 in
+-- a row and the one with one number mean the same
+pair-means : (d : Dialect) (i j : ℕ) (long short : Row) (n : ℕ) → slice_get (rows_of d) i ≡ Some long → slice_get (rows_of d) j ≡ Some short → is_pair long short ≡ true → n ≤ 65535
+    → name_meaning d (filled short.pattern (n ∷ [])) ≡ name_meaning d (filled long.pattern (n ∷ 0 ∷ []))
+pair-means d i j long short n at_long at_short pair small =
+    let ways = and_parts _ _ pair in
+    let kept = and_parts _ _ ways.0 in
+    let read = and_parts _ _ kept.0 in
+    let twos = and_parts _ _ read.0 in
+    let ones = and_parts (bytes_eq short.meaning long.meaning) (nat_eq (star_count short.pattern) 1) twos.0 in
+    let meaning = (bytes_eq-Decides short.meaning long.meaning).0 ones.0 in
     let unread = not-false _ read.1 in
-    let may = and_parts (nat_eq (star_count row.pattern) 2) (not (is_read_and false row.way)) short in
-    let two = eqb-true (star_count row.pattern) 2 may.0 in
-    let kept = two-unwritten row.way (star_count row.pattern) (form-at d i row at).numbers two in
+    let two = eqb-true (star_count long.pattern) 2 twos.1 in
+    let written = two-unwritten long.way (star_count long.pattern) (form-at d i long at_long).numbers two in
     let in_limit = le-leb n 65535 small in
-    let one_fits = counted_fits other.pattern (n ∷ []) (eqb-true (star_count other.pattern) 1 counted.1) (rw in_limit refl) in
-    let two_fits = counted_fits row.pattern (n ∷ 0 ∷ []) two (rw in_limit refl) in
-    let means_one = names_mean_rows d other (filled other.pattern (n ∷ [])) (n ∷ []) (named-filled d found.place other (n ∷ []) found.listed one_fits) (unwritten other.way unread) in
-    let means_two = names_mean_rows d row (filled row.pattern (n ∷ 0 ∷ [])) (n ∷ 0 ∷ []) (named-filled d i row (n ∷ 0 ∷ []) at two_fits) (unwritten row.way kept) in
-    ap (λ p. name_meaning d (filled p (n ∷ []))) (sym pattern) ∙ means_one ∙ ap (λ text. row_meaning other.way text (n ∷ [])) meaning
-    ∙ one-meaning n row.meaning other.way row.way unread (not-false _ may.1) kept ways.1 ∙ sym means_two
+    let one_fits = counted_fits short.pattern (n ∷ []) (eqb-true (star_count short.pattern) 1 ones.1) (rw in_limit refl) in
+    let two_fits = counted_fits long.pattern (n ∷ 0 ∷ []) two (rw in_limit refl) in
+    names_mean_rows d short (filled short.pattern (n ∷ [])) (n ∷ []) (named-filled d j short (n ∷ []) at_short one_fits) (unwritten short.way unread)
+    ∙ ap (λ text. row_meaning short.way text (n ∷ [])) meaning
+    ∙ one-meaning n long.meaning short.way long.way unread (not-false _ kept.1) written ways.1
+    ∙ sym (names_mean_rows d long (filled long.pattern (n ∷ 0 ∷ [])) (n ∷ 0 ∷ []) (named-filled d i long (n ∷ 0 ∷ []) at_long two_fits) (unwritten long.way written))
+
+paired-at : (d : Dialect) (i : ℕ) (row : Row) → (rules_of d).tags ≡ true → slice_get (rows_of d) i ≡ Some row → has_pair (rows_of d) row ≡ true
+paired-at d i row tags at = all-at (has_pair (rows_of d)) (rows_of d) i row (implied _ _ tags (rows-paired d)) at
+
+pub one_number_enough : OneNumberIsEnough
+one_number_enough = record {
+  two = λ d i row n tags at may small.
+      let found = any-at (is_short_of row) (rows_of d) (implied (may_be_short row) (list_any (is_short_of row) (rows_of d)) may (and_parts _ _ (paired-at d i row tags at)).0) in
+      let parts = and_parts (bytes_eq found.row.pattern (without_number row.pattern)) (is_pair row found.row) found.holds in
+      ap (λ p. name_meaning d (filled p (n ∷ []))) (sym ((bytes_eq-Decides found.row.pattern (without_number row.pattern)).0 parts.0)) ∙ pair-means d i found.place row found.row n at found.listed parts.1 small;
+  one = λ d i row n tags at may small.
+      let found = any-at (is_long_of row) (rows_of d) (implied (may_be_long row) (list_any (is_long_of row) (rows_of d)) may (and_parts _ _ (paired-at d i row tags at)).1) in
+      let parts = and_parts (bytes_eq found.row.pattern (with_number row.pattern)) (is_pair found.row row) found.holds in
+      pair-means d found.place i found.row row n found.listed at parts.1 small ∙ ap (λ p. name_meaning d (filled p (n ∷ 0 ∷ []))) ((bytes_eq-Decides found.row.pattern (with_number row.pattern)).0 parts.0);
+}
 
 -- what a name means is canonical
 

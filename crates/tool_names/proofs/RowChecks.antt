@@ -14,9 +14,9 @@ use Rattle.tool_names.specs.declared.dialect.Dialect.{Dialect}
 use Rattle.tool_names.specs.declared.dialect.Dialect.TheVariants.{Debian}
 use Rattle.tool_names.specs.declared.tables.Way.{Way}
 use Rattle.tool_names.specs.declared.tables.Way.TheVariants.{Both, Written, NoTriple}
-use Rattle.tool_names.specs.{Dialects.rows_of, Dialects.rules_of, Laws.may_be_short, Private.is_short_pattern, Shape.shape}
-use Rattle.tool_names.specs.Patterns.{filled, star_count, without_number}
-use Rattle.tool_names.specs.Tables.{Row, is_written, row_for}
+use Rattle.tool_names.specs.{Dialects.rows_of, Dialects.rules_of, Laws.may_be_long, Laws.may_be_short, Private.is_short_pattern, Shape.shape}
+use Rattle.tool_names.specs.Patterns.{filled, star_count, with_number, without_number}
+use Rattle.tool_names.specs.Tables.{Row, is_read_and, is_written, row_for}
 use Rattle.tool_names.specs.ToolNames.{Unread, read_or_unknown, triple_name, with_numbers}
 use Rattle.tool_names.proofs.Filling.{is_own_tag, is_spaced}
 use Rattle.tool_names.proofs.RowLemmas.{all-at, all_apart, for-at, is_only_written}
@@ -79,14 +79,21 @@ has_form tags row =
     is_spaced row.pattern && (not tags || is_own_tag row.pattern) && has_numbers row.way (star_count row.pattern)
     && (not (is_written row.way) || (is_short_pattern row.pattern && nat_le (length row.meaning) 64))
 
--- where names are tags, a name that may be short has a row for that
-abbrev pub is_short_of : Row → Row → Bool
-is_short_of row other =
-    bytes_eq other.pattern (without_number row.pattern) && bytes_eq other.meaning row.meaning && nat_eq (star_count other.pattern) 1 && not (is_only_written other.way)
-    && cond (has_triple row.way) (has_triple other.way) (not (has_triple other.way))
+-- where names are tags, a name that may be short, or long, has a row for that
 
-abbrev pub has_short : List Row → Row → Bool
-has_short rows row = not (may_be_short row) || list_any (is_short_of row) rows
+abbrev pub is_pair : Row → Row → Bool
+is_pair long short =
+    bytes_eq short.meaning long.meaning && nat_eq (star_count short.pattern) 1 && nat_eq (star_count long.pattern) 2 && not (is_only_written short.way) && not (is_read_and false long.way)
+    && cond (has_triple long.way) (has_triple short.way) (not (has_triple short.way))
+
+abbrev pub is_short_of : Row → Row → Bool
+is_short_of long short = bytes_eq short.pattern (without_number long.pattern) && is_pair long short
+
+abbrev pub is_long_of : Row → Row → Bool
+is_long_of short long = bytes_eq long.pattern (with_number short.pattern) && is_pair long short
+
+abbrev pub has_pair : List Row → Row → Bool
+has_pair rows row = (not (may_be_short row) || list_any (is_short_of row) rows) && (not (may_be_long row) || list_any (is_long_of row) rows)
 
 pub rows-apart : (d : Dialect) → all_apart (rows_of d) ≡ true
 unfolding rows_of
@@ -103,10 +110,10 @@ unfolding rows_of
 rows-formed Debian = refl
 rows-formed _ = refl
 
-pub rows-short : (d : Dialect) → (not (rules_of d).tags || list_all (has_short (rows_of d)) (rows_of d)) ≡ true
-unfolding rows_of
-rows-short Debian = refl
-rows-short _ = refl
+pub rows-paired : (d : Dialect) → (not (rules_of d).tags || list_all (has_pair (rows_of d)) (rows_of d)) ≡ true
+unfolding rows_of architecture_of known_vendor_of is_admitted vendor_of version_of fixed_operating_system_of operating_system_of environment_of binary_format_of implied_format special_values special_text shows_vendor shows_operating_system shows_environment shows_binary_format shown_names text_of reading
+rows-paired Debian = refl
+rows-paired _ = refl
 
 -- the rows that go both ways, with this many numbers, are the names of what they mean
 

@@ -1,13 +1,14 @@
 -- Laws of the names in dialects.
-use Rattle.std.specs.Prelude.{◌≡◌, ◌≢◌, ◌≤◌, ◌==◌, ◌&&◌, not, Bool, true, false, ℕ, List, [], ◌∷◌, Some, Ok, Err, slice_get}
+use Rattle.std.specs.Prelude.{◌≡◌, ◌≢◌, ◌≤◌, ◌==◌, ◌&&◌, not, Bool, true, false, ℕ, List, [], ◌∷◌, Some, Ok, Err, slice_get, Result, length}
 use Rattle.lexicon_fields.specs.{Laws.HasVersionInRange, Vendor.is_custom, Vendor.VendorValue}
-use Rattle.target_lexicon.specs.{FixedPoints.settled_values, Laws.ComesBack, Queries.endianness, Queries.pointer_width, Values.Values}
+use Rattle.target_lexicon.specs.{FixedPoints.settled_values, GreedyReading.reading, Laws.ComesBack, Queries.endianness, Queries.pointer_width, Refusal.Refusal, Values.Values}
 use Rattle.tool_names.specs.declared.dialect.Dialect.{Dialect}
+use Rattle.tool_names.specs.declared.tables.Way.{Way}
 use Rattle.tool_names.specs.declared.tables.Way.TheVariants.{Both, Written, NoTriple}
 use Rattle.tool_names.specs.{Dialects.rows_of, Dialects.rules_of, ObjectFormat.object_format, Shape.shape}
-use Rattle.tool_names.specs.Patterns.{filled, fits, matched, star_count, tag_of, without_number}
+use Rattle.tool_names.specs.Patterns.{filled, fits, matched, star_count, tag_of, with_number, without_number}
 use Rattle.tool_names.specs.Tables.{Row, is_read_and}
-use Rattle.tool_names.specs.ToolNames.{HasNoTriple, name_meaning, numbers_in, row_meaning, shape_row, triple_name}
+use Rattle.tool_names.specs.ToolNames.{HasNoTriple, name_meaning, numbers_in, row_meaning, shape_row, system_with, triple_name}
 
 -- what a name means is canonical, comes back, and has a known vendor
 pub record IsCanonical (t : Values) : Type 0 where
@@ -63,11 +64,22 @@ TagsMeanTheSame = (d : Dialect) (name : List ℕ) → (rules_of d).tags ≡ true
 abbrev pub may_be_short : Row → Bool
 may_be_short row = star_count row.pattern == 2 && not (is_read_and false row.way)
 
--- where names are tags, one number is enough in the names of such a row, as in those of macOS and iOS: they mean the same
--- with 0 as the second number
-abbrev pub OneNumberIsEnough : Type 0
-OneNumberIsEnough = (d : Dialect) (i : ℕ) (row : Row) (n : ℕ) → (rules_of d).tags ≡ true → slice_get (rows_of d) i ≡ Some row → may_be_short row ≡ true → n ≤ 65535
-    → name_meaning d (filled (without_number row.pattern) (n ∷ [])) ≡ name_meaning d (filled row.pattern (n ∷ 0 ∷ []))
+-- whether a row has one number, and keeps it as the version or has no triple
+abbrev pub is_kept : Way → Result Values Refusal → Bool
+is_kept NoTriple r = true
+is_kept way (Ok t) = length (numbers_in (system_with (0 ∷ []) t.operating_system)) == 2
+is_kept way (Err _) = false
+
+abbrev pub may_be_long : Row → Bool
+may_be_long row = star_count row.pattern == 1 && is_kept row.way (reading row.meaning)
+
+-- where names are tags, one number is enough in the names of such rows, as in those of macOS and iOS: they mean the same with
+-- 0 as the second number
+pub record OneNumberIsEnough : Type 0 where
+  pub two : (d : Dialect) (i : ℕ) (row : Row) (n : ℕ) → (rules_of d).tags ≡ true → slice_get (rows_of d) i ≡ Some row → may_be_short row ≡ true → n ≤ 65535
+      → name_meaning d (filled (without_number row.pattern) (n ∷ [])) ≡ name_meaning d (filled row.pattern (n ∷ 0 ∷ []))
+  pub one : (d : Dialect) (i : ℕ) (row : Row) (n : ℕ) → (rules_of d).tags ≡ true → slice_get (rows_of d) i ≡ Some row → may_be_long row ≡ true → n ≤ 65535
+      → name_meaning d (filled row.pattern (n ∷ [])) ≡ name_meaning d (filled (with_number row.pattern) (n ∷ 0 ∷ []))
 
 -- the name of a triple means the shape of the triple, if it is read; and it is, if its row goes both ways, as each row with
 -- numbers does that is written

@@ -9,6 +9,10 @@ star = 42
 abbrev pub zero_digit : ℕ
 zero_digit = 48
 
+-- the byte between two parts of a tag
+abbrev pub underscore : ℕ
+underscore = 95
+
 -- the most that each number may be
 abbrev pub all_limits : List ℕ
 all_limits = 65535 ∷ 255 ∷ []
@@ -30,6 +34,11 @@ filled (p ∷ ps) numbers = if p == star then first_text numbers ++ filled ps (r
 abbrev pub star_count : List ℕ → ℕ
 star_count [] = 0
 star_count (p ∷ ps) = if p == star then suc (star_count ps) else star_count ps
+
+-- a pattern with one more star and `_` before its first star
+abbrev pub with_number : List ℕ → List ℕ
+with_number [] = []
+with_number (p ∷ ps) = if p == star then star ∷ underscore ∷ p ∷ ps else p ∷ with_number ps
 
 -- whether each number is within its limit
 abbrev pub are_within : List ℕ → List ℕ → Bool
@@ -75,9 +84,6 @@ put_first (Some n) (Some ns) = Some (n ∷ ns)
 put_first _ _ = None
 
 -- the bytes for which a tag has `_`
-abbrev pub underscore : ℕ
-underscore = 95
-
 abbrev pub is_separator : ℕ → Bool
 is_separator c = c == dash || c == dot || c == underscore
 
