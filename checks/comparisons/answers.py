@@ -11,8 +11,8 @@ Each line of the file has words with tabs between them: what was asked, and the 
   `printed_formats`: the formats that are printed. An unknown environment with an unknown format isn't asked, since this repository
   prints both if another format is implied.
 - `parsed`: the five values of a string, or the error.
-- `triple`, for known triples, and for each name with a few others: what is printed, the canonical string and the four answers; or
-  the line of the error.
+- `triple`, for known triples and a few other strings: what is printed, the canonical string and the four answers; or the line of the
+  error.
 
 The same program asks upstream's crate and the Rust crate of this repository, whose source is the proved one. The other programs are
 asked for the strings of `triple`, in each mode. A name of the table that upstream doesn't have differs.
@@ -89,14 +89,10 @@ def file_lines(crate, asked):
 
 
 def names_asked(more_words=()):
-    """The names of the table and more words; known triples, and each name in a string."""
+    """The names of the table and more words; known triples and more strings."""
     names = target_lines.table_names()
-    strings = [*names.known, *MORE_STRINGS, *names.architectures, *(f"x86_64-{vendor}-linux" for vendor in names.vendors)]
-    strings += [f"{machine}-unknown-{system}" for system in names.systems for machine in ("x86_64", "wasm32", "aarch64")]
-    strings += [f"x86_64-unknown-linux-{environment}" for environment in names.environments]
-    strings += [f"x86_64-unknown-linux-gnu-{binary_format}" for binary_format in names.formats]
     return dict.fromkeys([*(("word", word) for word in (*names.each, *more_words)), *(("parsed", text) for text in MORE_STRINGS),
-                          *(("triple", text) for text in strings)])
+                          *(("triple", text) for text in (*names.known, *MORE_STRINGS))])
 
 
 # ---- comparing
