@@ -34,23 +34,23 @@ PROOFS = ("all proofs, must-fail edits, tests and proved programs", "rt ci", "")
 WITHOUT_PROOF = [
     ("the Rust crate, as its users build it: tests, samples of the documentation, public surface, features, a dependent",
      "rust/target-lexicon/check", f"cargo {DEBIAN_CRATES}"),
-    ("the commands by cargo: arguments, output and statuses", "cd rust/lexicon-cli && cargo test --quiet --locked", "cargo"),
-    ("they are built for the next steps", "cd rust/lexicon-cli && cargo build --quiet --locked --release", "cargo"),
+    ("the command `lexicon`: arguments, output and statuses", "cd rust/lexicon-cli && cargo test --quiet --locked", "cargo"),
+    ("it is built for the next steps, and a program to compare with", "cd rust/lexicon-cli && cargo build --quiet --locked --release --all-features", "cargo"),
     ("the library for C is built and installed for the next steps", f"rust/lexicon-c/install {BUILT}", "cargo cc"),
     ("the library for C, header, packages and samples, as C and C++ users have them", "rust/lexicon-c/test", "cargo cc"),
-    ("the Python package: each answer, wheels, types, samples", f"bindings/python/test {BUILT}/lib/liblexicon.so {COMMANDS}/triples",
+    ("the Python package: each answer, wheels, types, samples", f"bindings/python/test {BUILT}/lib/liblexicon.so {COMMANDS}/lines",
      "cargo cc pip venv ensurepip"),
     ("the module, the package and the page for JavaScript are built", f"bindings/web/build --out {WORK}/web", "wasm32"),
-    ("they answer as the program does, in Node and in a browser", f"bindings/web/check {WORK}/web --program {COMMANDS}/triples",
+    ("they answer as the program does, in Node and in a browser", f"bindings/web/check {WORK}/web --program {COMMANDS}/lines",
      "wasm32 node tsc esbuild chromium chromedriver selenium cargo"),
 ]
 LAST = [
     ("links, names, samples, counts and versions of the pages, and the pictures", "checks/pages", "cc cargo"),
-    ("the programs, proved and by cargo: stored rows, unusual streams, large inputs, samples of the pages", "checks/rows/run", "cram3 cargo"),
+    ("the program `triples` and the command `lexicon`: stored rows, unusual streams, large inputs, samples of the pages", "checks/rows/run", "cram3 cargo"),
     ("each allocation fails in turn", "checks/fail_allocations", "cc"),
     ("names, rules and tables are upstream's, by its kept answers; what other tools say of names and targets",
      "checks/compare answers && checks/compare elsewhere && checks/compare llvm", f"cargo {DEBIAN_CRATES}"),
-    ("the mode json: the proved program and cargo's answer alike", "/usr/bin/python3 checks/compare json --inputs 200 --of proved cargo",
+    ("the mode json: the proved program answers as Rust's serde_json does", "/usr/bin/python3 checks/compare json --inputs 200 --of proved cargo",
      "hypothesis cargo"),
 ]
 # Debian's packages of the tools.

@@ -22,12 +22,12 @@ def made(check, command, folder, status, **environment):
 
 
 def cargo_program(check, name, status=1):
-    """The path of a program of rust/lexicon-cli, which is a workspace of its own."""
+    """The path of a program of rust/lexicon-cli, which is a workspace of its own: `lexicon`, or `lines` for comparisons."""
     environment = {}
     if os.path.isdir("/usr/share/cargo/registry/clap-4.0.32"):
         environment["CARGO_HOME"] = f"{COMMANDS}/target/debian"
         made(check, ["./debian_crates", environment["CARGO_HOME"]], COMMANDS, status)
-    made(check, ["cargo", "build", "--quiet", "--release", "--locked"], COMMANDS, status, **environment)
+    made(check, ["cargo", "build", "--quiet", "--release", "--locked", "--all-features"], COMMANDS, status, **environment)
     return f"{os.environ.get('CARGO_TARGET_DIR', f'{COMMANDS}/target')}/release/{name}"
 
 

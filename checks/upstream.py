@@ -1,7 +1,7 @@
 """The programs that are compared with upstream's crate, and how they are compared.
 
-The programs have the line modes of `triples`: the proved one, the one of rust/lexicon-cli, and those of comparisons/ over
-the Rust crate, the library for C and the Python package.
+The programs have the line modes of `triples`: the proved one, and those of comparisons/ over the Rust crate, the library for
+C and the Python package.
 """
 import collections
 import concurrent.futures
@@ -75,7 +75,7 @@ def program_of(name, options, folder):
     if name == "proved" and (shutil.which("rt") or os.path.exists(f"{tree}/bin/triples")):
         return Program([built.program("compare", "triples", 2)], (*LINE_MODES, "json"), "the proved program")
     if name == "cargo":
-        return Program([built.cargo_program("compare", "triples", 2)], (*LINE_MODES, "json"), "triples by cargo")
+        return Program([built.cargo_program("compare", "lines", 2)], (*LINE_MODES, "json"), "the Rust crate with serde_json")
     if name == "rust":
         return Program([rust_program(options.upstream, "lines_ours")], (*LINE_MODES, "parse"), "the Rust crate")
     if name == "c" and os.path.exists(f"{tree}/lib/liblexicon.a"):
@@ -89,7 +89,7 @@ def program_of(name, options, folder):
 def programs(options, folder):
     """The programs that are compared: those that the options name, otherwise all that are available."""
     found = [Program([path], (*LINE_MODES, "json"), path) for path in options.program]
-    for name in ("proved", "cargo", "rust", "c", "python") if options.of is None else options.of:
+    for name in ("proved", "rust", "c", "python") if options.of is None else options.of:
         program = program_of(name, options, folder)
         if program:
             found.append(program)

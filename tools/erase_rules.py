@@ -13,8 +13,8 @@ PACKAGES = {
 }
 # The modules that are compiled only with a feature of their name, and what of each is always compiled: suggestions need it.
 FEATURES = {"tool_names": {"macos", "spelling", "suggestions"}}
-# Modules of the layer that proved files name: what older versions of Rust lack, and the error that owns its text.
-LAYER = {"compat", "parse_error"}
+# The module of the layer that proved files name: what older versions of Rust lack.
+LAYER = {"compat"}
 # Where one package finds the crates of another.
 OUTSIDE = "target_lexicon::proved::"
 
@@ -22,8 +22,7 @@ OUTSIDE = "target_lexicon::proved::"
 MODULES = {"laws", "steps", "json", "json_error", "list_error", "macros", "host", "parse_error"}
 # Types and functions that are left out. The proved host is fixed; the layer has the others in Rust's form.
 ITEMS = {
-    "host", "VendorError", "versions_are_in_range", "Refusal::to_error",
-    "Triple::normal", "Triple::settle", "TripleRef::normal", "TripleRef::settle",
+    "host", "VendorError", "Triple::normal", "Triple::settle", "TripleRef::normal", "TripleRef::settle",
 }
 
 # The enums to which upstream, or a later version, may add variants.
@@ -33,9 +32,7 @@ NON_EXHAUSTIVE = set(
     CallingConvention CDataModel Dialect""".split())
 
 # Methods that only the crates above need, of which documentation doesn't speak.
-HIDDEN = {
-    "DeploymentTarget::from_text", "Refusal::write_to", "TripleRef::write_upstream_to",
-}
+HIDDEN = {"DeploymentTarget::from_text", "Refusal::write_to", "TripleRef::step", "TripleRef::write_upstream_to"}
 
 # Long functions that few programs call: rustc compiles them only where they are called, which saves a fifth of a build.
 INLINE = {
@@ -58,9 +55,8 @@ REPLACEMENTS = [
     ("lexicon_fields/src/table.rt", ", steps)", ")"),
     ("lexicon_fields/src/table.rt", "steps.tick();", ""),
     ("", ", &mut Steps::new()", ""),
-    # `FromStr` has it, and the layer's own tests the vendor.
+    # `FromStr` has it.
     ("lexicon_c/src/numbers.rt", "use target_lexicon::{", "use std::str::FromStr as _;\nuse target_lexicon::{"),
-    ("lexicon_c/src/calls.rt", "settling.settle()", "settling.settle().ok_or(Fault::NoSuchVendor)?"),
     # With the feature, printing follows upstream's rule.
     ("target_lexicon/src/display.rt", ") && self.binary_format != self.default_binary_format()",
      ') && !cfg!(feature = "upstream_printing") && self.binary_format != self.default_binary_format()'),

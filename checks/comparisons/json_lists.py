@@ -1,5 +1,5 @@
 """Compares the mode `json` of programs with each other, on inputs that Hypothesis makes: the proved program reads JSON by
-Rattle's serde_json, and that of cargo by Rust's.
+Rattle's serde_json, and one that cargo builds by Rust's.
 
 The inputs are lists of triples and other values, deep ones, numbers at the limits, escapes, broken texts, and all of these with
 other bytes. Of an input with two answers Hypothesis prints the smallest that it finds. Needs Debian's python3-hypothesis, so

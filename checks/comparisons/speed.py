@@ -16,7 +16,7 @@ FIGURES = f"{built.ROOT}/docs/speed.tsv"
 # The lines, as docs/speed.tsv calls them, their ends, and the modes that are counted on them.
 ROWS = {"targets": ("", ("parse", "print", "show", "settle", "matrix")), "with an `x`": ("x", ("parse", "print"))}
 # The part and the column of a program's figures.
-COLUMNS = {"the proved program": ("program", "kit"), "triples by cargo": ("program", "cargo"), "the Rust crate": ("Rust", "cargo")}
+COLUMNS = {"the proved program": ("program", "kit"), "the Rust crate": ("Rust", "cargo")}
 
 
 def add_arguments(parser):

@@ -5,8 +5,6 @@ extern crate alloc;
 
 #[path = "src/compat.rs"]
 mod compat;
-#[path = "src/parse_error.rs"]
-mod parse_error;
 #[path = "src/proved/mod.rs"]
 mod proved;
 

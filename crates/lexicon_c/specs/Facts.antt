@@ -1,5 +1,5 @@
 -- What C asks of a triple, as numbers.
-use Rattle.std.specs.Prelude.{◌≡◌, ℕ, Bool, false, Option, Some, None, List, [], ◌∷◌, slice_get}
+use Rattle.std.specs.Prelude.{◌≡◌, ℕ, Bool, false, Option, Some, None, slice_get}
 use Rattle.std.specs.Option.{option_map_or}
 use Rattle.target_lexicon.specs.{DataModel.size_bytes, DataModel.sizes_of, ImpliedFormat.default_binary_format, Values.Values}
 use Rattle.target_lexicon.specs.{declared.calling_convention.CallingConvention.CallingConvention, declared.data_model.CDataModel.CDataModel}
@@ -35,10 +35,6 @@ model_number (Some ILP32) = 2
 model_number (Some LLP64) = 3
 model_number (Some LP64) = 4
 model_number (Some ILP64) = 5
-
--- no model, and the models, in the order of their numbers; only the contract of a table cites it
-abbrev pub models_by_number : List (Option CDataModel)
-models_by_number = None ∷ Some LP32 ∷ Some ILP32 ∷ Some LLP64 ∷ Some LP64 ∷ Some ILP64 ∷ []
 
 -- the sizes of C's types in bytes in a data model; 0 where there is none
 abbrev pub type_sizes : Option CDataModel → TypeSizes

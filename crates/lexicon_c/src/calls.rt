@@ -13,7 +13,7 @@ use crate::sources::{FieldSources, sources_numbers};
 use crate::triple::{Fault, NumberedTriple, are_equal, numbers_of, triple_in};
 use crate::triple_facts::{TripleFacts, facts_of};
 use target_lexicon::TripleRef;
-use target_lexicon::laws::read_vendors_are_plain;
+use target_lexicon::laws::{read_vendors_are_plain, second_step_changes_one};
 
 /// The triple that a string parses as, or why it is refused.
 pub fn parse(text: &str) -> Result<NumberedTriple<'_>, TextError>
@@ -58,8 +58,9 @@ pub fn print(triple: &NumberedTriple<'_>, out: &mut [u8]) -> Result<usize, Fault
 pub fn settle<'a>(triple: &NumberedTriple<'a>) -> Result<NumberedTriple<'a>, Fault>
     ensures { OnTriple triple.now (λ t. Answers (AreNumbersOf (settled_values t))) result }
 {
+    second_step_changes_one();
     match triple_in(triple) {
-        Ok(settling) => Ok(numbers_of(&settling.settle())),
+        Ok(settling) => Ok(numbers_of(&settling.step())),
         Err(fault) => Err(fault),
     }
 }

@@ -1,4 +1,5 @@
-//! Triples as numbers. Functions that return a wide value are inlined where that saves a hundredth of parsing and printing.
+//! Triples as numbers. Functions that return a wide value are inlined where that saves a hundredth of parsing and
+//! printing.
 ghost use Rattle.std.specs.Prelude.{◌≡◌, ◌↔◌, true, false, Ok, Err, IfOk, IsTrue, MatchOption, MatchResult};
 ghost use Rattle.lexicon_fields.specs.OperatingSystem.{system_version};
 ghost use Rattle.lexicon_fields.specs.Vendor.{is_admitted, is_plain};
@@ -105,8 +106,8 @@ fn vendor_with<'a>(number: u8, text: &'a [u8]) -> Result<VendorRef<'a>, Fault>
     }
 }
 
-/// The custom vendor of a string, if the string parses as one. Few triples have one: where it isn't inlined, the facts of a
-/// triple take 3 % fewer instructions.
+/// The custom vendor of a string, if the string parses as one. Few triples have one: where it isn't inlined, the facts
+/// of a triple take 3 % fewer instructions.
 #[inline(never)]
 fn custom_vendor(bytes: &[u8]) -> Result<VendorRef<'_>, Fault>
     ensures vendor { MatchResult result

@@ -1,11 +1,11 @@
 //! The facts of a triple, as numbers.
 // Hint of inlining: `facts_of` returns a wide value.
-ghost use Rattle.std.specs.Prelude.{◌≡◌, Option, map};
+ghost use Rattle.std.specs.Prelude.{◌≡◌, Option};
 ghost use Rattle.std.specs.Option.{option_map_or};
 ghost use Rattle.lexicon_fields.specs.PointerWidth.{width_bits};
 ghost use Rattle.target_lexicon.specs.Queries.{endianness, pointer_width, calling_convention, data_model};
 ghost use Rattle.target_lexicon.specs.ValuesRef.{values_of_ref};
-ghost use Rattle.lexicon_c.specs.Facts.{AreFactsOf, convention_number, endianness_number, is_thumb_architecture, model_number, models_by_number, type_sizes};
+ghost use Rattle.lexicon_c.specs.Facts.{AreFactsOf, convention_number, endianness_number, is_thumb_architecture, model_number, type_sizes};
 
 use lexicon_names::{binary_format_number, family_number};
 use target_lexicon::{Architecture, CDataModel, CallingConvention, Endianness, TripleRef};
@@ -56,13 +56,13 @@ pub struct TripleFacts {
 pub(crate) fn facts_of(triple: &TripleRef<'_>) -> TripleFacts
     ensures { AreFactsOf (values_of_ref triple.now) result }
 {
-    let (data_model, sizes) = model_facts(model_of(triple));
+    let model = model_of(triple);
     TripleFacts {
         endianness: endianness_number(triple),
         pointer_width: pointer_width(triple),
         default_calling_convention: convention_number(triple),
-        data_model,
-        sizes,
+        data_model: model_number(model),
+        sizes: sizes_of(model),
         implied_format: binary_format_number(triple.default_binary_format()),
         object_format: binary_format_number(object_format(triple)),
         family: family_number(triple.architecture),
@@ -132,31 +132,29 @@ fn model_number(model: Option<CDataModel>) -> u8
     }
 }
 
-/// The number of a data model of C, and the sizes of C's types in it; 0 without one.
-fn model_facts(model: Option<CDataModel>) -> (u8, TypeSizes)
-    ensures number { result.0 ≡ model_number model }
-    ensures sizes { result.1 ≡ type_sizes model }
+/// The sizes of C's types in a data model; all 0 without one.
+fn sizes_of(model: Option<CDataModel>) -> TypeSizes
+    ensures { result ≡ type_sizes model }
 {
-    let number = model_number(model);
-    (number, all_type_sizes()[usize::from(number)])
+    match model {
+        Some(model) => TypeSizes {
+            short: model.short_size().bytes(),
+            int: model.int_size().bytes(),
+            long: model.long_size().bytes(),
+            long_long: model.long_long_size().bytes(),
+            float: model.float_size().bytes(),
+            double: model.double_size().bytes(),
+        },
+        None => TypeSizes {
+            short: 0,
+            int: 0,
+            long: 0,
+            long_long: 0,
+            float: 0,
+            double: 0,
+        },
+    }
 }
-
-/// The sizes of C's types without a data model, and then in each model, in the order of their numbers.
-fn all_type_sizes() -> &'static [TypeSizes]
-    ensures { result.now ≡ map type_sizes models_by_number }
-{
-    &TYPE_SIZES
-}
-
-#[rattlefmt::skip]
-static TYPE_SIZES: [TypeSizes; 6] = [
-    TypeSizes { short: 0, int: 0, long: 0, long_long: 0, float: 0, double: 0 },
-    TypeSizes { short: 2, int: 2, long: 4, long_long: 8, float: 4, double: 8 },
-    TypeSizes { short: 2, int: 4, long: 4, long_long: 8, float: 4, double: 8 },
-    TypeSizes { short: 2, int: 4, long: 4, long_long: 8, float: 4, double: 8 },
-    TypeSizes { short: 2, int: 4, long: 8, long_long: 8, float: 4, double: 8 },
-    TypeSizes { short: 2, int: 8, long: 8, long_long: 8, float: 4, double: 8 },
-];
 
 /// Whether an architecture is an Arm one that is Thumb.
 fn is_thumb(architecture: Architecture) -> bool

@@ -30,6 +30,20 @@ pub use x86_32::X86_32Architecture;
 pub use z80::Z80Architecture;
 
 /// An architecture, with its sub-architecture if it has one.
+///
+/// # Examples
+///
+/// ```
+/// use target_lexicon::{Architecture, Triple};
+///
+/// let triple: Triple = "i686-pc-windows-msvc".parse().unwrap();
+/// let registers = match triple.architecture {
+///     Architecture::X86_32(_) => 8,
+///     Architecture::X86_64 => 16,
+///     _ => 32,
+/// };
+/// assert_eq!(registers, 8);
+/// ```
 #[derive(Clone, Copy, Debug, PartialEq, Eq, Hash)]
 pub enum Architecture {
     // written by tools/names/write: the variants of Architecture
@@ -119,6 +133,15 @@ impl Architecture {
     }
 
     /// The byte order. `Err` for `Unknown`.
+    ///
+    /// # Examples
+    ///
+    /// ```
+    /// use target_lexicon::{Architecture, Endianness};
+    ///
+    /// assert_eq!(Architecture::S390x.endianness(), Ok(Endianness::Big));
+    /// assert_eq!(Architecture::Unknown.endianness(), Err(()));
+    /// ```
     pub fn endianness(self) -> Result<Endianness, ()>
         ensures answer { MatchesLookup (architecture_endianness self) result }
         ensures refusal { IsErr result ↔ (self ≡ Architecture.Unknown) }
@@ -167,6 +190,14 @@ impl Architecture {
     }
 
     /// The width of a pointer, independent of the ABI. `Err` for `Unknown`.
+    ///
+    /// # Examples
+    ///
+    /// ```
+    /// use target_lexicon::{Architecture, PointerWidth};
+    ///
+    /// assert_eq!(Architecture::Avr.pointer_width(), Ok(PointerWidth::U16));
+    /// ```
     pub fn pointer_width(self) -> Result<PointerWidth, ()>
         ensures answer { MatchesLookup (architecture_width self) result }
         ensures refusal { IsErr result ↔ (self ≡ Architecture.Unknown) }
@@ -211,6 +242,14 @@ impl Architecture {
     }
 
     /// Whether this is a Clever architecture.
+    ///
+    /// # Examples
+    ///
+    /// ```
+    /// use target_lexicon::{Architecture, CleverArchitecture};
+    ///
+    /// assert!(Architecture::Clever(CleverArchitecture::Clever).is_clever());
+    /// ```
     pub fn is_clever(&self) -> bool
         ensures { result ≡ is_clever self.now }
     {
@@ -229,6 +268,12 @@ impl Architecture {
     }
 
     /// The name. It is always borrowed.
+    ///
+    /// # Examples
+    ///
+    /// ```
+    /// assert_eq!(target_lexicon::Architecture::Bpfel.into_str(), "bpfel");
+    /// ```
     pub fn into_str(self) -> CowStr<'static>
         ensures name { cow_str_bytes result ≡ architecture_name self }
         ensures borrowed { IsBorrowedStr result }
@@ -237,6 +282,12 @@ impl Architecture {
     }
 
     /// The name.
+    ///
+    /// # Examples
+    ///
+    /// ```
+    /// assert_eq!(target_lexicon::Architecture::Bpfel.name(), "bpfel");
+    /// ```
     #[inline(always)]
     pub fn name(self) -> &'static str
         ensures { result.now ≡ architecture_name self }

@@ -11,6 +11,15 @@ use std::fmt;
 use std::str::FromStr;
 
 /// The format of object files.
+///
+/// # Examples
+///
+/// ```
+/// use target_lexicon::{BinaryFormat, Triple};
+///
+/// let triple: Triple = "x86_64-pc-windows-gnu".parse().unwrap();
+/// assert_eq!(triple.binary_format, BinaryFormat::Coff);
+/// ```
 #[derive(Clone, Copy, Debug, PartialEq, Eq, Hash)]
 pub enum BinaryFormat {
     // written by tools/names/write: the variants of BinaryFormat
@@ -49,6 +58,12 @@ impl BinaryFormat {
     }
 
     /// The name. It is always borrowed.
+    ///
+    /// # Examples
+    ///
+    /// ```
+    /// assert_eq!(target_lexicon::BinaryFormat::Elf.into_str(), "elf");
+    /// ```
     pub fn into_str(self) -> CowStr<'static>
         ensures name { cow_str_bytes result ≡ binary_format_name self }
         ensures borrowed { IsBorrowedStr result }
@@ -57,6 +72,12 @@ impl BinaryFormat {
     }
 
     /// The name.
+    ///
+    /// # Examples
+    ///
+    /// ```
+    /// assert_eq!(target_lexicon::BinaryFormat::Macho.name(), "macho");
+    /// ```
     pub fn name(self) -> &'static str
         ensures { result.now ≡ binary_format_name self }
     {

@@ -12,6 +12,16 @@ use std::str::from_utf8;
 pub const MAX_VERSION_LENGTH: usize = 13;
 
 /// The oldest version of a system like Darwin on which a target runs, within the limits of a Mach-O file.
+///
+/// # Examples
+///
+/// ```
+/// use target_lexicon::{DeploymentTarget, OperatingSystem};
+///
+/// let version = DeploymentTarget { major: 14, minor: 1, patch: 0 };
+/// assert_eq!(OperatingSystem::MacOSX(Some(version)).to_string(), "macosx14.1.0");
+/// assert!(version < DeploymentTarget { major: 14, minor: 2, patch: 0 });
+/// ```
 #[derive(Clone, Copy, Debug, PartialEq, Eq, PartialOrd, Ord, Hash)]
 pub struct DeploymentTarget {
     /// The `10` of `10.15.7`.
@@ -23,7 +33,8 @@ pub struct DeploymentTarget {
 }
 
 impl DeploymentTarget {
-    /// The version that the string parses as, if any: one to three pieces between dots, each an optional plus and digits.
+    /// The version that the string parses as, if any: one to three pieces between dots, each an optional plus and
+    /// digits.
     pub fn from_text(text: &str) -> Option<DeploymentTarget>
         ensures { result ≡ version_of text.now }
     {

@@ -3,6 +3,15 @@ ghost use Rattle.std.specs.Prelude.{◌≡◌};
 ghost use Rattle.lexicon_fields.specs.Endianness.{endianness_name};
 
 /// The order of the bytes of a number in memory.
+///
+/// # Examples
+///
+/// ```
+/// use target_lexicon::{Endianness, HOST};
+///
+/// let ours = if cfg!(target_endian = "big") { Endianness::Big } else { Endianness::Little };
+/// assert_eq!(HOST.endianness(), Ok(ours));
+/// ```
 #[derive(Clone, Copy, Debug, PartialEq, Eq, Hash)]
 pub enum Endianness {
     /// The least significant byte comes first.
@@ -13,6 +22,12 @@ pub enum Endianness {
 
 impl Endianness {
     /// The name of the byte order.
+    ///
+    /// # Examples
+    ///
+    /// ```
+    /// assert_eq!(target_lexicon::Endianness::Little.name(), "little");
+    /// ```
     pub fn name(self) -> &'static str
         ensures { result.now ≡ endianness_name self }
     {

@@ -11,6 +11,15 @@ use std::fmt;
 use std::str::FromStr;
 
 /// The environment on an operating system, such as its ABI or C library.
+///
+/// # Examples
+///
+/// ```
+/// use target_lexicon::{Environment, Triple};
+///
+/// let triple: Triple = "x86_64-unknown-linux-musl".parse().unwrap();
+/// assert_eq!(triple.environment, Environment::Musl);
+/// ```
 #[derive(Clone, Copy, Debug, PartialEq, Eq, Hash)]
 pub enum Environment {
     // written by tools/names/write: the variants of Environment
@@ -107,6 +116,12 @@ impl Environment {
     }
 
     /// The name. It is always borrowed.
+    ///
+    /// # Examples
+    ///
+    /// ```
+    /// assert_eq!(target_lexicon::Environment::Msvc.into_str(), "msvc");
+    /// ```
     pub fn into_str(self) -> CowStr<'static>
         ensures name { cow_str_bytes result ≡ environment_name self }
         ensures borrowed { IsBorrowedStr result }
@@ -115,6 +130,12 @@ impl Environment {
     }
 
     /// The name.
+    ///
+    /// # Examples
+    ///
+    /// ```
+    /// assert_eq!(target_lexicon::Environment::Gnu.name(), "gnu");
+    /// ```
     pub fn name(self) -> &'static str
         ensures { result.now ≡ environment_name self }
     {

@@ -1,6 +1,15 @@
 //! The fields themselves.
 
 /// A field of a target triple. The variants are in the order in which a triple has them.
+///
+/// # Examples
+///
+/// ```
+/// use target_lexicon::{Field, TripleRef};
+///
+/// let refusal = TripleRef::from_str("x86_64-unknown-foo").unwrap_err();
+/// assert_eq!(refusal.expected, Some(Field::OperatingSystem));
+/// ```
 #[derive(Clone, Copy, Debug, PartialEq, Eq)]
 pub enum Field {
     /// The instruction set.

@@ -5,6 +5,14 @@ ghost use Rattle.lexicon_fields.specs.Vendor.{vendor_value, Known, known_vendor_
 use crate::vendor::Vendor;
 
 /// A vendor that has a fixed name.
+///
+/// # Examples
+///
+/// ```
+/// use target_lexicon::{KnownVendor, VendorRef};
+///
+/// assert_eq!(VendorRef::from_str("apple"), Ok(VendorRef::Known(KnownVendor::Apple)));
+/// ```
 #[derive(Clone, Copy, Debug, PartialEq, Eq, Hash)]
 pub enum KnownVendor {
     // written by tools/names/write: the variants of KnownVendor
@@ -43,6 +51,14 @@ pub enum KnownVendor {
 
 impl KnownVendor {
     /// The vendor of the same name.
+    ///
+    /// # Examples
+    ///
+    /// ```
+    /// use target_lexicon::{KnownVendor, Vendor};
+    ///
+    /// assert_eq!(KnownVendor::Pc.to_vendor(), Vendor::Pc);
+    /// ```
     pub fn to_vendor(self) -> Vendor
         ensures { vendor_value result ≡ Known self }
     {
@@ -68,6 +84,12 @@ impl KnownVendor {
     }
 
     /// The name.
+    ///
+    /// # Examples
+    ///
+    /// ```
+    /// assert_eq!(target_lexicon::KnownVendor::Pc.as_str(), "pc");
+    /// ```
     pub fn as_str(self) -> &'static str
         ensures { result.now ≡ known_vendor_name self }
     {

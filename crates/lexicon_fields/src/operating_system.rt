@@ -17,6 +17,18 @@ use std::fmt;
 use std::str::FromStr;
 
 /// The operating system. One like Darwin can have the version of its deployment target.
+///
+/// # Examples
+///
+/// ```
+/// use target_lexicon::{OperatingSystem, Triple};
+///
+/// let triple: Triple = "x86_64-apple-macosx10.7".parse().unwrap();
+/// match triple.operating_system {
+///     OperatingSystem::MacOSX(Some(version)) => assert_eq!((version.major, version.minor), (10, 7)),
+///     other => panic!("{other}"),
+/// }
+/// ```
 #[derive(Clone, Copy, Debug, PartialEq, Eq, Hash)]
 pub enum OperatingSystem {
     // written by tools/names/write: the variants of OperatingSystem
@@ -187,6 +199,15 @@ impl OperatingSystem {
     }
 
     /// Whether the system is like Darwin.
+    ///
+    /// # Examples
+    ///
+    /// ```
+    /// use target_lexicon::OperatingSystem;
+    ///
+    /// assert!(OperatingSystem::TvOS(None).is_like_darwin());
+    /// assert!(!OperatingSystem::Linux.is_like_darwin());
+    /// ```
     pub fn is_like_darwin(&self) -> bool
         ensures { result ≡ is_like_darwin self.now }
     {
@@ -205,6 +226,13 @@ impl OperatingSystem {
     }
 
     /// The name without the version.
+    ///
+    /// # Examples
+    ///
+    /// ```
+    /// let system: target_lexicon::OperatingSystem = "ios17.2".parse().unwrap();
+    /// assert_eq!(system.prefix(), "ios");
+    /// ```
     pub fn prefix(self) -> &'static str
         ensures { result.now ++ version_suffix (system_version self) ≡ operating_system_name self }
     {
@@ -255,6 +283,15 @@ impl OperatingSystem {
     }
 
     /// The version of the deployment target. Only a system like Darwin can have one.
+    ///
+    /// # Examples
+    ///
+    /// ```
+    /// use target_lexicon::OperatingSystem;
+    ///
+    /// let system: OperatingSystem = "ios17.2".parse().unwrap();
+    /// assert_eq!(system.version().map(|it| (it.major, it.minor, it.patch)), Some((17, 2, 0)));
+    /// ```
     pub fn version(self) -> Option<DeploymentTarget>
         ensures { result ≡ system_version self }
     {

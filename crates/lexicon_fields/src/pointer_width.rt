@@ -3,6 +3,14 @@ ghost use Rattle.std.specs.Prelude.{◌≡◌, ◌*◌};
 ghost use Rattle.lexicon_fields.specs.PointerWidth.{width_bits, width_bytes, width_name};
 
 /// The width of a pointer in the default address space.
+///
+/// # Examples
+///
+/// ```
+/// use target_lexicon::{PointerWidth, triple};
+///
+/// assert_eq!(triple!("msp430-none-elf").pointer_width(), Ok(PointerWidth::U16));
+/// ```
 #[derive(Clone, Copy, Debug, PartialEq, Eq, Hash)]
 pub enum PointerWidth {
     /// 16 bits.
@@ -15,6 +23,12 @@ pub enum PointerWidth {
 
 impl PointerWidth {
     /// The number of bits in a pointer.
+    ///
+    /// # Examples
+    ///
+    /// ```
+    /// assert_eq!(target_lexicon::PointerWidth::U32.bits(), 32);
+    /// ```
     pub fn bits(self) -> u8
         ensures value { result ≡ width_bits self }
         ensures of_bytes { result ≡ 8 * width_bytes self }
@@ -27,6 +41,12 @@ impl PointerWidth {
     }
 
     /// The number of bytes in a pointer, of 8 bits each.
+    ///
+    /// # Examples
+    ///
+    /// ```
+    /// assert_eq!(target_lexicon::PointerWidth::U32.bytes(), 4);
+    /// ```
     pub fn bytes(self) -> u8
         ensures value { result ≡ width_bytes self }
         ensures in_bits { 8 * result ≡ width_bits self }
@@ -39,6 +59,12 @@ impl PointerWidth {
     }
 
     /// The number of bits in a pointer, in digits.
+    ///
+    /// # Examples
+    ///
+    /// ```
+    /// assert_eq!(target_lexicon::PointerWidth::U32.name(), "32");
+    /// ```
     pub fn name(self) -> &'static str
         ensures { result.now ≡ width_name self }
     {

@@ -47,8 +47,8 @@ enum Meaning {
     Unknown,
 }
 
-/// A string, its prefix key and its meaning. The key stands beside the string, since two numbers are compared in a third
-/// of the time of two strings.
+/// A string, its prefix key and its meaning. The key stands beside the string, since two numbers are compared in a
+/// third of the time of two strings.
 type Row = (&'static str, u64, Meaning);
 
 /// The row of the string, or `None` if the string is neither a fixed name nor the alias `arm64`: a search by halves.

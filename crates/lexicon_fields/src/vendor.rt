@@ -13,6 +13,15 @@ use std::fmt;
 use std::hash::{Hash, Hasher};
 
 /// A vendor other than the known ones, as its string.
+///
+/// # Examples
+///
+/// ```
+/// use target_lexicon::CustomVendor;
+///
+/// let owned = CustomVendor::Owned(Box::new("acme".to_string()));
+/// assert_eq!(owned, CustomVendor::Static("acme"));
+/// ```
 #[derive(Debug, Drop)]
 pub enum CustomVendor {
     /// An owned string.
@@ -23,6 +32,12 @@ pub enum CustomVendor {
 
 impl CustomVendor {
     /// The string.
+    ///
+    /// # Examples
+    ///
+    /// ```
+    /// assert_eq!(target_lexicon::CustomVendor::Static("acme").as_str(), "acme");
+    /// ```
     pub fn as_str(&self) -> &str
         ensures { result.now ≡ custom_text self.now }
     {
@@ -79,6 +94,16 @@ impl Hash for CustomVendor {
 }
 
 /// The vendor of a target.
+///
+/// # Examples
+///
+/// ```
+/// use target_lexicon::{CustomVendor, Vendor};
+///
+/// assert_eq!("apple".parse(), Ok(Vendor::Apple));
+/// assert_eq!("acme".parse(), Ok(Vendor::Custom(CustomVendor::Static("acme"))));
+/// assert_eq!("ACME".parse::<Vendor>(), Err(()));
+/// ```
 #[derive(Debug, Drop, PartialEq, Eq, Hash)]
 pub enum Vendor {
     // written by tools/names/write: the variants of Vendor
@@ -151,6 +176,12 @@ impl Vendor {
     }
 
     /// The name. That of a custom vendor is its string.
+    ///
+    /// # Examples
+    ///
+    /// ```
+    /// assert_eq!(target_lexicon::Vendor::Nvidia.as_str(), "nvidia");
+    /// ```
     pub fn as_str(&self) -> &str
         ensures { result.now ≡ vendor_name (vendor_value self.now) }
     {
@@ -158,6 +189,16 @@ impl Vendor {
     }
 
     /// Whether parsing can produce the vendor: it is known, or custom with a string that [`Vendor::Custom`] admits.
+    ///
+    /// # Examples
+    ///
+    /// ```
+    /// use target_lexicon::{CustomVendor, Vendor};
+    ///
+    /// assert!(Vendor::Apple.is_plain());
+    /// assert!(Vendor::Custom(CustomVendor::Static("acme")).is_plain());
+    /// assert!(!Vendor::Custom(CustomVendor::Static("linux")).is_plain());
+    /// ```
     pub fn is_plain(&self) -> bool
         ensures { result ≡ is_plain (vendor_value self.now) }
     {

@@ -13,6 +13,14 @@ use std::alloc::{AllocError, Global};
 use std::fmt;
 
 /// The vendor of a target, of which a custom one borrows its string. It is copied freely and never allocates.
+///
+/// # Examples
+///
+/// ```
+/// use target_lexicon::VendorRef;
+///
+/// assert_eq!(VendorRef::from_str("acme"), Ok(VendorRef::Custom("acme")));
+/// ```
 #[derive(Clone, Copy, Debug, PartialEq, Eq, Hash)]
 pub enum VendorRef<'a> {
     /// A vendor that has a fixed name.
@@ -24,6 +32,14 @@ pub enum VendorRef<'a> {
 impl<'a> VendorRef<'a> {
     /// The vendor that the string parses as: a known one, or a custom one that borrows the string, if
     /// [`Vendor::Custom`] admits it. `Err` for every other string.
+    ///
+    /// # Examples
+    ///
+    /// ```
+    /// use target_lexicon::VendorRef;
+    ///
+    /// assert_eq!(VendorRef::from_str("ACME"), Err(()));
+    /// ```
     pub fn from_str(text: &'a str) -> Result<VendorRef<'a>, ()>
         ensures ok { IfOk result (λ vendor. vendor_of text.entry.now ≡ Some (ref_value vendor)) }
         ensures err { OnErr result (vendor_of text.entry.now ≡ None) }
@@ -44,6 +60,12 @@ impl<'a> VendorRef<'a> {
     }
 
     /// The name. That of a custom vendor is its string.
+    ///
+    /// # Examples
+    ///
+    /// ```
+    /// assert_eq!(target_lexicon::VendorRef::Custom("acme").as_str(), "acme");
+    /// ```
     pub fn as_str(&self) -> &'a str
         ensures { result.now ≡ vendor_name (ref_value self.now) }
     {
@@ -54,6 +76,15 @@ impl<'a> VendorRef<'a> {
     }
 
     /// Whether parsing can produce the vendor: it is known, or custom with a string that [`Vendor::Custom`] admits.
+    ///
+    /// # Examples
+    ///
+    /// ```
+    /// use target_lexicon::VendorRef;
+    ///
+    /// assert!(VendorRef::Custom("acme").is_plain());
+    /// assert!(!VendorRef::Custom("linux").is_plain());
+    /// ```
     pub fn is_plain(&self) -> bool
         ensures { result ≡ is_plain (ref_value self.now) }
     {
@@ -68,6 +99,15 @@ impl<'a> VendorRef<'a> {
     }
 
     /// Whether the vendor is a custom one.
+    ///
+    /// # Examples
+    ///
+    /// ```
+    /// use target_lexicon::VendorRef;
+    ///
+    /// assert!(VendorRef::Custom("acme").is_custom());
+    /// assert!(!VendorRef::from_str("apple").unwrap().is_custom());
+    /// ```
     pub fn is_custom(&self) -> bool
         ensures { result ≡ is_custom (ref_value self.now) }
     {
@@ -89,6 +129,14 @@ impl<'a> VendorRef<'a> {
 
 impl Vendor {
     /// The same vendor, borrowed.
+    ///
+    /// # Examples
+    ///
+    /// ```
+    /// use target_lexicon::{CustomVendor, Vendor, VendorRef};
+    ///
+    /// assert_eq!(Vendor::Custom(CustomVendor::Static("acme")).as_vendor_ref(), VendorRef::Custom("acme"));
+    /// ```
     pub fn as_vendor_ref(&self) -> VendorRef<'_>
         ensures { ref_value result ≡ vendor_value self.now }
     {

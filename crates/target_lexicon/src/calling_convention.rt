@@ -3,6 +3,15 @@ ghost use Rattle.std.specs.Prelude.{◌≡◌};
 ghost use Rattle.target_lexicon.specs.CallingConvention.{convention_name};
 
 /// A calling convention: which registers have the arguments of a call, which ones a call preserves, and so on.
+///
+/// # Examples
+///
+/// ```
+/// use target_lexicon::{CallingConvention, triple};
+///
+/// let convention = triple!("x86_64-pc-windows-msvc").default_calling_convention();
+/// assert_eq!(convention, Ok(CallingConvention::WindowsFastcall));
+/// ```
 #[derive(Clone, Copy, Debug, PartialEq, Eq, Hash)]
 pub enum CallingConvention {
     /// "System V", on most systems like Unix. It differs by architecture: that of 32-bit x86 has nothing in common with
@@ -21,6 +30,12 @@ pub enum CallingConvention {
 
 impl CallingConvention {
     /// The name of the convention.
+    ///
+    /// # Examples
+    ///
+    /// ```
+    /// assert_eq!(target_lexicon::CallingConvention::SystemV.name(), "SystemV");
+    /// ```
     pub fn name(self) -> &'static str
         ensures { result.now ≡ convention_name self }
     {

@@ -3,6 +3,14 @@ ghost use Rattle.std.specs.Prelude.{◌≡◌, ◌*◌};
 ghost use Rattle.target_lexicon.specs.DataModel.{model_name, size_bits, size_bytes, sizes_of};
 
 /// The size of a type.
+///
+/// # Examples
+///
+/// ```
+/// use target_lexicon::{CDataModel, Size};
+///
+/// assert_eq!(CDataModel::LP64.long_size(), Size::U64);
+/// ```
 #[derive(Clone, Copy, Debug, PartialEq, Eq, Hash)]
 pub enum Size {
     /// 8 bits.
@@ -17,6 +25,12 @@ pub enum Size {
 
 impl Size {
     /// The number of bits.
+    ///
+    /// # Examples
+    ///
+    /// ```
+    /// assert_eq!(target_lexicon::Size::U16.bits(), 16);
+    /// ```
     pub fn bits(self) -> u8
         ensures value { result ≡ size_bits self }
         ensures of_bytes { result ≡ 8 * size_bytes self }
@@ -30,6 +44,12 @@ impl Size {
     }
 
     /// The number of bytes, of 8 bits each.
+    ///
+    /// # Examples
+    ///
+    /// ```
+    /// assert_eq!(target_lexicon::Size::U16.bytes(), 2);
+    /// ```
     pub fn bytes(self) -> u8
         ensures value { result ≡ size_bytes self }
         ensures in_bits { 8 * result ≡ size_bits self }
@@ -44,6 +64,15 @@ impl Size {
 }
 
 /// The sizes of C's types: <https://en.cppreference.com/w/c/language/arithmetic_types>
+///
+/// # Examples
+///
+/// ```
+/// use target_lexicon::{CDataModel, triple};
+///
+/// let model = triple!("x86_64-unknown-linux-gnu").data_model();
+/// assert_eq!(model, Ok(CDataModel::LP64));
+/// ```
 #[derive(Clone, Copy, Debug, PartialEq, Eq, Hash)]
 pub enum CDataModel {
     /// Mostly on 16-bit Windows: `long` and pointers have 32 bits.
@@ -60,6 +89,12 @@ pub enum CDataModel {
 
 impl CDataModel {
     /// The name of the model.
+    ///
+    /// # Examples
+    ///
+    /// ```
+    /// assert_eq!(target_lexicon::CDataModel::LLP64.name(), "LLP64");
+    /// ```
     pub fn name(self) -> &'static str
         ensures { result.now ≡ model_name self }
     {
@@ -73,6 +108,14 @@ impl CDataModel {
     }
 
     /// The size of a pointer in the default address space.
+    ///
+    /// # Examples
+    ///
+    /// ```
+    /// use target_lexicon::{CDataModel, Size};
+    ///
+    /// assert_eq!(CDataModel::LLP64.pointer_width(), Size::U64);
+    /// ```
     pub fn pointer_width(self) -> Size
         ensures { result ≡ (sizes_of self).pointer }
     {
@@ -83,6 +126,14 @@ impl CDataModel {
     }
 
     /// The size of a C `short`. C requires at least 16 bits.
+    ///
+    /// # Examples
+    ///
+    /// ```
+    /// use target_lexicon::{CDataModel, Size};
+    ///
+    /// assert_eq!(CDataModel::LLP64.short_size(), Size::U16);
+    /// ```
     pub fn short_size(self) -> Size
         ensures { result ≡ (sizes_of self).short }
     {
@@ -96,6 +147,14 @@ impl CDataModel {
     }
 
     /// The size of a C `int`. C requires at least 16 bits.
+    ///
+    /// # Examples
+    ///
+    /// ```
+    /// use target_lexicon::{CDataModel, Size};
+    ///
+    /// assert_eq!(CDataModel::LLP64.int_size(), Size::U32);
+    /// ```
     pub fn int_size(self) -> Size
         ensures { result ≡ (sizes_of self).int }
     {
@@ -107,6 +166,14 @@ impl CDataModel {
     }
 
     /// The size of a C `long`. C requires at least 32 bits.
+    ///
+    /// # Examples
+    ///
+    /// ```
+    /// use target_lexicon::{CDataModel, Size};
+    ///
+    /// assert_eq!(CDataModel::LLP64.long_size(), Size::U32);
+    /// ```
     pub fn long_size(self) -> Size
         ensures { result ≡ (sizes_of self).long }
     {
@@ -117,6 +184,14 @@ impl CDataModel {
     }
 
     /// The size of a C `long long`. C requires at least 64 bits.
+    ///
+    /// # Examples
+    ///
+    /// ```
+    /// use target_lexicon::{CDataModel, Size};
+    ///
+    /// assert_eq!(CDataModel::LLP64.long_long_size(), Size::U64);
+    /// ```
     pub fn long_long_size(self) -> Size
         ensures { result ≡ (sizes_of self).long_long }
     {
@@ -130,6 +205,14 @@ impl CDataModel {
     }
 
     /// The size of a C `float`.
+    ///
+    /// # Examples
+    ///
+    /// ```
+    /// use target_lexicon::{CDataModel, Size};
+    ///
+    /// assert_eq!(CDataModel::LLP64.float_size(), Size::U32);
+    /// ```
     pub fn float_size(self) -> Size
         ensures { result ≡ (sizes_of self).float }
     {
@@ -137,6 +220,14 @@ impl CDataModel {
     }
 
     /// The size of a C `double`.
+    ///
+    /// # Examples
+    ///
+    /// ```
+    /// use target_lexicon::{CDataModel, Size};
+    ///
+    /// assert_eq!(CDataModel::LLP64.double_size(), Size::U64);
+    /// ```
     pub fn double_size(self) -> Size
         ensures { result ≡ (sizes_of self).double }
     {

@@ -10,6 +10,16 @@ use lexicon_fields::{Architecture, BinaryFormat, Environment, OperatingSystem};
 
 /// The binary format that the architecture, the operating system and the environment imply. The triple's own format
 /// doesn't matter.
+///
+/// # Examples
+///
+/// ```
+/// use target_lexicon::{BinaryFormat, default_binary_format, triple};
+///
+/// let triple = triple!("x86_64-unknown-linux-gnu-coff");
+/// assert_eq!(triple.binary_format, BinaryFormat::Coff);
+/// assert_eq!(default_binary_format(&triple), BinaryFormat::Elf);
+/// ```
 pub fn default_binary_format(triple: &Triple) -> BinaryFormat
     ensures { result ≡ default_binary_format (values_of triple.now) }
 {
@@ -18,6 +28,15 @@ pub fn default_binary_format(triple: &Triple) -> BinaryFormat
 
 impl TripleRef<'_> {
     /// The implied binary format, as [`default_binary_format`] says.
+    ///
+    /// # Examples
+    ///
+    /// ```
+    /// use target_lexicon::{BinaryFormat, TripleRef};
+    ///
+    /// let triple = TripleRef::from_str("x86_64-unknown-linux-gnu-coff").unwrap();
+    /// assert_eq!(triple.default_binary_format(), BinaryFormat::Elf);
+    /// ```
     #[tactic(auto, unfolding(crate::specs::ImpliedFormat::implied_format))]
     pub fn default_binary_format(&self) -> BinaryFormat
         ensures { result ≡ default_binary_format (values_of_ref self.now) }

@@ -7,6 +7,12 @@ use crate::triple::Triple;
 use std::alloc::{AllocError, Global};
 
 /// A triple whose default is the host.
+///
+/// # Examples
+///
+/// ```
+/// assert_eq!(target_lexicon::DefaultToHost::default().0, target_lexicon::HOST);
+/// ```
 #[derive(Debug, PartialEq, Eq, Hash, Drop)]
 pub struct DefaultToHost(pub Triple);
 
@@ -33,6 +39,14 @@ impl DefaultToHost {
 }
 
 /// A triple whose default is `unknown-unknown-unknown`.
+///
+/// # Examples
+///
+/// ```
+/// use target_lexicon::{DefaultToUnknown, Triple};
+///
+/// assert_eq!(DefaultToUnknown::default().0, Triple::unknown());
+/// ```
 #[derive(Debug, PartialEq, Eq, Hash, Drop)]
 pub struct DefaultToUnknown(pub Triple);
 

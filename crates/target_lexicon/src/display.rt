@@ -1,5 +1,5 @@
-//! Printing: what is shown of a triple, as pieces, and how these are written. Functions are inlined if they return a wide
-//! value, or if that saves a hundredth of printing.
+//! Printing: what is shown of a triple, as pieces, and how these are written. Functions are inlined if they return a
+//! wide value, or if that saves a hundredth of printing.
 ghost use Rattle.std.specs.Prelude.{◌≡◌, ◌+◌, ◌<◌, ◌≤◌, ◌^◌, Some, IfOk, length, string_bytes};
 ghost use Rattle.lexicon_fields.specs.Laws.{max_name_length, HasVersionInRange};
 ghost use Rattle.lexicon_fields.specs.OperatingSystem.{version_suffix, system_version};
@@ -64,6 +64,16 @@ impl Triple {
 
     /// Writes the printed text at the front of the buffer if it fits there, and returns its length. If it doesn't fit,
     /// the buffer is unchanged: compare the result with `out.len()`. Nothing is allocated.
+    ///
+    /// # Examples
+    ///
+    /// ```
+    /// use target_lexicon::triple;
+    ///
+    /// let mut bytes = [0; 64];
+    /// let length = triple!("wasm32-unknown-wasi").write_to(&mut bytes);
+    /// assert_eq!(&bytes[..length], b"wasm32-wasi");
+    /// ```
     pub fn write_to(&self, out: &mut [u8]) -> usize
         ensures { IsWritten (text_of (values_of self.now)) out.old out.new result }
     {
@@ -93,6 +103,16 @@ impl<'a> TripleRef<'a> {
 
     /// Writes the printed text at the front of the buffer if it fits there, and returns its length. If it doesn't fit,
     /// the buffer is unchanged: compare the result with `out.len()`. Nothing is allocated.
+    ///
+    /// # Examples
+    ///
+    /// ```
+    /// use target_lexicon::TripleRef;
+    ///
+    /// let mut bytes = [0; 8];
+    /// let length = TripleRef::from_str("x86_64-linux").unwrap().write_to(&mut bytes);
+    /// assert_eq!((length, bytes), ("x86_64-unknown-linux".len(), [0; 8]));
+    /// ```
     #[tactic(auto, unfolding(crate::specs::Printing::text_of))]
     pub fn write_to(&self, out: &mut [u8]) -> usize
         ensures { IsWritten (text_of (values_of_ref self.now)) out.old out.new result }
@@ -217,8 +237,8 @@ impl<'a> TripleRef<'a> {
         self.shows_implied_format() || self.binary_format != self.default_binary_format()
     }
 
-    /// Whether the binary format is shown even if it is the implied one: without a system a known one is, except on some
-    /// architectures and in some environments.
+    /// Whether the binary format is shown even if it is the implied one: without a system a known one is, except on
+    /// some architectures and in some environments.
     fn shows_implied_format(&self) -> bool
         ensures { result ≡ spec.shows_implied_format (values_of_ref self.now) }
     {

@@ -5,6 +5,16 @@ use crate::triple_ref::TripleRef;
 use std::ops::Range;
 
 /// A part of a string, and where it begins there.
+///
+/// # Examples
+///
+/// ```
+/// use target_lexicon::TripleRef;
+///
+/// let text = "x86_64-linux-foo";
+/// let part = TripleRef::from_str(text).unwrap_err().part;
+/// assert_eq!(&text[part.range()], part.text);
+/// ```
 #[derive(Clone, Copy, Debug, PartialEq, Eq)]
 pub struct TextPart<'a> {
     /// The bytes of the part.
@@ -18,6 +28,14 @@ impl<'a> TextPart<'a> {
     ghost use Rattle.target_lexicon.specs.Explanation.{part_end, part_value};
 
     /// The range of the part in the string, in bytes.
+    ///
+    /// # Examples
+    ///
+    /// ```
+    /// use target_lexicon::TextPart;
+    ///
+    /// assert_eq!(TextPart { text: "foo", start: 13 }.range(), 13..16);
+    /// ```
     pub fn range(&self) -> Range<usize>
         ensures start { result.start ≡ self.now.start }
         ensures end { part_end (part_value self.now) < 2 ^ 64
@@ -28,6 +46,15 @@ impl<'a> TextPart<'a> {
 }
 
 /// Where the value of a field comes from.
+///
+/// # Examples
+///
+/// ```
+/// use target_lexicon::{Source, TripleRef};
+///
+/// let explanation = TripleRef::explain("x86_64-linux");
+/// assert_eq!(explanation.sources.environment, Source::NotGiven);
+/// ```
 #[derive(Clone, Copy, Debug, PartialEq, Eq)]
 pub enum Source<'a> {
     /// From this part of the string. A special string is one part, which gives all five fields.
@@ -39,6 +66,17 @@ pub enum Source<'a> {
 }
 
 /// Where the value of each field comes from.
+///
+/// # Examples
+///
+/// ```
+/// use target_lexicon::{Source, TripleRef};
+///
+/// match TripleRef::explain("x86_64-linux").sources.architecture {
+///     Source::Part(part) => assert_eq!(part.text, "x86_64"),
+///     other => panic!("{other:?}"),
+/// }
+/// ```
 #[derive(Clone, Copy, Debug, PartialEq, Eq)]
 pub struct Sources<'a> {
     /// Never `NotGiven` if the string parses: each string has an architecture.
@@ -54,12 +92,22 @@ pub struct Sources<'a> {
 }
 
 /// What a string parses as, or why it is refused; and where each field comes from.
+///
+/// # Examples
+///
+/// ```
+/// use target_lexicon::{BinaryFormat, Source, TripleRef};
+///
+/// let explanation = TripleRef::explain("x86_64-linux");
+/// assert_eq!(explanation.triple.unwrap().binary_format, BinaryFormat::Elf);
+/// assert_eq!(explanation.sources.binary_format, Source::Implied);
+/// ```
 #[derive(Clone, Copy, Debug, PartialEq, Eq)]
 pub struct Explanation<'a> {
     /// The triple that the string parses as, or why it is refused.
     pub triple: Result<TripleRef<'a>, Refusal<'a>>,
-    /// The source of each field. If the string is refused, it says which parts before the refused one are of which field,
-    /// and every other field is `NotGiven`.
+    /// The source of each field. If the string is refused, it says which parts before the refused one are of which
+    /// field, and every other field is `NotGiven`.
     pub sources: Sources<'a>,
 }
 

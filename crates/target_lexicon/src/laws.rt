@@ -246,9 +246,9 @@ pub fn list_errors_are_equal_by_value()
         IsTrue (⟦<ListError as PartialEq>⟧.eq x y) ↔ (list_error_value x ≡ list_error_value y) }
 {}
 
-/// Two parts are equal exactly if their bytes are and they begin at the same index. Two sources are equal exactly if they
-/// are the same variant, with equal parts. Two explanations are equal exactly if their triples or refusals are, and their
-/// sources.
+/// Two parts are equal exactly if their bytes are and they begin at the same index. Two sources are equal exactly if
+/// they are the same variant, with equal parts. Two explanations are equal exactly if their triples or refusals are,
+/// and their sources.
 pub fn explanations_are_equal_by_value()
     ensures part { (x y : TextPart) →
         IsTrue (⟦<TextPart<'static> as PartialEq>⟧.eq x y) ↔ (part_value x ≡ part_value y) }

@@ -5,8 +5,8 @@
 //! `queries` (byte order, pointer width, calling convention, data model), `settle` (`comes_back`, `normal`,
 //! `settle`), `settles_as`, `json`. Most of them call the same of [`TripleRef`], a borrowed triple (`triple_ref`).
 //!
-//! To parse, `read` gives each part of a string to a `reading`, which looks it up and fills a field. `explanation` has the types of what
-//! was found, `default_format` the implied format, and `refusal` why a string is refused.
+//! To parse, `read` gives each part of a string to a `reading`, which looks it up and fills a field. `explanation` has
+//! the types of what was found, `default_format` the implied format, and `refusal` why a string is refused.
 #![tactic(auto)]
 
 mod calling_convention;

@@ -13,6 +13,15 @@ use lexicon_fields::{Architecture, Endianness, Environment, OperatingSystem, Poi
 
 impl TripleRef<'_> {
     /// The byte order, as [`Triple::endianness`] says.
+    ///
+    /// # Examples
+    ///
+    /// ```
+    /// use target_lexicon::{Endianness, TripleRef};
+    ///
+    /// let triple = TripleRef::from_str("s390x-unknown-linux-gnu").unwrap();
+    /// assert_eq!(triple.endianness(), Ok(Endianness::Big));
+    /// ```
     pub fn endianness(&self) -> Result<Endianness, ()>
         ensures answer { MatchesLookup (endianness (values_of_ref self.now)) result }
         ensures refusal { IsErr result ↔ (self.now.architecture ≡ Architecture.Unknown) }
@@ -21,6 +30,15 @@ impl TripleRef<'_> {
     }
 
     /// The width of a pointer, as [`Triple::pointer_width`] says.
+    ///
+    /// # Examples
+    ///
+    /// ```
+    /// use target_lexicon::{PointerWidth, TripleRef};
+    ///
+    /// let triple = TripleRef::from_str("avr-unknown-none").unwrap();
+    /// assert_eq!(triple.pointer_width(), Ok(PointerWidth::U16));
+    /// ```
     #[tactic(auto, unfolding(crate::specs::Queries::pointer_width))]
     pub fn pointer_width(&self) -> Result<PointerWidth, ()>
         ensures answer { MatchesLookup (pointer_width (values_of_ref self.now)) result }
@@ -35,6 +53,15 @@ impl TripleRef<'_> {
     }
 
     /// The calling convention, as [`Triple::default_calling_convention`] says.
+    ///
+    /// # Examples
+    ///
+    /// ```
+    /// use target_lexicon::{CallingConvention, TripleRef};
+    ///
+    /// let triple = TripleRef::from_str("x86_64-unknown-linux-gnu").unwrap();
+    /// assert_eq!(triple.default_calling_convention(), Ok(CallingConvention::SystemV));
+    /// ```
     #[tactic(auto, unfolding(crate::specs::Queries::convention_on))]
     pub fn default_calling_convention(&self) -> Result<CallingConvention, ()>
         ensures { MatchesLookup (calling_convention (values_of_ref self.now)) result }
@@ -90,6 +117,15 @@ impl TripleRef<'_> {
     }
 
     /// The data model of C, as [`Triple::data_model`] says.
+    ///
+    /// # Examples
+    ///
+    /// ```
+    /// use target_lexicon::{CDataModel, TripleRef};
+    ///
+    /// let triple = TripleRef::from_str("x86_64-pc-windows-msvc").unwrap();
+    /// assert_eq!(triple.data_model(), Ok(CDataModel::LLP64));
+    /// ```
     #[tactic(auto, unfolding(crate::specs::Queries::data_model))]
     pub fn data_model(&self) -> Result<CDataModel, ()>
         ensures { MatchesLookup (data_model (values_of_ref self.now)) result }
@@ -138,6 +174,14 @@ impl TripleRef<'_> {
 
 impl Triple {
     /// The byte order of the architecture. `Err` for the architecture `Unknown`.
+    ///
+    /// # Examples
+    ///
+    /// ```
+    /// use target_lexicon::{Endianness, triple};
+    ///
+    /// assert_eq!(triple!("s390x-unknown-linux-gnu").endianness(), Ok(Endianness::Big));
+    /// ```
     pub fn endianness(&self) -> Result<Endianness, ()>
         ensures answer { MatchesLookup (endianness (values_of self.now)) result }
         ensures refusal { IsErr result ↔ (self.now.architecture ≡ Architecture.Unknown) }
@@ -147,6 +191,15 @@ impl Triple {
 
     /// The width of a pointer: 32 bits in the environments `Gnux32` and `GnuIlp32`, in every other environment the
     /// width of the architecture. `Err` for the architecture `Unknown` in these other environments.
+    ///
+    /// # Examples
+    ///
+    /// ```
+    /// use target_lexicon::{PointerWidth, triple};
+    ///
+    /// assert_eq!(triple!("x86_64-unknown-linux-gnu").pointer_width(), Ok(PointerWidth::U64));
+    /// assert_eq!(triple!("x86_64-unknown-linux-gnux32").pointer_width(), Ok(PointerWidth::U32));
+    /// ```
     pub fn pointer_width(&self) -> Result<PointerWidth, ()>
         ensures answer { MatchesLookup (pointer_width (values_of self.now)) result }
         ensures refusal { IsErr result
@@ -159,6 +212,16 @@ impl Triple {
     /// The calling convention. It depends on the operating system, and on systems like Darwin and those that run
     /// WebAssembly also on the architecture. `Err` if no convention is known, for instance on `WasiP1`, `WasiP2`,
     /// `Illumos` and `Cygwin`.
+    ///
+    /// # Examples
+    ///
+    /// ```
+    /// use target_lexicon::{CallingConvention, triple};
+    ///
+    /// let convention = triple!("aarch64-apple-darwin").default_calling_convention();
+    /// assert_eq!(convention, Ok(CallingConvention::AppleAarch64));
+    /// assert_eq!(triple!("wasm32-wasip1").default_calling_convention(), Err(()));
+    /// ```
     pub fn default_calling_convention(&self) -> Result<CallingConvention, ()>
         ensures { MatchesLookup (calling_convention (values_of self.now)) result }
     {
@@ -167,6 +230,15 @@ impl Triple {
 
     /// The data model of C. It depends on the pointer width, the operating system, the calling convention and the
     /// architecture. `Err` if no model is known, for instance for pointers of 16 bits.
+    ///
+    /// # Examples
+    ///
+    /// ```
+    /// use target_lexicon::{CDataModel, triple};
+    ///
+    /// assert_eq!(triple!("x86_64-pc-windows-msvc").data_model(), Ok(CDataModel::LLP64));
+    /// assert_eq!(triple!("avr-unknown-none").data_model(), Err(()));
+    /// ```
     pub fn data_model(&self) -> Result<CDataModel, ()>
         ensures { MatchesLookup (data_model (values_of self.now)) result }
     {

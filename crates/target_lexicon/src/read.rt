@@ -94,9 +94,18 @@ pub fn explain(text: &str) -> Explanation<'_>
 }
 
 impl<'a> TripleRef<'a> {
-    /// The triple that a string parses as, as `Triple::from_str` says; or why it is refused, and the refused part. A custom
-    /// vendor and a refused part borrow from the string, so nothing is allocated. [`explain`] answers this too, and where
-    /// each field comes from.
+    /// The triple that a string parses as, as `Triple::from_str` says; or why it is refused, and the refused part. A
+    /// custom vendor and a refused part borrow from the string, so nothing is allocated. `explain` answers this too,
+    /// and where each field comes from.
+    ///
+    /// # Examples
+    ///
+    /// ```
+    /// use target_lexicon::{Field, TripleRef};
+    ///
+    /// let refusal = TripleRef::from_str("foo-linux").unwrap_err();
+    /// assert_eq!((refusal.expected, refusal.part.text), (Some(Field::Architecture), "foo"));
+    /// ```
     pub fn from_str(text: &'a str) -> Result<TripleRef<'a>, Refusal<'a>>
         ensures ok { IfOk result (λ triple. ReadsAs text.entry.now (values_of_ref triple)) }
         ensures plain { IfOk result (λ triple. is_plain (ref_value triple.vendor) ≡ true) }

@@ -55,8 +55,8 @@ impl<'a> Reading<'a> {
         }
     }
 
-    /// Takes a name into the first field that is open and that it parses as. `Err` if there is none; nothing changes then. A
-    /// name that has a row in the table of names is looked up once, and the comparisons aren't counted.
+    /// Takes a name into the first field that is open and that it parses as. `Err` if there is none; nothing changes
+    /// then. A name that has a row in the table of names is looked up once, and the comparisons aren't counted.
     #[inline(always)]
     pub fn take(&mut self, name: &'a str, part: TextPart<'a>) -> Result<(), Refusal<'a>>
         ensures taken { IfOk result (λ _. (names : List (List ℕ)) →
@@ -148,8 +148,8 @@ impl<'a> Reading<'a> {
         })
     }
 
-    /// Takes a system that a part spells, as [`take`](Reading::take) takes the system's name. The name is in no string: it
-    /// has no row, and parses as the system.
+    /// Takes a system that a part spells, as [`take`](Reading::take) takes the system's name. The name is in no string:
+    /// it has no row, and parses as the system.
     #[tactic(auto, using(crate::proofs::SystemNames::system_no_vendor))]
     pub fn take_system(
         &mut self,

@@ -15,6 +15,18 @@ use std::ops::Range;
 
 /// Why a string doesn't parse as a triple: the first part that has no place, and the field that was expected there. The
 /// part is borrowed from the string, so that nothing is allocated.
+///
+/// # Examples
+///
+/// ```
+/// use target_lexicon::{Field, TripleRef};
+///
+/// let refusal = TripleRef::from_str("x86_64-unknown-foo").unwrap_err();
+/// assert_eq!((refusal.expected, refusal.part.text), (Some(Field::OperatingSystem), "foo"));
+/// assert_eq!(refusal.to_string(), "Unrecognized operating system: foo");
+/// let refusal = TripleRef::from_str("x86_64-linux-gnu-elf-foo").unwrap_err();
+/// assert_eq!(refusal.expected, None);
+/// ```
 #[derive(Clone, Copy, Debug, PartialEq, Eq)]
 pub struct Refusal<'a> {
     /// The field that was expected: this one or a later one. After a binary format none was, and it is `None`.
@@ -28,6 +40,15 @@ impl<'a> Refusal<'a> {
     ghost use Rattle.target_lexicon.specs.Explanation.{part_end, part_value};
 
     /// The range of the refused part in the string, in bytes.
+    ///
+    /// # Examples
+    ///
+    /// ```
+    /// use target_lexicon::TripleRef;
+    ///
+    /// let refusal = TripleRef::from_str("x86_64-unknown-foo").unwrap_err();
+    /// assert_eq!(refusal.range(), 15..18);
+    /// ```
     pub fn range(&self) -> Range<usize>
         ensures start { result.start ≡ self.now.part.start }
         ensures end { part_end (part_value self.now.part) < 2 ^ 64

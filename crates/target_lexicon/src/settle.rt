@@ -34,6 +34,15 @@ impl Triple {
     /// - The text is `riscv32imc-esp-espidf`, but the vendor is the custom `esp`.
     /// - On Clever with an unknown system, the environment is `None`, which parses as the system.
     /// - The vendor isn't plain.
+    ///
+    /// # Examples
+    ///
+    /// ```
+    /// use target_lexicon::triple;
+    ///
+    /// assert!(triple!("x86_64-unknown-linux-gnu").comes_back());
+    /// assert!(!triple!("armv7-nintendo-horizon-newlib").comes_back());
+    /// ```
     pub fn comes_back(&self) -> bool
         ensures { IsTrue result ↔ ComesBack (values_of self.now) }
     {
@@ -98,6 +107,14 @@ impl Triple {
 
 impl<'a> TripleRef<'a> {
     /// Whether the triple comes back, as [`Triple::comes_back`] says.
+    ///
+    /// # Examples
+    ///
+    /// ```
+    /// use target_lexicon::TripleRef;
+    ///
+    /// assert!(!TripleRef::from_str("armv7-nintendo-horizon-newlib").unwrap().comes_back());
+    /// ```
     pub fn comes_back(&self) -> bool
         ensures { IsTrue result ↔ ComesBack (values_of_ref self.now) }
     {
@@ -135,9 +152,9 @@ impl<'a> TripleRef<'a> {
         self.normal()
     }
 
-    /// The normal step.
+    /// The normal step of any triple. If the vendor is plain, it is the canonical form.
     #[tactic(auto, unfolding(crate::specs::NormalStep::normal_step))]
-    pub(crate) fn step(mut self) -> TripleRef<'a>
+    pub fn step(mut self) -> TripleRef<'a>
         ensures step { values_of_ref result ≡ normal_step (values_of_ref self.entry) }
         ensures vendor { (result.vendor ≡ self.entry.vendor)
             ⊎ (result.vendor ≡ Known known_vendor.Espressif) }

@@ -6,6 +6,21 @@ use lexicon_fields::{Architecture, BinaryFormat, Environment, OperatingSystem, V
 use std::alloc::{AllocError, Global};
 
 /// A target triple, such as `x86_64-unknown-linux-gnu`. It has five fields, of which its text shows some.
+///
+/// # Examples
+///
+/// ```
+/// use std::collections::HashMap;
+/// use target_lexicon::{OperatingSystem, Triple, Vendor};
+///
+/// let triple: Triple = "x86_64-pc-windows-msvc".parse()?;
+/// assert_eq!(triple.vendor, Vendor::Pc);
+/// assert_eq!(triple.operating_system, OperatingSystem::Windows);
+/// assert_eq!(triple.to_string(), "x86_64-pc-windows-msvc");
+/// let linkers = HashMap::from([(triple, "link.exe")]);
+/// assert_eq!(linkers[&"x86_64-pc-windows-msvc".parse()?], "link.exe");
+/// # Ok::<(), target_lexicon::ParseError>(())
+/// ```
 #[derive(Debug, PartialEq, Eq, Hash, Drop)]
 pub struct Triple {
     /// The instruction set, with its sub-architecture if it has one.
@@ -24,6 +39,12 @@ impl Triple {
     ghost use Rattle.target_lexicon.specs.Values.{values_of, unknown_values};
 
     /// The triple whose five fields are `Unknown`.
+    ///
+    /// # Examples
+    ///
+    /// ```
+    /// assert_eq!(target_lexicon::Triple::unknown().to_string(), "unknown-unknown-unknown");
+    /// ```
     pub fn unknown() -> Self
         ensures { values_of result ≡ unknown_values }
     {

@@ -10,6 +10,17 @@ use std::alloc::{AllocError, Global};
 
 /// A target triple whose custom vendor, if it has one, borrows its string. It is copied freely, and only the calls that
 /// make an owned value need an allocator. The fields are those of [`Triple`].
+///
+/// # Examples
+///
+/// ```
+/// use target_lexicon::{OperatingSystem, TripleRef, VendorRef};
+///
+/// let triple = TripleRef::from_str("x86_64-acme-linux")?;
+/// assert_eq!(triple.vendor, VendorRef::Custom("acme"));
+/// assert_eq!(triple.operating_system, OperatingSystem::Linux);
+/// # Ok::<(), target_lexicon::Refusal<'static>>(())
+/// ```
 #[derive(Clone, Copy, Debug, PartialEq, Eq, Hash)]
 pub struct TripleRef<'a> {
     /// The instruction set, with its sub-architecture if it has one.
@@ -29,6 +40,12 @@ impl<'a> TripleRef<'a> {
     ghost use Rattle.target_lexicon.specs.ValuesRef.{values_of_ref};
 
     /// The triple whose five fields are `Unknown`.
+    ///
+    /// # Examples
+    ///
+    /// ```
+    /// assert_eq!(target_lexicon::TripleRef::unknown().to_string(), "unknown-unknown-unknown");
+    /// ```
     pub fn unknown() -> TripleRef<'a>
         ensures { values_of_ref result ≡ unknown_values }
     {
@@ -63,6 +80,15 @@ impl Triple {
     ghost use Rattle.target_lexicon.specs.ValuesRef.{values_of_ref};
 
     /// The same triple, borrowed.
+    ///
+    /// # Examples
+    ///
+    /// ```
+    /// use target_lexicon::{TripleRef, triple};
+    ///
+    /// let triple = triple!("x86_64-linux");
+    /// assert_eq!(Ok(triple.as_triple_ref()), TripleRef::from_str("x86_64-linux"));
+    /// ```
     pub fn as_triple_ref(&self) -> TripleRef<'_>
         ensures { values_of_ref result ≡ values_of self.now }
     {

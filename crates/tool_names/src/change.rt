@@ -7,6 +7,16 @@ use crate::spelling::{Spelling, first_at_end, first_spelling};
 use target_lexicon::{TextPart, first_part};
 
 /// A part of a string that is another spelling of known names, or a second part that states no vendor.
+///
+/// # Examples
+///
+/// ```
+/// use target_lexicon::tool_names::changes;
+///
+/// let change = changes("x86_64-w64-mingw32").last().unwrap();
+/// assert_eq!((change.part.text, change.part.range()), ("mingw32", 11..18));
+/// assert_eq!(change.names.to_string(), "windows-gnu");
+/// ```
 #[derive(Clone, Copy, Debug, PartialEq, Eq)]
 pub struct Change<'a> {
     /// The part, as it is in the string.
@@ -61,6 +71,18 @@ pub struct ChangedParts<'a> {
 ///
 /// A string that parses without a custom vendor has no changes. A string that is refused has its changes too, since
 /// what a part spells doesn't depend on that.
+///
+/// # Examples
+///
+/// ```
+/// use target_lexicon::tool_names::changes;
+///
+/// let shown = |text| {
+///     changes(text).map(|it| format!("{} -> {}", it.part.text, it.names)).collect::<Vec<_>>()
+/// };
+/// assert_eq!(shown("amd64-unknown-freebsd13.2"), ["amd64 -> x86_64", "freebsd13.2 -> freebsd"]);
+/// assert!(shown("x86_64-unknown-freebsd").is_empty());
+/// ```
 pub fn changes(text: &str) -> ChangedParts<'_>
     ensures { changes_left result ≡ changes text.entry.now }
 {

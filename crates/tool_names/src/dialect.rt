@@ -8,6 +8,16 @@ use std::fmt;
 use std::str::FromStr;
 
 /// A tool, or a group of tools, that names targets in its own way.
+///
+/// # Examples
+///
+/// ```
+/// use target_lexicon::{tool_names::Dialect, TripleRef};
+///
+/// let triple = TripleRef::from_str("x86_64-unknown-linux-gnu").unwrap();
+/// assert_eq!(Dialect::Debian.write(&triple).unwrap().as_str(), "amd64");
+/// assert_eq!("go".parse(), Ok(Dialect::Go));
+/// ```
 #[derive(Clone, Copy, Debug, PartialEq, Eq, Hash)]
 pub enum Dialect {
     // written by tools/names/write: the dialects
@@ -28,6 +38,12 @@ pub enum Dialect {
 
 impl Dialect {
     /// The name of the dialect.
+    ///
+    /// # Examples
+    ///
+    /// ```
+    /// assert_eq!(target_lexicon::tool_names::Dialect::Go.as_str(), "go");
+    /// ```
     pub fn as_str(self) -> &'static str
         ensures { result.now ≡ dialect_name self }
     {

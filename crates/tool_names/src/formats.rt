@@ -14,6 +14,25 @@ use target_lexicon::{Architecture, BinaryFormat, OperatingSystem, TripleRef};
 /// - An unknown format is the one that the other fields give.
 ///
 /// A given format that isn't the implied one is kept. The answer is `Unknown` only for the architecture `Unknown`.
+///
+/// # Examples
+///
+/// ```
+/// use target_lexicon::{tool_names::object_format, BinaryFormat, TripleRef};
+///
+/// for (string, upstreams, format) in [
+///     ("x86_64-unknown-linux-gnu", BinaryFormat::Elf, BinaryFormat::Elf),
+///     ("x86_64-unknown-none", BinaryFormat::Unknown, BinaryFormat::Elf),
+///     ("wasm32-wasip1", BinaryFormat::Elf, BinaryFormat::Wasm),
+///     ("x86_64-unknown-uefi", BinaryFormat::Elf, BinaryFormat::Coff),
+///     ("x86_64-pc-cygwin", BinaryFormat::Elf, BinaryFormat::Coff),
+///     ("x86_64-pc-cygwin-macho", BinaryFormat::Macho, BinaryFormat::Macho),
+///     ("powerpc64-ibm-aix", BinaryFormat::Xcoff, BinaryFormat::Xcoff),
+/// ] {
+///     let triple = TripleRef::from_str(string).unwrap();
+///     assert_eq!((triple.binary_format, object_format(&triple)), (upstreams, format), "{string}");
+/// }
+/// ```
 #[inline(always)]
 #[tactic(auto, unfolding(crate::specs::ObjectFormat::object_format))]
 pub fn object_format(triple: &TripleRef<'_>) -> BinaryFormat

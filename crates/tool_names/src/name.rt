@@ -13,6 +13,15 @@ use target_lexicon::{MAX_DECIMAL_LENGTH, decimal_text};
 const MAX_NAME_LENGTH: usize = 36;
 
 /// A name of a target in a dialect.
+///
+/// # Examples
+///
+/// ```
+/// use target_lexicon::{tool_names::Dialect, TripleRef};
+///
+/// let triple = TripleRef::from_str("x86_64-unknown-freebsd").unwrap();
+/// assert_eq!(Dialect::Go.write(&triple).unwrap().to_string(), "freebsd/amd64");
+/// ```
 #[derive(Clone, Copy, PartialEq, Eq)]
 pub struct Name {
     bytes: [u8; 36],
@@ -25,6 +34,15 @@ impl Name {
     ghost use Rattle.tool_names.specs.ToolNames.{name_bytes};
 
     /// The name. It has at most 36 bytes.
+    ///
+    /// # Examples
+    ///
+    /// ```
+    /// use target_lexicon::{tool_names::Dialect, TripleRef};
+    ///
+    /// let triple = TripleRef::from_str("x86_64-unknown-freebsd").unwrap();
+    /// assert_eq!(Dialect::Go.write(&triple).unwrap().as_str(), "freebsd/amd64");
+    /// ```
     pub fn as_str(&self) -> &str
         ensures { result.now ≡ name_bytes self.now }
     {

@@ -21,6 +21,16 @@ use target_lexicon::{Reading, Refusal, TripleRef, first_part};
 /// # Errors
 ///
 /// The first part that has no place, as it is in the string, and what was expected there.
+///
+/// # Examples
+///
+/// ```
+/// use target_lexicon::{tool_names::read, TripleRef};
+///
+/// assert_eq!(read("amd64-w64-mingw32"), Ok(TripleRef::from_str("x86_64-pc-windows-gnu").unwrap()));
+/// let refusal = read("x86_64-foo-bar").unwrap_err();
+/// assert_eq!((refusal.range(), refusal.to_string()), (11..14, "Unrecognized operating system: bar".to_string()));
+/// ```
 pub fn read(text: &str) -> Result<TripleRef<'_>, Refusal<'_>>
     ensures { placed_outcome result ≡ spelled_reading text.entry.now }
 {

@@ -37,6 +37,15 @@ impl Dialect {
     /// of the system, and how much of that of the architecture isn't stated; in Go, OCI, Node and Python also the C
     /// library and the floating-point ABI, but on Linux Node states them. Python keeps versions of macOS and iOS, with two
     /// numbers. The binary format stays.
+    ///
+    /// # Examples
+    ///
+    /// ```
+    /// use target_lexicon::{tool_names::Dialect, TripleRef};
+    ///
+    /// let triple = TripleRef::from_str("x86_64-acme-linux-musl").unwrap();
+    /// assert_eq!(Dialect::Go.shape(&triple).to_string(), "x86_64-unknown-linux");
+    /// ```
     #[tactic(auto, unfolding(crate::specs::Shape::shape))]
     pub fn shape(self, triple: &TripleRef<'_>) -> TripleRef<'static>
         ensures { values_of_ref result ≡ shape self (values_of_ref triple.now) }

@@ -80,6 +80,17 @@ pub(crate) enum Name<'a> {
 }
 
 /// The names that a part of a string spells: one or two, written with a dash between them.
+///
+/// # Examples
+///
+/// ```
+/// # #[cfg(feature = "tool_names")] {
+/// use target_lexicon::tool_names::changes;
+///
+/// let spelled = |text| changes(text).map(|it| it.names.to_string()).collect::<Vec<_>>();
+/// assert_eq!(spelled("aarch64-apple-macos13"), ["macosx13"]);
+/// # }
+/// ```
 #[derive(Clone, Copy, Debug, PartialEq, Eq)]
 pub struct Spelling<'a> {
     pub(crate) first: Name<'a>,

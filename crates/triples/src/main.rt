@@ -1,5 +1,5 @@
-//! Reads lines of target triples and writes what they are. `main` calls `run`, which reads the input, calls a function of
-//! the mode for what to write, and writes that; and then `conclude`, which gives the exit status.
+//! Reads lines of target triples and writes what they are. `main` calls `run`, which reads the input, calls a function
+//! of the mode for what to write, and writes that; and then `conclude`, which gives the exit status.
 #![tactic(auto)]
 
 mod json;

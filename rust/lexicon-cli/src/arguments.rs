@@ -155,13 +155,7 @@ pub fn command() -> Command {
                 .after_help("Example:\n  $ lexicon completions bash > ~/.local/share/bash-completion/completions/lexicon")
                 .arg(Arg::new("shell").required(true).value_name("SHELL").value_parser(value_parser!(clap_complete::Shell))),
             Command::new("manual")
-                .about("Write a manual page")
-                .after_help("Example:\n  $ lexicon manual | man -l -")
-                .arg(
-                    Arg::new("command")
-                        .value_name("COMMAND")
-                        .value_parser(PossibleValuesParser::new(["lexicon", "triples"]))
-                        .default_value("lexicon"),
-                ),
+                .about("Write the manual page")
+                .after_help("Example:\n  $ lexicon manual | man -l -"),
         ])
 }

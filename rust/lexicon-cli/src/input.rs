@@ -1,8 +1,8 @@
 //! The targets: arguments, or the lines of files and of standard input as they come.
+use crate::blocks::{each_block, Stop};
 use crate::refusal::visible;
-use crate::Fault;
+use crate::{streams, Fault};
 use clap::ArgMatches;
-use lexicon_cli::{each_block, streams, Stop};
 use std::fmt;
 use std::io::{self, ErrorKind};
 use std::path::{Path, PathBuf};

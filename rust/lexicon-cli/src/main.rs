@@ -1,14 +1,16 @@
 //! The command `lexicon`. What it says of a target it asks the crate `target-lexicon`; here is how targets are read, and how
 //! answers are laid out.
-#![forbid(unsafe_code)]
+#![deny(unsafe_code)] // except where `streams` looks before the runtime starts
 
 mod answers;
 mod arguments;
+mod blocks;
 mod input;
 mod json;
 mod matrix;
 mod output;
 mod refusal;
+mod streams;
 
 use arguments::{DIALECTS, FIELDS};
 use clap::error::{ContextKind, ContextValue, ErrorKind};
@@ -274,13 +276,6 @@ fn completion_script(arguments: &ArgMatches) -> String {
     String::from_utf8_lossy(&script).replace(" [TARGET]...", "")
 }
 
-fn manual_page(arguments: &ArgMatches) -> &'static str {
-    match arguments.get_one::<String>("command").map(String::as_str) {
-        Some("triples") => include_str!("../man/triples.1"),
-        _ => include_str!("../man/lexicon.1"),
-    }
-}
-
 fn dialect(arguments: &ArgMatches, option: &str) -> Option<Dialect> {
     let requested = arguments.get_one::<String>(option)?;
     DIALECTS
@@ -304,7 +299,7 @@ fn run(arguments: &ArgMatches) -> Result<i32, Fault> {
             outputs.write(|out| match name {
                 "names" => write_names(out, arguments),
                 "completions" => out.write_all(completion_script(arguments).as_bytes()),
-                "manual" => out.write_all(manual_page(arguments).as_bytes()),
+                "manual" => out.write_all(include_bytes!("../man/lexicon.1")),
                 other => unreachable!("{other} is no subcommand"),
             })?;
             outputs.end(false)?;

@@ -1,8 +1,7 @@
 //! The two outputs. What is written to one appears before what is written to the other later.
 use crate::json::{Json, Object};
-use crate::Fault;
+use crate::{streams, Fault};
 use clap::ArgMatches;
-use lexicon_cli::streams;
 use std::env;
 use std::io::{self, BufWriter, ErrorKind, Write};
 

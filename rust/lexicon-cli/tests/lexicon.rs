@@ -715,7 +715,4 @@ fn the_manual_and_the_completions_have_all_of_the_help() {
             }
         }
     }
-    assert!(answers(&["manual", "triples"])
-        .0
-        .starts_with(".TH TRIPLES 1"));
 }

@@ -1,18 +1,17 @@
-//! Standard streams of both commands that are closed, open for something else, or the input too; and memory that runs out.
+//! Standard streams that are closed, open for something else, or the input too; and memory that runs out.
 #![cfg(target_os = "linux")]
 use std::fs;
 use std::process::{Command, Output, Stdio};
 
-/// Runs a line of the shell, where `lexicon` and `triples` are the commands. A run that doesn't end is stopped, and so is one that
-/// writes a file of more than a megabyte.
+/// Runs a line of the shell, where `lexicon` is the command. A run that doesn't end is stopped, and so is one that writes a
+/// file of more than a megabyte.
 fn shell(line: &str) -> (String, String, i32) {
-    let commands = format!(
-        "ulimit -f 1000; lexicon() {{ timeout 20 '{}' \"$@\"; }}; triples() {{ timeout 20 '{}' \"$@\"; }}",
-        env!("CARGO_BIN_EXE_lexicon"),
-        env!("CARGO_BIN_EXE_triples")
+    let command = format!(
+        "ulimit -f 1000; lexicon() {{ timeout 20 '{}' \"$@\"; }}",
+        env!("CARGO_BIN_EXE_lexicon")
     );
     let run: Output = Command::new("sh")
-        .args(["-c", &format!("{commands}\n{line}")])
+        .args(["-c", &format!("{command}\n{line}")])
         .current_dir(env!("CARGO_TARGET_TMPDIR"))
         .stdin(Stdio::null())
         .output()
@@ -66,19 +65,12 @@ fn an_output_that_is_closed_or_only_for_reading_is_reported() {
                 "{words} {redirection}"
             );
         }
-        for (words, status) in [("", 1), ("matrix", 1), ("json", 1), ("no", 2)] {
-            let ran = shell(&format!("echo z80 | triples {words} {redirection}"));
-            assert_eq!(ran, ("".into(), "".into(), status), "{words} {redirection}");
-        }
-        assert_eq!(shell(&format!("triples < /dev/null {redirection}")).2, 0);
     }
     // A null device that is open for both, as other languages open it, is no closed one.
-    for command in ["lexicon settle z80", "echo z80 | triples"] {
-        assert_eq!(
-            shell(&format!("{command} 1<> /dev/null")),
-            ("".into(), "".into(), 0)
-        );
-    }
+    assert_eq!(
+        shell("lexicon settle z80 1<> /dev/null"),
+        ("".into(), "".into(), 0)
+    );
 }
 
 #[test]
@@ -92,10 +84,6 @@ fn an_input_that_is_closed_or_only_for_writing_is_reported() {
         assert_eq!(out, "[{\"target\":\"z80\",\"file\":null,\"line\":null,\"canonical\":\"z80-unknown-unknown-elf\"}]\n");
         assert_eq!(status, 3);
         assert_eq!(shell(&format!("lexicon check z80 {redirection}")).2, 0);
-        for mode in ["print", "matrix", "json"] {
-            let ran = shell(&format!("triples {mode} {redirection}"));
-            assert_eq!(ran, ("fault: Read failed\n".into(), "".into(), 1));
-        }
     }
 }
 
@@ -141,26 +129,11 @@ fn an_input_that_is_also_an_output_ends() {
         shell("lexicon settle < /dev/null > /dev/null 2>&1"),
         ("".into(), "".into(), 0)
     );
-    // `triples` reads the whole first.
-    file("both", "z80\nfoo\n");
-    let answers = "z80-unknown-unknown-elf\nerror: Unrecognized architecture: foo\n";
-    assert_eq!(
-        shell("triples < both >> both; cat both"),
-        (format!("z80\nfoo\n{answers}"), "".into(), 0)
-    );
 }
 
 #[test]
 fn an_input_larger_than_memory_is_reported() {
     let input = "head -c 200000000 /dev/zero | tr '\\0' a";
-    for mode in ["print", "matrix", "json"] {
-        let ran = shell(&format!("ulimit -v 100000; {input} | triples {mode}"));
-        assert_eq!(
-            ran,
-            ("fault: Out of memory\n".into(), "".into(), 1),
-            "{mode}"
-        );
-    }
     let ran = shell(&format!("ulimit -v 100000; {input} | lexicon check"));
     assert_eq!(
         ran,

@@ -1,7 +1,6 @@
 //! The errors as those of Rust: `Display` where the proved source has none, and `Error`.
 #[cfg(feature = "tool_names")]
-use crate::tool_names::NameError;
-use core::fmt;
+use {crate::tool_names::NameError, core::fmt};
 
 #[cfg(feature = "tool_names")]
 impl fmt::Display for NameError {

@@ -56,10 +56,10 @@ pub use parse_error::ParseError;
 pub use proved::{
     default_binary_format, Aarch64Architecture, Architecture, ArmArchitecture, BinaryFormat,
     CDataModel, CallingConvention, CleverArchitecture, CustomVendor, DefaultToHost,
-    DefaultToUnknown, DeploymentTarget, Endianness, Environment, Explanation,
-    Field, KnownVendor, Mips32Architecture, Mips64Architecture, OperatingSystem,
-    PointerWidth, Refusal, Riscv32Architecture, Riscv64Architecture, Size, Source, Sources, TextPart,
-    Triple, TripleRef, Vendor, VendorRef, X86_32Architecture, Z80Architecture,
+    DefaultToUnknown, DeploymentTarget, Endianness, Environment, Explanation, Field, KnownVendor,
+    Mips32Architecture, Mips64Architecture, OperatingSystem, PointerWidth, Refusal,
+    Riscv32Architecture, Riscv64Architecture, Size, Source, Sources, TextPart, Triple, TripleRef,
+    Vendor, VendorRef, X86_32Architecture, Z80Architecture,
 };
 
 #[cfg(feature = "tool_names")]

@@ -1,8 +1,8 @@
 //! The calls that allocate.
 use crate::proved::explain;
 use crate::{
-    CustomVendor, Explanation, KnownVendor, OperatingSystem, ParseError, Refusal, Triple, TripleRef,
-    Vendor, VendorRef,
+    CustomVendor, Explanation, KnownVendor, OperatingSystem, ParseError, Refusal, Triple,
+    TripleRef, Vendor, VendorRef,
 };
 use alloc::borrow::Cow;
 use alloc::boxed::Box;

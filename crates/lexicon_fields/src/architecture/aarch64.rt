@@ -14,6 +14,15 @@ use std::fmt;
 use std::str::FromStr;
 
 /// A 64-bit Arm architecture.
+///
+/// # Examples
+///
+/// ```
+/// use target_lexicon::{Architecture, Aarch64Architecture};
+///
+/// let architecture: Architecture = "aarch64_be".parse().unwrap();
+/// assert_eq!(architecture, Architecture::Aarch64(Aarch64Architecture::Aarch64be));
+/// ```
 #[derive(Clone, Copy, Debug, PartialEq, Eq, Hash)]
 pub enum Aarch64Architecture {
     // written by tools/names/write: the variants of Aarch64Architecture
@@ -26,6 +35,12 @@ pub enum Aarch64Architecture {
 
 impl Aarch64Architecture {
     /// Whether this architecture uses the Thumb instruction set: none does.
+    ///
+    /// # Examples
+    ///
+    /// ```
+    /// assert!(!target_lexicon::Aarch64Architecture::Aarch64.is_thumb());
+    /// ```
     pub fn is_thumb(self) -> bool
         ensures { result ≡ false }
     {
@@ -33,6 +48,14 @@ impl Aarch64Architecture {
     }
 
     /// The width of a pointer: 64 bits on each. In a triple, the environment can make it 32.
+    ///
+    /// # Examples
+    ///
+    /// ```
+    /// use target_lexicon::{Aarch64Architecture, PointerWidth};
+    ///
+    /// assert_eq!(Aarch64Architecture::Aarch64.pointer_width(), PointerWidth::U64);
+    /// ```
     pub fn pointer_width(self) -> PointerWidth
         ensures { result ≡ PointerWidth.U64 }
     {
@@ -40,6 +63,14 @@ impl Aarch64Architecture {
     }
 
     /// The byte order.
+    ///
+    /// # Examples
+    ///
+    /// ```
+    /// use target_lexicon::{Aarch64Architecture, Endianness};
+    ///
+    /// assert_eq!(Aarch64Architecture::Aarch64be.endianness(), Endianness::Big);
+    /// ```
     pub fn endianness(self) -> Endianness
         ensures { result ≡ aarch64_endianness self }
     {
@@ -60,6 +91,12 @@ impl Aarch64Architecture {
     }
 
     /// The name. It is always borrowed.
+    ///
+    /// # Examples
+    ///
+    /// ```
+    /// assert_eq!(target_lexicon::Aarch64Architecture::Aarch64be.into_str(), "aarch64_be");
+    /// ```
     pub fn into_str(self) -> CowStr<'static>
         ensures name { cow_str_bytes result ≡ aarch64_name self }
         ensures borrowed { IsBorrowedStr result }

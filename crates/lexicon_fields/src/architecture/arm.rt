@@ -14,6 +14,15 @@ use std::fmt;
 use std::str::FromStr;
 
 /// A 32-bit Arm architecture, in the Arm or the Thumb instruction set.
+///
+/// # Examples
+///
+/// ```
+/// use target_lexicon::{Architecture, ArmArchitecture};
+///
+/// let architecture: Architecture = "thumbv7em".parse().unwrap();
+/// assert_eq!(architecture, Architecture::Arm(ArmArchitecture::Thumbv7em));
+/// ```
 #[derive(Clone, Copy, Debug, PartialEq, Eq, Hash)]
 pub enum ArmArchitecture {
     // written by tools/names/write: the variants of ArmArchitecture
@@ -106,6 +115,15 @@ pub enum ArmArchitecture {
 
 impl ArmArchitecture {
     /// Whether this architecture uses the Thumb instruction set.
+    ///
+    /// # Examples
+    ///
+    /// ```
+    /// use target_lexicon::ArmArchitecture;
+    ///
+    /// assert!(ArmArchitecture::Thumbv7em.is_thumb());
+    /// assert!(!ArmArchitecture::Armv7a.is_thumb());
+    /// ```
     pub fn is_thumb(self) -> bool
         ensures { result ≡ is_thumb self }
     {
@@ -125,6 +143,14 @@ impl ArmArchitecture {
     }
 
     /// The width of a pointer: 32 bits on each.
+    ///
+    /// # Examples
+    ///
+    /// ```
+    /// use target_lexicon::{ArmArchitecture, PointerWidth};
+    ///
+    /// assert_eq!(ArmArchitecture::Armv7a.pointer_width(), PointerWidth::U32);
+    /// ```
     pub fn pointer_width(self) -> PointerWidth
         ensures { result ≡ PointerWidth.U32 }
     {
@@ -132,6 +158,14 @@ impl ArmArchitecture {
     }
 
     /// The byte order.
+    ///
+    /// # Examples
+    ///
+    /// ```
+    /// use target_lexicon::{ArmArchitecture, Endianness};
+    ///
+    /// assert_eq!(ArmArchitecture::Armeb.endianness(), Endianness::Big);
+    /// ```
     pub fn endianness(self) -> Endianness
         ensures { result ≡ arm_endianness self }
     {
@@ -191,6 +225,12 @@ impl ArmArchitecture {
     }
 
     /// The name. It is always borrowed.
+    ///
+    /// # Examples
+    ///
+    /// ```
+    /// assert_eq!(target_lexicon::ArmArchitecture::Thumbv7em.into_str(), "thumbv7em");
+    /// ```
     pub fn into_str(self) -> CowStr<'static>
         ensures name { cow_str_bytes result ≡ arm_name self }
         ensures borrowed { IsBorrowedStr result }

@@ -11,6 +11,15 @@ use std::fmt;
 use std::str::FromStr;
 
 /// A Clever architecture.
+///
+/// # Examples
+///
+/// ```
+/// use target_lexicon::{Architecture, CleverArchitecture};
+///
+/// let architecture: Architecture = "clever1.0".parse().unwrap();
+/// assert_eq!(architecture, Architecture::Clever(CleverArchitecture::Clever1_0));
+/// ```
 #[derive(Clone, Copy, Debug, PartialEq, Eq, Hash)]
 pub enum CleverArchitecture {
     // written by tools/names/write: the variants of CleverArchitecture
@@ -33,6 +42,12 @@ impl CleverArchitecture {
     }
 
     /// The name. It is always borrowed.
+    ///
+    /// # Examples
+    ///
+    /// ```
+    /// assert_eq!(target_lexicon::CleverArchitecture::Clever1_0.into_str(), "clever1.0");
+    /// ```
     pub fn into_str(self) -> CowStr<'static>
         ensures name { cow_str_bytes result ≡ clever_name self }
         ensures borrowed { IsBorrowedStr result }

@@ -11,6 +11,15 @@ use std::fmt;
 use std::str::FromStr;
 
 /// A 32-bit MIPS architecture.
+///
+/// # Examples
+///
+/// ```
+/// use target_lexicon::{Architecture, Mips32Architecture};
+///
+/// let architecture: Architecture = "mipsel".parse().unwrap();
+/// assert_eq!(architecture, Architecture::Mips32(Mips32Architecture::Mipsel));
+/// ```
 #[derive(Clone, Copy, Debug, PartialEq, Eq, Hash)]
 pub enum Mips32Architecture {
     // written by tools/names/write: the variants of Mips32Architecture
@@ -37,6 +46,12 @@ impl Mips32Architecture {
     }
 
     /// The name. It is always borrowed.
+    ///
+    /// # Examples
+    ///
+    /// ```
+    /// assert_eq!(target_lexicon::Mips32Architecture::Mipsel.into_str(), "mipsel");
+    /// ```
     pub fn into_str(self) -> CowStr<'static>
         ensures name { cow_str_bytes result ≡ mips32_name self }
         ensures borrowed { IsBorrowedStr result }
@@ -79,6 +94,15 @@ impl fmt::Display for Mips32Architecture {
 }
 
 /// A 64-bit MIPS architecture.
+///
+/// # Examples
+///
+/// ```
+/// use target_lexicon::{Architecture, Mips64Architecture};
+///
+/// let architecture: Architecture = "mips64el".parse().unwrap();
+/// assert_eq!(architecture, Architecture::Mips64(Mips64Architecture::Mips64el));
+/// ```
 #[derive(Clone, Copy, Debug, PartialEq, Eq, Hash)]
 pub enum Mips64Architecture {
     // written by tools/names/write: the variants of Mips64Architecture
@@ -105,6 +129,12 @@ impl Mips64Architecture {
     }
 
     /// The name. It is always borrowed.
+    ///
+    /// # Examples
+    ///
+    /// ```
+    /// assert_eq!(target_lexicon::Mips64Architecture::Mips64el.into_str(), "mips64el");
+    /// ```
     pub fn into_str(self) -> CowStr<'static>
         ensures name { cow_str_bytes result ≡ mips64_name self }
         ensures borrowed { IsBorrowedStr result }

@@ -11,6 +11,15 @@ use std::fmt;
 use std::str::FromStr;
 
 /// A 32-bit RISC-V architecture, by its extensions.
+///
+/// # Examples
+///
+/// ```
+/// use target_lexicon::{Architecture, Riscv32Architecture};
+///
+/// let architecture: Architecture = "riscv32imac".parse().unwrap();
+/// assert_eq!(architecture, Architecture::Riscv32(Riscv32Architecture::Riscv32imac));
+/// ```
 #[derive(Clone, Copy, Debug, PartialEq, Eq, Hash)]
 pub enum Riscv32Architecture {
     // written by tools/names/write: the variants of Riscv32Architecture
@@ -45,6 +54,12 @@ impl Riscv32Architecture {
     }
 
     /// The name. It is always borrowed.
+    ///
+    /// # Examples
+    ///
+    /// ```
+    /// assert_eq!(target_lexicon::Riscv32Architecture::Riscv32imac.into_str(), "riscv32imac");
+    /// ```
     pub fn into_str(self) -> CowStr<'static>
         ensures name { cow_str_bytes result ≡ riscv32_name self }
         ensures borrowed { IsBorrowedStr result }
@@ -91,6 +106,15 @@ impl fmt::Display for Riscv32Architecture {
 }
 
 /// A 64-bit RISC-V architecture, by its extensions.
+///
+/// # Examples
+///
+/// ```
+/// use target_lexicon::{Architecture, Riscv64Architecture};
+///
+/// let architecture: Architecture = "riscv64gc".parse().unwrap();
+/// assert_eq!(architecture, Architecture::Riscv64(Riscv64Architecture::Riscv64gc));
+/// ```
 #[derive(Clone, Copy, Debug, PartialEq, Eq, Hash)]
 pub enum Riscv64Architecture {
     // written by tools/names/write: the variants of Riscv64Architecture
@@ -117,6 +141,12 @@ impl Riscv64Architecture {
     }
 
     /// The name. It is always borrowed.
+    ///
+    /// # Examples
+    ///
+    /// ```
+    /// assert_eq!(target_lexicon::Riscv64Architecture::Riscv64gc.into_str(), "riscv64gc");
+    /// ```
     pub fn into_str(self) -> CowStr<'static>
         ensures name { cow_str_bytes result ≡ riscv64_name self }
         ensures borrowed { IsBorrowedStr result }

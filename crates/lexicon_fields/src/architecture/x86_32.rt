@@ -11,6 +11,15 @@ use std::fmt;
 use std::str::FromStr;
 
 /// A 32-bit x86 architecture.
+///
+/// # Examples
+///
+/// ```
+/// use target_lexicon::{Architecture, X86_32Architecture};
+///
+/// let architecture: Architecture = "i686".parse().unwrap();
+/// assert_eq!(architecture, Architecture::X86_32(X86_32Architecture::I686));
+/// ```
 #[derive(Clone, Copy, Debug, PartialEq, Eq, Hash)]
 pub enum X86_32Architecture {
     // written by tools/names/write: the variants of X86_32Architecture
@@ -35,6 +44,12 @@ impl X86_32Architecture {
     }
 
     /// The name. It is always borrowed.
+    ///
+    /// # Examples
+    ///
+    /// ```
+    /// assert_eq!(target_lexicon::X86_32Architecture::I686.into_str(), "i686");
+    /// ```
     pub fn into_str(self) -> CowStr<'static>
         ensures name { cow_str_bytes result ≡ x86_32_name self }
         ensures borrowed { IsBorrowedStr result }

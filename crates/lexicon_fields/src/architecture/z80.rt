@@ -11,6 +11,15 @@ use std::fmt;
 use std::str::FromStr;
 
 /// An architecture of the Z80 family.
+///
+/// # Examples
+///
+/// ```
+/// use target_lexicon::{Architecture, Z80Architecture};
+///
+/// let architecture: Architecture = "z180".parse().unwrap();
+/// assert_eq!(architecture, Architecture::Z80(Z80Architecture::Z180));
+/// ```
 #[derive(Clone, Copy, Debug, PartialEq, Eq, Hash)]
 pub enum Z80Architecture {
     // written by tools/names/write: the variants of Z80Architecture
@@ -49,6 +58,12 @@ impl Z80Architecture {
     }
 
     /// The name. It is always borrowed.
+    ///
+    /// # Examples
+    ///
+    /// ```
+    /// assert_eq!(target_lexicon::Z80Architecture::Z180.into_str(), "z180");
+    /// ```
     pub fn into_str(self) -> CowStr<'static>
         ensures name { cow_str_bytes result ≡ z80_name self }
         ensures borrowed { IsBorrowedStr result }

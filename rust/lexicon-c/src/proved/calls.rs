@@ -36,7 +36,7 @@ pub fn print(triple: &NumberedTriple<'_>, out: &mut [u8]) -> Result<usize, Fault
 /// The canonical form.
 pub fn settle<'a>(triple: &NumberedTriple<'a>) -> Result<NumberedTriple<'a>, Fault> {
     match triple_in(triple) {
-        Ok(settling) => Ok(numbers_of(&settling.settle().ok_or(Fault::NoSuchVendor)?)),
+        Ok(settling) => Ok(numbers_of(&settling.step())),
         Err(fault) => Err(fault),
     }
 }

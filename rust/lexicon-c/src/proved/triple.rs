@@ -1,5 +1,6 @@
 // Erased from crates/lexicon_c/src/triple.rt by tools/erase. Don't edit it here.
-//! Triples as numbers. Functions that return a wide value are inlined where that saves a hundredth of parsing and printing.
+//! Triples as numbers. Functions that return a wide value are inlined where that saves a hundredth of parsing and
+//! printing.
 
 use core::str;
 use target_lexicon::proved::names::{
@@ -87,8 +88,8 @@ fn vendor_with<'a>(number: u8, text: &'a [u8]) -> Result<VendorRef<'a>, Fault> {
     }
 }
 
-/// The custom vendor of a string, if the string parses as one. Few triples have one: where it isn't inlined, the facts of a
-/// triple take 3 % fewer instructions.
+/// The custom vendor of a string, if the string parses as one. Few triples have one: where it isn't inlined, the facts
+/// of a triple take 3 % fewer instructions.
 #[inline(never)]
 fn custom_vendor(bytes: &[u8]) -> Result<VendorRef<'_>, Fault> {
     let Ok(text) = str::from_utf8(bytes) else {

@@ -49,13 +49,13 @@ pub struct TripleFacts {
 /// The facts of a triple.
 #[inline(always)]
 pub(crate) fn facts_of(triple: &TripleRef<'_>) -> TripleFacts {
-    let (data_model, sizes) = model_facts(model_of(triple));
+    let model = model_of(triple);
     TripleFacts {
         endianness: endianness_number(triple),
         pointer_width: pointer_width(triple),
         default_calling_convention: convention_number(triple),
-        data_model,
-        sizes,
+        data_model: model_number(model),
+        sizes: sizes_of(model),
         implied_format: binary_format_number(triple.default_binary_format()),
         object_format: binary_format_number(object_format(triple)),
         family: family_number(triple.architecture),
@@ -115,26 +115,27 @@ fn model_number(model: Option<CDataModel>) -> u8 {
     }
 }
 
-/// The number of a data model of C, and the sizes of C's types in it; 0 without one.
-fn model_facts(model: Option<CDataModel>) -> (u8, TypeSizes) {
-    let number = model_number(model);
-    (number, all_type_sizes()[usize::from(number)])
+/// The sizes of C's types in a data model; all 0 without one.
+fn sizes_of(model: Option<CDataModel>) -> TypeSizes {
+    match model {
+        Some(model) => TypeSizes {
+            short: model.short_size().bytes(),
+            int: model.int_size().bytes(),
+            long: model.long_size().bytes(),
+            long_long: model.long_long_size().bytes(),
+            float: model.float_size().bytes(),
+            double: model.double_size().bytes(),
+        },
+        None => TypeSizes {
+            short: 0,
+            int: 0,
+            long: 0,
+            long_long: 0,
+            float: 0,
+            double: 0,
+        },
+    }
 }
-
-/// The sizes of C's types without a data model, and then in each model, in the order of their numbers.
-fn all_type_sizes() -> &'static [TypeSizes] {
-    &TYPE_SIZES
-}
-
-#[rustfmt::skip]
-static TYPE_SIZES: [TypeSizes; 6] = [
-    TypeSizes { short: 0, int: 0, long: 0, long_long: 0, float: 0, double: 0 },
-    TypeSizes { short: 2, int: 2, long: 4, long_long: 8, float: 4, double: 8 },
-    TypeSizes { short: 2, int: 4, long: 4, long_long: 8, float: 4, double: 8 },
-    TypeSizes { short: 2, int: 4, long: 4, long_long: 8, float: 4, double: 8 },
-    TypeSizes { short: 2, int: 4, long: 8, long_long: 8, float: 4, double: 8 },
-    TypeSizes { short: 2, int: 8, long: 8, long_long: 8, float: 4, double: 8 },
-];
 
 /// Whether an architecture is an Arm one that is Thumb.
 fn is_thumb(architecture: Architecture) -> bool {

@@ -29,7 +29,8 @@ pub struct DeploymentTarget {
 }
 
 impl DeploymentTarget {
-    /// The version that the string parses as, if any: one to three pieces between dots, each an optional plus and digits.
+    /// The version that the string parses as, if any: one to three pieces between dots, each an optional plus and
+    /// digits.
     #[doc(hidden)]
     pub fn from_text(text: &str) -> Option<DeploymentTarget> {
         let (major, rest) = first_piece(text);

@@ -1,6 +1,6 @@
 // Erased from crates/target_lexicon/src/display.rt by tools/erase. Don't edit it here.
-//! Printing: what is shown of a triple, as pieces, and how these are written. Functions are inlined if they return a wide
-//! value, or if that saves a hundredth of printing.
+//! Printing: what is shown of a triple, as pieces, and how these are written. Functions are inlined if they return a
+//! wide value, or if that saves a hundredth of printing.
 
 use crate::proved::triple::Triple;
 use crate::proved::triple_ref::TripleRef;
@@ -156,8 +156,8 @@ impl<'a> TripleRef<'a> {
         self.shows_implied_format() || self.binary_format != self.default_binary_format()
     }
 
-    /// Whether the binary format is shown even if it is the implied one: without a system a known one is, except on some
-    /// architectures and in some environments.
+    /// Whether the binary format is shown even if it is the implied one: without a system a known one is, except on
+    /// some architectures and in some environments.
     fn shows_implied_format(&self) -> bool {
         matches!(
             self.operating_system,

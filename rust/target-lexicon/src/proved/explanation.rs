@@ -100,8 +100,8 @@ pub struct Sources<'a> {
 pub struct Explanation<'a> {
     /// The triple that the string parses as, or why it is refused.
     pub triple: Result<TripleRef<'a>, Refusal<'a>>,
-    /// The source of each field. If the string is refused, it says which parts before the refused one are of which field,
-    /// and every other field is `NotGiven`.
+    /// The source of each field. If the string is refused, it says which parts before the refused one are of which
+    /// field, and every other field is `NotGiven`.
     pub sources: Sources<'a>,
 }
 

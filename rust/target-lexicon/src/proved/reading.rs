@@ -38,8 +38,8 @@ impl<'a> Reading<'a> {
         }
     }
 
-    /// Takes a name into the first field that is open and that it parses as. `Err` if there is none; nothing changes then. A
-    /// name that has a row in the table of names is looked up once, and the comparisons aren't counted.
+    /// Takes a name into the first field that is open and that it parses as. `Err` if there is none; nothing changes
+    /// then. A name that has a row in the table of names is looked up once, and the comparisons aren't counted.
     #[inline(always)]
     pub fn take(&mut self, name: &'a str, part: TextPart<'a>) -> Result<(), Refusal<'a>> {
         match self.expected {
@@ -104,8 +104,8 @@ impl<'a> Reading<'a> {
         })
     }
 
-    /// Takes a system that a part spells, as [`take`](Reading::take) takes the system's name. The name is in no string: it
-    /// has no row, and parses as the system.
+    /// Takes a system that a part spells, as [`take`](Reading::take) takes the system's name. The name is in no string:
+    /// it has no row, and parses as the system.
     pub fn take_system(
         &mut self,
         system: OperatingSystem,

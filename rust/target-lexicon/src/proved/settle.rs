@@ -62,8 +62,9 @@ impl<'a> TripleRef<'a> {
         self.is_in_no_family()
     }
 
-    /// The normal step.
-    pub(crate) fn step(mut self) -> TripleRef<'a> {
+    /// The normal step of any triple. If the vendor is plain, it is the canonical form.
+    #[doc(hidden)]
+    pub fn step(mut self) -> TripleRef<'a> {
         if self.prints_as_special() {
             self.environment = Environment::Newlib;
             self.binary_format = BinaryFormat::Elf;

@@ -7,12 +7,12 @@ returns c = record {
   endianness = c.endianness_number.ensures;
   pointer_width = c.pointer_width.ensures;
   default_calling_convention = c.convention_number.ensures;
-  data_model = c.model_facts-data_model.ensures.number ∙ ap model_number c.model_of.ensures;
+  data_model = c.model_number.ensures ∙ ap model_number c.model_of-model.ensures;
   implied_format = search rules;
   object_format = search rules;
   family = c.family_number.ensures;
   is_thumb = search rules;
   is_like_darwin = search rules;
   has_custom_vendor = search rules;
-  sizes = c.model_facts-data_model.ensures.sizes ∙ ap type_sizes c.model_of.ensures;
+  sizes = c.sizes_of.ensures ∙ ap type_sizes c.model_of-model.ensures;
 }

@@ -12,7 +12,7 @@ use crate::proved::{first_part, TextPart};
 /// use target_lexicon::tool_names::changes;
 ///
 /// let change = changes("x86_64-w64-mingw32").last().unwrap();
-/// assert_eq!((change.part.text, change.part.start, change.part.end), ("mingw32", 11, 18));
+/// assert_eq!((change.part.text, change.part.range()), ("mingw32", 11..18));
 /// assert_eq!(change.names.to_string(), "windows-gnu");
 /// ```
 #[derive(Clone, Copy, Debug, PartialEq, Eq)]

@@ -23,8 +23,8 @@ use crate::proved::{first_part, Reading, Refusal, TripleRef};
 /// use target_lexicon::{tool_names::read, TripleRef};
 ///
 /// assert_eq!(read("amd64-w64-mingw32"), Ok(TripleRef::from_str("x86_64-pc-windows-gnu").unwrap()));
-/// let error = read("x86_64-foo-bar").unwrap_err();
-/// assert_eq!((error.start, error.end), (11, 14));
+/// let refusal = read("x86_64-foo-bar").unwrap_err();
+/// assert_eq!((refusal.range(), refusal.to_string()), (11..14, "Unrecognized operating system: bar".to_string()));
 /// ```
 pub fn read(text: &str) -> Result<TripleRef<'_>, Refusal<'_>> {
     match TripleRef::from_str(text) {

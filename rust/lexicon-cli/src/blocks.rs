@@ -1,8 +1,4 @@
-//! What both commands read and write: lines, as they come, and the standard streams.
-#![deny(unsafe_code)] // except where `streams` looks before the runtime starts
-
-pub mod streams;
-
+//! The lines of an input, as they come.
 use std::io::{self, ErrorKind, Read};
 use std::str;
 
