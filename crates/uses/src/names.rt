@@ -1,5 +1,5 @@
 //! Names: what a caller concludes from each law about them.
-ghost use Rattle.std.specs.Prelude.{◌≡◌, ◌≤◌, ◌+◌, ◌<◌, ◌^◌, ℕ, List, true, codes, length, Contains, IsTrue, Some};
+ghost use Rattle.std.specs.Prelude.{◌≡◌, ◌≤◌, ◌++◌, ◌∷◌, [], ◌+◌, ◌<◌, ◌^◌, ℕ, List, true, codes, length, Contains, IsTrue, Some};
 ghost use Rattle.std.specs.Cmp.Lexicographic.{slice_cmp};
 ghost use Rattle.std.specs.List.{IsDistinct};
 ghost use Rattle.std.specs.Ordering.{eq_by_cmp, nat_cmp};
@@ -8,6 +8,8 @@ ghost use Rattle.lexicon_fields.specs.BinaryFormat.{binary_format_name, binary_f
 ghost use Rattle.lexicon_fields.specs.Environment.{environment_name, environment_of};
 ghost use Rattle.lexicon_fields.specs.FixedRow.{has_row, row_count, row_texts};
 ghost use Rattle.lexicon_fields.specs.Laws.{HasVersionInRange};
+ghost use Rattle.lexicon_fields.specs.Names.{dash};
+ghost use Rattle.lexicon_fields.specs.Put.{IsPut, Puts};
 ghost use Rattle.lexicon_fields.specs.OperatingSystem.{operating_system_name, operating_system_of};
 ghost use Rattle.lexicon_fields.specs.SubArchitecture.{arm_name, aarch64_name, x86_32_name, mips32_name, mips64_name, riscv32_name, riscv64_name, clever_name, z80_name};
 ghost use Rattle.lexicon_fields.specs.Vendor.{VendorValue, is_plain, known_vendor_name, vendor_name, vendor_of};
@@ -59,6 +61,16 @@ pub fn names_of_strings_are_short()
         length (operating_system_name s) ≤ 8 }
 {
     laws::names_grow_at_most();
+}
+
+/// A dash that is put after a text at the start of a buffer follows it there.
+pub fn dashes_follow_texts()
+    ensures { (text old mid now : List ℕ) (end last : ℕ) →
+        Puts text old 0 mid end →
+        Puts (dash ∷ []) mid end now last →
+        IsPut (text ++ dash ∷ []) old now last }
+{
+    laws::texts_are_put_in_order();
 }
 
 /// Five names and the dashes between them fit into 109 bytes, if the vendor is a known one.
