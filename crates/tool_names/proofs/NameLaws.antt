@@ -16,7 +16,7 @@ use Rattle.tool_names.specs.declared.tables.Way.TheVariants.{Both, Read, Written
 use Rattle.tool_names.specs.{Dialects.rows_of, Dialects.rules_of, Private.is_short_pattern}
 use Rattle.tool_names.specs.{Laws.IsCanonical, Laws.IsNamed, Laws.NamesAreCanonical, Laws.NamesKeepAnswers, Laws.NamesMeanTheShape, Laws.NamesMeanTheirRows, Laws.MeansTheShape, Laws.ReadsBack, Laws.NamesReadBack, Laws.NamesWithoutTripleAreRefused, Laws.OneNumberIsEnough, Laws.TagsMeanTheSame, Laws.may_be_long, Laws.may_be_short}
 use Rattle.tool_names.specs.{ObjectFormat.object_format, Shape.machine_by, Shape.shape, Shape.system_by, Shape.unversioned, Shape.with_two_numbers}
-use Rattle.tool_names.specs.Patterns.{all_limits, are_within, filled, fits, star_count, with_number, without_number}
+use Rattle.tool_names.specs.Patterns.{all_limits, are_within, filled, fits, star_count, with_star, without_star}
 use Rattle.tool_names.specs.Tables.{Row, is_read_and, is_written, row_named}
 use Rattle.tool_names.specs.ToolNames.{HasNoTriple, Unread, found_meaning, name_meaning, numbers_in, read_or_unknown, row_meaning, shape_row, system_with, text_without_numbers, triple_name, version_of_numbers, with_numbers, without_numbers}
 use Rattle.tool_names.proofs.Filling.{counted_fits, filled_matches, fits_are_within, fits_counted, is_own_tag, is_spaced, match_fits}
@@ -270,12 +270,12 @@ pub one_number_enough : OneNumberIsEnough
 one_number_enough = record {
   two = λ d i row n tags at may small.
       let found = any-at (is_short_of row) (rows_of d) (implied (may_be_short row) (list_any (is_short_of row) (rows_of d)) may (and_parts _ _ (paired-at d i row tags at)).0) in
-      let parts = and_parts (bytes_eq found.row.pattern (without_number row.pattern)) (is_pair row found.row) found.holds in
-      ap (λ p. name_meaning d (filled p (n ∷ []))) (sym ((bytes_eq-Decides found.row.pattern (without_number row.pattern)).0 parts.0)) ∙ pair-means d i found.place row found.row n at found.listed parts.1 small;
+      let parts = and_parts (bytes_eq found.row.pattern (without_star row.pattern)) (is_pair row found.row) found.holds in
+      ap (λ p. name_meaning d (filled p (n ∷ []))) (sym ((bytes_eq-Decides found.row.pattern (without_star row.pattern)).0 parts.0)) ∙ pair-means d i found.place row found.row n at found.listed parts.1 small;
   one = λ d i row n tags at may small.
       let found = any-at (is_long_of row) (rows_of d) (implied (may_be_long row) (list_any (is_long_of row) (rows_of d)) may (and_parts _ _ (paired-at d i row tags at)).1) in
-      let parts = and_parts (bytes_eq found.row.pattern (with_number row.pattern)) (is_pair found.row row) found.holds in
-      pair-means d found.place i found.row row n found.listed at parts.1 small ∙ ap (λ p. name_meaning d (filled p (n ∷ 0 ∷ []))) ((bytes_eq-Decides found.row.pattern (with_number row.pattern)).0 parts.0);
+      let parts = and_parts (bytes_eq found.row.pattern (with_star row.pattern)) (is_pair found.row row) found.holds in
+      pair-means d found.place i found.row row n found.listed at parts.1 small ∙ ap (λ p. name_meaning d (filled p (n ∷ 0 ∷ []))) ((bytes_eq-Decides found.row.pattern (with_star row.pattern)).0 parts.0);
 }
 
 -- what a name means is canonical

@@ -15,7 +15,7 @@ use Rattle.tool_names.specs.declared.dialect.Dialect.TheVariants.{Debian}
 use Rattle.tool_names.specs.declared.tables.Way.{Way}
 use Rattle.tool_names.specs.declared.tables.Way.TheVariants.{Both, Written, NoTriple}
 use Rattle.tool_names.specs.{Dialects.rows_of, Dialects.rules_of, Laws.may_be_long, Laws.may_be_short, Private.is_short_pattern, Shape.shape}
-use Rattle.tool_names.specs.Patterns.{filled, star_count, with_number, without_number}
+use Rattle.tool_names.specs.Patterns.{filled, star_count, with_star, without_star}
 use Rattle.tool_names.specs.Tables.{Row, is_read_and, is_written, row_for}
 use Rattle.tool_names.specs.ToolNames.{Unread, read_or_unknown, triple_name, with_numbers}
 use Rattle.tool_names.proofs.Filling.{is_own_tag, is_spaced}
@@ -87,10 +87,10 @@ is_pair long short =
     && cond (has_triple long.way) (has_triple short.way) (not (has_triple short.way))
 
 abbrev pub is_short_of : Row → Row → Bool
-is_short_of long short = bytes_eq short.pattern (without_number long.pattern) && is_pair long short
+is_short_of long short = bytes_eq short.pattern (without_star long.pattern) && is_pair long short
 
 abbrev pub is_long_of : Row → Row → Bool
-is_long_of short long = bytes_eq long.pattern (with_number short.pattern) && is_pair long short
+is_long_of short long = bytes_eq long.pattern (with_star short.pattern) && is_pair long short
 
 abbrev pub has_pair : List Row → Row → Bool
 has_pair rows row = (not (may_be_short row) || list_any (is_short_of row) rows) && (not (may_be_long row) || list_any (is_long_of row) rows)

@@ -6,7 +6,7 @@ use Rattle.tool_names.specs.declared.dialect.Dialect.{Dialect}
 use Rattle.tool_names.specs.declared.tables.Way.{Way}
 use Rattle.tool_names.specs.declared.tables.Way.TheVariants.{Both, Written, NoTriple}
 use Rattle.tool_names.specs.{Dialects.rows_of, Dialects.rules_of, ObjectFormat.object_format, Shape.shape}
-use Rattle.tool_names.specs.Patterns.{filled, fits, matched, star_count, tag_of, with_number, without_number}
+use Rattle.tool_names.specs.Patterns.{filled, fits, matched, star_count, tag_of, with_star, without_star}
 use Rattle.tool_names.specs.Tables.{Row, is_read_and}
 use Rattle.tool_names.specs.ToolNames.{HasNoTriple, name_meaning, numbers_in, row_meaning, shape_row, system_with, triple_name}
 
@@ -77,9 +77,9 @@ may_be_long row = star_count row.pattern == 1 && is_kept row.way (reading row.me
 -- 0 as the second number
 pub record OneNumberIsEnough : Type 0 where
   pub two : (d : Dialect) (i : ℕ) (row : Row) (n : ℕ) → (rules_of d).tags ≡ true → slice_get (rows_of d) i ≡ Some row → may_be_short row ≡ true → n ≤ 65535
-      → name_meaning d (filled (without_number row.pattern) (n ∷ [])) ≡ name_meaning d (filled row.pattern (n ∷ 0 ∷ []))
+      → name_meaning d (filled (without_star row.pattern) (n ∷ [])) ≡ name_meaning d (filled row.pattern (n ∷ 0 ∷ []))
   pub one : (d : Dialect) (i : ℕ) (row : Row) (n : ℕ) → (rules_of d).tags ≡ true → slice_get (rows_of d) i ≡ Some row → may_be_long row ≡ true → n ≤ 65535
-      → name_meaning d (filled row.pattern (n ∷ [])) ≡ name_meaning d (filled (with_number row.pattern) (n ∷ 0 ∷ []))
+      → name_meaning d (filled row.pattern (n ∷ [])) ≡ name_meaning d (filled (with_star row.pattern) (n ∷ 0 ∷ []))
 
 -- the name of a triple means the shape of the triple, if it is read; and it is, if its row goes both ways, as each row with
 -- numbers does that is written

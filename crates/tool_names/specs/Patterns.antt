@@ -35,10 +35,10 @@ abbrev pub star_count : List ℕ → ℕ
 star_count [] = 0
 star_count (p ∷ ps) = if p == star then suc (star_count ps) else star_count ps
 
--- a pattern with one more star and `_` before its first star
-abbrev pub with_number : List ℕ → List ℕ
-with_number [] = []
-with_number (p ∷ ps) = if p == star then star ∷ underscore ∷ p ∷ ps else p ∷ with_number ps
+-- a pattern with one more star, and `_`, before its first star
+abbrev pub with_star : List ℕ → List ℕ
+with_star [] = []
+with_star (p ∷ ps) = if p == star then star ∷ underscore ∷ p ∷ ps else p ∷ with_star ps
 
 -- whether each number is within its limit
 abbrev pub are_within : List ℕ → List ℕ → Bool
@@ -51,9 +51,9 @@ abbrev pub fits : List ℕ → List ℕ → Bool
 fits pattern numbers = star_count pattern == length numbers && are_within all_limits numbers
 
 -- a pattern without its first star and the byte after it
-abbrev pub without_number : List ℕ → List ℕ
-without_number [] = []
-without_number (p ∷ ps) = if p == star then rest_of ps else p ∷ without_number ps
+abbrev pub without_star : List ℕ → List ℕ
+without_star [] = []
+without_star (p ∷ ps) = if p == star then rest_of ps else p ∷ without_star ps
 
 -- the digits that a text begins with, and what follows them
 abbrev pub digit_count : List ℕ → ℕ

@@ -190,8 +190,8 @@ fn without_numbers(system: OperatingSystem) -> OperatingSystem {
     }
 }
 
-/// The nearest of the rows' names without a number that are read, and are written or aren't, if a name may be a misspelling
-/// of it.
+/// The nearest of the names without a number that are read, and are written or aren't, if a name may be a misspelling of
+/// it.
 fn nearest_name(name: &str, rows: &'static [Row], written: bool) -> Option<&'static str> {
     let mut nearest = None;
     let mut limit = TOO_MANY_EDITS;
