@@ -106,6 +106,7 @@ def rust_lists(tables):
 
 def lists_of_languages(dialects):
     names = ", ".join(f'"{it.name}"' for it in dialects)
+    words = [it.name for it in dialects]
     read = [it for it in dialects if any(way in ("Both", "Read") for _, _, way in it.rows)]
     return {
         "the dialects for C": [f"LEXICON_DIALECT_{it.table} = {number}, /* {it.about.rstrip('.').replace('`', '')} */" for number, it in enumerate(dialects, 1)],
@@ -115,6 +116,8 @@ def lists_of_languages(dialects):
         "the dialects for the command": [f"pub const DIALECTS: [Dialect; {len(dialects)}] = [",
                                          *(f"    Dialect::{it.variant}," for it in sorted(dialects, key=lambda it: it not in read)), "];",
                                          f"const READ: usize = {len(read)};"],
+        "the dialects for the manual": [f"the tool whose names are read or written: {', '.join(words[:-1])} or {words[-1]}.",
+                                        "Names of a tool that are only written aren't read."],
         "the dialects for Python": [line for it in dialects for line in (f"#: {it.about}", f'{it.table} = "{it.name}"')],
         "the dialects for JavaScript": [f"export const DIALECTS = Object.freeze([{names}]);"],
         "the type of dialects": ["export type Dialect = " + " | ".join(f'"{it.name}"' for it in dialects) + ";"],
