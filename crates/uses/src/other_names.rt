@@ -17,8 +17,8 @@ ghost use Rattle.target_lexicon.specs.Values.{Values, host_values};
 ghost use Rattle.tool_names.specs.Changes.{PartChange, change_value, changes, spelling_names};
 ghost use Rattle.tool_names.specs.ObjectFormat.{object_format};
 ghost use Rattle.tool_names.specs.Dialects.{rows_of};
-ghost use Rattle.tool_names.specs.Laws.{GoesBothWays, IsNamed, IsOnlyWritten, IsWithoutTriple, may_be_short};
-ghost use Rattle.tool_names.specs.Patterns.{filled, fits, without_number};
+ghost use Rattle.tool_names.specs.Laws.{GoesBothWays, IsNamed, IsOnlyWritten, IsWithoutTriple, may_be_long, may_be_short};
+ghost use Rattle.tool_names.specs.Patterns.{filled, fits, with_star, without_star};
 ghost use Rattle.tool_names.specs.Shape.{shape};
 ghost use Rattle.target_lexicon.specs.ValuesRef.{PlacedRefusal};
 ghost use Rattle.tool_names.specs.Spelling.{first_spelling, first_spellings, is_known_name, later_spelling, later_spellings, name_texts, spelled_names, spelled_reading, versioned_spellings};
@@ -175,13 +175,18 @@ pub fn platforms_mean_their_tags()
     tool_names::laws::tags_mean_the_same();
 }
 
-/// A tag of macOS may have one number.
+/// A tag of macOS may have one number, in a row of the table that has two and in one that has one.
 pub fn one_number_names_a_platform()
-    ensures { (i : ℕ) (row : Row) →
+    ensures two { (i : ℕ) (row : Row) →
         slice_get (rows_of Dialect.Python) i ≡ Some row →
         may_be_short row ≡ true →
-        name_meaning Dialect.Python (filled (without_number row.pattern) (14 ∷ []))
+        name_meaning Dialect.Python (filled (without_star row.pattern) (14 ∷ []))
         ≡ name_meaning Dialect.Python (filled row.pattern (14 ∷ 0 ∷ [])) }
+    ensures one { (i : ℕ) (row : Row) →
+        slice_get (rows_of Dialect.Python) i ≡ Some row →
+        may_be_long row ≡ true →
+        name_meaning Dialect.Python (filled row.pattern (14 ∷ []))
+        ≡ name_meaning Dialect.Python (filled (with_star row.pattern) (14 ∷ 0 ∷ [])) }
 {
     tool_names::laws::one_number_is_enough();
 }
