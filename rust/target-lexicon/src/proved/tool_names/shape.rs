@@ -32,9 +32,9 @@ pub(crate) struct Rules {
 
 impl Dialect {
     /// The triple without what the dialect doesn't name: the vendor, which is the usual one of the system; the version
-    /// of the system, and how much of that of the architecture isn't stated; in Go, OCI, Node and Python also the C
-    /// library and the floating-point ABI, but on Linux Node states them. Python keeps versions of macOS and iOS, with two
-    /// numbers. The binary format stays.
+    /// of the system, and how much of that of the architecture isn't stated; where names don't state them, also the C
+    /// library and the floating-point ABI, as in Go, OCI and Python, and in Node except on Linux. Python keeps versions of
+    /// macOS and iOS, with two numbers. The binary format stays.
     ///
     /// # Examples
     ///
