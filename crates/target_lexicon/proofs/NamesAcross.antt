@@ -1,10 +1,10 @@
 -- The names of one field, parsed as an earlier field.
-use Rattle.std.proofs.Common.{◌≡◌, ℕ, List, true, false, Option, Some, None, refl}
+use Rattle.std.proofs.Common.{◌≡◌, ℕ, List, false, Option, Some, None, refl}
 use Rattle.std.proofs.Math.Bool.{and-false}
 use Rattle.target_lexicon.specs.Values.{OperatingSystem, Environment, BinaryFormat, VendorValue, Known}
-use Rattle.lexicon_fields.specs.{declared.known_vendor.KnownVendor.TheVariants.Unknown, Architecture.architecture_name, Architecture.architecture_of, Vendor.known_vendor_of, Vendor.is_admitted, Vendor.is_plain, Vendor.vendor_name, Vendor.vendor_of, Environment.environment_name, Environment.environment_of}
+use Rattle.lexicon_fields.specs.{declared.known_vendor.KnownVendor.TheVariants.Unknown, Vendor.known_vendor_of, Vendor.is_admitted, Vendor.vendor_of, Environment.environment_name, Environment.environment_of}
 use Rattle.lexicon_fields.specs.OperatingSystem.{operating_system_name, operating_system_of, fixed_operating_system_of}
-use Rattle.lexicon_fields.specs.{BinaryFormat.binary_format_name, BinaryFormat.binary_format_of, Laws.HasVersionInRange, Laws.NamesReadBackOn, Laws.NamesReadBack}
+use Rattle.lexicon_fields.specs.{BinaryFormat.binary_format_name, Laws.HasVersionInRange}
 use Rattle.lexicon_fields.proofs.LawOfNames.{NamesAreRead}
 use Rattle.target_lexicon.specs.Values.operating_system
 use Rattle.target_lexicon.specs.Values.environment

@@ -1,6 +1,6 @@
 -- Definitions for the contracts of private functions; no public contract cites them.
 use Rattle.std.specs.Borrow.{Bor}
-use Rattle.std.specs.Prelude.{◌≡◌, ◌-◌, length, ℕ, ◌∷◌, List, [], Bool, not, ◌&&◌, Option, Some, None, if◌then◌else◌}
+use Rattle.std.specs.Prelude.{◌-◌, length, ℕ, ◌∷◌, List, [], Bool, not, ◌&&◌, Option, Some, None, if◌then◌else◌}
 use Rattle.lexicon_fields.specs.Names.{dash}
 use Rattle.lexicon_fields.specs.{Vendor.is_plain, OperatingSystem.version_suffix, OperatingSystem.system_version}
 use Rattle.target_lexicon.specs.{Explanation.PlacedPart, Explanation.placed_from, declared.display.Piece.Piece, Values.OperatingSystem, Values.Values, Placement.parts_of}

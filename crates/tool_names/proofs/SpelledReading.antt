@@ -1,11 +1,11 @@
 -- What a string that is spelled like a triple reads as.
-use Rattle.std.proofs.Common.{◌≡◌, ◌∙◌, ℕ, ◌+◌, ◌-◌, List, [], ◌∷◌, length, Option, Some, None, Ok, Err, Bool, true, false, refl, sym, ap}
+use Rattle.std.proofs.Common.{◌≡◌, ◌∙◌, ℕ, ◌-◌, List, [], ◌∷◌, length, Option, Some, None, Ok, Err, Bool, true, false, refl, sym, ap}
 use Rattle.std.specs.Prelude.{MatchOption}
 use Rattle.std.specs.List.{join_with_byte}
 use Rattle.lexicon_fields.specs.{Architecture.architecture_of, Names.dash, Vendor.is_custom}
 use Rattle.lexicon_fields.proofs.LookUpLemmas.{value_named-all}
 use Rattle.target_lexicon.proofs.{ComputedReading.reading_computed, PartLemmas.parts_of-are}
-use Rattle.target_lexicon.specs.{Explanation.PlacedPart, Field.Architecture, GreedyReading.reading, GreedyReading.reading_of_parts, GreedyReading.reading_unless_special as port_reading, Placement.ArePartsOf, Placement.parts_of, Reading.PartsReadAs, Reading.ReadsAs, Refusal.refusal_with, SpecialTexts.esp_idf, SpecialTexts.esp_idf_text, SpecialTexts.nintendo_3ds, SpecialTexts.nintendo_3ds_text, SpecialTexts.special_values}
+use Rattle.target_lexicon.specs.{Field.Architecture, GreedyReading.reading, GreedyReading.reading_of_parts, GreedyReading.reading_unless_special as port_reading, Placement.ArePartsOf, Placement.parts_of, Reading.PartsReadAs, Reading.ReadsAs, Refusal.refusal_with, SpecialTexts.esp_idf, SpecialTexts.esp_idf_text, SpecialTexts.nintendo_3ds, SpecialTexts.nintendo_3ds_text, SpecialTexts.special_values}
 use Rattle.target_lexicon.specs.Values.{Values}
 use Rattle.tool_names.specs.Spelling.{KnownNamesAreReadAsBefore, SpelledName, first_at_end, located, reading_of_names, reading_unless_special, refusal_at, spelled_names, spelled_reading, unread_names}
 use Rattle.tool_names.proofs.SpelledNames.{CustomStays, names-stay}

@@ -1,7 +1,6 @@
 -- What is changed in a string that is spelled like a triple: the parts that are other spellings of known names, and a
 -- second part that states no vendor.
-use Rattle.std.specs.Prelude.{◌≡◌, ◌↔◌, false, ℕ, Bool, List, [], ◌∷◌, ◌++◌, Option, Some, None, Ok, if◌then◌else◌}
-use Rattle.std.specs.Borrow.{Bor}
+use Rattle.std.specs.Prelude.{◌≡◌, ◌↔◌, false, ℕ, Bool, List, [], ◌∷◌, ◌++◌, Ok, if◌then◌else◌}
 use Rattle.std.specs.List.{join_with_byte}
 use Rattle.std.specs.Str.{bytes_eq}
 use Rattle.lexicon_fields.specs.{Names.dash, Vendor.is_custom}

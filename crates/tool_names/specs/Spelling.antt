@@ -6,7 +6,7 @@ use Rattle.std.specs.List.{list_all, join_with_byte}
 use Rattle.std.specs.Option.{option_or, option_map_or}
 use Rattle.std.specs.Str.{bytes_eq}
 use Rattle.lexicon_fields.specs.{Architecture.architecture_of, BinaryFormat.binary_format_of, Environment.environment_of, FixedRow.has_row, Names.Pair, Names.dash, Names.value_named, OperatingSystem.operating_system_of, OperatingSystem.text_after_prefix, Vendor.is_custom, Vendor.vendor_of, Version.dot, Version.version_of}
-use Rattle.target_lexicon.specs.{Explanation.IsInText, Explanation.PlacedPart, Explanation.part_from, Field.Field, FixedPoints.canonical_text, FixedPoints.settled_values, GreedyReading.reading_of_parts, Placement.parts_of, Printing.text_of, Reading.IsRefusal, Reading.ReadsAs, Refusal.Refusal, Refusal.refusal_with, SpecialTexts.special_values, Values.Values, ValuesRef.PlacedRefusal}
+use Rattle.target_lexicon.specs.{Explanation.IsInText, Explanation.PlacedPart, Explanation.part_from, Field.Field, FixedPoints.canonical_text, FixedPoints.settled_values, GreedyReading.reading_of_parts, Placement.parts_of, Printing.text_of, Reading.IsRefusal, Reading.ReadsAs, Refusal.Refusal, SpecialTexts.special_values, Values.Values, ValuesRef.PlacedRefusal}
 
 -- other spellings of architectures, for the first part
 unfoldable pub first_spellings : List (Pair (List ℕ))

@@ -1,5 +1,5 @@
 use Rattle.std.specs.Borrow.{Bor}
-use Rattle.std.proofs.Common.{arith, ◌≤◌, ◌+◌, ◌-◌, length, rules, refl, [], ◌∷◌, Option, ◌≡◌, ◌∙◌, ℕ, List, Result, Ok, Err, Some, None, ap, sym, subst}
+use Rattle.std.proofs.Common.{arith, ◌≤◌, ◌+◌, ◌-◌, length, rules, refl, [], ◌∷◌, Option, ◌≡◌, ◌∙◌, ℕ, List, Ok, Err, Some, None, ap, sym, subst}
 use Rattle.std.specs.Option.{option_map_or}
 use Rattle.std.specs.Prelude.{IfOk, IfErr, IfSome, option_map, slice_get}
 use Rattle.target_lexicon.specs.{declared.reading.Reading.Reading, declared.explanation.Sources.Sources, declared.explanation.Explanation.Explanation, declared.refusal.Refusal.Refusal as BorrowedRefusal, declared.triple_ref.TripleRef.TripleRef, GreedyReading.reading_of_parts, Placement.parts_after, Placement.parts_of, Reading.ReadsAs, Reading.IsRefusedAs, SpecialTexts.special_values, ValuesRef.values_of_ref, ValuesRef.refusal_value, Refusal.refusal_with}
@@ -8,7 +8,7 @@ use Rattle.target_lexicon.specs.RemainingParts.{left_by_fields, outcome_of, take
 use Rattle.target_lexicon.proofs.{ComputedReading.Holds, ComputedReading.ordinary-holds}
 use Rattle.target_lexicon.proofs.SourceLemmas.{sources-in, refused-in, sources-explained, refused-explained, texts-placed}
 use Rattle.target_lexicon.proofs.{PartLemmas.parts_of-some, ResumedLemmas.GoesOn, ResumedLemmas.goes_on-first, ResumedLemmas.placed-some}
-use Rattle.target_lexicon.specs.Resumed.{NamedPart, named, plain_parts, resumed, resumed_left, resumed_sources, names_of}
+use Rattle.target_lexicon.specs.Resumed.{NamedPart, plain_parts, resumed, resumed_left, resumed_sources, names_of}
 use Rattle.target_lexicon.specs.{Field.Field, Private.rest_parts, Values.Values}
 use Rattle.target_lexicon.proofs.read.explain.Goals as goal
 

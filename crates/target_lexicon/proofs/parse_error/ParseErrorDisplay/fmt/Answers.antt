@@ -1,4 +1,4 @@
-use Rattle.std.proofs.Common.{rules, ◌≡◌, ◌++◌, ◌∙◌, Option, List, ℕ, ap}
+use Rattle.std.proofs.Common.{rules, ◌≡◌, ◌++◌, Option, ap}
 use Rattle.std.specs.Option.{option_map_or}
 use Rattle.std.specs.Prelude.{codes}
 use Rattle.std.proofs.Output.{has_written_styled_append, has_written_styled_of_eq}
