@@ -29,6 +29,7 @@ class Origin(enum.Enum):
         return f"Origin.{self.name}"
 
 
+#: By their numbers in C.
 _ORIGINS = tuple(Origin)
 
 
@@ -116,9 +117,8 @@ def _sources(triple: Triple, utf8: bytes, sources: _library.SourcesStruct) -> It
     for name in FIELDS:
         source, value = getattr(sources, name), str(getattr(triple, name))
         origin = _ORIGINS[source.origin]
-        if origin is not Origin.GIVEN:
+        if origin in (Origin.NOT_GIVEN, Origin.IMPLIED):
             yield Source(value, origin)
             continue
         start, part = range_in(utf8, source.start, source.end)
-        whole = value + (_version_text(triple.version) or "") if name == "operating_system" else value
-        yield Source(value, Origin.GIVEN if part == whole else Origin.ALIAS, part, start)
+        yield Source(value, origin, part, start)
