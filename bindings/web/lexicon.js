@@ -24,7 +24,7 @@ export const DIALECTS = Object.freeze(["debian", "go", "oci", "node", "gnu", "py
 const OK = 0, REFUSED = 6, TOO_SMALL = 8, NO_SUCH_VALUE = 10, NO_SUCH_VENDOR = 11;
 const UNKNOWN_NAME = 12, NAME_WITHOUT_TRIPLE = 13, TRIPLE_WITHOUT_NAME = 14;
 const CUSTOM = 255; // the number of every vendor that has none of its own
-const [NOT_GIVEN, GIVEN] = [0, 1]; // where a value comes from; else it is implied
+const ORIGINS = ["not given", "given", "implied", "alias"]; // where a value comes from, by the numbers
 const ENDIANNESS = [null, "little", "big"];
 const CONVENTIONS = [null, "SystemV", "WasmBasicCAbi", "WindowsFastcall", "AppleAarch64"];
 const MODELS = [null, "LP32", "ILP32", "LLP64", "LP64", "ILP64"];
@@ -289,17 +289,13 @@ function errorAt(it, status, text, given, dialect = 0) {
   return new ParseError(reason === null ? line : `${line}: ${reason}`, status, range, text, start, end, suggestion, reason);
 }
 
-/** Where the value of a field comes from; `own` is the value as it is printed, or null for that of the part. */
-function sourceAt(it, field, text, size, own) {
-  const place = SOURCE_TABLE + field * SOURCE_SIZE, origin = it.number(place);
-  if (origin === NOT_GIVEN) return { origin: "not given", part: null };
-  if (origin !== GIVEN) return { origin: "implied", part: null };
-  const [, [start, end]] = rangesAt(it, place + 4, text, size), part = text.slice(start, end);
-  return { origin: part === own ? "given" : "alias", part, start, end };
+/** Where the value of a field comes from. */
+function sourceAt(it, field, text, size) {
+  const place = SOURCE_TABLE + field * SOURCE_SIZE, origin = ORIGINS[it.number(place)];
+  if (origin === "not given" || origin === "implied") return { origin, part: null };
+  const [, [start, end]] = rangesAt(it, place + 4, text, size);
+  return { origin, part: text.slice(start, end), start, end };
 }
-
-const systemName = ({ operatingSystem, version }) =>
-  version === null ? operatingSystem : `${operatingSystem}${version.major}.${version.minor}.${version.patch}`;
 
 const SECRET = Symbol();
 
@@ -346,13 +342,10 @@ export class Triple {
     const status = it.call("explain", ...given, it.base + FIRST, it.base + SOURCE_TABLE, it.base + ERROR);
     if (status > REFUSED) throw failure(status);
     const triple = status === OK ? it.tripleAt() : null;
-    const fields = Object.fromEntries(FIELDS.map((field, index) => {
-      const own = triple && (field === "operatingSystem" ? systemName(triple) : triple[field]);
-      return [field, { value: triple && triple[field], ...sourceAt(it, index, text, size, own) }];
-    }));
+    const fields = Object.fromEntries(FIELDS.map((field, index) => [field, { value: triple && triple[field], ...sourceAt(it, index, text, size) }]));
     if (triple) return { text, triple, error: null, fields, suggestion: it.string(it.call("vendor_suggestion", it.base + FIRST)) };
     const error = errorAt(it, status, text, given);
-    for (const field of FIELDS) Object.assign(fields[field], valueOf(field, fields[field].part));
+    for (const field of FIELDS) fields[field].value = valueOf(field, fields[field].part);
     return { text, triple, error, fields, suggestion: error.suggestion };
   }
 
@@ -459,11 +452,10 @@ export class Triple {
   }
 }
 
-/** The value of a field that a part of a refused string gives. */
+/** The value of a field that a part of a refused string gives, or null without a part. */
 function valueOf(field, part) {
-  if (part === null) return {};
-  const number = numberOf(field, part), value = number === CUSTOM && field === "vendor" ? part : namesOf(field)[number];
-  return { value, origin: value === part ? "given" : "alias" };
+  const number = part === null ? null : numberOf(field, part);
+  return number === CUSTOM && field === "vendor" ? part : namesOf(field)[number] ?? null;
 }
 
 /** The names of a field's values, by their numbers. */

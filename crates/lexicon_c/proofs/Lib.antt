@@ -1,3 +1,4 @@
--- Names: numbers past the end of a field. Triples: triples as numbers.
+-- Names: numbers past the end of a field. SpelledNames: names of two pieces. Triples: triples as numbers.
 pub mod Names
+pub mod SpelledNames
 pub mod Triples

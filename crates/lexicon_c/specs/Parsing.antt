@@ -1,9 +1,10 @@
 -- What is answered of a string that is parsed: the triple, where its fields come from, and the refused part.
-use Rattle.std.specs.Prelude.{◌≡◌, ◌<◌, ◌^◌, ℕ, suc, List, Option, Some, None, Result, Ok, Err}
+use Rattle.std.specs.Prelude.{◌≡◌, ◌<◌, ◌^◌, ℕ, suc, List, Option, Some, None, Result, Ok, Err, if◌then◌else◌}
 use Rattle.target_lexicon.specs.Explanation.{AreInText, AreSourcesOf, FromPart, Implied, IsInText, IsRefusedAfter, NotGiven, PlacedPart, SourceValue, SourceValues, part_end}
 use Rattle.target_lexicon.specs.{Field.Field, Field.field_number, Reading.ReadsAs, Reading.IsRefusedAs, Values.Values}
 use Rattle.target_lexicon.specs.{Refusal.Refusal, ValuesRef.PlacedRefusal}
-use Rattle.lexicon_c.specs.{declared.error.TextError.TextError, declared.sources.FieldSource.FieldSource, declared.sources.FieldSources.FieldSources}
+use Rattle.target_lexicon.specs.Field as field
+use Rattle.lexicon_c.specs.{Numbers.is_name_in, declared.error.TextError.TextError, declared.sources.FieldSource.FieldSource, declared.sources.FieldSources.FieldSources}
 
 -- the string parses as a triple of which this holds, or it is refused, and that holds of the refusal
 abbrev pub Parses : {R E : Type 0} → List ℕ → (Values → R → Type 0) → (Refusal → E → Type 0) → Result R E → Type 0
@@ -15,11 +16,15 @@ abbrev pub refusal_status : Option Field → ℕ
 refusal_status (Some field) = suc (field_number field)
 refusal_status None = 6
 
--- a source as numbers: 0 is no part, 1 a part with its range, 2 the other fields
-abbrev pub source_numbers : SourceValue → FieldSource
-source_numbers NotGiven = record { origin = 0; start = 0; end = 0 }
-source_numbers (FromPart part) = record { origin = 1; start = part.start; end = part_end part }
-source_numbers Implied = record { origin = 2; start = 0; end = 0 }
+-- a part that gives the value of a field: 1 if it is the name of the value, 3 if it is another spelling
+abbrev pub part_origin : Field → List ℕ → ℕ
+part_origin field text = if is_name_in field text then 1 else 3
+
+-- the source of a field as numbers: 0 is no part, 1 and 3 a part with its range, 2 the other fields
+abbrev pub source_numbers : Field → SourceValue → FieldSource
+source_numbers field NotGiven = record { origin = 0; start = 0; end = 0 }
+source_numbers field (FromPart part) = record { origin = part_origin field part.text; start = part.start; end = part_end part }
+source_numbers field Implied = record { origin = 2; start = 0; end = 0 }
 
 -- the range of a source is one of numbers of the machine
 abbrev pub HasRange : SourceValue → Type 0
@@ -32,11 +37,11 @@ HaveRanges s = HasRange s.architecture × HasRange s.vendor × HasRange s.operat
 
 abbrev pub sources_numbers : SourceValues → FieldSources
 sources_numbers s = record {
-  architecture = source_numbers s.architecture;
-  vendor = source_numbers s.vendor;
-  operating_system = source_numbers s.operating_system;
-  environment = source_numbers s.environment;
-  binary_format = source_numbers s.binary_format;
+  architecture = source_numbers field.Architecture s.architecture;
+  vendor = source_numbers field.Vendor s.vendor;
+  operating_system = source_numbers field.OperatingSystem s.operating_system;
+  environment = source_numbers field.Environment s.environment;
+  binary_format = source_numbers field.BinaryFormat s.binary_format;
 }
 
 -- these are the sources of the string's fields

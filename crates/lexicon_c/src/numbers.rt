@@ -1,14 +1,19 @@
-//! The number of a string in one field, and the name of a number.
+//! The number of a string in one field, the name of a number, and whether a string is a name.
 ghost use Rattle.std.specs.Prelude.{◌≡◌, false, MatchOption, option_map};
+ghost use Rattle.std.specs.Str.{bytes_eq};
+ghost use Rattle.lexicon_fields.specs.OperatingSystem.{operating_system_name, system_version, version_suffix};
 ghost use Rattle.target_lexicon.specs.Field.{parses_as};
-ghost use Rattle.lexicon_c.specs.Numbers.{IsNumberIn, name_at};
+ghost use Rattle.lexicon_c.specs.Numbers.{IsNumberIn, is_name_in, name_at};
 
 use crate::triple::vendor_number;
 use lexicon_names::{
     architecture_at, architecture_number, binary_format_at, binary_format_number, environment_at,
     environment_number, known_vendor_at, operating_system_at, operating_system_number,
 };
-use target_lexicon::{Architecture, BinaryFormat, Environment, Field, OperatingSystem, VendorRef};
+use target_lexicon::{
+    Architecture, BinaryFormat, Environment, Field, MAX_VERSION_LENGTH, OperatingSystem, VendorRef,
+    version_text,
+};
 
 /// The number of the value that the string is in the field.
 #[tactic(auto, unfolding(target_lexicon::specs::Field::parses_as))]
@@ -67,6 +72,54 @@ pub fn name_at(field: Field, number: u32) -> Option<&'static str>
         Field::BinaryFormat => match binary_format_at(number) {
             Some(value) => Some(value.name()),
             None => None,
+        },
+    }
+}
+
+/// Whether a string is the name of a system, its version included.
+fn is_name_of_system(text: &str, system: OperatingSystem) -> bool
+    ensures { result ≡ bytes_eq text.now (operating_system_name system) }
+{
+    match text.strip_prefix(system.prefix()) {
+        Some(rest) => is_version_of_system(rest, system),
+        None => false,
+    }
+}
+
+/// Whether a string is the version of a system; without one it must be empty.
+fn is_version_of_system(text: &str, system: OperatingSystem) -> bool
+    ensures { result ≡ bytes_eq text.now (version_suffix (system_version system)) }
+{
+    match system.version() {
+        Some(version) => text == version_text(version, &mut [0; MAX_VERSION_LENGTH]),
+        None => text.is_empty(),
+    }
+}
+
+/// Whether a string is the name of the value that it is in a field.
+pub(crate) fn is_name_in(field: Field, text: &str) -> bool
+    ensures { result ≡ is_name_in field text.now }
+{
+    match field {
+        Field::Architecture => match Architecture::from_str(text) {
+            Ok(value) => text == value.name(),
+            Err(()) => false,
+        },
+        Field::Vendor => match VendorRef::from_str(text) {
+            Ok(value) => text == value.as_str(),
+            Err(()) => false,
+        },
+        Field::OperatingSystem => match OperatingSystem::from_str(text) {
+            Ok(value) => is_name_of_system(text, value),
+            Err(()) => false,
+        },
+        Field::Environment => match Environment::from_str(text) {
+            Ok(value) => text == value.name(),
+            Err(()) => false,
+        },
+        Field::BinaryFormat => match BinaryFormat::from_str(text) {
+            Ok(value) => text == value.name(),
+            Err(()) => false,
         },
     }
 }

@@ -3,10 +3,11 @@ ghost use Rattle.std.specs.Prelude.{◌≡◌};
 ghost use Rattle.target_lexicon.specs.Explanation.{source_value, sources_of};
 ghost use Rattle.lexicon_c.specs.Parsing.{HasRange, HaveRanges, source_numbers, sources_numbers};
 
-use target_lexicon::{Source, Sources};
+use crate::numbers::is_name_in;
+use target_lexicon::{Field, Source, Sources};
 
 /// Where the value of a field comes from: 0 is no part of the string, 1 the part in this range of bytes, 2 the other
-/// fields.
+/// fields, and 3 the part in this range, which is another spelling than the name of the value.
 #[repr(C)]
 #[derive(Clone, Copy)]
 pub struct FieldSource {
@@ -26,10 +27,10 @@ pub struct FieldSources {
     pub binary_format: FieldSource,
 }
 
-/// A source as numbers.
-fn source_numbers(source: Source<'_>) -> FieldSource
+/// The source of a field as numbers.
+fn source_numbers(field: Field, source: Source<'_>) -> FieldSource
     requires { HasRange (source_value source) }
-    ensures { result ≡ source_numbers (source_value source.entry) }
+    ensures { result ≡ source_numbers field (source_value source.entry) }
 {
     match source {
         Source::NotGiven => FieldSource {
@@ -40,7 +41,7 @@ fn source_numbers(source: Source<'_>) -> FieldSource
         Source::Part(part) => {
             let range = part.range();
             FieldSource {
-                origin: 1,
+                origin: if is_name_in(field, part.text) { 1 } else { 3 },
                 start: range.start,
                 end: range.end,
             }
@@ -59,10 +60,10 @@ pub(crate) fn sources_numbers(sources: &Sources<'_>) -> FieldSources
     ensures { result ≡ sources_numbers (sources_of sources.now) }
 {
     FieldSources {
-        architecture: source_numbers(sources.architecture),
-        vendor: source_numbers(sources.vendor),
-        operating_system: source_numbers(sources.operating_system),
-        environment: source_numbers(sources.environment),
-        binary_format: source_numbers(sources.binary_format),
+        architecture: source_numbers(Field::Architecture, sources.architecture),
+        vendor: source_numbers(Field::Vendor, sources.vendor),
+        operating_system: source_numbers(Field::OperatingSystem, sources.operating_system),
+        environment: source_numbers(Field::Environment, sources.environment),
+        binary_format: source_numbers(Field::BinaryFormat, sources.binary_format),
     }
 }

@@ -420,11 +420,13 @@ struct lexicon_error {
   size_t start, end;
 };
 
-/* Where the value of a field comes from. start and end are 0 unless the origin is LEXICON_ORIGIN_GIVEN. */
+/* Where the value of a field comes from. start and end are 0 unless a part of the string gives it. */
 enum lexicon_origin {
   LEXICON_ORIGIN_NOT_GIVEN = 0, /* no part of the string is of this field, which is unknown */
-  LEXICON_ORIGIN_GIVEN = 1,     /* this part of the string; a special string such as armv6k-nintendo-3ds is one part, of all fields */
-  LEXICON_ORIGIN_IMPLIED = 2    /* the binary format that the other fields imply */
+  LEXICON_ORIGIN_GIVEN = 1,     /* this part of the string, which is the name of the value, as it is printed */
+  LEXICON_ORIGIN_IMPLIED = 2,   /* the binary format that the other fields imply */
+  LEXICON_ORIGIN_ALIAS = 3      /* this part of the string, which is another spelling: arm64, or ios17 for ios17.0.0. A special
+                                   string such as armv6k-nintendo-3ds is one part, of all fields */
 };
 struct lexicon_source {
   uint32_t origin; /* enum lexicon_origin */

@@ -125,7 +125,9 @@ enum class DataModel : std::uint8_t {
 };
 
 // Where the value of a field comes from: nowhere, so that it is unknown; a part of the string; or the other fields.
-enum class Origin : std::uint8_t { NotGiven = LEXICON_ORIGIN_NOT_GIVEN, Given = LEXICON_ORIGIN_GIVEN, Implied = LEXICON_ORIGIN_IMPLIED };
+enum class Origin : std::uint8_t {
+  NotGiven = LEXICON_ORIGIN_NOT_GIVEN, Given = LEXICON_ORIGIN_GIVEN, Implied = LEXICON_ORIGIN_IMPLIED, Alias = LEXICON_ORIGIN_ALIAS
+};
 
 namespace detail {
 
@@ -192,7 +194,7 @@ inline std::string_view name(CallingConvention value) {
   return detail::name_at(names, static_cast<std::size_t>(value));
 }
 inline std::string_view name(Origin value) {
-  constexpr const char* names[] = {"not given", "given", "implied"};
+  constexpr const char* names[] = {"not given", "given", "implied", "alias"};
   return detail::name_at(names, static_cast<std::size_t>(value));
 }
 inline std::string_view name(DataModel value) {
@@ -236,7 +238,7 @@ struct ParseError {
 
 struct Source {
   Origin origin = Origin::NotGiven;
-  std::size_t start = 0, end = 0;  // the part, in bytes; 0 unless it is given
+  std::size_t start = 0, end = 0;  // the part, in bytes; 0 if no part gives the value
 };
 struct Explanation;
 

@@ -404,6 +404,16 @@ static void try_sources(void) {
   expect(it.vendor.origin == LEXICON_ORIGIN_NOT_GIVEN && it.vendor.start == 0 && it.vendor.end == 0, "source", "vendor");
   expect(it.operating_system.origin == LEXICON_ORIGIN_GIVEN && it.operating_system.start == 7 && it.operating_system.end == 12, "source", "system");
   expect(it.environment.start == 13 && it.environment.end == 16 && it.binary_format.origin == LEXICON_ORIGIN_IMPLIED, "source", "others");
+  static const struct { const char *text; enum lexicon_origin architecture, operating_system; } origins[] = {
+    {"aarch64-apple-ios17.0.0", LEXICON_ORIGIN_GIVEN, LEXICON_ORIGIN_GIVEN}, {"arm64-apple-ios", LEXICON_ORIGIN_ALIAS, LEXICON_ORIGIN_GIVEN},
+    {"aarch64-apple-ios17", LEXICON_ORIGIN_GIVEN, LEXICON_ORIGIN_ALIAS}, {"aarch64-apple-ios017.0.0", LEXICON_ORIGIN_GIVEN, LEXICON_ORIGIN_ALIAS},
+    {"armv6k-nintendo-3ds", LEXICON_ORIGIN_ALIAS, LEXICON_ORIGIN_ALIAS}, {"arm64-apple-ios1-x", LEXICON_ORIGIN_ALIAS, LEXICON_ORIGIN_ALIAS},
+  };
+  for (size_t i = 0; i < sizeof origins / sizeof *origins; i++) {
+    enum lexicon_status status = lexicon_explain(origins[i].text, strlen(origins[i].text), &triple, &it, NULL);
+    expect(status == LEXICON_OK || i == 5, "explain", origins[i].text);
+    expect(it.architecture.origin == origins[i].architecture && it.operating_system.origin == origins[i].operating_system, "origin", origins[i].text);
+  }
 }
 
 static void try_names(void) {

@@ -128,6 +128,8 @@ static void try_explain() {
   EXPECT(it && it->triple == parsed(text) && part(it->architecture) == "x86_64" && part(it->vendor) == "acme" && part(it->operating_system) == "linux");
   EXPECT(it->vendor.origin == Origin::Given && it->environment.origin == Origin::NotGiven && it->environment.end == 0);
   EXPECT(it->binary_format.origin == Origin::Implied && shown(it->binary_format.origin) == "implied" && name(Origin::Given) == "given");
+  auto alias = Triple::explain("arm64-apple-ios17");
+  EXPECT(alias->architecture.origin == Origin::Alias && shown(alias->operating_system.origin) == "alias" && alias->vendor.origin == Origin::Given);
   EXPECT(Triple::explain("arm64-linux-gnu-elf")->environment.start == 12 && Triple::explain("arm64-linux-gnu-elf")->binary_format.start == 16);
   ParseError error;
   EXPECT(!Triple::explain("x86_64-pc-linx", &error) && error.part == "linx" && error.suggestion == "linux" && !Triple::explain("foo"));

@@ -249,7 +249,7 @@ static void try_error(const char *text, size_t size, const struct lexicon_error 
 }
 
 static void try_source(const struct lexicon_source *it, size_t size) {
-  if (it->origin == LEXICON_ORIGIN_GIVEN) CHECK(it->start <= it->end && it->end <= size);
+  if (it->origin == LEXICON_ORIGIN_GIVEN || it->origin == LEXICON_ORIGIN_ALIAS) CHECK(it->start <= it->end && it->end <= size);
   else CHECK((it->origin == LEXICON_ORIGIN_NOT_GIVEN || it->origin == LEXICON_ORIGIN_IMPLIED) && it->start == 0 && it->end == 0);
 }
 

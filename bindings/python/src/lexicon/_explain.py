@@ -22,6 +22,7 @@ class Origin(NamedValue):
     ALIAS = "alias"
 
 
+#: By their numbers in C.
 _ORIGINS = members(Origin)
 
 
@@ -109,9 +110,8 @@ def _sources(triple: Triple, utf8: bytes, sources: _library.SourcesStruct) -> It
     for name in FIELDS:
         source, value = getattr(sources, name), str(getattr(triple, name))
         origin = _ORIGINS[source.origin]
-        if origin is not Origin.GIVEN:
+        if origin in (Origin.NOT_GIVEN, Origin.IMPLIED):
             yield Source(value, origin)
             continue
         start, part = range_in(utf8, source.start, source.end)
-        whole = value + (_version_text(triple.version) or "") if name == "operating_system" else value
-        yield Source(value, Origin.GIVEN if part == whole else Origin.ALIAS, part, start)
+        yield Source(value, origin, part, start)

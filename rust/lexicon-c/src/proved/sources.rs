@@ -1,10 +1,11 @@
 // Erased from crates/lexicon_c/src/sources.rt by tools/erase. Don't edit it here.
 //! Where the fields of a triple come from in the string, as numbers.
 
-use target_lexicon::proved::{Source, Sources};
+use crate::proved::numbers::is_name_in;
+use target_lexicon::proved::{Field, Source, Sources};
 
 /// Where the value of a field comes from: 0 is no part of the string, 1 the part in this range of bytes, 2 the other
-/// fields.
+/// fields, and 3 the part in this range, which is another spelling than the name of the value.
 #[repr(C)]
 #[derive(Clone, Copy)]
 pub struct FieldSource {
@@ -24,8 +25,8 @@ pub struct FieldSources {
     pub binary_format: FieldSource,
 }
 
-/// A source as numbers.
-fn source_numbers(source: Source<'_>) -> FieldSource {
+/// The source of a field as numbers.
+fn source_numbers(field: Field, source: Source<'_>) -> FieldSource {
     match source {
         Source::NotGiven => FieldSource {
             origin: 0,
@@ -35,7 +36,7 @@ fn source_numbers(source: Source<'_>) -> FieldSource {
         Source::Part(part) => {
             let range = part.range();
             FieldSource {
-                origin: 1,
+                origin: if is_name_in(field, part.text) { 1 } else { 3 },
                 start: range.start,
                 end: range.end,
             }
@@ -51,10 +52,10 @@ fn source_numbers(source: Source<'_>) -> FieldSource {
 /// The sources of a triple as numbers.
 pub(crate) fn sources_numbers(sources: &Sources<'_>) -> FieldSources {
     FieldSources {
-        architecture: source_numbers(sources.architecture),
-        vendor: source_numbers(sources.vendor),
-        operating_system: source_numbers(sources.operating_system),
-        environment: source_numbers(sources.environment),
-        binary_format: source_numbers(sources.binary_format),
+        architecture: source_numbers(Field::Architecture, sources.architecture),
+        vendor: source_numbers(Field::Vendor, sources.vendor),
+        operating_system: source_numbers(Field::OperatingSystem, sources.operating_system),
+        environment: source_numbers(Field::Environment, sources.environment),
+        binary_format: source_numbers(Field::BinaryFormat, sources.binary_format),
     }
 }
