@@ -84,8 +84,10 @@ class Comparison(Report):
                 words[own.pop() if own else word].append((dialect, row.name, row.triple.split("-")[0]))
         self.fact("a machine's word means one architecture in all dialects", (
             (*row, rows[0][2]) for rows in words.values() for row in rows))
+        # A name with one number says no more than that with two.
         self.fact("and one that only one name has is listed here", (
-            (word, rows[0][2], ONLY_ONCE.get(word)) for word, rows in words.items() if len(rows) == 1))
+            (word, rows[0][2], ONLY_ONCE.get(word)) for word, rows in words.items()
+            if rows[0][2] and len({(dialect, name.replace("*_*", "*")) for dialect, name, _ in rows}) == 1))
         self.fact("a word that says 64 or 32 is that of a machine with as many bits", (
             (word, rows[0][2], self.lexicon.Triple(rows[0][2]).pointer_width, 64 if "64" in word else 32)
             for word, rows in words.items() if re.search("64|32", word)), "x32")
@@ -220,7 +222,7 @@ def machine_of(dialect, name):
         return name.split("-")[:2]
     if dialect == "debian":
         return "", name.split("-")[-1]
-    system, word = re.fullmatch(r"(win|linux|manylinux[0-9_*]*|musllinux_\*|macosx_\*|ios_\*|android_\*|)_?(.*?)(?:_iphone\w+)?", name).groups()
+    system, word = re.fullmatch(r"(win|linux|manylinux[0-9_*]*|(?:musllinux|macosx|ios|android)[_*]*|)_?(.*?)(?:_iphone\w+)?", name).groups()
     return system, word if system != "win" or name != "win32" else name
 
 
