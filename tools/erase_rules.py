@@ -1,15 +1,15 @@
 """What tools/erase changes besides ghost parts. checks/erased.txt has what comes of it."""
 
-# The crates of each package of rust/, and the module below src/proved that each becomes. The files of a crate without a
+# The crates of each folder of packages/, and the module below src/proved that each becomes. The files of a crate without a
 # module are in src/proved itself.
 PACKAGES = {
-    "rust/target-lexicon": {
+    "packages/rust": {
         "lexicon_fields": "",
         "target_lexicon": "",
         "lexicon_names": "names",
         "tool_names": "tool_names",
     },
-    "rust/lexicon-c": {"lexicon_c": ""},
+    "packages/c": {"lexicon_c": ""},
 }
 # The modules that are compiled only with a feature of their name, and what of each is always compiled: suggestions need it.
 FEATURES = {"tool_names": {"macos", "spelling", "suggestions"}}

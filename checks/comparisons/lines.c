@@ -1,7 +1,7 @@
 /* The modes `print`, `show` and `settle` of the program `triples`, over the library for C.
 
    usage: lines_c print | show | settle < LINES */
-#include <lexicon.h>
+#include <target_lexicon.h>
 #include <stdio.h>
 #include <stdlib.h>
 #include <string.h>
