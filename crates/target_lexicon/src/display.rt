@@ -6,9 +6,9 @@ ghost use Rattle.lexicon_fields.specs.OperatingSystem.{version_suffix, system_ve
 ghost use Rattle.lexicon_fields.specs.Put.{IsPut, Puts};
 ghost use Rattle.lexicon_fields.specs.VendorRef.{ref_value};
 ghost use Rattle.target_lexicon.specs.Printing as spec;
-ghost use Rattle.target_lexicon.specs.Printing.{text_of, upstream_text_of};
 ghost use Rattle.target_lexicon.specs.Private.{piece_text, dashed_if, shown_version};
-ghost use Rattle.target_lexicon.specs.Values.{values_of, implies_newlib};
+ghost use Rattle.target_lexicon.specs.Values as values;
+ghost use Rattle.target_lexicon.specs.Values.{values_of};
 ghost use Rattle.target_lexicon.specs.ValuesRef.{values_of_ref};
 ghost use Rattle.target_lexicon.specs.Written.{IsWritten};
 
@@ -23,21 +23,20 @@ use std::alloc::{AllocError, Global};
 use std::fmt;
 
 impl fmt::Display for TripleRef<'_> {
-    ghost output = { λ it. Some (text_of (values_of_ref it)) };
+    ghost output = { λ it. Some (spec.text_of (values_of_ref it)) };
 
-    ghost styled_output = { λ it _. Some (text_of (values_of_ref it)) };
+    ghost styled_output = { λ it _. Some (spec.text_of (values_of_ref it)) };
 
     #[inline(always)]
-    #[tactic(auto, unfolding(crate::specs::Printing::text_of))]
     fn fmt<W: fmt::Write>(&self, f: &mut fmt::Formatter<W>) -> fmt::Result {
         self.pieces(self.shows_unknowns()).fmt(f)
     }
 }
 
 impl fmt::Display for Triple {
-    ghost output = { λ it. Some (text_of (values_of it)) };
+    ghost output = { λ it. Some (spec.text_of (values_of it)) };
 
-    ghost styled_output = { λ it _. Some (text_of (values_of it)) };
+    ghost styled_output = { λ it _. Some (spec.text_of (values_of it)) };
 
     fn fmt<W: fmt::Write>(&self, f: &mut fmt::Formatter<W>) -> fmt::Result {
         self.as_triple_ref().fmt(f)
@@ -47,7 +46,7 @@ impl fmt::Display for Triple {
 impl Triple {
     /// The printed text. `Err` if the allocation for it fails.
     pub fn to_text(&self, alloc: Global) -> Result<String, AllocError>
-        ensures { IfOk result (λ text. string_bytes text ≡ text_of (values_of self.now)) }
+        ensures { IfOk result (λ text. string_bytes text ≡ spec.text_of (values_of self.now)) }
     {
         self.as_triple_ref().to_text(alloc)
     }
@@ -57,7 +56,7 @@ impl Triple {
     /// `only_unknowns_differ_from_upstream`); then upstream parses it as another triple.
     pub fn to_upstream_text(&self, alloc: Global) -> Result<String, AllocError>
         ensures { IfOk result
-            (λ text. string_bytes text ≡ upstream_text_of (values_of self.now)) }
+            (λ text. string_bytes text ≡ spec.upstream_text_of (values_of self.now)) }
     {
         self.as_triple_ref().to_upstream_text(alloc)
     }
@@ -75,7 +74,7 @@ impl Triple {
     /// assert_eq!(&bytes[..length], b"wasm32-wasi");
     /// ```
     pub fn write_to(&self, out: &mut [u8]) -> usize
-        ensures { IsWritten (text_of (values_of self.now)) out.old out.new result }
+        ensures { IsWritten (spec.text_of (values_of self.now)) out.old out.new result }
     {
         self.as_triple_ref().write_to(out)
     }
@@ -85,18 +84,16 @@ impl<'a> TripleRef<'a> {
     ghost use Rattle.target_lexicon.specs.Pieces.{pieces_text};
 
     /// The printed text. `Err` if the allocation for it fails.
-    #[tactic(auto, unfolding(crate::specs::Printing::text_of))]
     pub fn to_text(&self, alloc: Global) -> Result<String, AllocError>
-        ensures { IfOk result (λ text. string_bytes text ≡ text_of (values_of_ref self.now)) }
+        ensures { IfOk result (λ text. string_bytes text ≡ spec.text_of (values_of_ref self.now)) }
     {
         self.pieces(self.shows_unknowns()).to_text(alloc)
     }
 
     /// The text that upstream prints for the triple, as [`Triple::to_upstream_text`] says.
-    #[tactic(auto, unfolding(crate::specs::Printing::upstream_text_of))]
     pub fn to_upstream_text(&self, alloc: Global) -> Result<String, AllocError>
         ensures { IfOk result
-            (λ text. string_bytes text ≡ upstream_text_of (values_of_ref self.now)) }
+            (λ text. string_bytes text ≡ spec.upstream_text_of (values_of_ref self.now)) }
     {
         self.pieces(false).to_text(alloc)
     }
@@ -113,17 +110,16 @@ impl<'a> TripleRef<'a> {
     /// let length = TripleRef::from_str("x86_64-linux").unwrap().write_to(&mut bytes);
     /// assert_eq!((length, bytes), ("x86_64-unknown-linux".len(), [0; 8]));
     /// ```
-    #[tactic(auto, unfolding(crate::specs::Printing::text_of))]
     pub fn write_to(&self, out: &mut [u8]) -> usize
-        ensures { IsWritten (text_of (values_of_ref self.now)) out.old out.new result }
+        ensures { IsWritten (spec.text_of (values_of_ref self.now)) out.old out.new result }
     {
         self.pieces(self.shows_unknowns()).write_to(out)
     }
 
     /// Writes the text that upstream prints for the triple, as [`TripleRef::write_to`] writes the printed one.
-    #[tactic(auto, unfolding(crate::specs::Printing::upstream_text_of))]
     pub fn write_upstream_to(&self, out: &mut [u8]) -> usize
-        ensures { IsWritten (upstream_text_of (values_of_ref self.now)) out.old out.new result }
+        ensures { IsWritten (spec.upstream_text_of (values_of_ref self.now))
+            out.old out.new result }
     {
         self.pieces(false).write_to(out)
     }
@@ -152,7 +148,6 @@ impl<'a> TripleRef<'a> {
 
     /// Whether the vendor is shown.
     #[inline(always)]
-    #[tactic(auto, unfolding(crate::specs::Printing::shows_vendor))]
     fn shows_vendor(&self) -> bool
         ensures { result ≡ spec.shows_vendor (values_of_ref self.now) }
     {
@@ -190,7 +185,6 @@ impl<'a> TripleRef<'a> {
     }
 
     /// Whether the operating system is shown by upstream's rule.
-    #[tactic(auto, unfolding(crate::specs::Printing::shows_operating_system))]
     pub(crate) fn shows_operating_system(&self) -> bool
         ensures { result ≡ spec.shows_operating_system (values_of_ref self.now) }
     {
@@ -201,7 +195,6 @@ impl<'a> TripleRef<'a> {
     }
 
     /// Whether the environment is shown.
-    #[tactic(auto, unfolding(crate::specs::Printing::shows_environment))]
     fn shows_environment(&self) -> bool
         ensures { result ≡ spec.shows_environment (values_of_ref self.now) }
     {
@@ -214,7 +207,8 @@ impl<'a> TripleRef<'a> {
 
     /// Whether the environment `Newlib` is omitted.
     pub(crate) fn implies_newlib(&self) -> bool
-        ensures { result ≡ implies_newlib (ref_value self.now.vendor) self.now.operating_system }
+        ensures { result
+            ≡ values.implies_newlib (ref_value self.now.vendor) self.now.operating_system }
     {
         matches!(
             (self.vendor, self.operating_system),
@@ -230,7 +224,6 @@ impl<'a> TripleRef<'a> {
 
     /// Whether the binary format is shown: if it isn't the implied one, or `shows_implied_format` holds.
     #[inline(always)]
-    #[tactic(auto, unfolding(crate::specs::Printing::shows_binary_format))]
     fn shows_binary_format(&self) -> bool
         ensures { result ≡ spec.shows_binary_format (values_of_ref self.now) }
     {

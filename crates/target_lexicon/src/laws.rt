@@ -48,7 +48,6 @@ pub use lexicon_fields::laws::{
 use std::hash::Hash;
 
 /// Parts that have a placement have exactly one least placement, and so does each prefix of them.
-#[tactic(auto, using(crate::proofs::GreedyPlacement::placement_prefix, crate::proofs::GreedyPlacement::placement_least))]
 pub fn one_least_placement()
     ensures { (parts : List (List ℕ)) →
         HasPlacement parts →
@@ -62,7 +61,6 @@ pub fn every_text_has_one_outcome()
 
 /// The function `reading` of the definitions gives the triple that a text parses as, or how it is refused. So a
 /// caller's proof can compute the result for a text.
-#[tactic(auto, using(crate::proofs::ComputedReading::reading_computed))]
 pub fn reading_is_computed()
     ensures { ReadingIsComputed }
 {}
@@ -74,14 +72,12 @@ pub fn results_are_computed()
 {}
 
 /// Every triple that a text parses as has a plain vendor.
-#[tactic(auto, using(crate::proofs::ReadValues::read_plain))]
 pub fn read_vendors_are_plain()
     ensures { ReadVendorsArePlain }
 {}
 
 /// Every triple that a text parses as has a plain vendor, and a version in range if its system has one. So the laws of
 /// round trips apply to it.
-#[tactic(auto, using(crate::proofs::ReadValues::read_plain, crate::proofs::ReadValues::read_in_range))]
 pub fn read_triples_are_plain()
     ensures { ReadTriplesArePlain }
 {
@@ -90,7 +86,6 @@ pub fn read_triples_are_plain()
 
 /// The printed text of a triple is at most 22 bytes longer than each text that parses as it, and so is the text of the
 /// canonical triple. A refused part is not longer than the text.
-#[tactic(auto, using(crate::proofs::Lengths::printed_max_growth, crate::proofs::Lengths::canonical_max_growth, crate::proofs::Lengths::refused_does_not_grow))]
 pub fn printed_texts_grow_at_most()
     ensures printed { PrintedTextsGrowAtMost }
     ensures settled { CanonicalTextsGrowAtMost }
@@ -136,13 +131,11 @@ pub fn refusals_are_equal_by_value()
 {}
 
 /// If a triple has a data model, the pointers of the model have as many bits as those of the triple.
-#[tactic(auto, using(crate::proofs::ModelsKnown::model_pointers))]
 pub fn model_width()
     ensures { ModelWidth }
 {}
 
 /// No triple has the data model `LP32` or `ILP64`.
-#[tactic(auto, using(crate::proofs::ModelsKnown::one_of_three))]
 pub fn no_rare_model()
     ensures { (t : Values) →
         (data_model t ≢ Some CDataModel.LP32) × (data_model t ≢ Some CDataModel.ILP64) }
@@ -155,7 +148,6 @@ pub fn integers_grow_in_each_model()
 
 /// The normal step (`Triple::normal`) keeps the architecture of a triple, and so its byte order, pointer width, calling
 /// convention and data model, or that it has none.
-#[tactic(auto, using(crate::proofs::QueriesKept::kept))]
 pub fn queries_kept()
     ensures { QueriesKept }
 {}
@@ -179,20 +171,17 @@ pub fn defaults_are_equal_by_value()
 
 /// A triple comes back (it is printed and parsed again as itself) exactly if it is in none of five families, also if
 /// its vendor is not plain. Each triple comes back or is in a family.
-#[tactic(auto, using(crate::proofs::FixedPointLemmas::fixed_exactly_outside_families))]
 pub fn fixed_exactly_outside_families()
     ensures { FixedExactlyOutsideFamilies }
 {}
 
 /// The printed text of each triple with a plain vendor parses as the triple's normal step.
-#[tactic(auto, using(crate::proofs::TextRoundTrips::round))]
 pub fn round_is_normal_step()
     ensures { RoundIsNormalStep }
 {}
 
 /// A second normal step changes none: one round trip gives the canonical form. The name is from upstream's rules of
 /// printing, by which it changes one.
-#[tactic(auto, using(crate::proofs::SettleLemmas::second_changes_none))]
 pub fn second_step_changes_one()
     ensures { OneStepSettles }
 {}
@@ -220,7 +209,6 @@ pub fn round_trips_are_known()
 
 /// The printed text of a triple differs from upstream's exactly if environment and format are unknown, another format
 /// is implied, and no special text is printed.
-#[tactic(auto, using(crate::proofs::Upstream::only_unknowns_differ))]
 pub fn only_unknowns_differ_from_upstream()
     ensures { OnlyUnknownsDifferFromUpstream }
 {}

@@ -150,7 +150,6 @@ impl<'a> Reading<'a> {
 
     /// Takes a system that a part spells, as [`take`](Reading::take) takes the system's name. The name is in no string:
     /// it has no row, and parses as the system.
-    #[tactic(auto, using(crate::proofs::SystemNames::system_no_vendor))]
     pub fn take_system(
         &mut self,
         system: OperatingSystem,

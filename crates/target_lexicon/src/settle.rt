@@ -8,8 +8,8 @@ ghost use Rattle.lexicon_fields.specs.declared.vendor_ref.VendorRef.TheVariants.
 ghost use Rattle.target_lexicon.specs.FixedPoints.{settled_values};
 ghost use Rattle.lexicon_fields.specs.Laws.{HasVersionInRange};
 ghost use Rattle.target_lexicon.specs.Laws.{ComesBack};
-ghost use Rattle.target_lexicon.specs.NormalStep.{is_3ds_or_esp_idf, normal_step, prints_as_special, hides_newlib, prints_the_esp_idf_text, shows_only_none, elf_if_unknown};
-ghost use Rattle.target_lexicon.specs.Private.{is_in_no_family};
+ghost use Rattle.target_lexicon.specs.NormalStep as spec;
+ghost use Rattle.target_lexicon.specs.Private as private;
 ghost use Rattle.target_lexicon.specs.Printing.{text_of};
 ghost use Rattle.target_lexicon.specs.Reading.{ReadsAs};
 ghost use Rattle.target_lexicon.specs.Values.{values_of};
@@ -58,10 +58,9 @@ impl Triple {
     /// - Second: the environment becomes `Unknown`, and an `Unknown` format becomes `Elf`.
     /// - Third: the vendor becomes `Espressif`, environment and format become `Newlib` and `Elf`.
     /// - Fourth: the system becomes `None_`, and the environment `Unknown`.
-    #[tactic(auto, using(crate::proofs::TextRoundTrips::round_by_step))]
     pub fn normal(self) -> Triple
         requires { is_plain (vendor_value self.vendor) ≡ true }
-        ensures step { values_of result ≡ normal_step (values_of self) }
+        ensures step { values_of result ≡ spec.normal_step (values_of self) }
         ensures round { ReadsAs (text_of (values_of self)) (values_of result) }
         ensures vendor { (result.vendor ≡ self.vendor) ⊎ (result.vendor ≡ Espressif) }
     {
@@ -88,7 +87,7 @@ impl Triple {
 
     /// The normal step.
     pub(crate) fn step(mut self) -> Triple
-        ensures step { values_of result ≡ normal_step (values_of self) }
+        ensures step { values_of result ≡ spec.normal_step (values_of self) }
         ensures vendor { (result.vendor ≡ self.vendor) ⊎ (result.vendor ≡ Espressif) }
     {
         let step = self.as_triple_ref().step();
@@ -124,10 +123,9 @@ impl<'a> TripleRef<'a> {
     }
 
     /// The triple that the printed text parses as, as [`Triple::normal`] says. The vendor must be plain.
-    #[tactic(auto, using(crate::proofs::TextRoundTrips::round_by_step))]
     pub fn normal(self) -> TripleRef<'a>
         requires { is_plain (ref_value self.vendor) ≡ true }
-        ensures step { values_of_ref result ≡ normal_step (values_of_ref self.entry) }
+        ensures step { values_of_ref result ≡ spec.normal_step (values_of_ref self.entry) }
         ensures round { ReadsAs (text_of (values_of_ref self.entry)) (values_of_ref result) }
         ensures vendor { (result.vendor ≡ self.entry.vendor)
             ⊎ (result.vendor ≡ Known known_vendor.Espressif) }
@@ -153,9 +151,8 @@ impl<'a> TripleRef<'a> {
     }
 
     /// The normal step of any triple. If the vendor is plain, it is the canonical form.
-    #[tactic(auto, unfolding(crate::specs::NormalStep::normal_step))]
     pub fn step(mut self) -> TripleRef<'a>
-        ensures step { values_of_ref result ≡ normal_step (values_of_ref self.entry) }
+        ensures step { values_of_ref result ≡ spec.normal_step (values_of_ref self.entry) }
         ensures vendor { (result.vendor ≡ self.entry.vendor)
             ⊎ (result.vendor ≡ Known known_vendor.Espressif) }
     {
@@ -177,9 +174,8 @@ impl<'a> TripleRef<'a> {
     }
 
     /// Whether the triple is in none of the five families.
-    #[tactic(auto, unfolding(crate::specs::Private::is_in_no_family))]
     fn is_in_no_family(&self) -> bool
-        ensures { result ≡ is_in_no_family (values_of_ref self.now) }
+        ensures { result ≡ private.is_in_no_family (values_of_ref self.now) }
     {
         !self.prints_as_special()
             && !self.hides_newlib()
@@ -190,7 +186,7 @@ impl<'a> TripleRef<'a> {
 
     /// Whether the first three fields are those of a special string.
     fn is_3ds_or_esp_idf(&self) -> bool
-        ensures { result ≡ is_3ds_or_esp_idf self.now.architecture (ref_value self.now.vendor)
+        ensures { result ≡ spec.is_3ds_or_esp_idf self.now.architecture (ref_value self.now.vendor)
             self.now.operating_system }
     {
         self.special_text().is_some()
@@ -198,7 +194,7 @@ impl<'a> TripleRef<'a> {
 
     /// Whether a special text is printed, and environment and format aren't `Newlib` and `Elf`.
     fn prints_as_special(&self) -> bool
-        ensures { result ≡ prints_as_special (values_of_ref self.now) }
+        ensures { result ≡ spec.prints_as_special (values_of_ref self.now) }
     {
         self.is_3ds_or_esp_idf()
             && !matches!(
@@ -209,7 +205,7 @@ impl<'a> TripleRef<'a> {
 
     /// Whether the environment is a `Newlib` that isn't shown, and the text isn't special.
     fn hides_newlib(&self) -> bool
-        ensures { result ≡ hides_newlib (values_of_ref self.now) }
+        ensures { result ≡ spec.hides_newlib (values_of_ref self.now) }
     {
         self.implies_newlib()
             && matches!(self.environment, Environment::Newlib)
@@ -218,7 +214,7 @@ impl<'a> TripleRef<'a> {
 
     /// Whether the vendor is the custom `esp`, and the text is the special one.
     fn prints_the_esp_idf_text(&self) -> bool
-        ensures { result ≡ prints_the_esp_idf_text (values_of_ref self.now) }
+        ensures { result ≡ spec.prints_the_esp_idf_text (values_of_ref self.now) }
     {
         match (
             self.architecture,
@@ -239,9 +235,8 @@ impl<'a> TripleRef<'a> {
     }
 
     /// Whether the environment `none` is shown without a system, on Clever.
-    #[tactic(auto, unfolding(crate::specs::Printing::shows_operating_system))]
     fn shows_only_none(&self) -> bool
-        ensures { result ≡ shows_only_none (values_of_ref self.now) }
+        ensures { result ≡ spec.shows_only_none (values_of_ref self.now) }
     {
         match self.environment {
             Environment::None => !self.shows_operating_system(),
@@ -252,7 +247,7 @@ impl<'a> TripleRef<'a> {
 
 /// The format, with `Elf` for an unknown one.
 fn elf_if_unknown(binary_format: BinaryFormat) -> BinaryFormat
-    ensures { result ≡ elf_if_unknown binary_format }
+    ensures { result ≡ spec.elf_if_unknown binary_format }
 {
     match binary_format {
         BinaryFormat::Unknown => BinaryFormat::Elf,
