@@ -256,7 +256,7 @@ impl Architecture {
         matches!(self, Architecture::Clever(_))
     }
 
-    /// The value with this name; `arm64` is an alias of `aarch64`. `Err` for every other text.
+    /// The value with this name; `arm64` is an alias of `aarch64`. `Err` for every other string.
     pub fn from_str(s: &str) -> Result<Self, ()>
         ensures { MatchesLookup (architecture_of s.now) result }
     {

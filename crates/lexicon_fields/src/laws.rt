@@ -76,7 +76,7 @@ pub fn names_are_short()
     ensures binary_format { NamesAreShort binary_format_name }
 {}
 
-/// A text that is put after another follows it, and one that is put at the start of a buffer is all that is there.
+/// A string that is put after another follows it, and one that is put at the start of a buffer is all that is there.
 pub fn texts_are_put_in_order()
     ensures first { (x old now : List ℕ) (end : ℕ) →
         Puts x old 0 now end →

@@ -44,15 +44,15 @@ impl fmt::Display for Triple {
 }
 
 impl Triple {
-    /// The printed text. `Err` if the allocation for it fails.
+    /// The printed string. `Err` if the allocation for it fails.
     pub fn to_text(&self, alloc: Global) -> Result<String, AllocError>
         ensures { IfOk result (λ text. string_bytes text ≡ spec.text_of (values_of self.now)) }
     {
         self.as_triple_ref().to_text(alloc)
     }
 
-    /// The text that upstream prints for the triple. `Err` if the allocation for it fails. It differs from the printed
-    /// text only if environment and format are both unknown and another format is implied (law
+    /// The string that upstream prints for the triple. `Err` if the allocation for it fails. It differs from the
+    /// printed string only if environment and format are both unknown and another format is implied (law
     /// `only_unknowns_differ_from_upstream`); then upstream parses it as another triple.
     pub fn to_upstream_text(&self, alloc: Global) -> Result<String, AllocError>
         ensures { IfOk result
@@ -61,8 +61,8 @@ impl Triple {
         self.as_triple_ref().to_upstream_text(alloc)
     }
 
-    /// Writes the printed text at the front of the buffer if it fits there, and returns its length. If it doesn't fit,
-    /// the buffer is unchanged: compare the result with `out.len()`. Nothing is allocated.
+    /// Writes the printed string at the front of the buffer if it fits there, and returns its length. If it doesn't
+    /// fit, the buffer is unchanged: compare the result with `out.len()`. Nothing is allocated.
     ///
     /// # Examples
     ///
@@ -83,14 +83,14 @@ impl Triple {
 impl<'a> TripleRef<'a> {
     ghost use Rattle.target_lexicon.specs.Pieces.{pieces_text};
 
-    /// The printed text. `Err` if the allocation for it fails.
+    /// The printed string. `Err` if the allocation for it fails.
     pub fn to_text(&self, alloc: Global) -> Result<String, AllocError>
         ensures { IfOk result (λ text. string_bytes text ≡ spec.text_of (values_of_ref self.now)) }
     {
         self.pieces(self.shows_unknowns()).to_text(alloc)
     }
 
-    /// The text that upstream prints for the triple, as [`Triple::to_upstream_text`] says.
+    /// The string that upstream prints for the triple, as [`Triple::to_upstream_text`] says.
     pub fn to_upstream_text(&self, alloc: Global) -> Result<String, AllocError>
         ensures { IfOk result
             (λ text. string_bytes text ≡ spec.upstream_text_of (values_of_ref self.now)) }
@@ -98,8 +98,8 @@ impl<'a> TripleRef<'a> {
         self.pieces(false).to_text(alloc)
     }
 
-    /// Writes the printed text at the front of the buffer if it fits there, and returns its length. If it doesn't fit,
-    /// the buffer is unchanged: compare the result with `out.len()`. Nothing is allocated.
+    /// Writes the printed string at the front of the buffer if it fits there, and returns its length. If it doesn't
+    /// fit, the buffer is unchanged: compare the result with `out.len()`. Nothing is allocated.
     ///
     /// # Examples
     ///
@@ -116,7 +116,7 @@ impl<'a> TripleRef<'a> {
         self.pieces(self.shows_unknowns()).write_to(out)
     }
 
-    /// Writes the text that upstream prints for the triple, as [`TripleRef::write_to`] writes the printed one.
+    /// Writes the string that upstream prints for the triple, as [`TripleRef::write_to`] writes the printed one.
     pub fn write_upstream_to(&self, out: &mut [u8]) -> usize
         ensures { IsWritten (spec.upstream_text_of (values_of_ref self.now))
             out.old out.new result }
@@ -309,7 +309,7 @@ impl<'a> Piece<'a> {
         }
     }
 
-    /// The length of the text.
+    /// The length of the string.
     fn text_length(self) -> usize
         ensures { result ≡ length (piece_text self.entry) }
     {
@@ -319,7 +319,7 @@ impl<'a> Piece<'a> {
         }
     }
 
-    /// Writes the text, as [`put`] writes a text.
+    /// Writes the string, as [`put`] writes a string.
     fn put(self, out: &mut [u8], at: usize) -> usize
         requires { at + length (piece_text self) ≤ length out.old }
         ensures { Puts (piece_text self.entry) out.old at out.new result }
@@ -351,7 +351,7 @@ impl fmt::Display for Piece<'_> {
     }
 }
 
-/// What is shown of a triple: the name of the architecture, or the special text, and a piece for each of the other
+/// What is shown of a triple: the name of the architecture, or the special string, and a piece for each of the other
 /// fields. The version of the operating system follows its name without a dash.
 #[derive(Clone, Copy)]
 struct Pieces<'a> {
@@ -370,7 +370,7 @@ struct Pieces<'a> {
 impl Pieces<'_> {
     ghost use Rattle.target_lexicon.specs.Pieces.{pieces_text};
 
-    /// The pieces of a special text, of which it is the only one.
+    /// The pieces of a special string, of which it is the only one.
     fn of_special_text(text: &'static str) -> Self
         requires { length text.now ≤ max_name_length }
         ensures { pieces_text result ≡ text.entry.now }
@@ -385,7 +385,7 @@ impl Pieces<'_> {
         }
     }
 
-    /// The text. `Err` if the allocation for it fails.
+    /// The string. `Err` if the allocation for it fails.
     fn to_text(&self, alloc: Global) -> Result<String, AllocError>
         ensures { IfOk result (λ text. string_bytes text ≡ pieces_text self.now) }
     {
@@ -394,7 +394,7 @@ impl Pieces<'_> {
         Ok(text)
     }
 
-    /// Writes the text at the front of the buffer if it fits there, and returns its length. If it doesn't fit, the
+    /// Writes the string at the front of the buffer if it fits there, and returns its length. If it doesn't fit, the
     /// buffer is unchanged.
     fn write_to(&self, out: &mut [u8]) -> usize
         ensures { IsWritten (pieces_text self.now) out.old out.new result }
@@ -406,7 +406,7 @@ impl Pieces<'_> {
         length
     }
 
-    /// The length of the text.
+    /// The length of the string.
     fn text_length(&self) -> usize
         ensures { result ≡ length (pieces_text self.now) }
     {
@@ -418,7 +418,7 @@ impl Pieces<'_> {
             + self.binary_format.text_length()
     }
 
-    /// The length of the version's text.
+    /// The length of the version's string.
     fn version_length(&self) -> usize
         ensures { result ≡ length (version_suffix self.now.version) }
     {
@@ -428,7 +428,7 @@ impl Pieces<'_> {
         }
     }
 
-    /// Writes the version's text, as [`put`] writes a text.
+    /// Writes the version's string, as [`put`] writes a string.
     fn put_version(&self, out: &mut [u8], at: usize) -> usize
         requires { at + length (version_suffix self.now.version) ≤ length out.old }
         ensures { Puts (version_suffix self.now.version) out.old at out.new result }
@@ -443,7 +443,7 @@ impl Pieces<'_> {
         }
     }
 
-    /// Writes the text at the front of a buffer that has room for it, and returns its end.
+    /// Writes the string at the front of a buffer that has room for it, and returns its end.
     fn put(&self, out: &mut [u8]) -> usize
         requires { length (pieces_text self.now) ≤ length out.old }
         ensures { IsPut (pieces_text self.now) out.old out.new result }
@@ -489,7 +489,7 @@ fn version_if(is_shown: bool, system: OperatingSystem) -> Option<DeploymentTarge
     if is_shown { system.version() } else { None }
 }
 
-/// Writes a text after what ends at `at`, into a buffer that has room for it. Returns the end of both.
+/// Writes a string after what ends at `at`, into a buffer that has room for it. Returns the end of both.
 pub(crate) fn put(out: &mut [u8], at: usize, text: &[u8]) -> usize
     requires { at + length text.now ≤ length out.old }
     ensures { Puts text.now out.old at out.new result }

@@ -15,19 +15,19 @@ use serde_json::Value;
 use std::alloc::{AllocError, Global};
 
 impl Triple {
-    /// The JSON string of the printed text. `Err` if the allocation for it fails.
+    /// The printed string as a JSON string. `Err` if the allocation for it fails.
     pub fn to_json(&self, alloc: Global) -> Result<Value, AllocError>
         ensures { IfOk result (λ value. view value ≡ spec.json_of (values_of self.now)) }
     {
         self.as_triple_ref().to_json(alloc)
     }
 
-    /// The triple that the text of a JSON string parses as, by [`Triple::from_str`].
+    /// The triple that a JSON string parses as, by [`Triple::from_str`].
     ///
     /// # Errors
     ///
     /// - [`JsonError::NotText`] if the value is not a string.
-    /// - [`JsonError::Parse`] if the text of the string is refused, or an allocation for parsing it fails. Nothing is
+    /// - [`JsonError::Parse`] if the string is refused, or an allocation for parsing it fails. Nothing is
     ///   allocated for another value.
     pub fn from_json(alloc: Global, value: &Value) -> Result<Triple, JsonError>
         ensures ok { IfOk result (λ triple. JsonReadsAs (view value.now) (values_of triple)) }
@@ -47,7 +47,7 @@ impl Triple {
 }
 
 impl TripleRef<'_> {
-    /// The JSON string of the printed text. `Err` if the allocation for it fails.
+    /// The printed string as a JSON string. `Err` if the allocation for it fails.
     pub fn to_json(&self, alloc: Global) -> Result<Value, AllocError>
         ensures { IfOk result (λ value. view value ≡ spec.json_of (values_of_ref self.now)) }
     {

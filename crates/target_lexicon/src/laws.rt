@@ -54,13 +54,13 @@ pub fn one_least_placement()
         HasOneLeastPlacement parts × ((n : ℕ) → HasOneLeastPlacement (take (suc n) parts)) }
 {}
 
-/// Every text parses or is refused, in exactly one way.
+/// Every string parses or is refused, in exactly one way.
 pub fn every_text_has_one_outcome()
     ensures { EveryTextHasOneOutcome }
 {}
 
-/// The function `reading` of the definitions gives the triple that a text parses as, or how it is refused. So a
-/// caller's proof can compute the result for a text.
+/// The function `reading` of the definitions gives the triple that a string parses as, or how it is refused. So a
+/// caller's proof can compute the result for a string.
 pub fn reading_is_computed()
     ensures { ReadingIsComputed }
 {}
@@ -71,21 +71,21 @@ pub fn results_are_computed()
     ensures { ResultsAreComputed }
 {}
 
-/// Every triple that a text parses as has a plain vendor.
+/// Every triple that a string parses as has a plain vendor.
 pub fn read_vendors_are_plain()
     ensures { ReadVendorsArePlain }
 {}
 
-/// Every triple that a text parses as has a plain vendor, and a version in range if its system has one. So the laws of
-/// round trips apply to it.
+/// Every triple that a string parses as has a plain vendor, and a version in range if its system has one. So the laws
+/// of round trips apply to it.
 pub fn read_triples_are_plain()
     ensures { ReadTriplesArePlain }
 {
     read_versions_are_in_range();
 }
 
-/// The printed text of a triple is at most 22 bytes longer than each text that parses as it, and so is the text of the
-/// canonical triple. A refused part is not longer than the text.
+/// The printed string of a triple is at most 22 bytes longer than each string that parses as it, and so is the string
+/// of the canonical triple. A refused part is not longer than the string.
 pub fn printed_texts_grow_at_most()
     ensures printed { PrintedTextsGrowAtMost }
     ensures settled { CanonicalTextsGrowAtMost }
@@ -95,7 +95,7 @@ pub fn printed_texts_grow_at_most()
     names_grow_at_most();
 }
 
-/// Two triples that come back are equal exactly if their printed texts are.
+/// Two triples that come back are equal exactly if their printed strings are.
 pub fn equal_texts_equal_triples()
     ensures { EqualTextsEqualTriples }
 {}
@@ -175,7 +175,7 @@ pub fn fixed_exactly_outside_families()
     ensures { FixedExactlyOutsideFamilies }
 {}
 
-/// The printed text of each triple with a plain vendor parses as the triple's normal step.
+/// The printed string of each triple with a plain vendor parses as the triple's normal step.
 pub fn round_is_normal_step()
     ensures { RoundIsNormalStep }
 {}
@@ -186,15 +186,15 @@ pub fn second_step_changes_one()
     ensures { OneStepSettles }
 {}
 
-/// The canonical form of a triple with a plain vendor comes back, and no other canonical triple has its text.
+/// The canonical form of a triple with a plain vendor comes back, and no other canonical triple has its string.
 pub fn settled_texts_are_keys()
     ensures { SettledTextsAreKeys }
 {}
 
-/// The headline, all of these laws in one: every text parses or is refused, in exactly one way. Each parsed triple has
-/// a plain vendor. A triple comes back exactly if it is in none of five families. The round trip of each triple with a
-/// plain vendor succeeds, is the normal step, keeps the answers of the four queries, and gives the canonical form; and
-/// each canonical triple has a text of its own.
+/// The headline, all of these laws in one: every string parses or is refused, in exactly one way. Each parsed triple
+/// has a plain vendor. A triple comes back exactly if it is in none of five families. The round trip of each triple
+/// with a plain vendor succeeds, is the normal step, keeps the answers of the four queries, and gives the canonical
+/// form; and each canonical triple has a string of its own.
 pub fn round_trips_are_known()
     ensures { RoundTripsAreKnown }
 {
@@ -207,8 +207,8 @@ pub fn round_trips_are_known()
     settled_texts_are_keys();
 }
 
-/// The printed text of a triple differs from upstream's exactly if environment and format are unknown, another format
-/// is implied, and no special text is printed.
+/// The printed string of a triple differs from upstream's exactly if environment and format are unknown, another format
+/// is implied, and no special string is printed.
 pub fn only_unknowns_differ_from_upstream()
     ensures { OnlyUnknownsDifferFromUpstream }
 {}
@@ -222,7 +222,7 @@ pub fn lists_read_back()
     every_text_has_one_outcome();
 }
 
-/// Two errors of a JSON value are equal exactly if both say that it is not a string, or the same about its text.
+/// Two errors of a JSON value are equal exactly if both say that it is not a string, or the same about the string.
 pub fn json_errors_are_equal_by_value()
     ensures { (x y : JsonError) →
         IsTrue (⟦<JsonError as PartialEq>⟧.eq x y) ↔ (json_error_value x ≡ json_error_value y) }

@@ -24,14 +24,15 @@ use lexicon_fields::{
 };
 
 impl Triple {
-    /// Whether the triple comes back: printed and parsed again, it is itself. No text is made and nothing is allocated.
+    /// Whether the triple comes back: printed and parsed again, it is itself. No string is made and nothing is
+    /// allocated.
     ///
     /// A triple comes back unless it is in one of five families:
     /// - The first three fields are those of `armv6k-nintendo-3ds` or `riscv32imc-esp-espidf`, and environment and
     ///   format aren't `Newlib` and `Elf`.
     /// - Vendor and system are those of one of these two, and the environment is `Newlib`, but the architecture is
     ///   another.
-    /// - The text is `riscv32imc-esp-espidf`, but the vendor is the custom `esp`.
+    /// - The string is `riscv32imc-esp-espidf`, but the vendor is the custom `esp`.
     /// - On Clever with an unknown system, the environment is `None`, which parses as the system.
     /// - The vendor isn't plain.
     ///
@@ -49,8 +50,8 @@ impl Triple {
         self.as_triple_ref().comes_back()
     }
 
-    /// The normal step of the triple: the triple that its printed text parses as. The vendor must be plain, as that of
-    /// every parsed triple is. Nothing is copied or allocated.
+    /// The normal step of the triple: the triple that its printed string parses as. The vendor must be plain, as that
+    /// of every parsed triple is. Nothing is copied or allocated.
     ///
     /// A triple that comes back is unchanged. Otherwise the first of these cases that holds decides, by the families of
     /// `comes_back`:
@@ -71,8 +72,8 @@ impl Triple {
 
     /// The canonical form of the triple, which is what one normal step gives: it comes back, and a second step changes
     /// nothing (law `second_step_changes_one`). The vendor must be plain, as for `normal`. A triple that comes back is
-    /// unchanged. No other canonical triple has the same text (law `settled_texts_are_keys`), so the text serves as a
-    /// key. Nothing is allocated.
+    /// unchanged. No other canonical triple has the same string (law `settled_texts_are_keys`), so the string serves as
+    /// a key. Nothing is allocated.
     pub fn settle(self) -> Triple
         requires { is_plain (vendor_value self.vendor) ≡ true }
         ensures steps { values_of result ≡ settled_values (values_of self) }
@@ -122,7 +123,7 @@ impl<'a> TripleRef<'a> {
         self.is_in_no_family()
     }
 
-    /// The triple that the printed text parses as, as [`Triple::normal`] says. The vendor must be plain.
+    /// The triple that the printed string parses as, as [`Triple::normal`] says. The vendor must be plain.
     pub fn normal(self) -> TripleRef<'a>
         requires { is_plain (ref_value self.vendor) ≡ true }
         ensures step { values_of_ref result ≡ spec.normal_step (values_of_ref self.entry) }
@@ -192,7 +193,7 @@ impl<'a> TripleRef<'a> {
         self.special_text().is_some()
     }
 
-    /// Whether a special text is printed, and environment and format aren't `Newlib` and `Elf`.
+    /// Whether a special string is printed, and environment and format aren't `Newlib` and `Elf`.
     fn prints_as_special(&self) -> bool
         ensures { result ≡ spec.prints_as_special (values_of_ref self.now) }
     {
@@ -203,7 +204,7 @@ impl<'a> TripleRef<'a> {
             )
     }
 
-    /// Whether the environment is a `Newlib` that isn't shown, and the text isn't special.
+    /// Whether the environment is a `Newlib` that isn't shown, and the string isn't special.
     fn hides_newlib(&self) -> bool
         ensures { result ≡ spec.hides_newlib (values_of_ref self.now) }
     {
@@ -212,7 +213,7 @@ impl<'a> TripleRef<'a> {
             && !self.is_3ds_or_esp_idf()
     }
 
-    /// Whether the vendor is the custom `esp`, and the text is the special one.
+    /// Whether the vendor is the custom `esp`, and the string is the special one.
     fn prints_the_esp_idf_text(&self) -> bool
         ensures { result ≡ spec.prints_the_esp_idf_text (values_of_ref self.now) }
     {

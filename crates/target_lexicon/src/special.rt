@@ -1,4 +1,4 @@
-//! The two texts that have a triple of their own.
+//! The two strings that have a triple of their own.
 ghost use Rattle.std.specs.Prelude.{◌≡◌, ◌≤◌, length, Option, option_map, IfSome, List, ℕ};
 ghost use Rattle.lexicon_fields.specs.Laws.{max_name_length};
 ghost use Rattle.target_lexicon.specs.SpecialTexts as spec;
@@ -15,7 +15,7 @@ const NINTENDO_3DS: &str = "armv6k-nintendo-3ds";
 const ESP_IDF: &str = "riscv32imc-esp-espidf";
 
 impl<'a> TripleRef<'a> {
-    /// The triple of a special text.
+    /// The triple of a special string.
     pub(crate) fn from_special_text(text: &str) -> Option<TripleRef<'a>>
         ensures { option_map values_of_ref result ≡ spec.special_values text.now }
     {
@@ -38,7 +38,7 @@ impl<'a> TripleRef<'a> {
         }
     }
 
-    /// The special text that the triple prints, if any. Environment and format don't matter.
+    /// The special string that the triple prints, if any. Environment and format don't matter.
     pub(crate) fn special_text(&self) -> Option<&'static str>
         ensures text { option_map {U = List ℕ} (λ text. text.now) result
             ≡ spec.special_text (values_of_ref self.now) }
