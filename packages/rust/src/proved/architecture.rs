@@ -239,7 +239,7 @@ impl Architecture {
         matches!(self, Architecture::Clever(_))
     }
 
-    /// The value with this name; `arm64` is an alias of `aarch64`. `Err` for every other text.
+    /// The value with this name; `arm64` is an alias of `aarch64`. `Err` for every other string.
     pub(crate) fn from_str(s: &str) -> Result<Self, ()> {
         match fixed_row(s) {
             Some(row) => row.architecture.ok_or(()),

@@ -9,14 +9,15 @@ use crate::proved::{
 };
 
 impl Triple {
-    /// Whether the triple comes back: printed and parsed again, it is itself. No text is made and nothing is allocated.
+    /// Whether the triple comes back: printed and parsed again, it is itself. No string is made and nothing is
+    /// allocated.
     ///
     /// A triple comes back unless it is in one of five families:
     /// - The first three fields are those of `armv6k-nintendo-3ds` or `riscv32imc-esp-espidf`, and environment and
     ///   format aren't `Newlib` and `Elf`.
     /// - Vendor and system are those of one of these two, and the environment is `Newlib`, but the architecture is
     ///   another.
-    /// - The text is `riscv32imc-esp-espidf`, but the vendor is the custom `esp`.
+    /// - The string is `riscv32imc-esp-espidf`, but the vendor is the custom `esp`.
     /// - On Clever with an unknown system, the environment is `None`, which parses as the system.
     /// - The vendor isn't plain.
     ///
@@ -96,7 +97,7 @@ impl<'a> TripleRef<'a> {
         self.special_text().is_some()
     }
 
-    /// Whether a special text is printed, and environment and format aren't `Newlib` and `Elf`.
+    /// Whether a special string is printed, and environment and format aren't `Newlib` and `Elf`.
     fn prints_as_special(&self) -> bool {
         self.is_3ds_or_esp_idf()
             && !matches!(
@@ -105,14 +106,14 @@ impl<'a> TripleRef<'a> {
             )
     }
 
-    /// Whether the environment is a `Newlib` that isn't shown, and the text isn't special.
+    /// Whether the environment is a `Newlib` that isn't shown, and the string isn't special.
     fn hides_newlib(&self) -> bool {
         self.implies_newlib()
             && matches!(self.environment, Environment::Newlib)
             && !self.is_3ds_or_esp_idf()
     }
 
-    /// Whether the vendor is the custom `esp`, and the text is the special one.
+    /// Whether the vendor is the custom `esp`, and the string is the special one.
     fn prints_the_esp_idf_text(&self) -> bool {
         match (
             self.architecture,

@@ -3,7 +3,7 @@
 
 use crate::proved::{Architecture, BinaryFormat, Environment, OperatingSystem, Vendor};
 
-/// A target triple, such as `x86_64-unknown-linux-gnu`. It has five fields, of which its text shows some.
+/// A target triple, such as `x86_64-unknown-linux-gnu`. It has five fields, of which its printed string shows some.
 ///
 /// # Examples
 ///

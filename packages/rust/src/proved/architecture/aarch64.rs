@@ -68,7 +68,7 @@ impl Aarch64Architecture {
         }
     }
 
-    /// The value with this name; `arm64` is an alias of `aarch64`. `Err` for every other text.
+    /// The value with this name; `arm64` is an alias of `aarch64`. `Err` for every other string.
     pub(crate) fn from_str(s: &str) -> Result<Self, ()> {
         match Architecture::from_str(s) {
             Ok(Architecture::Aarch64(sub)) => Ok(sub),

@@ -1,12 +1,11 @@
--- No name but a custom vendor's has more than 21 bytes.
 use Rattle.std.proofs.Common.{◌≡◌, ◌≤◌, ◌++◌, ℕ, List, [], codes, length, nat_le, true, Option, Some, None, IfSome, refl, arith}
-use Rattle.std.proofs.{lemmas.Bool.leb-true, lemmas.List.length-append, lemmas.Fmt.length-decimal-le}
+use Rattle.std.proofs.{lemmas.Bool.leb-true, lemmas.List.length-append}
 use Rattle.lexicon_fields.specs.{declared.architecture.Architecture.Architecture, declared.environment.Environment.Environment, declared.binary_format.BinaryFormat.BinaryFormat}
 use Rattle.lexicon_fields.specs.{declared.operating_system.OperatingSystem.OperatingSystem, declared.known_vendor.KnownVendor.KnownVendor}
 use Rattle.lexicon_fields.specs.{declared.deployment_target.DeploymentTarget.DeploymentTarget, Version.version_name, OperatingSystem.version_suffix}
-use Rattle.lexicon_fields.specs.{Laws.IsVersionInRange, Laws.HasVersionInRange, Laws.NamesAreShort, Laws.max_name_length}
+use Rattle.lexicon_fields.specs.{Laws.IsVersionInRange, Laws.HasVersionInRange, Laws.max_name_length}
 use Rattle.lexicon_fields.specs.{Architecture.architecture_name, Environment.environment_name, BinaryFormat.binary_format_name, OperatingSystem.operating_system_name, Vendor.known_vendor_name}
-use Rattle.lexicon_fields.proofs.ParsedSystems.{length-version}
+use Rattle.lexicon_fields.proofs.ParsedSystems.{version-short}
 use Rattle.lexicon_fields.specs.declared.architecture.Architecture.TheVariants as architecture
 use Rattle.lexicon_fields.specs.declared.architecture.arm.ArmArchitecture.TheVariants as arm
 use Rattle.lexicon_fields.specs.declared.architecture.aarch64.Aarch64Architecture.TheVariants as aarch64
@@ -21,6 +20,7 @@ use Rattle.lexicon_fields.specs.declared.known_vendor.KnownVendor.TheVariants as
 use Rattle.lexicon_fields.specs.declared.environment.Environment.TheVariants as environment
 use Rattle.lexicon_fields.specs.declared.binary_format.BinaryFormat.TheVariants as binary_format
 use Rattle.lexicon_fields.specs.declared.operating_system.OperatingSystem.TheVariants as operating_system
+use Rattle.lexicon_fields.proofs.laws.names_are_short.Goals as goal
 
 -- the tests, which compute for each value
 
@@ -48,39 +48,32 @@ known_vendor-is_short : (k : KnownVendor) → nat_le (length (known_vendor_name 
 known_vendor-is_short known_vendor.Unknown = refl
 known_vendor-is_short _ = refl
 
-pub architectures_are_short : NamesAreShort architecture_name
-architectures_are_short a = leb-true _ _ (architecture-is_short a)
+pub returns-clause-architecture : goal.returns-clause-architecture
+returns-clause-architecture c = λ a. leb-true _ _ (architecture-is_short a)
 
-pub environments_are_short : NamesAreShort environment_name
-environments_are_short e = leb-true _ _ (environment-is_short e)
+pub returns-clause-environment : goal.returns-clause-environment
+returns-clause-environment c = λ e. leb-true _ _ (environment-is_short e)
 
-pub binary_formats_are_short : NamesAreShort binary_format_name
-binary_formats_are_short f = leb-true _ _ (binary_format-is_short f)
+pub returns-clause-binary_format : goal.returns-clause-binary_format
+returns-clause-binary_format c = λ f. leb-true _ _ (binary_format-is_short f)
 
-pub known_vendors_are_short : NamesAreShort known_vendor_name
-known_vendors_are_short k = leb-true _ _ (known_vendor-is_short k)
-
-pub version-short : (v : DeploymentTarget) → IsVersionInRange v → length (version_name v) ≤ 13
-version-short v (major, minor, patch) =
-    omega (
-      arith,
-      length-version v,
-      length-decimal-le 5 v.major (omega arith) (omega (arith, major)) (omega (arith, major)),
-      length-decimal-le 3 v.minor (omega arith) (omega (arith, minor)) (omega (arith, minor)),
-      length-decimal-le 3 v.patch (omega arith) (omega (arith, patch)) (omega (arith, patch)),
-    )
+pub returns-clause-vendor : goal.returns-clause-vendor
+returns-clause-vendor c = λ k. leb-true _ _ (known_vendor-is_short k)
 
 -- the longest prefix of a system like Darwin has eight bytes
 with_version : (prefix : List ℕ) (version : Option DeploymentTarget) → nat_le (length prefix) 8 ≡ true → IfSome version IsVersionInRange → length (prefix ++ version_suffix version) ≤ max_name_length
 with_version prefix None short range = omega (arith, length-append prefix [], leb-true _ _ short)
 with_version prefix (Some v) short range = omega (arith, length-append prefix (version_name v), leb-true _ _ short, version-short v range)
 
-pub operating_systems_are_short : (s : OperatingSystem) → HasVersionInRange s → length (operating_system_name s) ≤ max_name_length
-operating_systems_are_short (operating_system.Darwin version) range = with_version (codes "darwin") version refl range
-operating_systems_are_short (operating_system.IOS version) range = with_version (codes "ios") version refl range
-operating_systems_are_short (operating_system.MacOSX version) range = with_version (codes "macosx") version refl range
-operating_systems_are_short (operating_system.TvOS version) range = with_version (codes "tvos") version refl range
-operating_systems_are_short (operating_system.VisionOS version) range = with_version (codes "visionos") version refl range
-operating_systems_are_short (operating_system.WatchOS version) range = with_version (codes "watchos") version refl range
-operating_systems_are_short (operating_system.XROS version) range = with_version (codes "xros") version refl range
-operating_systems_are_short _ range = leb-true _ _ refl
+system-is_short : (s : OperatingSystem) → HasVersionInRange s → length (operating_system_name s) ≤ max_name_length
+system-is_short (operating_system.Darwin version) range = with_version (codes "darwin") version refl range
+system-is_short (operating_system.IOS version) range = with_version (codes "ios") version refl range
+system-is_short (operating_system.MacOSX version) range = with_version (codes "macosx") version refl range
+system-is_short (operating_system.TvOS version) range = with_version (codes "tvos") version refl range
+system-is_short (operating_system.VisionOS version) range = with_version (codes "visionos") version refl range
+system-is_short (operating_system.WatchOS version) range = with_version (codes "watchos") version refl range
+system-is_short (operating_system.XROS version) range = with_version (codes "xros") version refl range
+system-is_short _ range = leb-true _ _ refl
+
+pub returns-clause-operating_system : goal.returns-clause-operating_system
+returns-clause-operating_system c = system-is_short
