@@ -19,6 +19,7 @@ use core::fmt;
 pub struct NotPlain(pub Triple);
 
 impl fmt::Display for NotPlain {
+    #[inline]
     fn fmt(&self, f: &mut fmt::Formatter<'_>) -> fmt::Result {
         write!(
             f,
@@ -47,6 +48,7 @@ impl Triple {
     /// assert_eq!(normal.environment, Environment::Unknown);
     /// # Ok::<(), target_lexicon::NotPlain>(())
     /// ```
+    #[inline]
     pub fn normal(self) -> Result<Triple, NotPlain> {
         if self.vendor.is_plain() {
             Ok(self.step())
@@ -75,6 +77,7 @@ impl Triple {
     /// assert_eq!(settled.to_string(), "riscv32imc-esp-espidf");
     /// # Ok::<(), target_lexicon::NotPlain>(())
     /// ```
+    #[inline]
     pub fn settle(self) -> Result<Triple, NotPlain> {
         self.normal()
     }
@@ -98,6 +101,7 @@ impl<'a> TripleRef<'a> {
     /// assert_eq!(triple.normal()?.environment, Environment::Unknown);
     /// # Ok::<(), target_lexicon::NotPlain>(())
     /// ```
+    #[inline]
     pub fn normal(self) -> Result<TripleRef<'a>, NotPlain> {
         if self.vendor.is_plain() {
             Ok(self.step())
@@ -124,6 +128,7 @@ impl<'a> TripleRef<'a> {
     /// assert_eq!(triple.settle(), Err(NotPlain(triple.to_triple())));
     /// # Ok::<(), NotPlain>(())
     /// ```
+    #[inline]
     pub fn settle(self) -> Result<TripleRef<'a>, NotPlain> {
         self.normal()
     }

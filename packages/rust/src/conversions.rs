@@ -3,6 +3,7 @@ use crate::{KnownVendor, ParseTripleError, Triple, TripleRef, Vendor, VendorRef}
 
 impl<'a> From<&'a Triple> for TripleRef<'a> {
     /// The same as [`Triple::as_triple_ref`], which allocates nothing.
+    #[inline]
     fn from(triple: &'a Triple) -> Self {
         triple.as_triple_ref()
     }
@@ -10,6 +11,7 @@ impl<'a> From<&'a Triple> for TripleRef<'a> {
 
 impl From<TripleRef<'_>> for Triple {
     /// The same as [`TripleRef::to_triple`], which copies the string of a custom vendor.
+    #[inline]
     fn from(triple: TripleRef<'_>) -> Self {
         triple.to_triple()
     }
@@ -17,6 +19,7 @@ impl From<TripleRef<'_>> for Triple {
 
 impl<'a> From<&'a Vendor> for VendorRef<'a> {
     /// The same as [`Vendor::as_vendor_ref`], which allocates nothing.
+    #[inline]
     fn from(vendor: &'a Vendor) -> Self {
         vendor.as_vendor_ref()
     }
@@ -24,6 +27,7 @@ impl<'a> From<&'a Vendor> for VendorRef<'a> {
 
 impl From<VendorRef<'_>> for Vendor {
     /// The same as [`VendorRef::to_vendor`], which copies the string of a custom vendor.
+    #[inline]
     fn from(vendor: VendorRef<'_>) -> Self {
         vendor.to_vendor()
     }
@@ -31,12 +35,14 @@ impl From<VendorRef<'_>> for Vendor {
 
 impl From<KnownVendor> for Vendor {
     /// The same as [`KnownVendor::to_vendor`].
+    #[inline]
     fn from(known: KnownVendor) -> Self {
         known.to_vendor()
     }
 }
 
 impl From<KnownVendor> for VendorRef<'_> {
+    #[inline]
     fn from(known: KnownVendor) -> Self {
         VendorRef::Known(known)
     }
@@ -46,6 +52,7 @@ impl TryFrom<&str> for Triple {
     type Error = ParseTripleError;
 
     /// The same as [`Triple::parse`].
+    #[inline]
     fn try_from(text: &str) -> Result<Self, ParseTripleError> {
         Triple::parse(text)
     }
@@ -55,6 +62,7 @@ impl<'a> TryFrom<&'a str> for TripleRef<'a> {
     type Error = ParseTripleError;
 
     /// The same as [`TripleRef::parse`].
+    #[inline]
     fn try_from(text: &'a str) -> Result<Self, ParseTripleError> {
         TripleRef::parse(text)
     }

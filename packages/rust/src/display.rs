@@ -9,6 +9,7 @@ use core::fmt;
 macro_rules! display {
     ($($name:ident: $method:ident),*) => {$(
         impl fmt::Display for $name {
+            #[inline]
             fn fmt(&self, f: &mut fmt::Formatter<'_>) -> fmt::Result {
                 f.pad(self.$method())
             }
@@ -20,6 +21,7 @@ display!(CDataModel: name, CallingConvention: name, Endianness: name, KnownVendo
 
 impl fmt::Display for Field {
     /// The words for the field in errors, such as `operating system`.
+    #[inline]
     fn fmt(&self, f: &mut fmt::Formatter<'_>) -> fmt::Result {
         f.pad(match self {
             Field::Architecture => "architecture",
@@ -33,6 +35,7 @@ impl fmt::Display for Field {
 
 impl fmt::Display for DeploymentTarget {
     /// The version as a triple shows it, such as `10.15.0`.
+    #[inline]
     fn fmt(&self, f: &mut fmt::Formatter<'_>) -> fmt::Result {
         f.pad(version_text(*self, &mut [0; MAX_VERSION_LENGTH]))
     }

@@ -55,6 +55,7 @@ impl Triple {
     /// assert_eq!(is_windows("x86_64-pc-windows-msvc".into()), Ok(true));
     /// assert_eq!(is_windows("x86_64-pc-window".into()).unwrap_err().suggestion(), Some("windows"));
     /// ```
+    #[inline]
     pub fn parse(text: &str) -> Result<Triple, ParseTripleError> {
         TripleRef::parse(text).map(|triple| triple.to_triple())
     }
@@ -80,6 +81,7 @@ impl<'a> TripleRef<'a> {
     /// assert_eq!(has_64_bits("aarch64-apple-ios".into()), Ok(true));
     /// assert_eq!(has_64_bits("aarch64-apple-iso".into()).unwrap_err().range(), 14..17);
     /// ```
+    #[inline]
     pub fn parse(text: &'a str) -> Result<TripleRef<'a>, ParseTripleError> {
         TripleRef::from_str(text).map_err(|refusal| refusal.in_text(text))
     }
@@ -103,6 +105,8 @@ impl Refusal<'_> {
     /// assert_eq!(implies_its_format("x86_64-linux-elf".into()), Ok(false));
     /// assert_eq!(implies_its_format("x86_64-foo-bar".into()).unwrap_err().part(), "bar");
     /// ```
+    #[must_use]
+    #[inline]
     pub fn in_text(&self, text: &str) -> ParseTripleError {
         let range = self.range();
         let (text, range) = match text.get(range.clone()) {
@@ -126,6 +130,8 @@ impl ParseTripleError {
     /// let error = target_lexicon::Triple::parse("x86_64-foo-bar").unwrap_err();
     /// assert_eq!(error.text(), "x86_64-foo-bar");
     /// ```
+    #[must_use]
+    #[inline]
     pub fn text(&self) -> &str {
         &self.text
     }
@@ -138,6 +144,8 @@ impl ParseTripleError {
     /// let error = target_lexicon::Triple::parse("x86_64-foo-bar").unwrap_err();
     /// assert_eq!(error.part(), "bar");
     /// ```
+    #[must_use]
+    #[inline]
     pub fn part(&self) -> &str {
         &self.text[self.range.clone()]
     }
@@ -150,6 +158,8 @@ impl ParseTripleError {
     /// let error = target_lexicon::Triple::parse("x86_64-foo-bar").unwrap_err();
     /// assert_eq!(&error.text()[error.range()], "bar");
     /// ```
+    #[must_use]
+    #[inline]
     pub fn range(&self) -> Range<usize> {
         self.range.clone()
     }
@@ -164,7 +174,9 @@ impl ParseTripleError {
     /// let error = Triple::parse("x86_64-foo-bar").unwrap_err();
     /// assert_eq!(error.expected(), Some(Field::OperatingSystem));
     /// ```
-    pub fn expected(&self) -> Option<Field> {
+    #[must_use]
+    #[inline]
+    pub const fn expected(&self) -> Option<Field> {
         self.expected
     }
 
@@ -176,11 +188,14 @@ impl ParseTripleError {
     /// let error = target_lexicon::Triple::parse("amd64-linux").unwrap_err();
     /// assert_eq!(error.suggestion(), Some("x86_64"));
     /// ```
+    #[must_use]
+    #[inline]
     pub fn suggestion(&self) -> Option<&'static str> {
         self.refusal().suggestion()
     }
 
     /// The refusal, which borrows from the string of the error.
+    #[inline]
     fn refusal(&self) -> Refusal<'_> {
         Refusal {
             expected: self.expected,
@@ -193,6 +208,7 @@ impl ParseTripleError {
 }
 
 impl fmt::Display for ParseTripleError {
+    #[inline]
     fn fmt(&self, f: &mut fmt::Formatter<'_>) -> fmt::Result {
         let refusal = self.refusal();
         let [before, part, after] = [
@@ -223,6 +239,7 @@ impl fmt::Display for ParseTripleError {
 }
 
 /// A string without what controls a terminal, turns the direction of text or can't be seen: such a character is escaped.
+#[inline]
 fn visible(text: &str) -> String {
     let mut shown = String::with_capacity(text.len());
     for c in text.chars() {
@@ -236,6 +253,7 @@ fn visible(text: &str) -> String {
 
 impl From<ParseTripleError> for ParseError {
     /// Upstream's error, with a copy of the part.
+    #[inline]
     fn from(error: ParseTripleError) -> ParseError {
         error.refusal().to_error()
     }
