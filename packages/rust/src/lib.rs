@@ -33,10 +33,14 @@ extern crate std;
 
 mod canonical;
 mod compat;
+mod conversions;
+mod display;
 mod errors;
 mod host;
+mod order;
 mod owned;
 mod parse_error;
+mod parse_triple_error;
 #[allow(dead_code, unused_imports, unused_variables)]
 // callers in crates/ need more of it, and so do clauses
 #[cfg(not(feature = "internals"))]
@@ -53,6 +57,7 @@ mod suggestion;
 pub use canonical::NotPlain;
 pub use host::HOST;
 pub use parse_error::ParseError;
+pub use parse_triple_error::ParseTripleError;
 pub use proved::{
     default_binary_format, Aarch64Architecture, Architecture, ArmArchitecture, BinaryFormat,
     CDataModel, CallingConvention, CleverArchitecture, CustomVendor, DefaultToHost,

@@ -13,6 +13,7 @@ impl Field {
     /// assert_eq!(Field::BinaryFormat.names(), ["unknown", "elf", "coff", "macho", "wasm", "xcoff"]);
     /// assert!(Field::OperatingSystem.names().contains(&"ios"));
     /// ```
+    #[must_use]
     pub fn names(self) -> &'static [&'static str] {
         names::names(self)
     }
@@ -34,6 +35,7 @@ impl Refusal<'_> {
     /// let refusal = TripleRef::from_str("amd64-linux").unwrap_err();
     /// assert_eq!(refusal.suggestion(), Some("x86_64"));
     /// ```
+    #[must_use]
     #[inline]
     pub fn suggestion(&self) -> Option<&'static str> {
         tool_names::suggestion(self.expected?, self.part.text)
@@ -51,6 +53,7 @@ impl ParseError {
     /// let error = "x86_64-pc-linxu".parse::<Triple>().unwrap_err();
     /// assert_eq!(error.suggestion(), Some("linux"));
     /// ```
+    #[must_use]
     #[inline]
     pub fn suggestion(&self) -> Option<&'static str> {
         tool_names::suggestion(self.expected()?, self.part())

@@ -13,6 +13,7 @@ use target_lexicon::proved::{
 };
 
 /// The number of the value that the string is in the field.
+#[must_use]
 pub fn number_in(field: Field, text: &str) -> Option<u32> {
     match field {
         Field::Architecture => match Architecture::from_str(text) {
@@ -39,6 +40,7 @@ pub fn number_in(field: Field, text: &str) -> Option<u32> {
 }
 
 /// The name of the field's value with this number, if there is one.
+#[must_use]
 pub fn name_at(field: Field, number: u32) -> Option<&'static str> {
     let Ok(number) = u8::try_from(number) else {
         return None;

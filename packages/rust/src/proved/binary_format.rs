@@ -49,6 +49,7 @@ impl BinaryFormat {
     /// ```
     /// assert_eq!(target_lexicon::BinaryFormat::Elf.into_str(), "elf");
     /// ```
+    #[must_use]
     pub fn into_str(self) -> Cow<'static, str> {
         Cow::Borrowed(self.name())
     }
@@ -60,7 +61,8 @@ impl BinaryFormat {
     /// ```
     /// assert_eq!(target_lexicon::BinaryFormat::Macho.name(), "macho");
     /// ```
-    pub fn name(self) -> &'static str {
+    #[must_use]
+    pub const fn name(self) -> &'static str {
         match self {
             BinaryFormat::Unknown => "unknown",
             BinaryFormat::Elf => "elf",

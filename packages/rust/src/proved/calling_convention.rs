@@ -36,7 +36,8 @@ impl CallingConvention {
     /// ```
     /// assert_eq!(target_lexicon::CallingConvention::SystemV.name(), "SystemV");
     /// ```
-    pub fn name(self) -> &'static str {
+    #[must_use]
+    pub const fn name(self) -> &'static str {
         match self {
             CallingConvention::SystemV => "SystemV",
             CallingConvention::WasmBasicCAbi => "WasmBasicCAbi",

@@ -61,8 +61,8 @@ impl<'a> TripleRef<'a> {
     }
 
     /// Writes the string that upstream prints for the triple, as [`TripleRef::write_to`] writes the printed one.
-    #[inline]
     #[doc(hidden)]
+    #[inline]
     pub fn write_upstream_to(&self, out: &mut [u8]) -> usize {
         self.pieces(false).write_to(out)
     }
@@ -226,6 +226,7 @@ impl<'a> Piece<'a> {
     }
 
     /// The length of the string.
+    #[inline]
     fn text_length(self) -> usize {
         match self {
             Piece::Hidden => 0,
@@ -234,6 +235,7 @@ impl<'a> Piece<'a> {
     }
 
     /// Writes the string, as [`put`] writes a string.
+    #[inline]
     fn put(self, out: &mut [u8], at: usize) -> usize {
         match self {
             Piece::Hidden => at,
@@ -285,6 +287,7 @@ impl Pieces<'_> {
 
     /// Writes the string at the front of the buffer if it fits there, and returns its length. If it doesn't fit, the
     /// buffer is unchanged.
+    #[inline]
     fn write_to(&self, out: &mut [u8]) -> usize {
         let length = self.text_length();
         if length <= out.len() {
@@ -294,6 +297,7 @@ impl Pieces<'_> {
     }
 
     /// The length of the string.
+    #[inline]
     fn text_length(&self) -> usize {
         self.first.len()
             + self.vendor.text_length()
@@ -304,6 +308,7 @@ impl Pieces<'_> {
     }
 
     /// The length of the version's string.
+    #[inline]
     fn version_length(&self) -> usize {
         match self.version {
             Some(version) => version_text(version, &mut [0; MAX_VERSION_LENGTH]).len(),
@@ -312,6 +317,7 @@ impl Pieces<'_> {
     }
 
     /// Writes the version's string, as [`put`] writes a string.
+    #[inline]
     fn put_version(&self, out: &mut [u8], at: usize) -> usize {
         match self.version {
             Some(version) => put(
@@ -324,6 +330,7 @@ impl Pieces<'_> {
     }
 
     /// Writes the string at the front of a buffer that has room for it, and returns its end.
+    #[inline]
     fn put(&self, out: &mut [u8]) -> usize {
         let at = put(out, 0, self.first.as_bytes());
         let at = self.vendor.put(out, at);
@@ -359,6 +366,7 @@ fn version_if(is_shown: bool, system: OperatingSystem) -> Option<DeploymentTarge
 }
 
 /// Writes a string after what ends at `at`, into a buffer that has room for it. Returns the end of both.
+#[inline]
 pub(crate) fn put(out: &mut [u8], at: usize, text: &[u8]) -> usize {
     let end = at + text.len();
     out[at..end].copy_from_slice(text);

@@ -107,6 +107,7 @@ impl Environment {
     /// ```
     /// assert_eq!(target_lexicon::Environment::Msvc.into_str(), "msvc");
     /// ```
+    #[must_use]
     pub fn into_str(self) -> Cow<'static, str> {
         Cow::Borrowed(self.name())
     }
@@ -118,7 +119,8 @@ impl Environment {
     /// ```
     /// assert_eq!(target_lexicon::Environment::Gnu.name(), "gnu");
     /// ```
-    pub fn name(self) -> &'static str {
+    #[must_use]
+    pub const fn name(self) -> &'static str {
         match self {
             Environment::Unknown => "unknown",
             Environment::AmdGiz => "amdgiz",

@@ -41,7 +41,8 @@ impl Triple {
     /// ```
     /// assert_eq!(target_lexicon::Triple::unknown().to_string(), "unknown-unknown-unknown");
     /// ```
-    pub fn unknown() -> Self {
+    #[must_use]
+    pub const fn unknown() -> Self {
         Triple {
             architecture: Architecture::Unknown,
             vendor: Vendor::Unknown,

@@ -35,7 +35,8 @@ impl Aarch64Architecture {
     /// ```
     /// assert!(!target_lexicon::Aarch64Architecture::Aarch64.is_thumb());
     /// ```
-    pub fn is_thumb(self) -> bool {
+    #[must_use]
+    pub const fn is_thumb(self) -> bool {
         false
     }
 
@@ -48,7 +49,8 @@ impl Aarch64Architecture {
     ///
     /// assert_eq!(Aarch64Architecture::Aarch64.pointer_width(), PointerWidth::U64);
     /// ```
-    pub fn pointer_width(self) -> PointerWidth {
+    #[must_use]
+    pub const fn pointer_width(self) -> PointerWidth {
         PointerWidth::U64
     }
 
@@ -61,7 +63,8 @@ impl Aarch64Architecture {
     ///
     /// assert_eq!(Aarch64Architecture::Aarch64be.endianness(), Endianness::Big);
     /// ```
-    pub fn endianness(self) -> Endianness {
+    #[must_use]
+    pub const fn endianness(self) -> Endianness {
         match self {
             Aarch64Architecture::Aarch64 => Endianness::Little,
             Aarch64Architecture::Aarch64be => Endianness::Big,
@@ -83,11 +86,12 @@ impl Aarch64Architecture {
     /// ```
     /// assert_eq!(target_lexicon::Aarch64Architecture::Aarch64be.into_str(), "aarch64_be");
     /// ```
+    #[must_use]
     pub fn into_str(self) -> Cow<'static, str> {
         Cow::Borrowed(self.name())
     }
 
-    pub(crate) fn name(self) -> &'static str {
+    pub(crate) const fn name(self) -> &'static str {
         match self {
             Aarch64Architecture::Aarch64 => "aarch64",
             Aarch64Architecture::Aarch64be => "aarch64_be",

@@ -41,11 +41,12 @@ impl CleverArchitecture {
     /// ```
     /// assert_eq!(target_lexicon::CleverArchitecture::Clever1_0.into_str(), "clever1.0");
     /// ```
+    #[must_use]
     pub fn into_str(self) -> Cow<'static, str> {
         Cow::Borrowed(self.name())
     }
 
-    pub(crate) fn name(self) -> &'static str {
+    pub(crate) const fn name(self) -> &'static str {
         match self {
             CleverArchitecture::Clever => "clever",
             CleverArchitecture::Clever1_0 => "clever1.0",

@@ -45,11 +45,12 @@ impl Mips32Architecture {
     /// ```
     /// assert_eq!(target_lexicon::Mips32Architecture::Mipsel.into_str(), "mipsel");
     /// ```
+    #[must_use]
     pub fn into_str(self) -> Cow<'static, str> {
         Cow::Borrowed(self.name())
     }
 
-    pub(crate) fn name(self) -> &'static str {
+    pub(crate) const fn name(self) -> &'static str {
         match self {
             Mips32Architecture::Mips => "mips",
             Mips32Architecture::Mipsel => "mipsel",
@@ -112,11 +113,12 @@ impl Mips64Architecture {
     /// ```
     /// assert_eq!(target_lexicon::Mips64Architecture::Mips64el.into_str(), "mips64el");
     /// ```
+    #[must_use]
     pub fn into_str(self) -> Cow<'static, str> {
         Cow::Borrowed(self.name())
     }
 
-    pub(crate) fn name(self) -> &'static str {
+    pub(crate) const fn name(self) -> &'static str {
         match self {
             Mips64Architecture::Mips64 => "mips64",
             Mips64Architecture::Mips64el => "mips64el",

@@ -53,11 +53,12 @@ impl Riscv32Architecture {
     /// ```
     /// assert_eq!(target_lexicon::Riscv32Architecture::Riscv32imac.into_str(), "riscv32imac");
     /// ```
+    #[must_use]
     pub fn into_str(self) -> Cow<'static, str> {
         Cow::Borrowed(self.name())
     }
 
-    pub(crate) fn name(self) -> &'static str {
+    pub(crate) const fn name(self) -> &'static str {
         match self {
             Riscv32Architecture::Riscv32 => "riscv32",
             Riscv32Architecture::Riscv32gc => "riscv32gc",
@@ -124,11 +125,12 @@ impl Riscv64Architecture {
     /// ```
     /// assert_eq!(target_lexicon::Riscv64Architecture::Riscv64gc.into_str(), "riscv64gc");
     /// ```
+    #[must_use]
     pub fn into_str(self) -> Cow<'static, str> {
         Cow::Borrowed(self.name())
     }
 
-    pub(crate) fn name(self) -> &'static str {
+    pub(crate) const fn name(self) -> &'static str {
         match self {
             Riscv64Architecture::Riscv64 => "riscv64",
             Riscv64Architecture::Riscv64gc => "riscv64gc",

@@ -43,11 +43,12 @@ impl X86_32Architecture {
     /// ```
     /// assert_eq!(target_lexicon::X86_32Architecture::I686.into_str(), "i686");
     /// ```
+    #[must_use]
     pub fn into_str(self) -> Cow<'static, str> {
         Cow::Borrowed(self.name())
     }
 
-    pub(crate) fn name(self) -> &'static str {
+    pub(crate) const fn name(self) -> &'static str {
         match self {
             X86_32Architecture::I386 => "i386",
             X86_32Architecture::I586 => "i586",

@@ -57,11 +57,12 @@ impl Z80Architecture {
     /// ```
     /// assert_eq!(target_lexicon::Z80Architecture::Z180.into_str(), "z180");
     /// ```
+    #[must_use]
     pub fn into_str(self) -> Cow<'static, str> {
         Cow::Borrowed(self.name())
     }
 
-    pub(crate) fn name(self) -> &'static str {
+    pub(crate) const fn name(self) -> &'static str {
         match self {
             Z80Architecture::Z80 => "z80",
             Z80Architecture::Z180 => "z180",

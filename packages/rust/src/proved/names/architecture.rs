@@ -9,6 +9,7 @@ use crate::proved::{
 };
 
 /// The number of an architecture.
+#[must_use]
 pub fn architecture_number(architecture: Architecture) -> u16 {
     match architecture {
         Architecture::Unknown => 0,
@@ -122,11 +123,13 @@ pub fn architecture_number(architecture: Architecture) -> u16 {
 }
 
 /// The architecture of a number, if there is one.
+#[must_use]
 pub fn architecture_at(number: u16) -> Option<Architecture> {
     value_at(&VALUES, usize::from(number))
 }
 
 /// The number of an architecture's family: the index among all architectures without a family and all families.
+#[must_use]
 pub fn family_number(architecture: Architecture) -> u8 {
     match architecture {
         Architecture::Unknown => 0,

@@ -5,6 +5,7 @@ use crate::proved::names::value::value_at;
 use crate::proved::BinaryFormat;
 
 /// The number of a binary format.
+#[must_use]
 pub fn binary_format_number(binary_format: BinaryFormat) -> u8 {
     match binary_format {
         BinaryFormat::Unknown => 0,
@@ -17,6 +18,7 @@ pub fn binary_format_number(binary_format: BinaryFormat) -> u8 {
 }
 
 /// The binary format of a number, if there is one.
+#[must_use]
 pub fn binary_format_at(number: u8) -> Option<BinaryFormat> {
     value_at(&VALUES, usize::from(number))
 }

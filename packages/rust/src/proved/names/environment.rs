@@ -5,6 +5,7 @@ use crate::proved::names::value::value_at;
 use crate::proved::Environment;
 
 /// The number of an environment.
+#[must_use]
 pub fn environment_number(environment: Environment) -> u8 {
     match environment {
         Environment::Unknown => 0,
@@ -46,6 +47,7 @@ pub fn environment_number(environment: Environment) -> u8 {
 }
 
 /// The environment of a number, if there is one.
+#[must_use]
 pub fn environment_at(number: u8) -> Option<Environment> {
     value_at(&VALUES, usize::from(number))
 }

@@ -4,6 +4,7 @@
 use crate::proved::Field;
 
 /// The field of this number.
+#[must_use]
 pub fn field_at(number: u32) -> Option<Field> {
     match number {
         0 => Some(Field::Architecture),

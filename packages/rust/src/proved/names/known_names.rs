@@ -5,6 +5,7 @@ use crate::proved::Field;
 
 /// The known names of a field, in the order of the values: of the vendors those that are known, and last of the
 /// operating systems those like Darwin, without a version.
+#[must_use]
 pub fn names(field: Field) -> &'static [&'static str] {
     match field {
         Field::Architecture => &[
@@ -217,6 +218,7 @@ pub fn names(field: Field) -> &'static [&'static str] {
 }
 
 /// The aliases of architectures.
+#[must_use]
 pub fn aliases() -> &'static [&'static str] {
     &["arm64"]
 }

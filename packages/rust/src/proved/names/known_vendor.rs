@@ -5,6 +5,7 @@ use crate::proved::names::value::value_at;
 use crate::proved::KnownVendor;
 
 /// The number of a known vendor.
+#[must_use]
 pub fn known_vendor_number(known_vendor: KnownVendor) -> u8 {
     match known_vendor {
         KnownVendor::Unknown => 0,
@@ -26,6 +27,7 @@ pub fn known_vendor_number(known_vendor: KnownVendor) -> u8 {
 }
 
 /// The known vendor of a number, if there is one.
+#[must_use]
 pub fn known_vendor_at(number: u8) -> Option<KnownVendor> {
     value_at(&VALUES, usize::from(number))
 }

@@ -5,6 +5,7 @@ use crate::proved::names::value::value_at;
 use crate::proved::{DeploymentTarget, OperatingSystem};
 
 /// The number of an operating system, whatever its version.
+#[must_use]
 pub fn operating_system_number(system: OperatingSystem) -> u8 {
     match system {
         OperatingSystem::Unknown => 0,
@@ -51,6 +52,7 @@ pub fn operating_system_number(system: OperatingSystem) -> u8 {
 }
 
 /// The operating system of a number, with this version, if there is one. Only a system like Darwin can have a version.
+#[must_use]
 pub fn operating_system_at(
     number: u8,
     version: Option<DeploymentTarget>,

@@ -41,7 +41,8 @@ impl Dialect {
     /// ```
     /// assert_eq!(target_lexicon::tool_names::Dialect::Go.as_str(), "go");
     /// ```
-    pub fn as_str(self) -> &'static str {
+    #[must_use]
+    pub const fn as_str(self) -> &'static str {
         match self {
             Dialect::Debian => "debian",
             Dialect::Go => "go",

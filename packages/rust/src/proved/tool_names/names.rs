@@ -68,6 +68,7 @@ impl Dialect {
     /// let triple = TripleRef::from_str("aarch64-apple-darwin").unwrap();
     /// assert_eq!(Dialect::Node.write(&triple).unwrap().to_string(), "darwin-arm64");
     /// ```
+    #[must_use]
     pub fn write(self, triple: &TripleRef<'_>) -> Option<Name> {
         let shape = self.shape(triple);
         let numbers = Numbers::of_system(shape.operating_system);
@@ -83,6 +84,7 @@ impl Dialect {
 
     /// The name that is suggested for an unknown one: the nearest of the names without a version that
     /// [`read`](Dialect::read) knows, if the name may be a misspelling of it. Nothing is allocated.
+    #[must_use]
     pub fn suggestion(self, name: &str) -> Option<&'static str> {
         nearer(
             name,
