@@ -6,13 +6,12 @@ PACKAGES = {
     "rust/target-lexicon": {
         "lexicon_fields": "",
         "target_lexicon": "",
-        "lexicon_names": "names",
         "tool_names": "tool_names",
     },
     "rust/lexicon-c": {"lexicon_c": ""},
 }
 # The modules that are compiled only with a feature of their name, and what of each is always compiled: suggestions need it.
-FEATURES = {"tool_names": {"macos", "spelling", "suggestions"}}
+FEATURES = {"tool_names": {"distance", "known_names", "macos", "misspelling", "nearest", "spelling", "suggestions"}}
 # The module of the layer that proved files name: what older versions of Rust lack.
 LAYER = {"compat"}
 # Where one package finds the crates of another.
@@ -25,7 +24,8 @@ ITEMS = {
     "host", "VendorError", "Triple::normal", "Triple::settle", "TripleRef::normal", "TripleRef::settle",
 }
 
-# The enums to which upstream, or a later version, may add variants.
+# The enums to which upstream, or a later version, may add variants. The packages of the same repository match on each.
+GROWS = 'cfg_attr(not(feature = "internals"), non_exhaustive)'
 NON_EXHAUSTIVE = set(
     """Architecture ArmArchitecture Aarch64Architecture CleverArchitecture Riscv32Architecture Riscv64Architecture
     X86_32Architecture Mips32Architecture Mips64Architecture Z80Architecture Vendor OperatingSystem Environment BinaryFormat
@@ -36,7 +36,7 @@ HIDDEN = {"DeploymentTarget::from_text", "Refusal::write_to", "TripleRef::step",
 
 # Long functions that few programs call: rustc compiles them only where they are called, which saves a fifth of a build.
 INLINE = {
-    "TripleRef::from_str", "suggestion", "Triple::settles_as", "Triple::write_to", "TripleRef::settles_as",
+    "TripleRef::from_str", "suggestion", "nearest_known_name", "Triple::settles_as", "Triple::write_to", "TripleRef::settles_as",
     "TripleRef::write_to", "TripleRef::write_upstream_to",
 }
 

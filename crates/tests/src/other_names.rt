@@ -1,9 +1,9 @@
 //! Suggestions, object formats, names of Python's platforms, and how the values of `tool_names` are compared and displayed.
 
 use crate::values::{hash_alike, prints, writes};
-use lexicon_names::names;
 use std::process::Abort;
 use target_lexicon::{Field, Refusal, TextPart, TripleRef};
+use tool_names::known_names::names;
 use tool_names::{Change, Dialect, NameError, changes, object_format, read, suggestion};
 
 /// For each field strings, and after `=` the name that should be suggested, or nothing.

@@ -1,5 +1,5 @@
 //! The known names of a field, and the one that was perhaps meant.
-use crate::proved::{names, tool_names};
+use crate::proved::tool_names;
 use crate::{Field, ParseError, Refusal};
 
 impl Field {
@@ -14,7 +14,7 @@ impl Field {
     /// assert!(Field::OperatingSystem.names().contains(&"ios"));
     /// ```
     pub fn names(self) -> &'static [&'static str] {
-        names::names(self)
+        tool_names::known_names::names(self)
     }
 }
 

@@ -1,10 +1,10 @@
 // Erased from crates/tool_names/src/names.rt by tools/erase. Don't edit it here.
 //! Reading and writing the names of a dialect.
 
-use crate::proved::names::misspelling::{misspelling, TOO_MANY_EDITS};
-use crate::proved::names::nearest::nearer;
 use crate::proved::tool_names::dialect::Dialect;
+use crate::proved::tool_names::misspelling::{misspelling, TOO_MANY_EDITS};
 use crate::proved::tool_names::name::Name;
+use crate::proved::tool_names::nearest::nearer;
 use crate::proved::tool_names::pattern::{matched, star_count, Numbers};
 use crate::proved::tool_names::tables::{Row, Way, ONLY_WRITTEN};
 use crate::proved::{DeploymentTarget, OperatingSystem, TripleRef};
