@@ -21,7 +21,7 @@ impl Field {
 impl Refusal<'_> {
     /// The name that was perhaps meant. If other tools spell a known name as the refused part, it is that name. Otherwise it
     /// is the nearest one of the expected field or of a later one, if the part may be a misspelling of it. It never changes
-    /// the family of the architecture or the number of bits.
+    /// the family of the architecture or a digit.
     ///
     /// # Examples
     ///

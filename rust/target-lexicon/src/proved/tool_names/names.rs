@@ -84,6 +84,7 @@ impl Dialect {
     /// The name that is suggested for an unknown one: the nearest of the names without a version that
     /// [`read`](Dialect::read) knows, if the name may be a misspelling of it. Nothing is allocated.
     pub fn suggestion(self, name: &str) -> Option<&'static str> {
+        let name = name.as_bytes();
         nearer(
             name,
             nearest_name(name, self.rows(), true),
@@ -192,7 +193,7 @@ fn without_numbers(system: OperatingSystem) -> OperatingSystem {
 
 /// The nearest of the names without a number that are read, and are written or aren't, if a name may be a misspelling of
 /// it.
-fn nearest_name(name: &str, rows: &'static [Row], written: bool) -> Option<&'static str> {
+fn nearest_name(name: &[u8], rows: &'static [Row], written: bool) -> Option<&'static str> {
     let mut nearest = None;
     let mut limit = TOO_MANY_EDITS;
     for row in rows {
