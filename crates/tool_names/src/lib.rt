@@ -5,6 +5,7 @@
 mod change;
 mod dialect;
 mod formats;
+mod gnu;
 pub mod laws;
 mod macos;
 mod name;

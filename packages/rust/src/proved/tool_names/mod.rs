@@ -8,6 +8,8 @@ pub(crate) mod change;
 pub(crate) mod dialect;
 #[cfg(feature = "tool_names")]
 pub(crate) mod formats;
+#[cfg(feature = "tool_names")]
+pub(crate) mod gnu;
 pub(crate) mod macos;
 #[cfg(feature = "tool_names")]
 pub(crate) mod name;
