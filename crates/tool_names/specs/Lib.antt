@@ -2,6 +2,7 @@ pub mod Changes
 pub mod Dialects
 pub mod Distance
 pub mod KnownNames
+pub mod Gnu
 pub mod Laws
 pub mod Nearest
 pub mod ObjectFormat

@@ -6,6 +6,7 @@ mod change;
 mod dialect;
 mod distance;
 mod formats;
+mod gnu;
 pub mod known_names;
 pub mod laws;
 mod macos;

@@ -9,6 +9,8 @@ pub(crate) mod dialect;
 pub(crate) mod distance;
 #[cfg(feature = "tool_names")]
 pub(crate) mod formats;
+#[cfg(feature = "tool_names")]
+pub(crate) mod gnu;
 pub(crate) mod known_names;
 pub(crate) mod macos;
 pub(crate) mod misspelling;
