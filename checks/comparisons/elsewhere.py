@@ -2,9 +2,10 @@
 
 dpkg says byte order, pointer width and GNU type of each name; Go and containerd, which names they have and how they write
 them; esbuild and Node's manual, the words; config.sub, which strings there are. The crate cc has a table of prefixes. Python's
-sysconfig says how it names platforms, and packaging which tags it makes. The tools that aren't installed are named. Without any tool
-it checks that a machine's word means one architecture, and that each other spelling is explained by a rule or listed here. The status
-is 1 if an answer differs that docs/TOOL_NAMES.md doesn't list. The names of Android and iOS need a Python 3.13 that runs this.
+sysconfig says how it names platforms, and packaging which tags it makes. rustc says what its cfg options are for each target. The
+tools that aren't installed are named. Without any tool it checks that a machine's word means one architecture, and that each other
+spelling is explained by a rule or listed here. The status is 1 if an answer differs that docs/TOOL_NAMES.md doesn't list. The names
+of Android and iOS need a Python 3.13 that runs this.
 
 Debian's packages: dpkg-dev autotools-dev golang-go golang-github-containerd-containerd-dev esbuild nodejs-doc librust-cc-dev
 python3-packaging.
@@ -20,7 +21,7 @@ import sys
 
 import built
 import upstream
-from comparisons import python_platforms
+from comparisons import python_platforms, rustc_cfg
 from comparisons.tools import Report, order_and_width, output
 
 # The word of each dialect for a system, where it isn't the library's. A word that means another system in every row of a
@@ -259,4 +260,5 @@ def main(options, folder):
     comparison.check_node()
     comparison.check_gnu()
     comparison.check_python()
+    rustc_cfg.check(comparison)
     return comparison.conclude()

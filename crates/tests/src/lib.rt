@@ -19,6 +19,8 @@ mod queries;
 #[cfg(test)]
 mod reading;
 #[cfg(test)]
+mod rustc_cfg;
+#[cfg(test)]
 mod systems;
 #[cfg(test)]
 mod values;

@@ -1,9 +1,10 @@
 -- LookUps, MacosNames: a table is searched, and `macosx` with a version is a system. JoinedNames: the names of a listed
 -- spelling. SpelledNames, SpelledReading, SpelledOnce: what parses is read as before, and once is enough. ReadAgain: what is
 -- read of what was read is the same. ChangeLemmas, PlacedParts, RefusedNames: the changes of a string, the ranges of parts, and
--- where a string is refused. ObjectFormats: the object format of a triple. ShapeLemmas: what a shape keeps. NumberLemmas,
--- Matches, Tags, Filling: names with numbers, and how they are matched. RowChecks, RowLemmas, NameLaws: what the rows pass,
--- what follows of the row of a name, and the laws.
+-- where a string is refused. ObjectFormats: the object format of a triple. CfgLines: the lines of rustc's families.
+-- ShapeLemmas: what a shape keeps. NumberLemmas, Matches, Tags, Filling: names with numbers, and how they are matched.
+-- RowChecks, RowLemmas, NameLaws: what the rows pass, what follows of the row of a name, and the laws.
+pub mod CfgLines
 pub mod ChangeLemmas
 pub mod Filling
 pub mod JoinedNames

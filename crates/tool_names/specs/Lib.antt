@@ -4,6 +4,7 @@ pub mod ObjectFormat
 pub mod Laws
 pub mod Patterns
 pub mod Private
+pub mod RustcCfg
 pub mod Shape
 pub mod Spelling
 pub mod Suggestion

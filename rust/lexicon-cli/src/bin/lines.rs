@@ -1,4 +1,5 @@
-//! The modes of the program `triples` over the Rust crate, for tests that compare with it. It isn't installed.
+//! The modes of the program `triples` over the Rust crate, for tests that compare with it, and the mode `cfg`, which writes
+//! rustc's options for each line. It isn't installed.
 #![forbid(unsafe_code)]
 
 #[path = "../../../../checks/comparisons/lines.rs"]
@@ -8,7 +9,7 @@ use serde_json::Value;
 use std::fmt::Write as _;
 use std::io::{self, Read};
 use std::process::ExitCode;
-use target_lexicon::TripleRef;
+use target_lexicon::{tool_names::RustcCfg, TripleRef};
 
 /// What mode `json` writes, or why the input is no list.
 fn json(input: Vec<u8>) -> Result<String, &'static str> {
@@ -26,13 +27,31 @@ fn json(input: Vec<u8>) -> Result<String, &'static str> {
     Ok(Value::from(printed).to_string())
 }
 
+/// For each line the options of its triple, and an empty line.
+fn cfg() -> io::Result<()> {
+    for line in io::stdin().lines() {
+        match TripleRef::from_str(&line?) {
+            Ok(triple) => println!("{}", RustcCfg::of(&triple)),
+            Err(refusal) => println!("error: {refusal}\n"),
+        }
+    }
+    Ok(())
+}
+
 fn main() -> io::Result<ExitCode> {
-    if std::env::args().nth(1).as_deref() != Some("json") {
-        lines::answer(
-            |output, triple| write!(output, "{triple}").expect("memory"),
-            |triple| triple.settle().ok(),
-        )?;
-        return Ok(ExitCode::SUCCESS);
+    match std::env::args().nth(1).as_deref() {
+        Some("json") => {}
+        Some("cfg") => {
+            cfg()?;
+            return Ok(ExitCode::SUCCESS);
+        }
+        _ => {
+            lines::answer(
+                |output, triple| write!(output, "{triple}").expect("memory"),
+                |triple| triple.settle().ok(),
+            )?;
+            return Ok(ExitCode::SUCCESS);
+        }
     }
     let mut input = Vec::new();
     io::stdin().read_to_end(&mut input)?;

@@ -20,6 +20,8 @@ pub(crate) mod pattern;
 #[cfg(feature = "tool_names")]
 pub(crate) mod reading;
 #[cfg(feature = "tool_names")]
+pub(crate) mod rustc_cfg;
+#[cfg(feature = "tool_names")]
 pub(crate) mod shape;
 pub(crate) mod spelling;
 pub(crate) mod suggestions;
@@ -38,5 +40,7 @@ pub use name::Name;
 pub use names::NameError;
 #[cfg(feature = "tool_names")]
 pub use reading::read;
+#[cfg(feature = "tool_names")]
+pub use rustc_cfg::RustcCfg;
 pub use spelling::Spelling;
 pub use suggestions::suggestion;
