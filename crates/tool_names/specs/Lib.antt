@@ -1,5 +1,6 @@
 pub mod Changes
 pub mod Dialects
+pub mod Driver
 pub mod ObjectFormat
 pub mod Laws
 pub mod Patterns

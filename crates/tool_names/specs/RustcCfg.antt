@@ -350,7 +350,7 @@ abbrev pub family_lines : List (List ℕ) → List ℕ
 family_lines [] = []
 family_lines (family ∷ families) = option_line (codes "target_family") family ++ family_lines families
 
--- two families are options themselves, without a value
+-- `unix` and `windows` are options themselves, without a value
 abbrev pub name_line : List ℕ → List ℕ
 name_line family = option_map_or (λ (line : List ℕ). line) (value_named ((codes "unix", codes "unix\n") ∷ (codes "windows", codes "windows\n") ∷ []) family) []
 

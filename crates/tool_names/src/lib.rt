@@ -4,6 +4,7 @@
 
 mod change;
 mod dialect;
+mod driver;
 mod formats;
 pub mod laws;
 mod macos;
@@ -20,10 +21,11 @@ mod tables;
 
 pub use change::{Change, ChangedParts, changes};
 pub use dialect::Dialect;
+pub use driver::{CLibrary, FloatAbi, TypeLayout};
 pub use formats::object_format;
 pub use name::Name;
 pub use names::NameError;
 pub use reading::read;
-pub use rustc_cfg::RustcCfg;
+pub use rustc_cfg::{RustcCfg, is_unix};
 pub use spelling::Spelling;
 pub use suggestions::suggestion;

@@ -48,7 +48,7 @@ pub struct RustcCfg<'a> {
 
 /// A system of rustc that is no known name, so that a triple has it as a custom vendor.
 #[derive(Clone, Copy)]
-enum UnlistedSystem {
+pub(crate) enum UnlistedSystem {
     Nuttx,
     Rtems,
     WasiP3,
@@ -254,7 +254,7 @@ impl UnlistedSystem {
     ghost use Rattle.tool_names.specs.RustcCfg.{is_unix_unlisted, unlisted_env, unlisted_os};
 
     /// The unlisted system of a triple with these fields.
-    fn of(vendor: VendorRef<'_>, system: OperatingSystem) -> Option<UnlistedSystem>
+    pub(crate) fn of(vendor: VendorRef<'_>, system: OperatingSystem) -> Option<UnlistedSystem>
         ensures { result ≡ unlisted_system (ref_value vendor.entry) system }
     {
         match (vendor, system) {
@@ -584,9 +584,18 @@ fn target_family(triple: &TripleRef<'_>) -> &'static [&'static str]
     }
 }
 
-/// Whether rustc counts the system to the family of Unix.
+/// Whether rustc counts the system to the family `unix`.
+///
+/// # Examples
+///
+/// ```
+/// use target_lexicon::{tool_names::is_unix, TripleRef};
+///
+/// assert!(is_unix(&TripleRef::from_str("x86_64-pc-cygwin").unwrap()));
+/// assert!(!is_unix(&TripleRef::from_str("wasm32-wasip1").unwrap()));
+/// ```
 #[tactic(auto, unfolding(crate::specs::RustcCfg::is_unix))]
-pub(crate) fn is_unix(triple: &TripleRef<'_>) -> bool
+pub fn is_unix(triple: &TripleRef<'_>) -> bool
     ensures { result ≡ is_unix (values_of_ref triple.now) }
 {
     match UnlistedSystem::of(triple.vendor, triple.operating_system) {

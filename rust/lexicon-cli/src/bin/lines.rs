@@ -1,5 +1,5 @@
-//! The modes of the program `triples` over the Rust crate, for tests that compare with it, and the mode `cfg`, which writes
-//! rustc's options for each line. It isn't installed.
+//! The modes of the program `triples` over the Rust crate, for tests that compare with it; the mode `cfg`, which writes
+//! rustc's options for each line, and the mode `driver`, which writes what a compiler's driver asks. It isn't installed.
 #![forbid(unsafe_code)]
 
 #[path = "../../../../checks/comparisons/lines.rs"]
@@ -9,7 +9,8 @@ use serde_json::Value;
 use std::fmt::Write as _;
 use std::io::{self, Read};
 use std::process::ExitCode;
-use target_lexicon::{tool_names::RustcCfg, TripleRef};
+use target_lexicon::tool_names::{CLibrary, FloatAbi, RustcCfg, TypeLayout};
+use target_lexicon::TripleRef;
 
 /// What mode `json` writes, or why the input is no list.
 fn json(input: Vec<u8>) -> Result<String, &'static str> {
@@ -27,22 +28,39 @@ fn json(input: Vec<u8>) -> Result<String, &'static str> {
     Ok(Value::from(printed).to_string())
 }
 
-/// For each line the options of its triple, and an empty line.
-fn cfg() -> io::Result<()> {
+/// For each line what is shown of its triple, or why it is refused, and this end.
+fn each(show: fn(&TripleRef) -> String, end: &str) -> io::Result<()> {
     for line in io::stdin().lines() {
         match TripleRef::from_str(&line?) {
-            Ok(triple) => println!("{}", RustcCfg::of(&triple)),
-            Err(refusal) => println!("error: {refusal}\n"),
+            Ok(triple) => print!("{}{end}", show(&triple)),
+            Err(refusal) => print!("error: {refusal}\n{end}"),
         }
     }
     Ok(())
+}
+
+/// The C library, how floating-point arguments are passed, and the size and alignment of `long double` and `wchar_t`; `-`
+/// where there is no answer.
+fn driver(triple: &TripleRef) -> String {
+    let layout = |it: Option<TypeLayout>| it.map_or("- -".to_string(), |it| format!("{} {}", it.size, it.alignment));
+    format!(
+        "{} {} {} {}\n",
+        CLibrary::of(triple).map_or("-", CLibrary::name),
+        FloatAbi::of(triple).map_or("-", FloatAbi::name),
+        layout(TypeLayout::of_long_double(triple)),
+        layout(TypeLayout::of_wchar(triple)),
+    )
 }
 
 fn main() -> io::Result<ExitCode> {
     match std::env::args().nth(1).as_deref() {
         Some("json") => {}
         Some("cfg") => {
-            cfg()?;
+            each(|triple| RustcCfg::of(triple).to_string(), "\n")?;
+            return Ok(ExitCode::SUCCESS);
+        }
+        Some("driver") => {
+            each(driver, "")?;
             return Ok(ExitCode::SUCCESS);
         }
         _ => {

@@ -7,6 +7,8 @@ pub(crate) mod change;
 #[cfg(feature = "tool_names")]
 pub(crate) mod dialect;
 #[cfg(feature = "tool_names")]
+pub(crate) mod driver;
+#[cfg(feature = "tool_names")]
 pub(crate) mod formats;
 pub(crate) mod macos;
 #[cfg(feature = "tool_names")]
@@ -33,6 +35,8 @@ pub use change::{changes, Change, ChangedParts};
 #[cfg(feature = "tool_names")]
 pub use dialect::Dialect;
 #[cfg(feature = "tool_names")]
+pub use driver::{CLibrary, FloatAbi, TypeLayout};
+#[cfg(feature = "tool_names")]
 pub use formats::object_format;
 #[cfg(feature = "tool_names")]
 pub use name::Name;
@@ -41,6 +45,6 @@ pub use names::NameError;
 #[cfg(feature = "tool_names")]
 pub use reading::read;
 #[cfg(feature = "tool_names")]
-pub use rustc_cfg::RustcCfg;
+pub use rustc_cfg::{is_unix, RustcCfg};
 pub use spelling::Spelling;
 pub use suggestions::suggestion;

@@ -44,7 +44,7 @@ pub struct RustcCfg<'a> {
 
 /// A system of rustc that is no known name, so that a triple has it as a custom vendor.
 #[derive(Clone, Copy)]
-enum UnlistedSystem {
+pub(crate) enum UnlistedSystem {
     Nuttx,
     Rtems,
     WasiP3,
@@ -204,7 +204,7 @@ fn endianness(triple: &TripleRef<'_>) -> Option<Endianness> {
 
 impl UnlistedSystem {
     /// The unlisted system of a triple with these fields.
-    fn of(vendor: VendorRef<'_>, system: OperatingSystem) -> Option<UnlistedSystem> {
+    pub(crate) fn of(vendor: VendorRef<'_>, system: OperatingSystem) -> Option<UnlistedSystem> {
         match (vendor, system) {
             (VendorRef::Custom(text), OperatingSystem::Unknown) => match text {
                 "nuttx" => Some(UnlistedSystem::Nuttx),
@@ -491,8 +491,17 @@ fn target_family(triple: &TripleRef<'_>) -> &'static [&'static str] {
     }
 }
 
-/// Whether rustc counts the system to the family of Unix.
-pub(crate) fn is_unix(triple: &TripleRef<'_>) -> bool {
+/// Whether rustc counts the system to the family `unix`.
+///
+/// # Examples
+///
+/// ```
+/// use target_lexicon::{tool_names::is_unix, TripleRef};
+///
+/// assert!(is_unix(&TripleRef::from_str("x86_64-pc-cygwin").unwrap()));
+/// assert!(!is_unix(&TripleRef::from_str("wasm32-wasip1").unwrap()));
+/// ```
+pub fn is_unix(triple: &TripleRef<'_>) -> bool {
     match UnlistedSystem::of(triple.vendor, triple.operating_system) {
         Some(system) => system.is_unix(),
         None => is_unix_system(triple.operating_system),
