@@ -4,10 +4,12 @@
 mod calls;
 mod dialects;
 mod error;
+pub mod laws;
 mod numbers;
 mod sources;
 mod triple;
 mod triple_facts;
+mod values;
 
 pub use calls::{
     comes_back, driver_facts, equal, explain, facts, format_facts, parse, print, query_facts,
@@ -21,3 +23,4 @@ pub use triple::{Fault, NumberedTriple, TripleNumbers};
 pub use triple_facts::{
     DriverFacts, FormatFacts, LayoutNumbers, QueryFacts, TripleFacts, TypeSizes,
 };
+pub use values::field_at;

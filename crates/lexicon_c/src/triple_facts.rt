@@ -7,7 +7,7 @@ ghost use Rattle.target_lexicon.specs.Queries.{endianness, pointer_width, callin
 ghost use Rattle.target_lexicon.specs.ValuesRef.{values_of_ref};
 ghost use Rattle.lexicon_c.specs.Facts.{AreDriverFactsOf, AreFactsOf, AreFormatFactsOf, AreQueryFactsOf, convention_number, endianness_number, float_abi_number, is_thumb_architecture, layout_numbers, library_number, model_number, type_sizes};
 
-use lexicon_names::{binary_format_number, family_number};
+use crate::values::{binary_format_number, family_number};
 use target_lexicon::{Architecture, CDataModel, CallingConvention, Endianness, TripleRef};
 use tool_names::{CLibrary, FloatAbi, TypeLayout, is_unix, object_format};
 

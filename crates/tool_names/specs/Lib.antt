@@ -1,8 +1,11 @@
 pub mod Changes
 pub mod Dialects
+pub mod Distance
 pub mod Driver
-pub mod ObjectFormat
+pub mod KnownNames
 pub mod Laws
+pub mod Nearest
+pub mod ObjectFormat
 pub mod Patterns
 pub mod Private
 pub mod RustcCfg

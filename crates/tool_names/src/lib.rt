@@ -4,13 +4,17 @@
 
 mod change;
 mod dialect;
+mod distance;
 mod driver;
 mod formats;
+pub mod known_names;
 pub mod laws;
 mod macos;
+mod misspelling;
 mod name;
 mod names;
 mod names_left;
+mod nearest;
 mod pattern;
 mod reading;
 mod rustc_cfg;

@@ -1,0 +1,211 @@
+//! The two outputs. What is written to one appears before what is written to the other later.
+use crate::json::{Json, Object};
+use crate::{streams, Fault};
+use clap::ArgMatches;
+use std::env;
+use std::io::{self, BufWriter, ErrorKind, Write};
+use std::time::{Duration, Instant};
+
+impl Fault {
+    pub fn of_output(name: &str, why: io::Error) -> Self {
+        match why.kind() {
+            ErrorKind::BrokenPipe => Fault::Closed,
+            _ => Fault::Stream {
+                name: name.into(),
+                why,
+            },
+        }
+    }
+}
+
+/// How objects are written.
+#[derive(Clone, Copy, PartialEq, Eq)]
+enum Layout {
+    Array,
+    Lines,
+}
+
+pub struct Outputs {
+    out: BufWriter<Box<dyn Write>>,
+    errors: BufWriter<io::Stderr>,
+    layout: Option<Layout>,
+    has_object: bool,
+    has_color: bool,
+}
+
+/// Whether a terminal shows what goes to standard error.
+fn is_terminal() -> bool {
+    #[cfg(is_terminal)]
+    return io::IsTerminal::is_terminal(&io::stderr());
+    #[cfg(not(is_terminal))]
+    return false;
+}
+
+/// Whether that terminal wants colours.
+fn is_colorful_terminal() -> bool {
+    let is_unset = |name| env::var_os(name).map_or(true, |it| it.is_empty());
+    is_terminal()
+        && is_unset("NO_COLOR")
+        && env::var_os("TERM").map_or(cfg!(windows), |it| it != "dumb")
+}
+
+impl Outputs {
+    pub fn plain() -> Self {
+        Outputs {
+            out: BufWriter::with_capacity(1 << 16, streams::standard_output()),
+            errors: BufWriter::with_capacity(1 << 16, io::stderr()),
+            layout: None,
+            has_object: false,
+            has_color: false,
+        }
+    }
+
+    pub fn new(arguments: &ArgMatches) -> Self {
+        let layout = match (arguments.get_flag("json"), arguments.get_flag("json-lines")) {
+            (true, _) => Some(Layout::Array),
+            (_, true) => Some(Layout::Lines),
+            _ => None,
+        };
+        let has_color = match arguments.get_one::<String>("color").map(String::as_str) {
+            Some("always") => true,
+            Some("never") => false,
+            _ => is_colorful_terminal(),
+        };
+        Outputs {
+            layout,
+            has_color,
+            ..Outputs::plain()
+        }
+    }
+
+    fn flush_out(&mut self) -> Result<(), Fault> {
+        self.out
+            .flush()
+            .map_err(|why| Fault::of_output("standard output", why))
+    }
+
+    fn flush_errors(&mut self) -> Result<(), Fault> {
+        self.errors
+            .flush()
+            .map_err(|why| Fault::of_output("standard error", why))
+    }
+
+    pub fn flush(&mut self) -> Result<(), Fault> {
+        self.flush_out()?;
+        self.flush_errors()
+    }
+
+    pub fn write(
+        &mut self,
+        text: impl FnOnce(&mut dyn Write) -> io::Result<()>,
+    ) -> Result<(), Fault> {
+        self.flush_errors()?;
+        text(&mut self.out).map_err(|why| Fault::of_output("standard output", why))
+    }
+
+    /// Writes an answer, a text of lines, after which `end` comes instead of the last line feed.
+    pub fn answer(
+        &mut self,
+        end: u8,
+        text: impl FnOnce(&mut dyn Write) -> io::Result<()>,
+    ) -> Result<(), Fault> {
+        if end == b'\n' {
+            return self.write(text);
+        }
+        self.write(|out| {
+            let mut answer = Vec::new();
+            text(&mut answer)?;
+            answer.pop();
+            answer.push(end);
+            out.write_all(&answer)
+        })
+    }
+
+    /// Writes a refusal to standard error. `text` gets whether it has colours.
+    pub fn refuse(
+        &mut self,
+        text: impl FnOnce(&mut dyn Write, bool) -> io::Result<()>,
+    ) -> Result<(), Fault> {
+        self.flush_out()?;
+        text(&mut self.errors, self.has_color)
+            .map_err(|why| Fault::of_output("standard error", why))
+    }
+
+    pub fn object(&mut self, object: Object) -> Result<(), Fault> {
+        let (begin, end) = match (self.layout, self.has_object) {
+            (Some(Layout::Lines), _) => ("", "\n"),
+            (_, false) => ("[", ""),
+            (_, true) => (",", ""),
+        };
+        self.has_object = true;
+        self.write(|out| {
+            out.write_all(begin.as_bytes())?;
+            Json::Object(object).write(out)?;
+            out.write_all(end.as_bytes())
+        })
+    }
+
+    /// Ends what was written; an array, if there is to be one.
+    pub fn end(&mut self, has_array: bool) -> Result<(), Fault> {
+        if has_array && self.layout == Some(Layout::Array) {
+            let end = if self.has_object { "]\n" } else { "[]\n" };
+            self.write(|out| out.write_all(end.as_bytes()))?;
+        }
+        self.flush()
+    }
+}
+
+/// How far a long run is. On a terminal it is shown each second, in a line that the next one covers.
+pub struct Progress {
+    pub targets: usize,
+    pub refused: usize,
+    is_shown: bool,
+    next: Option<Instant>,
+}
+
+impl Progress {
+    pub fn new() -> Self {
+        Progress {
+            targets: 0,
+            refused: 0,
+            is_shown: false,
+            next: is_terminal().then(|| Instant::now() + Duration::from_secs(2)),
+        }
+    }
+
+    pub fn show(&mut self) -> Result<(), Fault> {
+        if self.next.map_or(true, |next| Instant::now() < next) {
+            return Ok(());
+        }
+        self.next = Some(Instant::now() + Duration::from_secs(1));
+        self.is_shown = true;
+        let (targets, refused) = (with_commas(self.targets), with_commas(self.refused));
+        self.line(&format!("{targets} targets, {refused} refused"))
+    }
+
+    /// Clears the line.
+    pub fn end(&mut self) -> Result<(), Fault> {
+        match std::mem::take(&mut self.is_shown) {
+            true => self.line(""),
+            false => Ok(()),
+        }
+    }
+
+    fn line(&self, text: &str) -> Result<(), Fault> {
+        io::stderr()
+            .write_all(format!("\r\x1b[K{text}").as_bytes())
+            .map_err(|why| Fault::of_output("standard error", why))
+    }
+}
+
+/// A number with commas between thousands.
+pub fn with_commas(number: usize) -> String {
+    let digits = number.to_string();
+    let groups: Vec<&str> = digits
+        .as_bytes()
+        .rchunks(3)
+        .rev()
+        .map(|group| std::str::from_utf8(group).expect("digits are ASCII"))
+        .collect();
+    groups.join(",")
+}

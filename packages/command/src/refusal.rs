@@ -1,0 +1,245 @@
+//! Why a target is refused.
+use crate::arguments::{DIALECTS, FIELDS};
+use crate::input::{Place, Target};
+use crate::json::{Json, Object};
+use std::io::{self, Write};
+use target_lexicon::tool_names::{self, Dialect, Name, NameError};
+use target_lexicon::{Field, Source, Sources, TextPart, TripleRef, VendorRef};
+
+pub struct Refusal<'a> {
+    error: String,
+    /// The field that the part isn't a name of.
+    field: Option<Field>,
+    part: TextPart<'a>,
+    names: Names<'a>,
+    /// Why the name of a tool has no triple.
+    reason: Option<&'static str>,
+}
+
+/// Among which names one is suggested. To find it takes longer than all else, so it is found only where it is shown.
+enum Names<'a> {
+    OfParts(target_lexicon::Refusal<'a>),
+    OfVendors(&'a str),
+    OfDialect(Dialect, &'a str),
+    No,
+}
+
+/// What the user may have meant by a target that is refused.
+#[derive(Clone)]
+pub struct Help {
+    pub suggestion: Option<&'static str>,
+    pub note: Option<String>,
+}
+
+/// What a target parses as, and from where.
+pub struct Parsed<'a> {
+    pub triple: TripleRef<'a>,
+    pub sources: Sources<'a>,
+}
+
+/// What a target parses as, and from where; or why it is refused.
+pub fn explanation(text: &str, is_strict: bool) -> Result<Parsed<'_>, Refusal<'_>> {
+    let explanation = TripleRef::explain(text);
+    let (triple, sources) = (
+        explanation.triple.map_err(Refusal::of_part)?,
+        explanation.sources,
+    );
+    match (triple.vendor, sources.vendor) {
+        (VendorRef::Custom(vendor), Source::Part(part)) if is_strict => Err(Refusal {
+            error: "custom vendor".into(),
+            field: Some(Field::Vendor),
+            part,
+            names: Names::OfVendors(vendor),
+            reason: None,
+        }),
+        _ => Ok(Parsed { triple, sources }),
+    }
+}
+
+/// The triple that a name of another tool means; without a dialect, that of a string spelled like a triple.
+pub fn read(text: &str, dialect: Option<Dialect>) -> Result<TripleRef<'_>, Refusal<'_>> {
+    match dialect {
+        None => tool_names::read(text).map_err(Refusal::of_part),
+        Some(dialect) => dialect.read(text).map_err(|refusal| match refusal {
+            NameError::Unknown => Refusal {
+                names: Names::OfDialect(dialect, text),
+                ..Refusal::of_all(format!("unknown name of {dialect}"), text)
+            },
+            NameError::WithoutTriple(why) => Refusal {
+                reason: Some(why),
+                ..Refusal::of_all(
+                    format!("no triple means the same as the name of {dialect}"),
+                    text,
+                )
+            },
+        }),
+    }
+}
+
+/// How a name is read that isn't spelled like a triple, if it is one of another tool. `command` comes before the option.
+pub fn dialects_note(command: &str, name: &str) -> Option<String> {
+    let options: Vec<_> = DIALECTS
+        .into_iter()
+        .filter(|dialect| !matches!(dialect.read(name), Err(NameError::Unknown)))
+        .map(|dialect| format!("`{command}--from {dialect}`"))
+        .collect();
+    (!options.is_empty()).then(|| {
+        format!(
+            "it is a name of another tool: use {}",
+            options.join(" or ")
+        )
+    })
+}
+
+/// The name that another tool has for the triple of a target.
+pub fn name_in<'a>(
+    dialect: Dialect,
+    text: &'a str,
+    triple: &TripleRef<'_>,
+) -> Result<Name, Refusal<'a>> {
+    dialect
+        .write(triple)
+        .ok_or_else(|| Refusal::of_all(format!("no name of {dialect} for"), text))
+}
+
+impl<'a> Refusal<'a> {
+    fn of_part(refusal: target_lexicon::Refusal<'a>) -> Self {
+        let name = refusal.expected.and_then(key_of).unwrap_or("field");
+        Refusal {
+            error: format!("unrecognized {}", name.replace('_', " ")),
+            field: refusal.expected,
+            part: refusal.part,
+            names: Names::OfParts(refusal),
+            reason: None,
+        }
+    }
+
+    fn of_all(error: String, text: &'a str) -> Self {
+        Refusal {
+            error,
+            field: None,
+            part: TextPart { text, start: 0 },
+            names: Names::No,
+            reason: None,
+        }
+    }
+}
+
+fn key_of(field: Field) -> Option<&'static str> {
+    FIELDS
+        .iter()
+        .find(|(_, it)| *it == field)
+        .map(|(key, _)| *key)
+}
+
+impl Refusal<'_> {
+    /// The name that is suggested.
+    pub fn suggestion(&self) -> Option<&'static str> {
+        match &self.names {
+            Names::OfParts(refusal) => refusal.suggestion(),
+            Names::OfVendors(vendor) => tool_names::suggestion(Field::Vendor, vendor),
+            Names::OfDialect(dialect, name) => dialect.suggestion(name),
+            Names::No => None,
+        }
+    }
+
+    /// The place, what is wrong, the target, and carets below the part.
+    pub fn write(
+        &self,
+        out: &mut dyn Write,
+        target: Target<'_>,
+        has_color: bool,
+        help: &Help,
+    ) -> io::Result<()> {
+        let color = |code: &str, text: &str| match has_color {
+            true => format!("\x1b[{code}m{text}\x1b[0m"),
+            false => text.to_string(),
+        };
+        let (before, after) = (
+            &target.text[..self.part.start],
+            &target.text[self.part.range().end..],
+        );
+        let (before, part, after) = (
+            last(&visible(before)),
+            first(&visible(self.part.text)),
+            first(&visible(after)),
+        );
+        if let Place::Line {
+            file,
+            number,
+            indent,
+        } = target.place
+        {
+            let column = indent + target.text[..self.part.start].chars().count() + 1;
+            write!(
+                out,
+                "{}",
+                color("1", &format!("{}:{number}:{column}: ", visible(file)))
+            )?;
+        }
+        writeln!(out, "{} {} `{part}`", color("1;31", "error:"), self.error)?;
+        writeln!(out, "  {before}{part}{after}")?;
+        let carets = "^".repeat(part.chars().count().max(1));
+        write!(
+            out,
+            "  {}{}",
+            " ".repeat(before.chars().count()),
+            color("1;31", &carets)
+        )?;
+        match (help.suggestion, self.reason) {
+            (Some(name), _) => write!(out, " did you mean `{}`?", color("1;32", name))?,
+            (None, Some(reason)) => write!(out, " {reason}")?,
+            (None, None) => {}
+        }
+        writeln!(out)?;
+        match &help.note {
+            Some(note) => writeln!(out, "  {} {note}", color("1", "note:")),
+            None => Ok(()),
+        }
+    }
+
+    /// What is wrong, as the members of an object.
+    pub fn members(&self, help: &Help) -> Object {
+        let error = match self.reason {
+            Some(reason) => format!("no triple means the same: {reason}"),
+            None => self.error.clone(),
+        };
+        vec![
+            ("error", error.into()),
+            ("part", self.part.text.into()),
+            ("start", self.part.start.into()),
+            ("end", self.part.range().end.into()),
+            ("field", Json::from(self.field.and_then(key_of))),
+            ("suggestion", help.suggestion.into()),
+        ]
+    }
+}
+
+/// The text with what is no printable character escaped: what steers a terminal, turns the direction of text, or can't be seen.
+pub fn visible(text: &str) -> String {
+    let mut shown = String::new();
+    for c in text.chars() {
+        match c {
+            '"' | '\'' | '\\' => shown.push(c),
+            c => shown.extend(c.escape_debug()),
+        }
+    }
+    shown
+}
+
+/// As many characters as are shown of a long text.
+const SHOWN: usize = 200;
+
+fn first(text: &str) -> String {
+    match text.char_indices().nth(SHOWN) {
+        Some((at, _)) => format!("{}...", &text[..at]),
+        None => text.to_string(),
+    }
+}
+
+fn last(text: &str) -> String {
+    match text.char_indices().nth_back(SHOWN) {
+        Some((at, c)) => format!("...{}", &text[at + c.len_utf8()..]),
+        None => text.to_string(),
+    }
+}
