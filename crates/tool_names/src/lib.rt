@@ -5,6 +5,7 @@
 mod change;
 mod dialect;
 mod distance;
+mod driver;
 mod formats;
 mod gnu;
 pub mod known_names;
@@ -17,6 +18,7 @@ mod names_left;
 mod nearest;
 mod pattern;
 mod reading;
+mod rustc_cfg;
 mod shape;
 mod spelling;
 mod suggestions;
@@ -24,9 +26,11 @@ mod tables;
 
 pub use change::{Change, ChangedParts, changes};
 pub use dialect::Dialect;
+pub use driver::{CLibrary, FloatAbi, TypeLayout};
 pub use formats::object_format;
 pub use name::Name;
 pub use names::NameError;
 pub use reading::read;
+pub use rustc_cfg::{RustcCfg, is_unix};
 pub use spelling::Spelling;
 pub use suggestions::suggestion;
