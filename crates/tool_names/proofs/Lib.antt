@@ -3,8 +3,9 @@
 -- read of what was read is the same. ChangeLemmas, PlacedParts, RefusedNames: the changes of a string, the ranges of parts, and
 -- where a string is refused. ObjectFormats: the object format of a triple. ShapeLemmas: what a shape keeps. NumberLemmas,
 -- Matches, Tags, Filling: names with numbers, and how they are matched. RowChecks, RowLemmas, NameLaws: what the rows pass,
--- what follows of the row of a name, and the laws.
+-- what follows of the row of a name, and the laws. Completions: what completion keeps.
 pub mod ChangeLemmas
+pub mod Completions
 pub mod Filling
 pub mod JoinedNames
 pub mod LookUps

@@ -1,4 +1,5 @@
 pub mod Changes
+pub mod Completion
 pub mod Dialects
 pub mod ObjectFormat
 pub mod Laws

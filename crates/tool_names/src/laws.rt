@@ -2,6 +2,7 @@
 ghost use Rattle.std.specs.Prelude.{◌≡◌, ◌↔◌, IsTrue};
 ghost use Rattle.lexicon_fields.specs.Laws.{ComparesByValue, CopiesEqualTheirSources};
 ghost use Rattle.tool_names.specs.Changes.{change_value, spelling_names, ChangedPartsAreInTheString, KnownNamesStay, UnchangedStringsAreReadAsTheyParse};
+ghost use Rattle.tool_names.specs.Completion.{CompletedTriplesStay, CompletionFillsOnlyAGap, CompletionIsUnstated, CompletionKeepsAnswers};
 ghost use Rattle.tool_names.specs.Laws.{NamesAreCanonical, NamesKeepAnswers, NamesMeanTheShape, NamesMeanTheirRows, NamesReadBack, NamesWithoutTripleAreRefused, OneNumberIsEnough, ShapesAreFixed, TagsMeanTheSame};
 ghost use Rattle.tool_names.specs.ObjectFormat.{GivenFormatsAreKept};
 ghost use Rattle.tool_names.specs.Spelling.{KnownNamesAreReadAsBefore, ListedPartsAreUnknown, OnceIsEnough, ReadingAgainIsTheSame, RefusalsAreAtTheRefusedName, RefusedPartsAreInTheString};
@@ -12,6 +13,7 @@ ghost use Rattle.tool_names.specs.declared.names.NameError.{NameError};
 ghost use Rattle.tool_names.specs.declared.spelling.Spelling.{Spelling};
 
 use crate::change::Change;
+use crate::completion::CLibrary;
 use crate::dialect::Dialect;
 use crate::name::Name;
 use crate::names::NameError;
@@ -139,10 +141,35 @@ pub fn names_keep_answers()
     round_is_normal_step();
 }
 
-/// Two dialects, or two reasons why a name isn't read, are equal exactly if they are the same. Two names that are equal
-/// have the same bytes; two changes that are equal are of the same part, and name the same.
+/// Completion changes only the environment, and only an unknown one on Linux; that it makes known.
+#[tactic(auto, using(crate::proofs::Completions::fills_only_a_gap))]
+pub fn completion_fills_only_a_gap()
+    ensures { CompletionFillsOnlyAGap }
+{}
+
+/// A completed triple stays, whatever C library comes after.
+#[tactic(auto, using(crate::proofs::Completions::completed_stay))]
+pub fn completed_triples_stay()
+    ensures { CompletedTriplesStay }
+{}
+
+/// Completion keeps the byte order, the pointer width and the object format.
+#[tactic(auto, using(crate::proofs::Completions::keeps_answers))]
+pub fn completion_keeps_answers()
+    ensures { CompletionKeepsAnswers }
+{}
+
+/// A dialect that doesn't state the C library names a completed triple as before.
+#[tactic(auto, using(crate::proofs::Completions::is_unstated))]
+pub fn completion_is_unstated()
+    ensures { CompletionIsUnstated }
+{}
+
+/// Two dialects, two C libraries, or two reasons why a name isn't read, are equal exactly if they are the same. Two names that
+/// are equal have the same bytes; two changes that are equal are of the same part, and name the same.
 pub fn values_are_equal_by_value()
     ensures dialect { ComparesByValue ⟦<Dialect as PartialEq>⟧.eq }
+    ensures c_library { ComparesByValue ⟦<CLibrary as PartialEq>⟧.eq }
     ensures name_error { (x y : NameError) →
         IsTrue (⟦<NameError as PartialEq>⟧.eq x y) ↔ (unread_of x ≡ unread_of y) }
     ensures name { (x y : Name) →
@@ -160,6 +187,8 @@ pub fn values_are_equal_by_value()
 pub fn copies_equal_their_sources()
     ensures dialect { CopiesEqualTheirSources ⟦<Dialect as Clone>⟧.is_clone
         ⟦<Dialect as Clone>⟧.is_infallible }
+    ensures c_library { CopiesEqualTheirSources ⟦<CLibrary as Clone>⟧.is_clone
+        ⟦<CLibrary as Clone>⟧.is_infallible }
     ensures name_error { CopiesEqualTheirSources ⟦<NameError as Clone>⟧.is_clone
         ⟦<NameError as Clone>⟧.is_infallible }
     ensures name { CopiesEqualTheirSources ⟦<Name as Clone>⟧.is_clone

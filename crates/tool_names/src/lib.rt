@@ -3,6 +3,7 @@
 #![tactic(auto)]
 
 mod change;
+mod completion;
 mod dialect;
 mod formats;
 pub mod laws;
@@ -18,6 +19,7 @@ mod suggestions;
 mod tables;
 
 pub use change::{Change, ChangedParts, changes};
+pub use completion::{CLibrary, complete};
 pub use dialect::Dialect;
 pub use formats::object_format;
 pub use name::Name;

@@ -5,6 +5,8 @@
 #[cfg(feature = "tool_names")]
 pub(crate) mod change;
 #[cfg(feature = "tool_names")]
+pub(crate) mod completion;
+#[cfg(feature = "tool_names")]
 pub(crate) mod dialect;
 #[cfg(feature = "tool_names")]
 pub(crate) mod formats;
@@ -28,6 +30,8 @@ pub(crate) mod tables;
 
 #[cfg(feature = "tool_names")]
 pub use change::{changes, Change, ChangedParts};
+#[cfg(feature = "tool_names")]
+pub use completion::{complete, CLibrary};
 #[cfg(feature = "tool_names")]
 pub use dialect::Dialect;
 #[cfg(feature = "tool_names")]

@@ -1,0 +1,122 @@
+//! A C library gives a triple of Linux its environment, and so what another tool calls it.
+
+use crate::values::{hash_alike, prints};
+use target_lexicon::TripleRef;
+use tool_names::{CLibrary, Dialect, complete};
+
+/// A triple, and what it is with glibc and with musl.
+const COMPLETED: &str = "\
+arm-unknown-linux arm-unknown-linux-gnueabihf arm-unknown-linux-musleabihf
+armv5te-unknown-linux armv5te-unknown-linux-gnueabi armv5te-unknown-linux-musleabi
+armv5tej-unknown-linux armv5tej-unknown-linux-gnueabi armv5tej-unknown-linux-musleabi
+armv6-unknown-linux armv6-unknown-linux-gnueabihf armv6-unknown-linux-musleabihf
+armv6k-unknown-linux armv6k-unknown-linux-gnueabihf armv6k-unknown-linux-musleabihf
+armv7-unknown-linux armv7-unknown-linux-gnueabihf armv7-unknown-linux-musleabihf
+armv7a-unknown-linux armv7a-unknown-linux-gnueabihf armv7a-unknown-linux-musleabihf
+armv8-unknown-linux armv8-unknown-linux-gnueabihf armv8-unknown-linux-musleabihf
+aarch64-poky-linux aarch64-poky-linux-gnu aarch64-poky-linux-musl
+mips-unknown-linux mips-unknown-linux-gnu mips-unknown-linux-musl
+mips64-unknown-linux mips64-unknown-linux-gnuabi64 mips64-unknown-linux-muslabi64
+mips64el-unknown-linux mips64el-unknown-linux-gnuabi64 mips64el-unknown-linux-muslabi64
+mipsisa64r6-unknown-linux mipsisa64r6-unknown-linux-gnuabi64 mipsisa64r6-unknown-linux-muslabi64
+x86_64-unknown-linux x86_64-unknown-linux-gnu x86_64-unknown-linux-musl
+x86_64-unknown-linux-gnux32 x86_64-unknown-linux-gnux32 x86_64-unknown-linux-gnux32
+x86_64-unknown-linux-musl x86_64-unknown-linux-musl x86_64-unknown-linux-musl
+aarch64-linux-android aarch64-linux-android aarch64-linux-android
+x86_64-unknown-freebsd x86_64-unknown-freebsd x86_64-unknown-freebsd
+x86_64-pc-windows x86_64-pc-windows x86_64-pc-windows
+armv7-unknown-none armv7-unknown-none armv7-unknown-none";
+
+#[test]
+fn triples_are_completed(rt: HostRuntime) {
+    for row in COMPLETED.lines() {
+        let mut columns = row.split(' ');
+        let (Some(text), Some(glibc), Some(musl)) = (columns.next(), columns.next(), columns.next())
+        else {
+            panic!(rt; "{row}");
+        };
+        for (c_library, text_of) in [(CLibrary::Glibc, glibc), (CLibrary::Musl, musl)] {
+            match TripleRef::from_str(text) {
+                Ok(triple) => {
+                    assert!(rt; prints(&complete(&triple, c_library), text_of), "{row}");
+                }
+                Err(_) => panic!(rt; "{row}"),
+            }
+        }
+    }
+}
+
+/// The names of Linux that OCI reads, with the architecture of Debian and the prefix of GNU's compilers.
+const PLATFORMS: &str = "\
+linux/386 i386 i686-linux-gnu
+linux/aarch64 arm64 aarch64-linux-gnu
+linux/amd64 amd64 x86_64-linux-gnu
+linux/amd64/v1 amd64 x86_64-linux-gnu
+linux/arm armhf arm-linux-gnueabihf
+linux/arm/v5 armel arm-linux-gnueabi
+linux/arm/v6 armhf arm-linux-gnueabihf
+linux/arm/v7 armhf arm-linux-gnueabihf
+linux/arm/v8 armhf arm-linux-gnueabihf
+linux/arm64 arm64 aarch64-linux-gnu
+linux/arm64/v8 arm64 aarch64-linux-gnu
+linux/armel armhf arm-linux-gnueabihf
+linux/armhf armhf arm-linux-gnueabihf
+linux/i386 i386 i686-linux-gnu
+linux/loong64 loong64 loongarch64-linux-gnu
+linux/mips mips mips-linux-gnu
+linux/mips64 mips64 mips64-linux-gnuabi64
+linux/mips64le mips64el mips64el-linux-gnuabi64
+linux/mipsle mipsel mipsel-linux-gnu
+linux/ppc64 ppc64 powerpc64-linux-gnu
+linux/ppc64le ppc64el powerpc64le-linux-gnu
+linux/riscv64 riscv64 riscv64-linux-gnu
+linux/s390x s390x s390x-linux-gnu
+linux/x86-64 amd64 x86_64-linux-gnu
+linux/x86_64 amd64 x86_64-linux-gnu";
+
+/// Whether a dialect calls a triple so.
+fn is_called(dialect: Dialect, triple: &TripleRef<'_>, name: &str) -> bool {
+    match dialect.write(triple) {
+        Some(found) => found.as_str() == name,
+        None => false,
+    }
+}
+
+#[test]
+fn platforms_lead_to_debian_and_gnu(rt: HostRuntime) {
+    let mut count = 0;
+    for row in PLATFORMS.lines() {
+        let mut columns = row.split(' ');
+        let (Some(name), Some(debian), Some(gnu)) = (columns.next(), columns.next(), columns.next())
+        else {
+            panic!(rt; "{row}");
+        };
+        match Dialect::Oci.read(name) {
+            Ok(platform) => {
+                assert!(rt; Dialect::Debian.write(&platform) == None, "{row}");
+                let triple = complete(&platform, CLibrary::Glibc);
+                assert!(rt; is_called(Dialect::Debian, &triple, debian), "{row}");
+                assert!(rt; is_called(Dialect::Gnu, &triple, gnu), "{row}");
+                assert!(rt;
+                    Dialect::Oci.write(&triple) == Dialect::Oci.write(&platform),
+                    "{row}"
+                );
+            }
+            Err(_) => panic!(rt; "{row}"),
+        }
+        count += 1;
+    }
+    assert!(rt; count == 25);
+}
+
+#[test]
+fn c_libraries_are_named(rt: HostRuntime) {
+    for (name, c_library, other) in [
+        ("glibc", CLibrary::Glibc, CLibrary::Musl),
+        ("musl", CLibrary::Musl, CLibrary::Glibc),
+    ] {
+        assert!(rt; name.parse() == Ok(c_library) && prints(&c_library, name));
+        assert!(rt; hash_alike(&c_library, &c_library) && c_library != other);
+    }
+    assert!(rt; CLibrary::from_str("gnu") == Err(()));
+}
