@@ -2,7 +2,7 @@
 
 use crate::values::{hash_alike, prints};
 use target_lexicon::TripleRef;
-use tool_names::{CLibrary, Dialect, complete};
+use tool_names::{CLibrary, Dialect, TranslateError, WriteError, complete};
 
 /// A triple, and what it is with glibc and with musl.
 const COMPLETED: &str = "\
@@ -84,7 +84,6 @@ fn is_called(dialect: Dialect, triple: &TripleRef<'_>, name: &str) -> bool {
 
 #[test]
 fn platforms_lead_to_debian_and_gnu(rt: HostRuntime) {
-    let mut count = 0;
     for row in PLATFORMS.lines() {
         let mut columns = row.split(' ');
         let (Some(name), Some(debian), Some(gnu)) = (columns.next(), columns.next(), columns.next())
@@ -104,9 +103,8 @@ fn platforms_lead_to_debian_and_gnu(rt: HostRuntime) {
             }
             Err(_) => panic!(rt; "{row}"),
         }
-        count += 1;
     }
-    assert!(rt; count == 25);
+    assert!(rt; PLATFORMS.lines().count() == 25);
 }
 
 #[test]
@@ -119,4 +117,47 @@ fn c_libraries_are_named(rt: HostRuntime) {
         assert!(rt; hash_alike(&c_library, &c_library) && c_library != other);
     }
     assert!(rt; CLibrary::from_str("gnu") == Err(()));
+}
+
+/// A name, the dialects that it is translated between, the C library, and the name or why there is none.
+const TRANSLATIONS: &str = "\
+oci linux/arm64/v8 debian glibc arm64
+oci linux/arm64/v8 gnu musl aarch64-linux-musl
+oci linux/arm/v7 debian - needs a C library
+oci linux/arm/v7 go - linux/arm
+oci windows/amd64 debian - has no name
+oci windows/amd64 debian glibc has no name
+oci linux/foo debian glibc isn't read
+go linux/mips64 gnu glibc mips64-linux-gnuabi64
+node linux-x64-musl debian glibc musl-linux-amd64
+debian armhf oci musl linux/arm
+debian armel node - linux-arm-glibc";
+
+#[test]
+fn names_are_translated(rt: HostRuntime) {
+    for row in TRANSLATIONS.lines() {
+        let mut columns = row.splitn(5, ' ');
+        let (Some(from), Some(name), Some(to), Some(c_library), Some(expected)) = (
+            columns.next(),
+            columns.next(),
+            columns.next(),
+            columns.next(),
+            columns.next(),
+        ) else {
+            panic!(rt; "{row}");
+        };
+        let (Ok(from), Ok(to)) = (Dialect::from_str(from), Dialect::from_str(to)) else {
+            panic!(rt; "{row}");
+        };
+        let found = from.translate(name, CLibrary::from_str(c_library).ok(), to);
+        let is_expected = match found {
+            Ok(name) => name.as_str() == expected,
+            Err(TranslateError::Read(_)) => expected == "isn't read",
+            Err(TranslateError::Write(WriteError::NoName)) => expected == "has no name",
+            Err(TranslateError::Write(WriteError::NeedsCLibrary)) => {
+                expected == "needs a C library"
+            }
+        };
+        assert!(rt; is_expected, "{row}");
+    }
 }

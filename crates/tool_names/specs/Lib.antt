@@ -10,3 +10,4 @@ pub mod Spelling
 pub mod Suggestion
 pub mod Tables
 pub mod ToolNames
+pub mod Translation

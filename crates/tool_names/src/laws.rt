@@ -7,6 +7,7 @@ ghost use Rattle.tool_names.specs.Laws.{NamesAreCanonical, NamesKeepAnswers, Nam
 ghost use Rattle.tool_names.specs.ObjectFormat.{GivenFormatsAreKept};
 ghost use Rattle.tool_names.specs.Spelling.{KnownNamesAreReadAsBefore, ListedPartsAreUnknown, OnceIsEnough, ReadingAgainIsTheSame, RefusalsAreAtTheRefusedName, RefusedPartsAreInTheString};
 ghost use Rattle.tool_names.specs.ToolNames.{name_bytes, unread_of};
+ghost use Rattle.tool_names.specs.Translation.{untranslated_of};
 ghost use Rattle.tool_names.specs.declared.change.Change.{Change};
 ghost use Rattle.tool_names.specs.declared.name.Name.{Name};
 ghost use Rattle.tool_names.specs.declared.names.NameError.{NameError};
@@ -18,6 +19,7 @@ use crate::dialect::Dialect;
 use crate::name::Name;
 use crate::names::NameError;
 use crate::spelling::Spelling;
+use crate::translation::{TranslateError, WriteError};
 use target_lexicon::laws::{read_triples_are_plain, round_is_normal_step};
 
 /// A string that parses without a custom vendor is read as it parses.
@@ -165,13 +167,16 @@ pub fn completion_is_unstated()
     ensures { CompletionIsUnstated }
 {}
 
-/// Two dialects, two C libraries, or two reasons why a name isn't read, are equal exactly if they are the same. Two names that
-/// are equal have the same bytes; two changes that are equal are of the same part, and name the same.
+/// Two dialects, two C libraries, or two reasons why a name isn't read, written or translated, are equal exactly if they are
+/// the same. Two names that are equal have the same bytes; two changes that are equal are of the same part, and name the same.
 pub fn values_are_equal_by_value()
     ensures dialect { ComparesByValue ⟦<Dialect as PartialEq>⟧.eq }
     ensures c_library { ComparesByValue ⟦<CLibrary as PartialEq>⟧.eq }
     ensures name_error { (x y : NameError) →
         IsTrue (⟦<NameError as PartialEq>⟧.eq x y) ↔ (unread_of x ≡ unread_of y) }
+    ensures write_error { ComparesByValue ⟦<WriteError as PartialEq>⟧.eq }
+    ensures translate_error { (x y : TranslateError) →
+        IsTrue (⟦<TranslateError as PartialEq>⟧.eq x y) ↔ (untranslated_of x ≡ untranslated_of y) }
     ensures name { (x y : Name) →
         IsTrue (⟦<Name as PartialEq>⟧.eq x y) →
         name_bytes x ≡ name_bytes y }
@@ -191,6 +196,10 @@ pub fn copies_equal_their_sources()
         ⟦<CLibrary as Clone>⟧.is_infallible }
     ensures name_error { CopiesEqualTheirSources ⟦<NameError as Clone>⟧.is_clone
         ⟦<NameError as Clone>⟧.is_infallible }
+    ensures write_error { CopiesEqualTheirSources ⟦<WriteError as Clone>⟧.is_clone
+        ⟦<WriteError as Clone>⟧.is_infallible }
+    ensures translate_error { CopiesEqualTheirSources ⟦<TranslateError as Clone>⟧.is_clone
+        ⟦<TranslateError as Clone>⟧.is_infallible }
     ensures name { CopiesEqualTheirSources ⟦<Name as Clone>⟧.is_clone
         ⟦<Name as Clone>⟧.is_infallible }
     ensures spelling { CopiesEqualTheirSources ⟦<Spelling<'static> as Clone>⟧.is_clone

@@ -17,6 +17,7 @@ mod shape;
 mod spelling;
 mod suggestions;
 mod tables;
+mod translation;
 
 pub use change::{Change, ChangedParts, changes};
 pub use completion::{CLibrary, complete};
@@ -27,3 +28,4 @@ pub use names::NameError;
 pub use reading::read;
 pub use spelling::Spelling;
 pub use suggestions::suggestion;
+pub use translation::{TranslateError, WriteError};

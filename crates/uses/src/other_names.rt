@@ -25,13 +25,16 @@ ghost use Rattle.target_lexicon.specs.ValuesRef.{PlacedRefusal};
 ghost use Rattle.tool_names.specs.Spelling.{first_spelling, first_spellings, is_known_name, later_spelling, later_spellings, name_texts, spelled_names, spelled_reading, versioned_spellings};
 ghost use Rattle.tool_names.specs.Tables.{Row};
 ghost use Rattle.tool_names.specs.ToolNames.{name_bytes, name_meaning, numbers_in, row_meaning, shape_row, triple_name, unread_of};
+ghost use Rattle.tool_names.specs.Translation.{untranslated_of};
 ghost use Rattle.tool_names.specs.declared.change.Change.{Change};
 ghost use Rattle.tool_names.specs.declared.name.Name.{Name};
 ghost use Rattle.tool_names.specs.declared.spelling.Spelling.{Spelling};
 ghost use Rattle.uses.specs.Conclusions.{AreCopiesTheSame, CanReplace, CanReplaceEqual};
 
 use target_lexicon::{Architecture, BinaryFormat, Environment, OperatingSystem};
-use tool_names::{CLibrary, Change, Dialect, Name, NameError, Spelling};
+use tool_names::{
+    CLibrary, Change, Dialect, Name, NameError, Spelling, TranslateError, WriteError,
+};
 
 /// The host's name is read as the host, and without a change.
 pub fn known_names_are_read()
@@ -300,6 +303,8 @@ pub fn equal_other_names_can_replace()
     ensures dialect { CanReplaceEqual ⟦<Dialect as PartialEq>⟧.eq }
     ensures c_library { CanReplaceEqual ⟦<CLibrary as PartialEq>⟧.eq }
     ensures name_error { CanReplace unread_of ⟦<NameError as PartialEq>⟧.eq }
+    ensures write_error { CanReplaceEqual ⟦<WriteError as PartialEq>⟧.eq }
+    ensures translate_error { CanReplace untranslated_of ⟦<TranslateError as PartialEq>⟧.eq }
     ensures name { (x y : Name) →
         name_bytes x ≢ name_bytes y →
         IsTrue (⟦<Name as PartialEq>⟧.eq x y) →
@@ -324,6 +329,10 @@ pub fn copies_of_other_names_are_the_same()
         ⟦<CLibrary as Clone>⟧.is_infallible }
     ensures name_error { AreCopiesTheSame ⟦<NameError as Clone>⟧.is_clone
         ⟦<NameError as Clone>⟧.is_infallible }
+    ensures write_error { AreCopiesTheSame ⟦<WriteError as Clone>⟧.is_clone
+        ⟦<WriteError as Clone>⟧.is_infallible }
+    ensures translate_error { AreCopiesTheSame ⟦<TranslateError as Clone>⟧.is_clone
+        ⟦<TranslateError as Clone>⟧.is_infallible }
     ensures name { AreCopiesTheSame ⟦<Name as Clone>⟧.is_clone
         ⟦<Name as Clone>⟧.is_infallible }
     ensures spelling { AreCopiesTheSame ⟦<Spelling<'static> as Clone>⟧.is_clone

@@ -27,6 +27,8 @@ pub(crate) mod spelling;
 pub(crate) mod suggestions;
 #[cfg(feature = "tool_names")]
 pub(crate) mod tables;
+#[cfg(feature = "tool_names")]
+pub(crate) mod translation;
 
 #[cfg(feature = "tool_names")]
 pub use change::{changes, Change, ChangedParts};
@@ -44,3 +46,5 @@ pub use names::NameError;
 pub use reading::read;
 pub use spelling::Spelling;
 pub use suggestions::suggestion;
+#[cfg(feature = "tool_names")]
+pub use translation::{TranslateError, WriteError};
