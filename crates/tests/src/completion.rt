@@ -1,8 +1,8 @@
-//! A C library gives a triple of Linux its environment, and so what another tool calls it.
+//! What a C library completes, how names are translated, and strings as tools print them.
 
 use crate::values::{hash_alike, prints};
 use target_lexicon::TripleRef;
-use tool_names::{CLibrary, Dialect, TranslateError, WriteError, complete};
+use tool_names::{CLibrary, Dialect, TranslateError, WriteError, complete, read};
 
 /// A triple, and what it is with glibc and with musl.
 const COMPLETED: &str = "\
@@ -159,5 +159,33 @@ fn names_are_translated(rt: HostRuntime) {
             }
         };
         assert!(rt; is_expected, "{row}");
+    }
+}
+
+/// Strings as tools print them, and what is read.
+const SPELLED: &str = "\
+x86_64-unknown-linux-gnu.2.17=x86_64-unknown-linux-gnu
+x86_64-linux-gnu2.28=x86_64-unknown-linux-gnu
+armv7-unknown-linux-gnueabihf.2.31=armv7-unknown-linux-gnueabihf
+i686-unknown-gnu0.9=i686-unknown-hurd-gnu
+i686-w64-mingw32ucrt=i686-pc-windows-gnu
+i586-wrs-vxworks7=i586-wrs-vxworks
+arm-openwrt-linux-muslgnueabi=arm-openwrt-linux-musleabi
+ppc64el-linux-gnu=powerpc64le-unknown-linux-gnu
+rs6000-ibm-aix7.2=powerpc-ibm-aix
+mips64r6el-linux-gnuabi64=mipsisa64r6el-unknown-linux-gnuabi64";
+
+#[test]
+fn strings_of_tools_are_read(rt: HostRuntime) {
+    for row in SPELLED.lines() {
+        match row.split_once('=') {
+            Some((text, expected)) => match read(text) {
+                Ok(triple) => {
+                    assert!(rt; prints(&triple, expected), "{row}");
+                }
+                Err(_) => panic!(rt; "{row}"),
+            },
+            None => panic!(rt; "{row}"),
+        }
     }
 }

@@ -1,5 +1,5 @@
 -- From a name in one dialect to the name in another, by way of the triple and the C library that a caller says.
-use Rattle.std.specs.Prelude.{ℕ, Bool, ◌||◌, List, Option, Some, None, is_some, ok_or, Result, Ok, Err, option_map, if◌then◌else◌}
+use Rattle.std.specs.Prelude.{ℕ, Bool, ◌||◌, List, Option, Some, None, is_some, ok_or, Result, Ok, Err, if◌then◌else◌}
 use Rattle.target_lexicon.specs.Values.{Values}
 use Rattle.tool_names.specs.declared.completion.CLibrary.{CLibrary}
 use Rattle.tool_names.specs.declared.completion.CLibrary.TheVariants.{Glibc, Musl}
