@@ -5,6 +5,8 @@
 #[cfg(feature = "tool_names")]
 pub(crate) mod change;
 #[cfg(feature = "tool_names")]
+pub(crate) mod completion;
+#[cfg(feature = "tool_names")]
 pub(crate) mod dialect;
 pub(crate) mod distance;
 #[cfg(feature = "tool_names")]
@@ -35,9 +37,13 @@ pub(crate) mod spelling;
 pub(crate) mod suggestions;
 #[cfg(feature = "tool_names")]
 pub(crate) mod tables;
+#[cfg(feature = "tool_names")]
+pub(crate) mod translation;
 
 #[cfg(feature = "tool_names")]
 pub use change::{changes, Change, ChangedParts};
+#[cfg(feature = "tool_names")]
+pub use completion::{complete, LinuxLibc};
 #[cfg(feature = "tool_names")]
 pub use dialect::Dialect;
 #[cfg(feature = "tool_names")]
@@ -54,3 +60,5 @@ pub use reading::read;
 pub use rustc_cfg::{is_unix, RustcCfg};
 pub use spelling::Spelling;
 pub use suggestions::suggestion;
+#[cfg(feature = "tool_names")]
+pub use translation::{TranslateError, WriteError};
