@@ -22,6 +22,7 @@ mod impls {
 
     impl Error for crate::NotPlain {}
     impl Error for crate::ParseError {}
+    impl Error for crate::ParseTripleError {}
     impl Error for crate::Refusal<'_> {}
     #[cfg(feature = "tool_names")]
     impl Error for crate::tool_names::NameError {}

@@ -16,6 +16,7 @@ pub fn parse(text: &str) -> Result<NumberedTriple<'_>, TextError> {
 }
 
 /// The triple that a string parses as, or why it is refused, and where each field comes from.
+#[must_use]
 pub fn explain(text: &str) -> (Result<NumberedTriple<'_>, TextError>, FieldSources) {
     let explanation = target_lexicon::proved::explain(text);
     let sources = sources_numbers(&explanation.sources);

@@ -1,10 +1,10 @@
 // Erased from crates/tool_names/src/names.rt by tools/erase. Don't edit it here.
 //! Reading and writing the names of a dialect.
 
-use crate::proved::names::misspelling::{misspelling, TOO_MANY_EDITS};
-use crate::proved::names::nearest::nearer;
 use crate::proved::tool_names::dialect::Dialect;
+use crate::proved::tool_names::misspelling::{misspelling, TOO_MANY_EDITS};
 use crate::proved::tool_names::name::Name;
+use crate::proved::tool_names::nearest::nearer;
 use crate::proved::tool_names::pattern::{matched, star_count, Numbers};
 use crate::proved::tool_names::tables::{Row, Way, ONLY_WRITTEN};
 use crate::proved::{DeploymentTarget, OperatingSystem, TripleRef};
@@ -68,6 +68,7 @@ impl Dialect {
     /// let triple = TripleRef::from_str("aarch64-apple-darwin").unwrap();
     /// assert_eq!(Dialect::Node.write(&triple).unwrap().to_string(), "darwin-arm64");
     /// ```
+    #[must_use]
     pub fn write(self, triple: &TripleRef<'_>) -> Option<Name> {
         let shape = self.shape(triple);
         let numbers = Numbers::of_system(shape.operating_system);
@@ -83,7 +84,9 @@ impl Dialect {
 
     /// The name that is suggested for an unknown one: the nearest of the names without a version that
     /// [`read`](Dialect::read) knows, if the name may be a misspelling of it. Nothing is allocated.
+    #[must_use]
     pub fn suggestion(self, name: &str) -> Option<&'static str> {
+        let name = name.as_bytes();
         nearer(
             name,
             nearest_name(name, self.rows(), true),
@@ -192,7 +195,7 @@ fn without_numbers(system: OperatingSystem) -> OperatingSystem {
 
 /// The nearest of the names without a number that are read, and are written or aren't, if a name may be a misspelling of
 /// it.
-fn nearest_name(name: &str, rows: &'static [Row], written: bool) -> Option<&'static str> {
+fn nearest_name(name: &[u8], rows: &'static [Row], written: bool) -> Option<&'static str> {
     let mut nearest = None;
     let mut limit = TOO_MANY_EDITS;
     for row in rows {

@@ -44,6 +44,7 @@ impl Dialect {
     /// let triple = TripleRef::from_str("x86_64-acme-linux-musl").unwrap();
     /// assert_eq!(Dialect::Go.shape(&triple).to_string(), "x86_64-unknown-linux");
     /// ```
+    #[must_use]
     pub fn shape(self, triple: &TripleRef<'_>) -> TripleRef<'static> {
         let rules = self.rules();
         TripleRef {
