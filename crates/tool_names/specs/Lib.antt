@@ -1,12 +1,15 @@
 pub mod Changes
 pub mod Dialects
 pub mod Distance
+pub mod Driver
 pub mod KnownNames
+pub mod Gnu
 pub mod Laws
 pub mod Nearest
 pub mod ObjectFormat
 pub mod Patterns
 pub mod Private
+pub mod RustcCfg
 pub mod Shape
 pub mod Spelling
 pub mod Suggestion

@@ -8,7 +8,11 @@ pub(crate) mod change;
 pub(crate) mod dialect;
 pub(crate) mod distance;
 #[cfg(feature = "tool_names")]
+pub(crate) mod driver;
+#[cfg(feature = "tool_names")]
 pub(crate) mod formats;
+#[cfg(feature = "tool_names")]
+pub(crate) mod gnu;
 pub(crate) mod known_names;
 pub(crate) mod macos;
 pub(crate) mod misspelling;
@@ -24,6 +28,8 @@ pub(crate) mod pattern;
 #[cfg(feature = "tool_names")]
 pub(crate) mod reading;
 #[cfg(feature = "tool_names")]
+pub(crate) mod rustc_cfg;
+#[cfg(feature = "tool_names")]
 pub(crate) mod shape;
 pub(crate) mod spelling;
 pub(crate) mod suggestions;
@@ -35,6 +41,8 @@ pub use change::{changes, Change, ChangedParts};
 #[cfg(feature = "tool_names")]
 pub use dialect::Dialect;
 #[cfg(feature = "tool_names")]
+pub use driver::{CLibrary, FloatAbi, TypeLayout};
+#[cfg(feature = "tool_names")]
 pub use formats::object_format;
 #[cfg(feature = "tool_names")]
 pub use name::Name;
@@ -42,5 +50,7 @@ pub use name::Name;
 pub use names::NameError;
 #[cfg(feature = "tool_names")]
 pub use reading::read;
+#[cfg(feature = "tool_names")]
+pub use rustc_cfg::{is_unix, RustcCfg};
 pub use spelling::Spelling;
 pub use suggestions::suggestion;
