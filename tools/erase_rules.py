@@ -73,6 +73,8 @@ REPLACEMENTS = [
     ("lexicon_fields/src/table.rt", ", steps: &mut Steps", ""),
     ("lexicon_fields/src/table.rt", ", steps)", ")"),
     ("lexicon_fields/src/table.rt", "steps.tick();", ""),
+    ("lexicon_fields/src/table.rt", "/// `steps` ticks once for each row that is compared with the string: at least once, and at most eight times.\n", ""),
+    ("lexicon_fields/src/table.rt", " `steps` ticks once.", ""),
     ("", ", &mut Steps::new()", ""),
     # `FromStr` has it.
     ("lexicon_c/src/numbers.rt", "use target_lexicon::{", "use std::str::FromStr as _;\nuse target_lexicon::{"),
