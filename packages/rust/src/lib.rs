@@ -76,8 +76,8 @@ pub use proved::{
 #[cfg(feature = "tool_names")]
 pub use proved::tool_names;
 
-/// The samples of the page are tested.
-#[cfg(doctest)]
+/// The samples of the page are tested; the first one uses this feature.
+#[cfg(all(doctest, feature = "tool_names"))]
 #[doc = include_str!("../README.md")]
 struct Readme;
 
