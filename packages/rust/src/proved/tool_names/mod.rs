@@ -25,6 +25,7 @@ pub(crate) mod pattern;
 pub(crate) mod reading;
 #[cfg(feature = "tool_names")]
 pub(crate) mod shape;
+#[cfg_attr(not(feature = "tool_names"), allow(dead_code, unused_imports))]
 pub(crate) mod spelling;
 pub(crate) mod suggestions;
 #[cfg(feature = "tool_names")]
@@ -42,5 +43,6 @@ pub use name::Name;
 pub use names::NameError;
 #[cfg(feature = "tool_names")]
 pub use reading::read;
+#[cfg(feature = "tool_names")]
 pub use spelling::Spelling;
 pub use suggestions::suggestion;
