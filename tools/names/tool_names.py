@@ -3,12 +3,17 @@ import re
 from dataclasses import dataclass, field
 
 PATH = "tools/names/elsewhere.tsv"
+# The check of a function that lends a table grows with the square of its rows, so a dialect has several tables.
+TABLE_ROWS = 100
 WAYS = {"rw": "Both", "r": "Read", "w": "Written", "-": "NoTriple"}
 DIALECT, ONLY_WRITTEN = "# dialect ", "# only written: "
-# The rules of a dialect: for each word of its line the field of `Rules`, and its value for each choice.
-RULES = {"arm": ("arm_version", {"order": "false", "version": "true"}),
-         "abi": ("abi", {"kept": "AbiRule::Kept", "dropped": "AbiRule::Dropped", "linux": "AbiRule::KeptOnLinux"}),
-         "versions": ("versions", {"no": "false", "yes": "true"}), "tags": ("tags", {"no": "false", "yes": "true"})}
+# The rules of a dialect: for each word of its line the field of `Rules`, and its value for each choice. The first choice goes
+# without saying.
+RULES = {"machine": ("machine", {"order": "MachineRule::Order", "version": "MachineRule::Version", "rustc": "MachineRule::Rustc"}),
+         "abi": ("abi", {"kept": "AbiRule::Kept", "dropped": "AbiRule::Dropped", "linux": "AbiRule::KeptOnLinux",
+                  "systems": "AbiRule::KeptOnSystems"}),
+         "versions": ("versions", {"no": "false", "yes": "true"}), "tags": ("tags", {"no": "false", "yes": "true"}),
+         "spelled": ("spelled", {"no": "false", "yes": "true"})}
 
 
 @dataclass
@@ -24,8 +29,14 @@ class Dialect:
         return self.name.capitalize()
 
     @property
-    def table(self):
+    def constant(self):
         return self.name.upper()
+
+    @property
+    def tables(self):
+        """The name of each table, and its rows."""
+        starts = range(0, len(self.rows), TABLE_ROWS)
+        return [(f"{self.name}_{number}" if number > 1 else self.name, self.rows[start:start + TABLE_ROWS]) for number, start in enumerate(starts, 1)]
 
 
 @dataclass
@@ -44,8 +55,10 @@ def tables_of(text, wrong):
         if line.startswith(DIALECT):
             name, *rules = line.removeprefix(DIALECT).split()
             rules = dict(rule.partition("=")[::2] for rule in rules)
-            if name in found.dialects or list(rules) != list(RULES) or any(rules[it] not in RULES[it][1] for it in rules):
-                mistake("a new dialect is wanted, and a choice for each of " + ", ".join(RULES))
+            if name in found.dialects or any(word not in RULES or choice not in RULES[word][1] for word, choice in rules.items()):
+                mistake("a new dialect is wanted, and choices for some of " + ", ".join(RULES))
+                continue
+            rules = {word: rules.get(word, next(iter(choices))) for word, (_, choices) in RULES.items()}
             described = found.dialects.setdefault(name, Dialect(name, rules))
         elif line.startswith(ONLY_WRITTEN):
             found.only_written = line.removeprefix(ONLY_WRITTEN)
@@ -97,8 +110,11 @@ def rust_lists(tables):
                                  *(f'    ("{it.name}", Dialect::{it.variant}),' for it in dialects), "];"],
         "the rules of the dialects": [f"Dialect::{it.variant} => Rules {{ {', '.join(f'{name}: {value}' for name, value in rules(it, str))} }},"
                                       for it in dialects],
-        "the rows of the dialects": [f"Dialect::{it.variant} => {it.name}()," for it in dialects],
-        "the tables of the dialects": "\n".join(line for it in dialects for line in table(it)).strip("\n").split("\n"),
+        "the most tables of a dialect": [f"const TABLE_COUNT: usize = {table_count(dialects)};"],
+        "the tables of each dialect": [
+            f"Dialect::{it.variant} => [{', '.join([f'{name}()' for name, _ in it.tables] + ['&[]'] * (table_count(dialects) - len(it.tables)))}],"
+            for it in dialects],
+        "the tables of the dialects": "\n".join(line for it in dialects for name, rows in it.tables for line in table(name, rows)).strip("\n").split("\n"),
         **lists_of_languages(list(dialects)),
         "the dialects by number": [f"{number} => Some(Some(Dialect::{it.variant}))," for number, it in enumerate(dialects, 1)],
     }
@@ -107,28 +123,31 @@ def rust_lists(tables):
 def lists_of_languages(dialects):
     names = ", ".join(f'"{it.name}"' for it in dialects)
     words = [it.name for it in dialects]
-    read = [it for it in dialects if any(way in ("Both", "Read") for _, _, way in it.rows)]
     return {
-        "the dialects for C": [f"LEXICON_DIALECT_{it.table} = {number}, /* {it.about.rstrip('.').replace('`', '')} */" for number, it in enumerate(dialects, 1)],
+        "the dialects for C": [f"LEXICON_DIALECT_{it.constant} = {number}, /* {it.about.rstrip('.').replace('`', '')} */" for number, it in enumerate(dialects, 1)],
         "the last dialect": [f"enum {{ LAST_DIALECT = {len(dialects)} }};"],
-        "the dialects for C++": [f"{it.variant} = LEXICON_DIALECT_{it.table}," for it in dialects],
+        "the dialects for C++": [f"{it.variant} = LEXICON_DIALECT_{it.constant}," for it in dialects],
         "the dialects' names for C++": [f'constexpr const char* names[] = {{"", {names}}};'],
         "the dialects for the command": [f"pub const DIALECTS: [Dialect; {len(dialects)}] = [",
-                                         *(f"    Dialect::{it.variant}," for it in sorted(dialects, key=lambda it: it not in read)), "];",
-                                         f"const READ: usize = {len(read)};"],
-        "the dialects for the manual": [f"the tool whose names are read or written: {', '.join(words[:-1])} or {words[-1]}.",
-                                        "Names of a tool that are only written aren't read."],
-        "the dialects for Python": [line for it in dialects for line in (f"#: {it.about}", f'{it.table} = "{it.name}"')],
+                                         *(f"    Dialect::{it.variant}," for it in dialects), "];"],
+        "the dialects for the manual": [f"the tool whose names are read or written: {', '.join(words[:-1])} or {words[-1]}."],
+        "the dialects for Python": [line for it in dialects for line in (f"#: {it.about}", f'{it.constant} = "{it.name}"')],
+        "the dialects' names for Python": [f"DialectName = Literal[{names}]"],
         "the dialects for JavaScript": [f"export const DIALECTS = Object.freeze([{names}]);"],
         "the type of dialects": ["export type Dialect = " + " | ".join(f'"{it.name}"' for it in dialects) + ";"],
         "the dialects for TypeScript": [f"export const DIALECTS: readonly [{names}];"],
     }
 
 
-def table(it):
-    return ["", f"fn {it.name}() -> &'static [Row]", f"    ensures {{ plain_rows result.now ≡ constant_rows {it.table} }}", "{", f"    &{it.table}", "}",
-            "", "#[rattlefmt::skip]", f"static {it.table}: [(&str, &str, Way); {len(it.rows)}] = [",
-            *(f'    ("{name}", "{meaning}", {way}),' for name, meaning, way in it.rows), "];"]
+def table_count(dialects):
+    return max(len(it.tables) for it in dialects)
+
+
+def table(name, rows):
+    constant = name.upper()
+    return ["", f"fn {name}() -> &'static [Row]", f"    ensures {{ plain_rows result.now ≡ constant_rows {constant} }}", "{", f"    &{constant}", "}",
+            "", "#[rattlefmt::skip]", f"static {constant}: [(&str, &str, Way); {len(rows)}] = [",
+            *(f'    ("{name}", "{meaning}", {way}),' for name, meaning, way in rows), "];"]
 
 
 def array(name, rows):
@@ -151,7 +170,8 @@ def antt_lists(tables):
         "dialects": ["dialects = " + " ∷ ".join([*(f"dialect.{it.variant}" for it in dialects), "[]"])],
         "dialects_by_number": ["dialects_by_number = " + " ∷ ".join(["None", *(f"Some dialect.{it.variant}" for it in dialects), "[]"])],
         "rules_of": [f"rules_of dialect.{it.variant} = record {{ "
-                     + "; ".join(f"{name} = {value}" for name, value in rules(it, lambda value: value.replace("AbiRule::", "abi."))) + " }"
+                     + "; ".join(f"{name} = {value}" for name, value in rules(it, lambda value: value.replace("AbiRule::", "abi.").replace("MachineRule::", "machine."))) + " }"
                      for it in dialects],
-        "rows_of": [f"rows_of dialect.{it.variant} = constant_rows table.{it.table}" for it in dialects],
+        "tables_of": [f"tables_of dialect.{it.variant} = {' ∷ '.join([*(f'constant_rows table.{name.upper()}' for name, _ in it.tables), '[]'])}"
+                      for it in dialects],
     }

@@ -29,10 +29,12 @@ pub enum Dialect {
     Oci,
     /// `process.platform` and `process.arch` of Node, as npm joins them: `linux-x64`, `linux-x64-musl`.
     Node,
-    /// Prefixes of GNU's cross compilers, which are only written: `x86_64-w64-mingw32`.
+    /// Prefixes of GNU's cross compilers, and strings that mean the same to config.sub: `x86_64-w64-mingw32`.
     Gnu,
     /// Platforms of Python, as tags of wheels such as `macosx_11_0_arm64`, and as `sysconfig.get_platform()` prints them.
     Python,
+    /// Targets of rustc, as `rustc --print target-list` lists them: `riscv64gc-unknown-linux-gnu`.
+    Rust,
     // end of what is written
 }
 
@@ -55,6 +57,7 @@ impl Dialect {
             Dialect::Node => "node",
             Dialect::Gnu => "gnu",
             Dialect::Python => "python",
+            Dialect::Rust => "rust",
             // end of what is written
         }
     }
@@ -69,13 +72,14 @@ impl Dialect {
 }
 
 // written by tools/names/write: the dialects by name
-static DIALECTS: [(&str, Dialect); 6] = [
+static DIALECTS: [(&str, Dialect); 7] = [
     ("debian", Dialect::Debian),
     ("go", Dialect::Go),
     ("oci", Dialect::Oci),
     ("node", Dialect::Node),
     ("gnu", Dialect::Gnu),
     ("python", Dialect::Python),
+    ("rust", Dialect::Rust),
 ];
 // end of what is written
 

@@ -91,8 +91,9 @@ enum lexicon_dialect {
   LEXICON_DIALECT_GO = 2, /* Go's ports, as go tool dist list prints them: linux/amd64 */
   LEXICON_DIALECT_OCI = 3, /* Platforms of container images, as containerd writes them: linux/arm/v7 */
   LEXICON_DIALECT_NODE = 4, /* process.platform and process.arch of Node, as npm joins them: linux-x64, linux-x64-musl */
-  LEXICON_DIALECT_GNU = 5, /* Prefixes of GNU's cross compilers, which are only written: x86_64-w64-mingw32 */
+  LEXICON_DIALECT_GNU = 5, /* Prefixes of GNU's cross compilers, and strings that mean the same to config.sub: x86_64-w64-mingw32 */
   LEXICON_DIALECT_PYTHON = 6, /* Platforms of Python, as tags of wheels such as macosx_11_0_arm64, and as sysconfig.get_platform() prints them */
+  LEXICON_DIALECT_RUST = 7, /* Targets of rustc, as rustc --print target-list lists them: riscv64gc-unknown-linux-gnu */
   /* end of what is written */
 };
 

@@ -106,6 +106,7 @@ enum class Dialect : std::uint8_t {
   Node = LEXICON_DIALECT_NODE,
   Gnu = LEXICON_DIALECT_GNU,
   Python = LEXICON_DIALECT_PYTHON,
+  Rust = LEXICON_DIALECT_RUST,
   // end of what is written
 };
 
@@ -181,7 +182,7 @@ inline std::string_view name(Field field) {
 }
 inline std::string_view name(Dialect value) {
   // written by tools/names/write: the dialects' names for C++
-  constexpr const char* names[] = {"", "debian", "go", "oci", "node", "gnu", "python"};
+  constexpr const char* names[] = {"", "debian", "go", "oci", "node", "gnu", "python", "rust"};
   // end of what is written
   return detail::name_at(names, static_cast<std::size_t>(value));
 }

@@ -16,15 +16,15 @@ pub const FIELDS: [(&str, Field); 5] = [
 
 /// The tools whose names are known, in the order of answers: first those whose names are read.
 // written by tools/names/write: the dialects for the command
-pub const DIALECTS: [Dialect; 6] = [
+pub const DIALECTS: [Dialect; 7] = [
     Dialect::Debian,
     Dialect::Go,
     Dialect::Oci,
     Dialect::Node,
-    Dialect::Python,
     Dialect::Gnu,
+    Dialect::Python,
+    Dialect::Rust,
 ];
-const READ: usize = 5;
 // end of what is written
 
 /// An option for one of the dialects.
@@ -137,7 +137,7 @@ pub fn command() -> Command {
                  Examples:\n  $ target-lexicon read --from oci linux/arm/v7\n  $ target-lexicon read \"$(cc -dumpmachine)\"",
             )
             .mut_arg("target", |names| names.value_name("NAME"))
-            .arg(dialect("from", &DIALECTS[..READ], "The tool whose names are read"))
+            .arg(dialect("from", &DIALECTS, "The tool whose names are read"))
             .arg(
                 flag("changes", "Show which parts of a name are read as others, such as amd64 as x86_64")
                     .conflicts_with("from"),

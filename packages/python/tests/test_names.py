@@ -14,7 +14,6 @@ from target_lexicon import CustomVendor, Dialect, ParseError, Triple, _dialects,
 
 UNKNOWN, WITHOUT = "Unknown name: ", "No triple has this name: "
 NAMES = [it for it in lists.elsewhere() if it.dialect not in ("first", "later")]
-ONLY_WRITTEN = "names of cross compilers are only written"
 
 
 class Names(unittest.TestCase):
@@ -26,7 +25,6 @@ class Names(unittest.TestCase):
     def test_dialects_are_those_of_the_table(self):
         self.assertEqual({it.value for it in Dialect}, {it.dialect for it in NAMES})
         self.assertEqual(set(typing.get_args(_dialects.DialectName)), set(Dialect))
-        self.assertEqual(set(typing.get_args(_dialects.ReadDialectName)), {it.dialect for it in NAMES if "r" in it.ways})
 
     def test_read_rows(self):
         rows = [it for it in NAMES if "r" in it.ways]
@@ -44,9 +42,8 @@ class Names(unittest.TestCase):
         self.assertGreater(len(rows), 200)
 
     def test_rows_that_are_not_read(self):
-        """Those that no triple means, with the table's reason; and those of GNU, which are only written."""
-        rows = [it._replace(note=ONLY_WRITTEN) if it.dialect == "gnu" else it for it in NAMES]
-        rows = [it for it in rows if it.ways == "-" or it.dialect == "gnu"]
+        """Those that no triple means, with the table's reason."""
+        rows = [it for it in NAMES if it.ways == "-"]
         for row in rows:
             error = self.refusal(row.name, row.dialect)
             self.assertEqual((error.line, error.reason), (WITHOUT + row.name, row.note))
@@ -59,6 +56,8 @@ class Names(unittest.TestCase):
         known = {dialect: {it.name for it in NAMES if it.dialect == dialect.value} for dialect in Dialect}
         count = 0
         for dialect, other in itertools.permutations(Dialect, 2):
+            if dialect is Dialect.GNU:
+                continue  # It reads all that is spelled like a triple.
             for name in known[other] - known[dialect]:
                 if dialect is Dialect.PYTHON and re.sub("[-.]", "_", name) in known[dialect]:
                     continue
@@ -148,7 +147,7 @@ class Names(unittest.TestCase):
         calls = [lambda it: Triple.read("linux/amd64", it), Triple("x86_64-linux").name_in]
         for call in calls:
             for value in "Go", "", "docker", "none", "g\u00f6", target_lexicon.Architecture.ARM:
-                with self.assertRaisesRegex(ValueError, "the dialect must be one of debian, go, oci, node, gnu, python, not ") as caught:
+                with self.assertRaisesRegex(ValueError, "the dialect must be one of debian, go, oci, node, gnu, python, rust, not ") as caught:
                     call(value)
                 self.assertNotIsInstance(caught.exception, ParseError)
             for value in 1, b"go", Dialect:

@@ -16,6 +16,7 @@ pub fn dialect_at(number: u32) -> Option<Option<Dialect>> {
         4 => Some(Some(Dialect::Node)),
         5 => Some(Some(Dialect::Gnu)),
         6 => Some(Some(Dialect::Python)),
+        7 => Some(Some(Dialect::Rust)),
         _ => None,
     }
 }

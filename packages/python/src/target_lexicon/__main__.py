@@ -26,8 +26,7 @@ _COMMANDS = {
     "write": "the name that another tool has for it",
     "elsewhere": "the names that other tools have for it",
 }
-# As the command orders them: the last one is only written.
-_DIALECTS = [*(it for it in Dialect if it is not Dialect.GNU), Dialect.GNU]
+_DIALECTS = list(Dialect)
 
 
 def _places(targets: List[str]) -> Iterator[Answer]:
@@ -143,7 +142,7 @@ def _parser() -> argparse.ArgumentParser:
         command.add_argument("--json", action="store_true", help="write one JSON array on one line")
         command.set_defaults(dialect=None)
         if name == "read":
-            command.add_argument("--from", dest="dialect", choices=list(map(str, _DIALECTS[:-1])))
+            command.add_argument("--from", dest="dialect", choices=list(map(str, _DIALECTS)))
         elif name == "write":
             command.add_argument("--to", dest="dialect", choices=list(map(str, _DIALECTS)), required=True)
     return parser

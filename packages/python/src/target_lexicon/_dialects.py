@@ -18,16 +18,19 @@ class Dialect(NamedValue):
     OCI = "oci"
     #: `process.platform` and `process.arch` of Node, as npm joins them: `linux-x64`, `linux-x64-musl`.
     NODE = "node"
-    #: Prefixes of GNU's cross compilers, which are only written: `x86_64-w64-mingw32`.
+    #: Prefixes of GNU's cross compilers, and strings that mean the same to config.sub: `x86_64-w64-mingw32`.
     GNU = "gnu"
     #: Platforms of Python, as tags of wheels such as `macosx_11_0_arm64`, and as `sysconfig.get_platform()` prints them.
     PYTHON = "python"
+    #: Targets of rustc, as `rustc --print target-list` lists them: `riscv64gc-unknown-linux-gnu`.
+    RUST = "rust"
     # end of what is written
 
 
-#: The names of the dialects that are read, and of all.
-ReadDialectName = Literal["debian", "go", "oci", "node", "python"]
-DialectName = Literal[ReadDialectName, "gnu"]
+#: The names of the dialects.
+# written by tools/names/write: the dialects' names for Python
+DialectName = Literal["debian", "go", "oci", "node", "gnu", "python", "rust"]
+# end of what is written
 
 #: The number in the library for C of no dialect: the string is spelled like a triple.
 NO_DIALECT = 0
