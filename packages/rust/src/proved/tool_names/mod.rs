@@ -33,6 +33,7 @@ pub(crate) mod reading;
 pub(crate) mod rustc_cfg;
 #[cfg(feature = "tool_names")]
 pub(crate) mod shape;
+#[cfg_attr(not(feature = "tool_names"), allow(dead_code, unused_imports))]
 pub(crate) mod spelling;
 pub(crate) mod suggestions;
 #[cfg(feature = "tool_names")]
@@ -58,6 +59,7 @@ pub use names::NameError;
 pub use reading::read;
 #[cfg(feature = "tool_names")]
 pub use rustc_cfg::{is_unix, RustcCfg};
+#[cfg(feature = "tool_names")]
 pub use spelling::Spelling;
 pub use suggestions::suggestion;
 #[cfg(feature = "tool_names")]
