@@ -10,7 +10,9 @@ pub(crate) mod triple;
 pub(crate) mod triple_facts;
 
 pub use calls::{comes_back, equal, explain, facts, parse, print, same_target, settle};
-pub use dialects::{dialect_at, name_in, name_suggestion, read, reason};
+pub use dialects::{
+    c_library_at, complete, dialect_at, name_in, name_suggestion, read, reason, translate,
+};
 pub use error::{expected_at, TextError};
 pub use numbers::{name_at, number_in};
 pub use sources::{FieldSource, FieldSources};
