@@ -7,6 +7,8 @@ mod all_names;
 #[cfg(test)]
 mod callers;
 #[cfg(test)]
+mod completion;
+#[cfg(test)]
 mod driver;
 #[cfg(test)]
 mod json;

@@ -6,8 +6,10 @@
 -- RowChecks, RowLemmas, NameLaws: what the rows pass,
 -- what follows of the row of a name, and the laws. DistanceLemmas: the edit distance is the least number of edits.
 -- NearestLemmas, NearerLemmas: the nearest of a growing list of names, and of two lists. Words: the word that a string begins with.
+-- Completions: what completion keeps.
 pub mod CfgLines
 pub mod ChangeLemmas
+pub mod Completions
 pub mod DistanceLemmas
 pub mod Filling
 pub mod JoinedNames

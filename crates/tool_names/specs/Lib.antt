@@ -1,4 +1,5 @@
 pub mod Changes
+pub mod Completion
 pub mod Dialects
 pub mod Distance
 pub mod Driver
@@ -15,3 +16,4 @@ pub mod Spelling
 pub mod Suggestion
 pub mod Tables
 pub mod ToolNames
+pub mod Translation

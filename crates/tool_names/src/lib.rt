@@ -3,6 +3,7 @@
 #![tactic(auto)]
 
 mod change;
+mod completion;
 mod dialect;
 mod distance;
 mod driver;
@@ -23,8 +24,10 @@ mod shape;
 mod spelling;
 mod suggestions;
 mod tables;
+mod translation;
 
 pub use change::{Change, ChangedParts, changes};
+pub use completion::{LinuxLibc, complete};
 pub use dialect::Dialect;
 pub use driver::{CLibrary, FloatAbi, TypeLayout};
 pub use formats::object_format;
@@ -34,3 +37,4 @@ pub use reading::read;
 pub use rustc_cfg::{RustcCfg, is_unix};
 pub use spelling::Spelling;
 pub use suggestions::suggestion;
+pub use translation::{TranslateError, WriteError};

@@ -25,6 +25,15 @@
 //! nothing. The page `README.md` says what differs from upstream, and what is proved.
 #![no_std]
 #![forbid(unsafe_code)]
+// Names and types of upstream's; forms that proofs need; calls that older versions of Rust have from `compat`.
+#![allow(
+    clippy::box_collection,
+    clippy::should_implement_trait,
+    clippy::upper_case_acronyms,
+    clippy::manual_map,
+    clippy::match_like_matches_macro,
+    clippy::incompatible_msrv
+)]
 // docs.rs marks what needs a feature.
 #![cfg_attr(docsrs, feature(doc_cfg))]
 #![cfg_attr(
@@ -47,12 +56,9 @@ mod order;
 mod owned;
 mod parse_error;
 mod parse_triple_error;
-#[allow(dead_code, unused_imports, unused_variables)]
-// callers in crates/ need more of it, and so do clauses
 #[cfg(not(feature = "__internals"))]
 mod proved;
 /// The proved crates, for the packages of the same repository.
-#[allow(dead_code, unused_imports, unused_variables)]
 #[cfg(feature = "__internals")]
 #[doc(hidden)]
 pub mod proved;
@@ -78,8 +84,8 @@ pub use proved::{
 #[cfg(feature = "tool_names")]
 pub use proved::tool_names;
 
-/// The samples of the page are tested.
-#[cfg(doctest)]
+/// The samples of the page are tested; the first one uses this feature.
+#[cfg(all(doctest, feature = "tool_names"))]
 #[doc = include_str!("../README.md")]
 struct Readme;
 

@@ -5,6 +5,8 @@
 #[cfg(feature = "tool_names")]
 pub(crate) mod change;
 #[cfg(feature = "tool_names")]
+pub(crate) mod completion;
+#[cfg(feature = "tool_names")]
 pub(crate) mod dialect;
 pub(crate) mod distance;
 #[cfg(feature = "tool_names")]
@@ -31,13 +33,18 @@ pub(crate) mod reading;
 pub(crate) mod rustc_cfg;
 #[cfg(feature = "tool_names")]
 pub(crate) mod shape;
+#[cfg_attr(not(feature = "tool_names"), allow(dead_code, unused_imports))]
 pub(crate) mod spelling;
 pub(crate) mod suggestions;
 #[cfg(feature = "tool_names")]
 pub(crate) mod tables;
+#[cfg(feature = "tool_names")]
+pub(crate) mod translation;
 
 #[cfg(feature = "tool_names")]
 pub use change::{changes, Change, ChangedParts};
+#[cfg(feature = "tool_names")]
+pub use completion::{complete, LinuxLibc};
 #[cfg(feature = "tool_names")]
 pub use dialect::Dialect;
 #[cfg(feature = "tool_names")]
@@ -52,5 +59,8 @@ pub use names::NameError;
 pub use reading::read;
 #[cfg(feature = "tool_names")]
 pub use rustc_cfg::{is_unix, RustcCfg};
+#[cfg(feature = "tool_names")]
 pub use spelling::Spelling;
 pub use suggestions::suggestion;
+#[cfg(feature = "tool_names")]
+pub use translation::{TranslateError, WriteError};

@@ -200,7 +200,7 @@ fn arm_of_order(arm: ArmArchitecture) -> ArmArchitecture {
 }
 
 /// The versions 5, 6, 7 and 8 of Arm for applications; every other Arm is itself.
-fn arm_of_version(arm: ArmArchitecture) -> ArmArchitecture {
+pub(crate) fn arm_of_version(arm: ArmArchitecture) -> ArmArchitecture {
     match arm {
         ArmArchitecture::Armv5t | ArmArchitecture::Armv5tej => ArmArchitecture::Armv5te,
         ArmArchitecture::Armv6j
