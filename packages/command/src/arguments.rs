@@ -27,9 +27,21 @@ pub const DIALECTS: [Dialect; 7] = [
 ];
 // end of what is written
 
+/// The value of `--from` for all dialects.
+pub const ANY: &str = "any";
+
+/// An option for the C library of a triple that states none.
+fn libc() -> Arg {
+    Arg::new("libc")
+        .long("libc")
+        .value_name("LIBRARY")
+        .value_parser(PossibleValuesParser::new(["glibc", "musl"]))
+        .help("The C library of targets on Linux that state none")
+}
+
 /// An option for one of the dialects.
-fn dialect(name: &'static str, dialects: &[Dialect], help: &'static str) -> Arg {
-    let names = dialects.iter().map(|dialect| dialect.as_str());
+fn dialect(name: &'static str, help: &'static str) -> Arg {
+    let names = DIALECTS.iter().map(|dialect| dialect.as_str());
     Arg::new(name)
         .long(name)
         .value_name("DIALECT")
@@ -137,7 +149,13 @@ pub fn command() -> Command {
                  Examples:\n  $ target-lexicon read --from oci linux/arm/v7\n  $ target-lexicon read \"$(cc -dumpmachine)\"",
             )
             .mut_arg("target", |names| names.value_name("NAME"))
-            .arg(dialect("from", &DIALECTS, "The tool whose names are read"))
+            .arg(
+                dialect("from", "The tool whose names are read; `any` writes a line for each that has the name")
+                    .value_parser(PossibleValuesParser::new(
+                        DIALECTS.iter().map(|it| it.as_str()).chain([ANY]),
+                    )),
+            )
+            .arg(libc())
             .arg(
                 flag("changes", "Show which parts of a name are read as others, such as amd64 as x86_64")
                     .conflicts_with("from"),
@@ -147,7 +165,22 @@ pub fn command() -> Command {
                 "Write the name that another tool has for each target",
                 "Example:\n  $ target-lexicon write --to debian aarch64-unknown-linux-gnu",
             )
-            .arg(dialect("to", &DIALECTS, "The tool whose names are written").required(true)),
+            .arg(dialect("to", "The tool whose names are written").required(true))
+            .arg(libc()),
+            of_targets(
+                "translate",
+                "Write the name that one tool has for what a name of another means",
+                "Example:\n  $ target-lexicon translate --from oci --to debian --libc glibc linux/arm64",
+            )
+            .mut_arg("target", |names| names.value_name("NAME"))
+            .arg(dialect("from", "The tool whose names are read").required(true))
+            .arg(dialect("to", "The tool whose names are written").required(true))
+            .arg(libc()),
+            of_targets(
+                "cfg",
+                "Write the values of rustc's cfg options for a target",
+                "Example:\n  $ target-lexicon cfg aarch64-apple-ios",
+            ),
             of_targets(
                 "elsewhere",
                 "Show the names that other tools have for a target",

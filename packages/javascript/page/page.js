@@ -146,7 +146,7 @@ const listOf = (words) => words.length < 2 ? words.join() : `${words.slice(0, -1
 /** What a refused target is as a name of other tools: for each meaning, which tools have the name, and the triple or the reason why there is none. */
 function* knownNames(text) {
   const found = new Map();
-  for (const dialect of DIALECTS.filter((it) => it !== "gnu")) {
+  for (const dialect of DIALECTS) {
     try {
       const meant = Triple.read(text, dialect).canonical;
       found.set(meant, { meant, tools: [...found.get(meant)?.tools ?? [], dialect] });
