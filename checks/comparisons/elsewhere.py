@@ -2,7 +2,7 @@
 
 dpkg says byte order, pointer width and GNU type of each name; Go and containerd, which names they have and how they write
 them; esbuild and Node's manual, the words; config.sub, which strings there are, and what it makes of them. The crate cc has a
-table of prefixes. rustc lists its targets, and says the architecture, byte order, pointer width and object format of each.
+table of prefixes. rustc lists its targets, and says the architecture, byte order, pointer width and object format of each, and what its cfg options are.
 Python's sysconfig says how it names platforms, and packaging which tags it makes. The tools that aren't installed are named.
 Without any tool it checks that a machine's word means one architecture, and that each other spelling is explained by a rule or
 listed here. The status is 1 if an answer differs that docs/TOOL_NAMES.md doesn't list. The names of Android and iOS need a
@@ -22,8 +22,8 @@ import sys
 
 import built
 import upstream
-from comparisons import python_platforms
-from comparisons.tools import Report, order_and_width, output, rustc_answers
+from comparisons import python_platforms, rustc_cfg
+from comparisons.tools import Report, order_and_width, output, rustc_answers, rustc_specs
 
 # The word of each dialect for a system, where it isn't the library's. A word that means another system in every row of a
 # dialect is found by nothing else.
@@ -209,7 +209,7 @@ class Comparison(Report):
         if not self.has("rustc", shutil.which("rustc")):
             return
         targets = output("rustc", "--print", "target-list").split()
-        ours, meanings, theirs = [row.name for row in self.rows_of("rust", ("rw", "r", "-"))], self.meanings("rust"), rustc_answers()
+        ours, meanings, theirs = [row.name for row in self.rows_of("rust", ("rw", "r", "-"))], self.meanings("rust"), rustc_answers(rustc_specs())
         self.fact("rust's names are those of `rustc --print target-list`", (
             (name, name in ours, name in targets) for name in {*ours, *targets}))
         read = {name: it for name, it in meanings.items() if name in theirs}
@@ -304,4 +304,5 @@ def main(options, folder):
     comparison.check_gnu()
     comparison.check_rust()
     comparison.check_python()
+    rustc_cfg.check(comparison)
     return comparison.conclude()

@@ -59,10 +59,14 @@ class Report:
         return 2 if not self.asked else 1 if self.failed else 0
 
 
-def rustc_answers():
-    """What rustc says of each target."""
+def rustc_specs():
+    """rustc's description of each target."""
     words = ["rustc", "-Z", "unstable-options", "--print", "all-target-specs-json"]
-    specs = json.loads(output(*words, env={**os.environ, "RUSTC_BOOTSTRAP": "1"}))
+    return json.loads(output(*words, env={**os.environ, "RUSTC_BOOTSTRAP": "1"}))
+
+
+def rustc_answers(specs):
+    """What rustc says of each target."""
     return {name: {"order": it.get("target-endian", "little"), "width": str(it["target-pointer-width"]), "machine": it["arch"],
                    "format": it.get("binary-format", "elf").replace("-", ""), "llvm": it["llvm-target"]} for name, it in specs.items()}
 

@@ -5,10 +5,55 @@ extern crate alloc;
 
 #[path = "src/compat.rs"]
 mod compat;
-#[path = "src/proved/mod.rs"]
-mod proved;
 
-use proved::{Architecture, Triple, TripleRef, VendorRef};
+/// What parsing needs of the proved source: the rest isn't compiled twice.
+#[path = "src/proved"]
+mod proved {
+    pub mod architecture;
+    pub mod binary_format;
+    pub mod decimal;
+    pub mod default_format;
+    pub mod deployment_target;
+    pub mod display;
+    pub mod endianness;
+    pub mod environment;
+    pub mod explanation;
+    pub mod field;
+    pub mod known_vendor;
+    pub mod operating_system;
+    pub mod pointer_width;
+    pub mod read;
+    pub mod reading;
+    pub mod refusal;
+    pub mod special;
+    pub mod table;
+    pub mod triple;
+    pub mod triple_ref;
+    pub mod vendor;
+    pub mod vendor_ref;
+
+    pub use architecture::*;
+    pub use binary_format::*;
+    pub use default_format::*;
+    pub use deployment_target::*;
+    pub use endianness::*;
+    pub use environment::*;
+    pub use explanation::*;
+    pub use field::*;
+    pub use known_vendor::*;
+    pub use operating_system::*;
+    pub use pointer_width::*;
+    pub use read::*;
+    pub use reading::*;
+    pub use refusal::*;
+    pub use table::*;
+    pub use triple::*;
+    pub use triple_ref::*;
+    pub use vendor::*;
+    pub use vendor_ref::*;
+}
+
+use proved::{Architecture, TripleRef, VendorRef};
 use std::{env, fs, mem, path::Path, time::Duration};
 
 fn main() {
@@ -61,13 +106,6 @@ fn literal(triple: TripleRef<'_>) -> String {
 fn family(architecture: Architecture) -> String {
     let name = format!("{architecture:?}");
     name.split('(').next().unwrap_or_default().to_string()
-}
-
-impl Triple {
-    /// Not called: here the host isn't known yet.
-    fn host() -> Self {
-        Triple::unknown()
-    }
 }
 
 /// A call that `Duration` has of its own since Rust 1.81, in which `core` got `Error`.

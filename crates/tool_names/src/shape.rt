@@ -216,7 +216,7 @@ fn arm_of_order(arm: ArmArchitecture) -> ArmArchitecture
 }
 
 /// The versions 5, 6, 7 and 8 of Arm for applications; every other Arm is itself.
-fn arm_of_version(arm: ArmArchitecture) -> ArmArchitecture
+pub(crate) fn arm_of_version(arm: ArmArchitecture) -> ArmArchitecture
     ensures { result ≡ arm_of_version arm }
 {
     match arm {

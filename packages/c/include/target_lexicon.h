@@ -48,6 +48,8 @@
 #define LEXICON_VERSION_MINOR 5
 #define LEXICON_VERSION_PATCH 0
 #define LEXICON_VERSION "0.5.0"
+/* The version as one number, of which two may be compared: 1000000 * major + 1000 * minor + patch. */
+#define LEXICON_VERSION_NUMBER (1000000L * LEXICON_VERSION_MAJOR + 1000L * LEXICON_VERSION_MINOR + LEXICON_VERSION_PATCH)
 
 #if defined(__GNUC__)
 #define LEXICON_CHECKED __attribute__((warn_unused_result))
@@ -437,19 +439,20 @@ struct lexicon_sources {
   struct lexicon_source architecture, vendor, operating_system, environment, binary_format;
 };
 
-/* What a compiler asks about a triple. 0 is no answer. The pointer width may be known where there is no data model. */
+/* What a compiler asks about a triple. 0 is no answer. The pointer width may be known where there is no data model. A later
+   version adds members at the end. */
 struct lexicon_triple_facts {
   uint8_t endianness;                 /* enum lexicon_endianness */
   uint8_t pointer_width;              /* in bits: 0, 16, 32 or 64 */
   uint8_t default_calling_convention; /* enum lexicon_calling_convention */
   uint8_t data_model;                 /* enum lexicon_data_model */
   uint8_t short_size, int_size, long_size, long_long_size, float_size, double_size; /* of C's types, in bytes */
-  uint8_t implied_format;             /* enum lexicon_binary_format: what the other fields imply */
-  uint8_t object_format;              /* likewise: what toolchains write, where the triple leaves it open */
-  uint8_t family;                     /* enum lexicon_family */
   bool is_thumb;                      /* the architecture's name begins with thumb */
   bool is_like_darwin;                /* the system is darwin, ios, macosx, tvos, visionos, watchos or xros */
   bool has_custom_vendor;
+  uint8_t implied_format;             /* enum lexicon_binary_format: what the other fields imply */
+  uint8_t object_format;              /* likewise: what toolchains write, where the triple leaves it open */
+  uint8_t family;                     /* enum lexicon_family */
 };
 
 /* A buffer of text_size + LEXICON_MAX_GROWTH + 1 bytes always has room for what lexicon_print writes for the triple that the
@@ -492,9 +495,10 @@ enum lexicon_status lexicon_equal(const struct lexicon_triple *first, const stru
 LEXICON_CHECKED LEXICON_NONNULL(1, 2, 3)
 enum lexicon_status lexicon_same_target(const struct lexicon_triple *first, const struct lexicon_triple *second, bool *answer);
 
-/* What a compiler asks about a triple. */
+/* What a compiler asks about a triple. facts_size is sizeof *facts: so the library may be newer than the header that a program
+   was compiled with, and have more members, or older, and then the members that it doesn't have become 0. */
 LEXICON_CHECKED LEXICON_NONNULL(1, 2)
-enum lexicon_status lexicon_facts(const struct lexicon_triple *triple, struct lexicon_triple_facts *facts);
+enum lexicon_status lexicon_facts(const struct lexicon_triple *triple, struct lexicon_triple_facts *facts, size_t facts_size);
 
 /* Reads what another tool calls a target. At LEXICON_OK the triple is written. At any other status the error is, unless it is
    null.

@@ -272,7 +272,7 @@ class Triple {
   // The triple of a struct of target_lexicon.h, if it is one.
   static std::optional<Triple> from_c(const lexicon_triple& triple) {
     lexicon_triple_facts facts;
-    return lexicon_facts(&triple, &facts) == LEXICON_OK ? std::optional<Triple>(Triple(triple)) : std::nullopt;
+    return lexicon_facts(&triple, &facts, 0) == LEXICON_OK ? std::optional<Triple>(Triple(triple)) : std::nullopt;
   }
 
   // The triple with another value in one field, if that is one. A binary format that the fields imply becomes the one that the new
@@ -379,7 +379,7 @@ class Triple {
   lexicon_triple_facts facts() const {
     lexicon_triple_facts facts = {};
     lexicon_triple triple = c_triple();
-    return lexicon_facts(&triple, &facts) == LEXICON_OK ? facts : lexicon_triple_facts{};
+    return lexicon_facts(&triple, &facts, sizeof facts) == LEXICON_OK ? facts : lexicon_triple_facts{};
   }
 
   // The printed triple, and that of the canonical form, which is a key.

@@ -39,7 +39,7 @@ static bool show(const char *text) {
     printf("error: %s\n", out);
     return false;
   }
-  if (lexicon_print(&triple, out, sizeof out, NULL) != LEXICON_OK || lexicon_facts(&triple, &facts) != LEXICON_OK) {
+  if (lexicon_print(&triple, out, sizeof out, NULL) != LEXICON_OK || lexicon_facts(&triple, &facts, sizeof facts) != LEXICON_OK) {
     printf("error: the vendor of %s is too long\n", text);
     return false;
   }

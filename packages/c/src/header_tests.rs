@@ -1,7 +1,7 @@
 //! The numbers of target_lexicon.h and target_lexicon.hpp are the library's.
-use crate::proved::{dialect_at, expected_at, facts, name_at, NumberedTriple, TripleNumbers};
+use crate::proved::values::{architecture_at, operating_system_at};
+use crate::proved::{dialect_at, expected_at, facts, field_at, name_at, NumberedTriple, TripleNumbers};
 use std::collections::BTreeMap;
-use target_lexicon::proved::names::{architecture_at, field_at, operating_system_at};
 use target_lexicon::TripleRef;
 
 const HEADER: &str = include_str!("../include/target_lexicon.h");
@@ -207,10 +207,11 @@ fn flattened(fields: Vec<(String, String)>, inner: &str, of: &[(String, String)]
 fn the_structs_are_those_of_the_library() {
     let (triple, facts) = (include_str!("proved/triple.rs"), include_str!("proved/triple_facts.rs"));
     let (error, sources) = (include_str!("proved/error.rs"), include_str!("proved/sources.rs"));
+    let library = include_str!("lib.rs");
     let numbers = fields(triple, "TripleNumbers");
-    assert_eq!(members("lexicon_triple"), flattened(fields(include_str!("lib.rs"), "Triple"), "TripleNumbers", &numbers));
+    assert_eq!(members("lexicon_triple"), flattened(fields(library, "Triple"), "TripleNumbers", &numbers));
     let sizes: Vec<_> = fields(facts, "TypeSizes").into_iter().map(|(of, name)| (of, name + "_size")).collect();
-    assert_eq!(members("lexicon_triple_facts"), flattened(fields(facts, "TripleFacts"), "TypeSizes", &sizes));
+    assert_eq!(members("lexicon_triple_facts"), flattened(fields(library, "Facts"), "TypeSizes", &sizes));
     assert_eq!(members("lexicon_error"), fields(error, "TextError"));
     assert_eq!(members("lexicon_source"), fields(sources, "FieldSource"));
     assert_eq!(members("lexicon_sources"), fields(sources, "FieldSources"));

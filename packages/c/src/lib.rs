@@ -16,23 +16,23 @@ mod error_text;
 mod header_tests;
 mod lines;
 mod names;
-#[allow(unused_imports)] // the proved crate exports more
+#[allow(dead_code, unused_imports)] // the proved crate exports more
 mod proved;
 #[cfg(not(test))]
 mod runtime;
 mod text;
 
-use core::ptr::{addr_of, null};
+use core::mem::size_of;
+use core::ptr::{self, addr_of, null};
 use core::{slice, str};
 use error_text::{line, line_and_caret, suggestion};
 use lines::settle_lines;
 use names::{c_name, c_reason};
 use proved::triple::CUSTOM_VENDOR;
 use proved::{
-    dialect_at, explain, name_at, name_in, name_suggestion, number_in, parse, print, read, reason, same_target, settle, Fault,
-    FieldSource, FieldSources, NumberedTriple, TextError, TripleFacts, TripleNumbers,
+    dialect_at, explain, field_at, name_at, name_in, name_suggestion, number_in, parse, print, read, reason, same_target, settle, Fault,
+    FieldSource, FieldSources, NumberedTriple, TextError, TripleFacts, TripleNumbers, TypeSizes,
 };
-use target_lexicon::proved::names::field_at;
 use target_lexicon::{tool_names, Field};
 use text::{write_text, Text};
 
@@ -71,14 +71,49 @@ pub struct Triple {
     custom_vendor_size: usize,
 }
 
+/// `struct lexicon_triple_facts`. First is what the queries of the Rust crate answer. A later version adds members at the end.
+#[repr(C)]
+pub struct Facts {
+    endianness: u8,
+    pointer_width: u8,
+    default_calling_convention: u8,
+    data_model: u8,
+    sizes: TypeSizes,
+    is_thumb: bool,
+    is_like_darwin: bool,
+    has_custom_vendor: bool,
+    implied_format: u8,
+    object_format: u8,
+    family: u8,
+}
+
+impl From<TripleFacts> for Facts {
+    #[inline(always)]
+    fn from(it: TripleFacts) -> Facts {
+        Facts {
+            endianness: it.endianness,
+            pointer_width: it.pointer_width,
+            default_calling_convention: it.default_calling_convention,
+            data_model: it.data_model,
+            sizes: it.sizes,
+            is_thumb: it.is_thumb,
+            is_like_darwin: it.is_like_darwin,
+            has_custom_vendor: it.has_custom_vendor,
+            implied_format: it.implied_format,
+            object_format: it.object_format,
+            family: it.family,
+        }
+    }
+}
+
 /// The sizes that the structs of target_lexicon.h have, with words of 64 bits or of 32.
 const _: () = {
-    let word = core::mem::size_of::<usize>();
-    assert!(core::mem::size_of::<TripleNumbers>() == 12);
-    assert!(core::mem::size_of::<Triple>() == if word == 8 { 32 } else { 20 });
-    assert!(core::mem::size_of::<TextError>() == 3 * word);
-    assert!(core::mem::size_of::<FieldSources>() == 15 * word);
-    assert!(core::mem::size_of::<TripleFacts>() == 16);
+    let word = size_of::<usize>();
+    assert!(size_of::<TripleNumbers>() == 12);
+    assert!(size_of::<Triple>() == if word == 8 { 32 } else { 20 });
+    assert!(size_of::<TextError>() == 3 * word);
+    assert!(size_of::<FieldSources>() == 15 * word);
+    assert!(size_of::<Facts>() == 16);
 };
 
 impl Triple {
@@ -272,8 +307,28 @@ pub unsafe extern "C" fn lexicon_same_target(first: *const Triple, second: *cons
 }
 
 #[no_mangle]
-pub unsafe extern "C" fn lexicon_facts(triple: *const Triple, facts: *mut TripleFacts) -> Status {
-    unsafe { answer(facts, proved::facts(&Triple::read(triple))) }
+pub unsafe extern "C" fn lexicon_facts(triple: *const Triple, facts: *mut u8, facts_size: usize) -> Status {
+    if facts_size > MAX_SIZE {
+        return TOO_LARGE;
+    }
+    match proved::facts(&unsafe { Triple::read(triple) }) {
+        Ok(it) if facts_size == size_of::<Facts>() => unsafe { facts.cast::<Facts>().write(it.into()) },
+        Ok(it) => unsafe { write_part(&it.into(), facts, facts_size) },
+        Err(fault) => return fault.into(),
+    }
+    OK
+}
+
+/// Writes facts into the caller's struct, which has fewer members than that of this version, or more: these become zeros,
+/// which are no answer.
+#[cold]
+unsafe fn write_part(facts: &Facts, to: *mut u8, size: usize) {
+    let known = size.min(size_of::<Facts>());
+    // SAFETY: the caller's struct of this size, whose members are bytes.
+    unsafe {
+        ptr::copy_nonoverlapping((facts as *const Facts).cast(), to, known);
+        to.add(known).write_bytes(0, size - known);
+    }
 }
 
 #[no_mangle]

@@ -184,7 +184,7 @@ static void try_bad(struct lexicon_triple bad, enum lexicon_status status, const
   fill(out, sizeof out);
   fill(&facts, sizeof facts);
   expect(lexicon_print(&bad, out, sizeof out, &length) == status && length == 77 && is_filled(out, sizeof out), "bad print", what);
-  expect(lexicon_facts(&bad, &facts) == status && is_filled(&facts, sizeof facts), "bad facts", what);
+  expect(lexicon_facts(&bad, &facts, sizeof facts) == status && is_filled(&facts, sizeof facts), "bad facts", what);
   expect(lexicon_settle(&copy) == status && are_same(&copy, &bad), "bad settle", what);
   expect(lexicon_comes_back(&bad, &answer) == status && answer, "bad comes_back", what);
   expect(lexicon_equal(&bad, &good, &answer) == status && lexicon_equal(&good, &bad, &answer) == status && answer, "bad equal", what);
@@ -247,20 +247,32 @@ static void try_pairs(void) {
 static void try_facts(const char *text, struct lexicon_triple_facts expected) {
   struct lexicon_triple triple = triple_of(text);
   struct lexicon_triple_facts facts;
-  expect(lexicon_facts(&triple, &facts) == LEXICON_OK && memcmp(&facts, &expected, sizeof facts) == 0, "facts", text);
+  expect(lexicon_facts(&triple, &facts, sizeof facts) == LEXICON_OK && memcmp(&facts, &expected, sizeof facts) == 0, "facts", text);
+  /* with the struct of an older header, and of a newer one */
+  struct { struct lexicon_triple_facts facts; unsigned char more[4]; } newer;
+  for (size_t size = 0; size <= sizeof newer; size++) {
+    unsigned char *bytes = (unsigned char *)&newer;
+    size_t i, known = size < sizeof expected ? size : sizeof expected;
+    fill(&newer, sizeof newer);
+    expect(lexicon_facts(&triple, &newer.facts, size) == LEXICON_OK && memcmp(bytes, &expected, known) == 0, "facts of a size", text);
+    for (i = known; i < size && bytes[i] == 0; i++) {}
+    expect(i >= size && is_filled(bytes + i, sizeof newer - i), "facts of a size", text);
+  }
+  fill(&newer, sizeof newer);
+  expect(lexicon_facts(&triple, &newer.facts, (size_t)-1) == LEXICON_TOO_LARGE && is_filled(&newer, sizeof newer), "facts of a size", text);
 }
 
 static void try_all_facts(void) {
   struct lexicon_triple_facts ios = {LEXICON_ENDIANNESS_LITTLE, 64, LEXICON_CALLING_CONVENTION_APPLE_AARCH64, LEXICON_DATA_MODEL_LP64,
-      2, 4, 8, 8, 4, 8, LEXICON_BINARY_FORMAT_MACHO, LEXICON_BINARY_FORMAT_ELF, LEXICON_FAMILY_AARCH64, false, true, false};
+      2, 4, 8, 8, 4, 8, false, true, false, LEXICON_BINARY_FORMAT_MACHO, LEXICON_BINARY_FORMAT_ELF, LEXICON_FAMILY_AARCH64};
   struct lexicon_triple_facts thumb = {LEXICON_ENDIANNESS_LITTLE, 32, LEXICON_CALLING_CONVENTION_WINDOWS_FASTCALL, LEXICON_DATA_MODEL_ILP32,
-      2, 4, 4, 8, 4, 8, LEXICON_BINARY_FORMAT_COFF, LEXICON_BINARY_FORMAT_ELF, LEXICON_FAMILY_ARM, true, false, true};
+      2, 4, 4, 8, 4, 8, true, false, true, LEXICON_BINARY_FORMAT_COFF, LEXICON_BINARY_FORMAT_ELF, LEXICON_FAMILY_ARM};
   struct lexicon_triple_facts avr = {LEXICON_ENDIANNESS_LITTLE, 16, LEXICON_CALLING_CONVENTION_NONE, LEXICON_DATA_MODEL_NONE,
-      0, 0, 0, 0, 0, 0, LEXICON_BINARY_FORMAT_UNKNOWN, LEXICON_BINARY_FORMAT_ELF, LEXICON_FAMILY_AVR, false, false, false};
+      0, 0, 0, 0, 0, 0, false, false, false, LEXICON_BINARY_FORMAT_UNKNOWN, LEXICON_BINARY_FORMAT_ELF, LEXICON_FAMILY_AVR};
   struct lexicon_triple_facts windows = {LEXICON_ENDIANNESS_LITTLE, 64, LEXICON_CALLING_CONVENTION_WINDOWS_FASTCALL,
-      LEXICON_DATA_MODEL_LLP64, 2, 4, 4, 8, 4, 8, LEXICON_BINARY_FORMAT_COFF, LEXICON_BINARY_FORMAT_COFF, LEXICON_FAMILY_X86_64, false, false, false};
+      LEXICON_DATA_MODEL_LLP64, 2, 4, 4, 8, 4, 8, false, false, false, LEXICON_BINARY_FORMAT_COFF, LEXICON_BINARY_FORMAT_COFF, LEXICON_FAMILY_X86_64};
   struct lexicon_triple_facts s390x = {LEXICON_ENDIANNESS_BIG, 64, LEXICON_CALLING_CONVENTION_SYSTEM_V, LEXICON_DATA_MODEL_LP64,
-      2, 4, 8, 8, 4, 8, LEXICON_BINARY_FORMAT_ELF, LEXICON_BINARY_FORMAT_ELF, LEXICON_FAMILY_S390X, false, false, false};
+      2, 4, 8, 8, 4, 8, false, false, false, LEXICON_BINARY_FORMAT_ELF, LEXICON_BINARY_FORMAT_ELF, LEXICON_FAMILY_S390X};
   struct lexicon_triple_facts unknown;
   memset(&unknown, 0, sizeof unknown);
   try_facts("arm64-apple-ios17.2.1-elf", ios);
@@ -440,6 +452,7 @@ static void try_names(void) {
   expect(meant != NULL && strcmp(meant, "linux") == 0, "what is meant by a vendor", "linx");
   expect(lexicon_vendor_suggestion(&known) == NULL && lexicon_vendor_suggestion(&far) == NULL, "nothing else is meant", "customvendor");
   expect(strncmp(lexicon_version(), LEXICON_VERSION, strlen(LEXICON_VERSION)) == 0, "version", lexicon_version());
+  expect(LEXICON_VERSION_NUMBER >= 5000 && LEXICON_VERSION_NUMBER % 1000 == LEXICON_VERSION_PATCH, "the version as a number", LEXICON_VERSION);
 }
 
 /* A dialect and a name; what the triple prints and its name there, or the status, the range, the line, the reason and the suggestion. */
@@ -467,8 +480,8 @@ static const struct { uint32_t dialect; const char *name; enum lexicon_status st
     {LEXICON_DIALECT_GO, "amd64", LEXICON_UNKNOWN_NAME, 0, 5, "Unknown name: amd64", NULL, NULL},
     {LEXICON_DIALECT_GO, "linux/amd46", LEXICON_UNKNOWN_NAME, 0, 11, "Unknown name: linux/amd46", NULL, "linux/amd64"},
     {LEXICON_DIALECT_DEBIAN, "amd46", LEXICON_UNKNOWN_NAME, 0, 5, "Unknown name: amd46", NULL, "amd64"},
-    {LEXICON_DIALECT_OCI, "linux/arm/v77", LEXICON_UNKNOWN_NAME, 0, 13, "Unknown name: linux/arm/v77", NULL, "linux/arm/v7"},
-    {LEXICON_DIALECT_GNU, "x86_64-linux-gnuu", LEXICON_UNKNOWN_NAME, 0, 17, "Unknown name: x86_64-linux-gnuu", NULL, "x86_64-linux-gnu"},
+    {LEXICON_DIALECT_OCI, "linux/arm/v77", LEXICON_UNKNOWN_NAME, 0, 13, "Unknown name: linux/arm/v77", NULL, NULL},
+    {LEXICON_DIALECT_GNU, "x86_64-linux-gnuu", LEXICON_UNKNOWN_NAME, 0, 17, "Unknown name: x86_64-linux-gnuu", NULL, NULL},
     {LEXICON_DIALECT_GO, "js/wasm", LEXICON_NAME_WITHOUT_TRIPLE, 0, 7, "No triple has this name: js/wasm",
      "Go's pointers have 64 bits there, those of wasm32 32", NULL},
     {LEXICON_DIALECT_RUST, "arm64e-apple-ios", LEXICON_NAME_WITHOUT_TRIPLE, 0, 16, "No triple has this name: arm64e-apple-ios",

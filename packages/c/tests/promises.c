@@ -105,7 +105,7 @@ static void try_names(const struct lexicon_triple *triple) {
     CHECK((lexicon_reason(dialect, name, length) == NULL) == (status == LEXICON_OK));
     if (status != LEXICON_OK) continue;
     CHECK(lexicon_write(dialect, &shape, again, sizeof again, NULL) == LEXICON_OK && strcmp(again, name) == 0);
-    CHECK(lexicon_facts(triple, &facts) == LEXICON_OK && lexicon_facts(&shape, &shape_facts) == LEXICON_OK);
+    CHECK(lexicon_facts(triple, &facts, sizeof facts) == LEXICON_OK && lexicon_facts(&shape, &shape_facts, sizeof shape_facts) == LEXICON_OK);
     CHECK(facts.endianness == shape_facts.endianness && facts.pointer_width == shape_facts.pointer_width);
     CHECK(facts.object_format == shape_facts.object_format);
   }
@@ -126,7 +126,7 @@ static void try_triple(const struct lexicon_triple *triple) {
   CHECK(are_equal(&again, triple) == comes_back);
   size_t settled_length = printed(&settled, 3, &settled_text);
   CHECK(lexicon_parse(settled_text, settled_length, &again, &error) == LEXICON_OK && are_equal(&again, &settled));
-  CHECK(lexicon_facts(triple, &facts) == LEXICON_OK && lexicon_facts(&settled, &same_facts) == LEXICON_OK);
+  CHECK(lexicon_facts(triple, &facts, sizeof facts) == LEXICON_OK && lexicon_facts(&settled, &same_facts, sizeof same_facts) == LEXICON_OK);
   CHECK(facts.endianness == same_facts.endianness && facts.pointer_width == same_facts.pointer_width);
   CHECK(facts.data_model == same_facts.data_model && facts.default_calling_convention == same_facts.default_calling_convention);
   CHECK((facts.data_model == 0) == (facts.short_size == 0) && facts.pointer_width % 16 == 0);
@@ -182,7 +182,7 @@ static void try_bad(const struct lexicon_triple *bad, const struct lexicon_tripl
   memset(out, 0xa5, sizeof out);
   CHECK(lexicon_print(bad, out, sizeof out, &length) == status && length == 77 && is_unchanged(out, sizeof out));
   CHECK(lexicon_write(LEXICON_DIALECT_GO, bad, out, sizeof out, &length) == status && length == 77 && is_unchanged(out, sizeof out));
-  CHECK(lexicon_facts(bad, &facts) == status && is_unchanged(&facts, sizeof facts));
+  CHECK(lexicon_facts(bad, &facts, sizeof facts) == status && is_unchanged(&facts, sizeof facts));
   CHECK(lexicon_settle(&copy) == status && memcmp(&copy, bad, sizeof copy) == 0);
   CHECK(lexicon_comes_back(bad, &answer) == status && lexicon_equal(bad, other, &answer) == status && answer);
   CHECK(lexicon_equal(other, bad, &answer) == (other_status ? other_status : status) && answer);

@@ -27,7 +27,7 @@ struct Facts([u8; 16]);
 unsafe extern "C" {
     fn lexicon_parse(text: *const u8, size: usize, triple: *mut Triple, error: *mut Error) -> u32;
     fn lexicon_print(triple: *const Triple, out: *mut u8, out_size: usize, length: *mut usize) -> u32;
-    fn lexicon_facts(triple: *const Triple, facts: *mut Facts) -> u32;
+    fn lexicon_facts(triple: *const Triple, facts: *mut Facts, size: usize) -> u32;
     fn lexicon_error_line(text: *const u8, size: usize, error: *const Error, out: *mut u8, out_size: usize, length: *mut usize) -> u32;
 }
 
@@ -51,7 +51,7 @@ fn our_print(triple: &Triple, out: &mut [u8]) {
 
 fn our_facts(triple: &Triple) {
     let mut facts = MaybeUninit::uninit();
-    unsafe { lexicon_facts(triple, facts.as_mut_ptr()) };
+    unsafe { lexicon_facts(triple, facts.as_mut_ptr(), std::mem::size_of::<Facts>()) };
     black_box(&facts);
 }
 

@@ -7,10 +7,10 @@ use std::process::{Command, Output, Stdio};
 /// file of more than a megabyte.
 fn shell(line: &str) -> (String, String, i32) {
     let command = format!(
-        "ulimit -f 1000; target_lexicon() {{ timeout 20 '{}' \"$@\"; }}",
+        "ulimit -f 1000; target-lexicon() {{ timeout 20 '{}' \"$@\"; }}",
         env!("CARGO_BIN_EXE_target-lexicon")
     );
-    let run: Output = Command::new("sh")
+    let run: Output = Command::new("bash")
         .args(["-c", &format!("{command}\n{line}")])
         .current_dir(env!("CARGO_TARGET_TMPDIR"))
         .stdin(Stdio::null())

@@ -428,7 +428,7 @@ export class Triple {
 
   /** What a compiler asks of a triple; null where there is no answer. */
   facts() {
-    const it = instance(), status = it.call("facts", it.triple(this).start, it.base + FACTS);
+    const it = instance(), status = it.call("facts", it.triple(this).start, it.base + FACTS, 16);
     if (status !== OK) throw failure(status);
     const n = it.bytes.subarray(it.base + FACTS, it.base + FACTS + 16);
     return {
@@ -442,12 +442,12 @@ export class Triple {
       longLongSize: n[7] || null,
       floatSize: n[8] || null,
       doubleSize: n[9] || null,
-      impliedFormat: it.names[4][n[10]],
-      objectFormat: it.names[4][n[11]],
-      family: FAMILIES[n[12]],
-      isThumb: n[13] === 1,
-      isLikeDarwin: n[14] === 1,
-      hasCustomVendor: n[15] === 1,
+      impliedFormat: it.names[4][n[13]],
+      objectFormat: it.names[4][n[14]],
+      family: FAMILIES[n[15]],
+      isThumb: n[10] === 1,
+      isLikeDarwin: n[11] === 1,
+      hasCustomVendor: n[12] === 1,
     };
   }
 }

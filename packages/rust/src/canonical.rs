@@ -19,6 +19,7 @@ use core::fmt;
 pub struct NotPlain(pub Triple);
 
 impl fmt::Display for NotPlain {
+    #[inline]
     fn fmt(&self, f: &mut fmt::Formatter<'_>) -> fmt::Result {
         write!(
             f,
@@ -47,6 +48,7 @@ impl Triple {
     /// assert_eq!(normal.environment, Environment::Unknown);
     /// # Ok::<(), target_lexicon::NotPlain>(())
     /// ```
+    #[inline]
     pub fn normal(self) -> Result<Triple, NotPlain> {
         if self.vendor.is_plain() {
             Ok(self.step())
@@ -75,19 +77,20 @@ impl Triple {
     /// assert_eq!(settled.to_string(), "riscv32imc-esp-espidf");
     /// # Ok::<(), target_lexicon::NotPlain>(())
     /// ```
+    #[inline]
     pub fn settle(self) -> Result<Triple, NotPlain> {
-        if self.vendor.is_plain() {
-            Ok(self.step())
-        } else {
-            Err(NotPlain(self))
-        }
+        self.normal()
     }
 }
 
 impl<'a> TripleRef<'a> {
-    /// The triple that this triple's printed string parses as, the same as [`settle`](TripleRef::settle) gives. `None` if
-    /// no string parses as the vendor (see [`VendorRef::is_plain`](crate::VendorRef::is_plain)). A triple that
-    /// [`comes_back`](TripleRef::comes_back) is unchanged.
+    /// The triple that this triple's printed string parses as, the same as [`settle`](TripleRef::settle) gives. A triple
+    /// that [`comes_back`](TripleRef::comes_back) is unchanged.
+    ///
+    /// # Errors
+    ///
+    /// [`NotPlain`] if no string parses as the vendor (see [`VendorRef::is_plain`](crate::VendorRef::is_plain)). The error
+    /// owns a copy of the triple; nothing else is allocated.
     ///
     /// # Examples
     ///
@@ -95,26 +98,38 @@ impl<'a> TripleRef<'a> {
     /// use target_lexicon::{Environment, TripleRef};
     ///
     /// let triple = TripleRef::from_str("armv7-nintendo-horizon-newlib").unwrap();
-    /// assert_eq!(triple.normal().map(|it| it.environment), Some(Environment::Unknown));
+    /// assert_eq!(triple.normal()?.environment, Environment::Unknown);
+    /// # Ok::<(), target_lexicon::NotPlain>(())
     /// ```
-    pub fn normal(self) -> Option<TripleRef<'a>> {
-        self.vendor.is_plain().then(|| self.step())
+    #[inline]
+    pub fn normal(self) -> Result<TripleRef<'a>, NotPlain> {
+        if self.vendor.is_plain() {
+            Ok(self.step())
+        } else {
+            Err(NotPlain(self.to_triple()))
+        }
     }
 
-    /// The canonical form of the triple, as [`Triple::settle`] says; `None` if no string parses as the vendor (see
-    /// [`VendorRef::is_plain`](crate::VendorRef::is_plain)).
+    /// The canonical form of the triple, as [`Triple::settle`] says.
+    ///
+    /// # Errors
+    ///
+    /// [`NotPlain`] if no string parses as the vendor (see [`VendorRef::is_plain`](crate::VendorRef::is_plain)). The error
+    /// owns a copy of the triple; nothing else is allocated.
     ///
     /// # Examples
     ///
     /// ```
-    /// use target_lexicon::{TripleRef, VendorRef};
+    /// use target_lexicon::{NotPlain, TripleRef, VendorRef};
     ///
     /// let mut triple = TripleRef::from_str("riscv32imc-esp-espidf-elf").unwrap();
-    /// assert_eq!(triple.settle().unwrap().to_string(), "riscv32imc-esp-espidf");
+    /// assert_eq!(triple.settle()?.to_string(), "riscv32imc-esp-espidf");
     /// triple.vendor = VendorRef::Custom("PC");
-    /// assert_eq!(triple.settle(), None);
+    /// assert_eq!(triple.settle(), Err(NotPlain(triple.to_triple())));
+    /// # Ok::<(), NotPlain>(())
     /// ```
-    pub fn settle(self) -> Option<TripleRef<'a>> {
-        self.vendor.is_plain().then(|| self.step())
+    #[inline]
+    pub fn settle(self) -> Result<TripleRef<'a>, NotPlain> {
+        self.normal()
     }
 }

@@ -22,6 +22,7 @@ impl Triple {
     /// assert_eq!(Triple::host(), HOST);
     /// assert_eq!(Triple::host().pointer_width().map(PointerWidth::bytes), Ok(size_of::<usize>() as u8));
     /// ```
+    #[must_use]
     pub const fn host() -> Self {
         HOST
     }
@@ -35,6 +36,7 @@ impl Architecture {
     /// ```
     /// assert!(target_lexicon::Architecture::host().pointer_width().is_ok());
     /// ```
+    #[must_use]
     pub const fn host() -> Self {
         HOST.architecture
     }
@@ -48,6 +50,7 @@ impl Vendor {
     /// ```
     /// assert_eq!(target_lexicon::Vendor::host(), target_lexicon::HOST.vendor);
     /// ```
+    #[must_use]
     pub const fn host() -> Self {
         HOST.vendor
     }
@@ -61,6 +64,7 @@ impl OperatingSystem {
     /// ```
     /// assert_eq!(target_lexicon::OperatingSystem::host().is_like_darwin(), cfg!(target_vendor = "apple"));
     /// ```
+    #[must_use]
     pub const fn host() -> Self {
         HOST.operating_system
     }
@@ -74,6 +78,7 @@ impl Environment {
     /// ```
     /// assert_eq!(target_lexicon::Environment::host(), target_lexicon::HOST.environment);
     /// ```
+    #[must_use]
     pub const fn host() -> Self {
         HOST.environment
     }
@@ -87,6 +92,7 @@ impl BinaryFormat {
     /// ```
     /// assert_eq!(target_lexicon::BinaryFormat::host(), target_lexicon::HOST.binary_format);
     /// ```
+    #[must_use]
     pub const fn host() -> Self {
         HOST.binary_format
     }

@@ -25,7 +25,13 @@
 //! nothing. The page `README.md` says what differs from upstream, and what is proved.
 #![no_std]
 #![forbid(unsafe_code)]
-#![cfg_attr(not(feature = "internals"), warn(missing_docs))]
+// docs.rs marks what needs a feature.
+#![cfg_attr(docsrs, feature(doc_cfg))]
+#![cfg_attr(
+    docsrs,
+    doc(auto_cfg(hide(core_error, feature = "std", feature = "__internals")))
+)]
+#![cfg_attr(not(feature = "__internals"), warn(missing_docs))]
 
 extern crate alloc;
 #[cfg(all(feature = "std", not(core_error)))]
@@ -33,19 +39,25 @@ extern crate std;
 
 mod canonical;
 mod compat;
+mod conversions;
+mod display;
 mod errors;
 mod host;
+mod order;
 mod owned;
 mod parse_error;
+mod parse_triple_error;
 #[allow(dead_code, unused_imports, unused_variables)]
 // callers in crates/ need more of it, and so do clauses
-#[cfg(not(feature = "internals"))]
+#[cfg(not(feature = "__internals"))]
 mod proved;
 /// The proved crates, for the packages of the same repository.
 #[allow(dead_code, unused_imports, unused_variables)]
-#[cfg(feature = "internals")]
+#[cfg(feature = "__internals")]
 #[doc(hidden)]
 pub mod proved;
+#[cfg(feature = "tool_names")]
+mod rustc_cfg;
 #[cfg(feature = "serde_support")]
 mod serde;
 mod suggestion;
@@ -53,6 +65,7 @@ mod suggestion;
 pub use canonical::NotPlain;
 pub use host::HOST;
 pub use parse_error::ParseError;
+pub use parse_triple_error::ParseTripleError;
 pub use proved::{
     default_binary_format, Aarch64Architecture, Architecture, ArmArchitecture, BinaryFormat,
     CDataModel, CallingConvention, CleverArchitecture, CustomVendor, DefaultToHost,

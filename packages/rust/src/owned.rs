@@ -64,6 +64,8 @@ impl OperatingSystem {
     /// let system: OperatingSystem = "ios17.0".parse().unwrap();
     /// assert_eq!(system.into_str(), "ios17.0.0");
     /// ```
+    #[must_use]
+    #[inline]
     pub fn into_str(self) -> Cow<'static, str> {
         match self.version() {
             None => self.prefix().into(),
@@ -92,6 +94,7 @@ impl<'a> TripleRef<'a> {
     /// let refusal = TripleRef::explain("x86_64-foo-bar").triple.unwrap_err();
     /// assert_eq!(refusal.range(), 11..14);
     /// ```
+    #[must_use]
     #[inline]
     pub fn explain(text: &'a str) -> Explanation<'a> {
         explain(text)
@@ -107,6 +110,7 @@ impl<'a> TripleRef<'a> {
     /// let triple = TripleRef::from_str("x86_64-acme-linux").unwrap();
     /// assert_eq!("x86_64-acme-linux".parse(), Ok(triple.to_triple()));
     /// ```
+    #[must_use]
     pub fn to_triple(&self) -> Triple {
         Triple {
             architecture: self.architecture,
@@ -128,6 +132,7 @@ impl VendorRef<'_> {
     ///
     /// assert_eq!(VendorRef::from_str("apple").map(|it| it.to_vendor()), Ok(Vendor::Apple));
     /// ```
+    #[must_use]
     #[inline]
     pub fn to_vendor(&self) -> Vendor {
         match *self {
@@ -160,6 +165,7 @@ impl Refusal<'_> {
     /// let refusal = TripleRef::from_str("x86_64-foo-bar").unwrap_err();
     /// assert_eq!("x86_64-foo-bar".parse::<Triple>(), Err(refusal.to_error()));
     /// ```
+    #[must_use]
     #[inline(never)]
     pub fn to_error(&self) -> ParseError {
         ParseError::new(self.expected, String::from(self.part.text))
@@ -176,6 +182,7 @@ impl Triple {
     /// let triple = target_lexicon::triple!("x86_64-unknown-linux-unknown-unknown");
     /// assert_eq!(triple.to_upstream_text(), "x86_64-unknown-linux-unknown");
     /// ```
+    #[must_use]
     #[inline]
     pub fn to_upstream_text(&self) -> String {
         self.as_triple_ref().to_upstream_text()
@@ -191,6 +198,7 @@ impl TripleRef<'_> {
     /// let triple = target_lexicon::TripleRef::from_str("x86_64-unknown-linux-unknown-unknown").unwrap();
     /// assert_eq!(triple.to_upstream_text(), "x86_64-unknown-linux-unknown");
     /// ```
+    #[must_use]
     #[inline]
     pub fn to_upstream_text(&self) -> String {
         let mut bytes = vec![0; self.write_upstream_to(&mut [])];

@@ -53,7 +53,8 @@ impl ParseError {
     /// let error = "x86_64-foo-bar".parse::<Triple>().unwrap_err();
     /// assert_eq!(error.expected(), Some(Field::OperatingSystem));
     /// ```
-    pub fn expected(&self) -> Option<Field> {
+    #[must_use]
+    pub const fn expected(&self) -> Option<Field> {
         match self {
             ParseError::UnrecognizedArchitecture(_) => Some(Field::Architecture),
             ParseError::UnrecognizedVendor(_) => Some(Field::Vendor),
@@ -72,6 +73,7 @@ impl ParseError {
     /// let error = "x86_64-foo-bar".parse::<target_lexicon::Triple>().unwrap_err();
     /// assert_eq!(error.part(), "bar");
     /// ```
+    #[must_use]
     pub fn part(&self) -> &str {
         match self {
             ParseError::UnrecognizedArchitecture(part)

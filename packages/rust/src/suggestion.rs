@@ -1,5 +1,5 @@
 //! The known names of a field, and the one that was perhaps meant.
-use crate::proved::{names, tool_names};
+use crate::proved::tool_names;
 use crate::{Field, ParseError, Refusal};
 
 impl Field {
@@ -13,15 +13,16 @@ impl Field {
     /// assert_eq!(Field::BinaryFormat.names(), ["unknown", "elf", "coff", "macho", "wasm", "xcoff"]);
     /// assert!(Field::OperatingSystem.names().contains(&"ios"));
     /// ```
+    #[must_use]
     pub fn names(self) -> &'static [&'static str] {
-        names::names(self)
+        tool_names::known_names::names(self)
     }
 }
 
 impl Refusal<'_> {
     /// The name that was perhaps meant. If other tools spell a known name as the refused part, it is that name. Otherwise it
     /// is the nearest one of the expected field or of a later one, if the part may be a misspelling of it. It never changes
-    /// the family of the architecture or the number of bits.
+    /// the family of the architecture or a digit.
     ///
     /// # Examples
     ///
@@ -34,6 +35,7 @@ impl Refusal<'_> {
     /// let refusal = TripleRef::from_str("amd64-linux").unwrap_err();
     /// assert_eq!(refusal.suggestion(), Some("x86_64"));
     /// ```
+    #[must_use]
     #[inline]
     pub fn suggestion(&self) -> Option<&'static str> {
         tool_names::suggestion(self.expected?, self.part.text)
@@ -51,6 +53,7 @@ impl ParseError {
     /// let error = "x86_64-pc-linxu".parse::<Triple>().unwrap_err();
     /// assert_eq!(error.suggestion(), Some("linux"));
     /// ```
+    #[must_use]
     #[inline]
     pub fn suggestion(&self) -> Option<&'static str> {
         tool_names::suggestion(self.expected()?, self.part())

@@ -29,3 +29,16 @@ fn the_host_is_what_rustc_says() {
     );
     assert_eq!(HOST.to_string().parse(), Ok(HOST));
 }
+
+/// Names and queries are constants too.
+const WIDTH: usize = match HOST.architecture.pointer_width() {
+    Ok(width) => width.bytes() as usize,
+    Err(()) => 0,
+};
+const SYSTEM: &str = HOST.operating_system.prefix();
+
+#[test]
+fn queries_are_constants() {
+    assert_eq!([0; WIDTH].len(), std::mem::size_of::<usize>());
+    assert!(HOST.operating_system.to_string().starts_with(SYSTEM));
+}

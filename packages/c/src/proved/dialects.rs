@@ -6,6 +6,7 @@ use crate::proved::triple::{numbers_of, triple_in, Fault, NumberedTriple};
 use target_lexicon::proved::tool_names::{Dialect, Name, NameError};
 
 /// The dialect with this number. 0 is no dialect: that of strings that are spelled like triples.
+#[must_use]
 pub fn dialect_at(number: u32) -> Option<Option<Dialect>> {
     match number {
         0 => Some(None),
@@ -43,6 +44,7 @@ pub fn name_in(dialect: Dialect, triple: &NumberedTriple<'_>) -> Result<Option<N
 }
 
 /// Why a name of a dialect has no triple, if it is a name and has none.
+#[must_use]
 pub fn reason(dialect: Dialect, name: &str) -> Option<&'static str> {
     match dialect.read(name) {
         Err(NameError::WithoutTriple(why)) => Some(why),
@@ -51,6 +53,7 @@ pub fn reason(dialect: Dialect, name: &str) -> Option<&'static str> {
 }
 
 /// The name of a dialect that is suggested for an unknown one, if there is one.
+#[must_use]
 pub fn name_suggestion(dialect: Dialect, name: &str) -> Option<&'static str> {
     match dialect.read(name) {
         Err(NameError::Unknown) => dialect.suggestion(name),

@@ -36,6 +36,7 @@ fn refusal_status(expected: Option<Field>) -> u32 {
 }
 
 /// What was expected where a refusal has this status, if one has. `None` in it is no field.
+#[must_use]
 pub fn expected_at(status: u32) -> Option<Option<Field>> {
     match status {
         1 => Some(Some(Field::Architecture)),

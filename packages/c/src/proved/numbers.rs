@@ -2,17 +2,18 @@
 //! The number of a string in one field, the name of a number, and whether a string is a name.
 
 use crate::proved::triple::vendor_number;
-use core::str::FromStr as _;
-use target_lexicon::proved::names::{
+use crate::proved::values::{
     architecture_at, architecture_number, binary_format_at, binary_format_number, environment_at,
     environment_number, known_vendor_at, operating_system_at, operating_system_number,
 };
+use core::str::FromStr as _;
 use target_lexicon::proved::{
     version_text, Architecture, BinaryFormat, Environment, Field, OperatingSystem, VendorRef,
     MAX_VERSION_LENGTH,
 };
 
 /// The number of the value that the string is in the field.
+#[must_use]
 pub fn number_in(field: Field, text: &str) -> Option<u32> {
     match field {
         Field::Architecture => match Architecture::from_str(text) {
@@ -39,6 +40,7 @@ pub fn number_in(field: Field, text: &str) -> Option<u32> {
 }
 
 /// The name of the field's value with this number, if there is one.
+#[must_use]
 pub fn name_at(field: Field, number: u32) -> Option<&'static str> {
     let Ok(number) = u8::try_from(number) else {
         return None;

@@ -124,7 +124,7 @@ class _Answered(ctypes.Structure):
 
 
 # The numbers that are in it: those of the triple, its custom vendor's pointer and size, and those of the facts.
-_NUMBERS = struct.Struct("@HBBBBBBBHPN13B3?")
+_NUMBERS = struct.Struct("@HBBBBBBBHPN10B3?3B")
 
 # Calls whose arguments are values of `ctypes`, which takes half the time.
 _parse, _facts, _print = map(_library.undeclared, ("lexicon_parse", "lexicon_facts", "lexicon_print"))
@@ -135,6 +135,7 @@ def _facts_of_texts(targets: Sequence[str]) -> List[Facts]:
     answered, error, out, size = _Answered(), _library.ErrorStruct(), _library.TextBuffer(), c_size_t()
     triple, to_facts, to_error = answered.triple, byref(answered.facts), byref(error)
     to_triple, to_out, room = byref(triple), c_void_p(ctypes.addressof(out)), c_size_t(_library.FIRST_SIZE)
+    facts_size = c_size_t(ctypes.sizeof(_library.FactsStruct))
     answers: List[Facts] = []
     for text, canonical in zip(targets, _canonical_texts(targets)):
         if canonical is None:
@@ -142,7 +143,7 @@ def _facts_of_texts(targets: Sequence[str]) -> List[Facts]:
             continue
         utf8 = str.encode(text)
         size.value = len(utf8)
-        status = _parse(utf8, size, to_triple, to_error) or _facts(to_triple, to_facts) or _print(to_triple, to_out, room, None)
+        status = _parse(utf8, size, to_triple, to_error) or _facts(to_triple, to_facts, facts_size) or _print(to_triple, to_out, room, None)
         if triple.custom_vendor is not None:
             answers.append(facts_of(Triple(text)))
             continue
@@ -160,7 +161,7 @@ def facts_of(it: Triple) -> Facts:
 def _facts_from(numbers: Tuple[Any, ...], vendor: Optional[str], printed: str, canonical: str) -> Facts:
     """All answers, from the numbers and the strings. Only a custom vendor must be given."""
     (architecture, known, system, environment, form, has_version, minor, patch, major, _, _, order, width, convention, model, short,
-     int_, long, long_long, float_, double, implied, written, family, is_thumb, is_like_darwin, is_custom) = numbers
+     int_, long, long_long, float_, double, is_thumb, is_like_darwin, is_custom, implied, written, family) = numbers
     return Facts._make((
         _ARCHITECTURES[architecture], vendor or _VENDORS[known], _SYSTEMS[system],
         f"{major}.{minor}.{patch}" if has_version else None, _ENVIRONMENTS[environment], _FORMATS[form], _ORDERS[order],

@@ -89,16 +89,17 @@ class FactsStruct(Structure):
     long_long_size: int
     float_size: int
     double_size: int
-    implied_format: int
-    object_format: int
-    family: int
     is_thumb: bool
     is_like_darwin: bool
     has_custom_vendor: bool
+    implied_format: int
+    object_format: int
+    family: int
     _fields_ = [(name, c_uint8) for name in (
         "endianness", "pointer_width", "default_calling_convention", "data_model", "short_size", "int_size", "long_size",
-        "long_long_size", "float_size", "double_size", "implied_format", "object_format", "family",
-    )] + [(name, c_bool) for name in ("is_thumb", "is_like_darwin", "has_custom_vendor")]
+        "long_long_size", "float_size", "double_size",
+    )] + [(name, c_bool) for name in ("is_thumb", "is_like_darwin", "has_custom_vendor")] + [
+        (name, c_uint8) for name in ("implied_format", "object_format", "family")]
 
 
 # What loads a library, whose calls don't release the interpreter lock. PyPy has only the other one.
@@ -170,7 +171,7 @@ settle_lines = _declare("lexicon_settle_lines", c_char_p, c_size_t, c_void_p, c_
 comes_back = _declare("lexicon_comes_back", _TRIPLE, POINTER(c_bool))
 equal = _declare("lexicon_equal", _TRIPLE, _TRIPLE, POINTER(c_bool))
 same_target = _declare("lexicon_same_target", _TRIPLE, _TRIPLE, POINTER(c_bool))
-facts = _declare("lexicon_facts", _TRIPLE, POINTER(FactsStruct))
+facts = _declare("lexicon_facts", _TRIPLE, POINTER(FactsStruct), c_size_t)
 print_into = _declare("lexicon_print", _TRIPLE, c_void_p, c_size_t, _SIZE)
 read = _declare("lexicon_read", c_uint32, c_char_p, c_size_t, _TRIPLE, _ERROR)
 _write = _declare("lexicon_write", c_uint32, _TRIPLE, c_void_p, c_size_t, _SIZE)

@@ -514,7 +514,7 @@ def _triple_of(struct: _library.TripleStruct, owner: Optional[ctypes.Array[ctype
 
 def _facts_of(struct: _library.TripleStruct) -> _library.FactsStruct:
     facts = _library.FactsStruct()
-    _library.check(_library.facts(struct, facts))
+    _library.check(_library.facts(struct, facts, ctypes.sizeof(facts)))
     return facts
 
 

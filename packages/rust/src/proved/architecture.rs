@@ -39,7 +39,7 @@ pub use z80::Z80Architecture;
 /// };
 /// assert_eq!(registers, 8);
 /// ```
-#[non_exhaustive]
+#[cfg_attr(not(feature = "__internals"), non_exhaustive)]
 #[derive(Clone, Copy, Debug, PartialEq, Eq, Hash)]
 pub enum Architecture {
     /// An architecture that the string doesn't say.
@@ -129,7 +129,7 @@ impl Architecture {
     /// assert_eq!(Architecture::S390x.endianness(), Ok(Endianness::Big));
     /// assert_eq!(Architecture::Unknown.endianness(), Err(()));
     /// ```
-    pub fn endianness(self) -> Result<Endianness, ()> {
+    pub const fn endianness(self) -> Result<Endianness, ()> {
         match self {
             Architecture::Unknown => Err(()),
             Architecture::Arm(sub) => Ok(sub.endianness()),
@@ -186,7 +186,7 @@ impl Architecture {
     ///
     /// assert_eq!(Architecture::Avr.pointer_width(), Ok(PointerWidth::U16));
     /// ```
-    pub fn pointer_width(self) -> Result<PointerWidth, ()> {
+    pub const fn pointer_width(self) -> Result<PointerWidth, ()> {
         Ok(match self {
             Architecture::Unknown => return Err(()),
             Architecture::Avr | Architecture::Msp430 | Architecture::Z80(_) => PointerWidth::U16,
@@ -235,11 +235,12 @@ impl Architecture {
     ///
     /// assert!(Architecture::Clever(CleverArchitecture::Clever).is_clever());
     /// ```
-    pub fn is_clever(&self) -> bool {
+    #[must_use]
+    pub const fn is_clever(&self) -> bool {
         matches!(self, Architecture::Clever(_))
     }
 
-    /// The value with this name; `arm64` is an alias of `aarch64`. `Err` for every other text.
+    /// The value with this name; `arm64` is an alias of `aarch64`. `Err` for every other string.
     pub(crate) fn from_str(s: &str) -> Result<Self, ()> {
         match fixed_row(s) {
             Some(row) => row.architecture.ok_or(()),
@@ -254,6 +255,7 @@ impl Architecture {
     /// ```
     /// assert_eq!(target_lexicon::Architecture::Bpfel.into_str(), "bpfel");
     /// ```
+    #[must_use]
     pub fn into_str(self) -> Cow<'static, str> {
         Cow::Borrowed(self.name())
     }
@@ -265,8 +267,9 @@ impl Architecture {
     /// ```
     /// assert_eq!(target_lexicon::Architecture::Bpfel.name(), "bpfel");
     /// ```
+    #[must_use]
     #[inline(always)]
-    pub fn name(self) -> &'static str {
+    pub const fn name(self) -> &'static str {
         match self {
             Architecture::Unknown => "unknown",
             Architecture::Arm(sub) => sub.name(),

@@ -16,7 +16,7 @@ use core::str::FromStr;
 /// let triple: Triple = "x86_64-pc-windows-gnu".parse().unwrap();
 /// assert_eq!(triple.binary_format, BinaryFormat::Coff);
 /// ```
-#[non_exhaustive]
+#[cfg_attr(not(feature = "__internals"), non_exhaustive)]
 #[derive(Clone, Copy, Debug, PartialEq, Eq, Hash)]
 pub enum BinaryFormat {
     /// A format that isn't known.
@@ -49,6 +49,7 @@ impl BinaryFormat {
     /// ```
     /// assert_eq!(target_lexicon::BinaryFormat::Elf.into_str(), "elf");
     /// ```
+    #[must_use]
     pub fn into_str(self) -> Cow<'static, str> {
         Cow::Borrowed(self.name())
     }
@@ -60,7 +61,8 @@ impl BinaryFormat {
     /// ```
     /// assert_eq!(target_lexicon::BinaryFormat::Macho.name(), "macho");
     /// ```
-    pub fn name(self) -> &'static str {
+    #[must_use]
+    pub const fn name(self) -> &'static str {
         match self {
             BinaryFormat::Unknown => "unknown",
             BinaryFormat::Elf => "elf",

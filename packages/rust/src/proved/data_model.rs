@@ -30,7 +30,8 @@ impl Size {
     /// ```
     /// assert_eq!(target_lexicon::Size::U16.bits(), 16);
     /// ```
-    pub fn bits(self) -> u8 {
+    #[must_use]
+    pub const fn bits(self) -> u8 {
         match self {
             Size::U8 => 8,
             Size::U16 => 16,
@@ -46,7 +47,8 @@ impl Size {
     /// ```
     /// assert_eq!(target_lexicon::Size::U16.bytes(), 2);
     /// ```
-    pub fn bytes(self) -> u8 {
+    #[must_use]
+    pub const fn bytes(self) -> u8 {
         match self {
             Size::U8 => 1,
             Size::U16 => 2,
@@ -66,7 +68,7 @@ impl Size {
 /// let model = triple!("x86_64-unknown-linux-gnu").data_model();
 /// assert_eq!(model, Ok(CDataModel::LP64));
 /// ```
-#[non_exhaustive]
+#[cfg_attr(not(feature = "__internals"), non_exhaustive)]
 #[derive(Clone, Copy, Debug, PartialEq, Eq, Hash)]
 pub enum CDataModel {
     /// Mostly on 16-bit Windows: `long` and pointers have 32 bits.
@@ -89,7 +91,8 @@ impl CDataModel {
     /// ```
     /// assert_eq!(target_lexicon::CDataModel::LLP64.name(), "LLP64");
     /// ```
-    pub fn name(self) -> &'static str {
+    #[must_use]
+    pub const fn name(self) -> &'static str {
         match self {
             CDataModel::LP32 => "LP32",
             CDataModel::ILP32 => "ILP32",
@@ -108,7 +111,8 @@ impl CDataModel {
     ///
     /// assert_eq!(CDataModel::LLP64.pointer_width(), Size::U64);
     /// ```
-    pub fn pointer_width(self) -> Size {
+    #[must_use]
+    pub const fn pointer_width(self) -> Size {
         match self {
             CDataModel::LP32 | CDataModel::ILP32 => Size::U32,
             CDataModel::LLP64 | CDataModel::LP64 | CDataModel::ILP64 => Size::U64,
@@ -124,7 +128,8 @@ impl CDataModel {
     ///
     /// assert_eq!(CDataModel::LLP64.short_size(), Size::U16);
     /// ```
-    pub fn short_size(self) -> Size {
+    #[must_use]
+    pub const fn short_size(self) -> Size {
         match self {
             CDataModel::LP32
             | CDataModel::ILP32
@@ -143,7 +148,8 @@ impl CDataModel {
     ///
     /// assert_eq!(CDataModel::LLP64.int_size(), Size::U32);
     /// ```
-    pub fn int_size(self) -> Size {
+    #[must_use]
+    pub const fn int_size(self) -> Size {
         match self {
             CDataModel::LP32 => Size::U16,
             CDataModel::ILP32 | CDataModel::LLP64 | CDataModel::LP64 => Size::U32,
@@ -160,7 +166,8 @@ impl CDataModel {
     ///
     /// assert_eq!(CDataModel::LLP64.long_size(), Size::U32);
     /// ```
-    pub fn long_size(self) -> Size {
+    #[must_use]
+    pub const fn long_size(self) -> Size {
         match self {
             CDataModel::LP32 | CDataModel::ILP32 | CDataModel::LLP64 => Size::U32,
             CDataModel::LP64 | CDataModel::ILP64 => Size::U64,
@@ -176,7 +183,8 @@ impl CDataModel {
     ///
     /// assert_eq!(CDataModel::LLP64.long_long_size(), Size::U64);
     /// ```
-    pub fn long_long_size(self) -> Size {
+    #[must_use]
+    pub const fn long_long_size(self) -> Size {
         match self {
             CDataModel::LP32
             | CDataModel::ILP32
@@ -195,7 +203,8 @@ impl CDataModel {
     ///
     /// assert_eq!(CDataModel::LLP64.float_size(), Size::U32);
     /// ```
-    pub fn float_size(self) -> Size {
+    #[must_use]
+    pub const fn float_size(self) -> Size {
         Size::U32
     }
 
@@ -208,7 +217,8 @@ impl CDataModel {
     ///
     /// assert_eq!(CDataModel::LLP64.double_size(), Size::U64);
     /// ```
-    pub fn double_size(self) -> Size {
+    #[must_use]
+    pub const fn double_size(self) -> Size {
         Size::U64
     }
 }

@@ -17,6 +17,7 @@ use crate::proved::{Architecture, BinaryFormat, Environment, OperatingSystem};
 /// assert_eq!(triple.binary_format, BinaryFormat::Coff);
 /// assert_eq!(default_binary_format(&triple), BinaryFormat::Elf);
 /// ```
+#[must_use]
 pub fn default_binary_format(triple: &Triple) -> BinaryFormat {
     triple.as_triple_ref().default_binary_format()
 }
@@ -32,7 +33,8 @@ impl TripleRef<'_> {
     /// let triple = TripleRef::from_str("x86_64-unknown-linux-gnu-coff").unwrap();
     /// assert_eq!(triple.default_binary_format(), BinaryFormat::Elf);
     /// ```
-    pub fn default_binary_format(&self) -> BinaryFormat {
+    #[must_use]
+    pub const fn default_binary_format(&self) -> BinaryFormat {
         match self.operating_system {
             OperatingSystem::None_ => match self.environment {
                 Environment::Eabi | Environment::Eabihf => BinaryFormat::Elf,

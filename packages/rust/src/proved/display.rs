@@ -24,8 +24,8 @@ impl fmt::Display for Triple {
 }
 
 impl Triple {
-    /// Writes the printed text at the front of the buffer if it fits there, and returns its length. If it doesn't fit,
-    /// the buffer is unchanged: compare the result with `out.len()`. Nothing is allocated.
+    /// Writes the printed string at the front of the buffer if it fits there, and returns its length. If it doesn't
+    /// fit, the buffer is unchanged: compare the result with `out.len()`. Nothing is allocated.
     ///
     /// # Examples
     ///
@@ -43,8 +43,8 @@ impl Triple {
 }
 
 impl<'a> TripleRef<'a> {
-    /// Writes the printed text at the front of the buffer if it fits there, and returns its length. If it doesn't fit,
-    /// the buffer is unchanged: compare the result with `out.len()`. Nothing is allocated.
+    /// Writes the printed string at the front of the buffer if it fits there, and returns its length. If it doesn't
+    /// fit, the buffer is unchanged: compare the result with `out.len()`. Nothing is allocated.
     ///
     /// # Examples
     ///
@@ -60,9 +60,9 @@ impl<'a> TripleRef<'a> {
         self.pieces(self.shows_unknowns()).write_to(out)
     }
 
-    /// Writes the text that upstream prints for the triple, as [`TripleRef::write_to`] writes the printed one.
-    #[inline]
+    /// Writes the string that upstream prints for the triple, as [`TripleRef::write_to`] writes the printed one.
     #[doc(hidden)]
+    #[inline]
     pub fn write_upstream_to(&self, out: &mut [u8]) -> usize {
         self.pieces(false).write_to(out)
     }
@@ -225,7 +225,8 @@ impl<'a> Piece<'a> {
         }
     }
 
-    /// The length of the text.
+    /// The length of the string.
+    #[inline]
     fn text_length(self) -> usize {
         match self {
             Piece::Hidden => 0,
@@ -233,7 +234,8 @@ impl<'a> Piece<'a> {
         }
     }
 
-    /// Writes the text, as [`put`] writes a text.
+    /// Writes the string, as [`put`] writes a string.
+    #[inline]
     fn put(self, out: &mut [u8], at: usize) -> usize {
         match self {
             Piece::Hidden => at,
@@ -258,7 +260,7 @@ impl fmt::Display for Piece<'_> {
     }
 }
 
-/// What is shown of a triple: the name of the architecture, or the special text, and a piece for each of the other
+/// What is shown of a triple: the name of the architecture, or the special string, and a piece for each of the other
 /// fields. The version of the operating system follows its name without a dash.
 #[derive(Clone, Copy)]
 struct Pieces<'a> {
@@ -271,7 +273,7 @@ struct Pieces<'a> {
 }
 
 impl Pieces<'_> {
-    /// The pieces of a special text, of which it is the only one.
+    /// The pieces of a special string, of which it is the only one.
     fn of_special_text(text: &'static str) -> Self {
         Pieces {
             first: text,
@@ -283,8 +285,9 @@ impl Pieces<'_> {
         }
     }
 
-    /// Writes the text at the front of the buffer if it fits there, and returns its length. If it doesn't fit, the
+    /// Writes the string at the front of the buffer if it fits there, and returns its length. If it doesn't fit, the
     /// buffer is unchanged.
+    #[inline]
     fn write_to(&self, out: &mut [u8]) -> usize {
         let length = self.text_length();
         if length <= out.len() {
@@ -293,7 +296,8 @@ impl Pieces<'_> {
         length
     }
 
-    /// The length of the text.
+    /// The length of the string.
+    #[inline]
     fn text_length(&self) -> usize {
         self.first.len()
             + self.vendor.text_length()
@@ -303,7 +307,8 @@ impl Pieces<'_> {
             + self.binary_format.text_length()
     }
 
-    /// The length of the version's text.
+    /// The length of the version's string.
+    #[inline]
     fn version_length(&self) -> usize {
         match self.version {
             Some(version) => version_text(version, &mut [0; MAX_VERSION_LENGTH]).len(),
@@ -311,7 +316,8 @@ impl Pieces<'_> {
         }
     }
 
-    /// Writes the version's text, as [`put`] writes a text.
+    /// Writes the version's string, as [`put`] writes a string.
+    #[inline]
     fn put_version(&self, out: &mut [u8], at: usize) -> usize {
         match self.version {
             Some(version) => put(
@@ -323,7 +329,8 @@ impl Pieces<'_> {
         }
     }
 
-    /// Writes the text at the front of a buffer that has room for it, and returns its end.
+    /// Writes the string at the front of a buffer that has room for it, and returns its end.
+    #[inline]
     fn put(&self, out: &mut [u8]) -> usize {
         let at = put(out, 0, self.first.as_bytes());
         let at = self.vendor.put(out, at);
@@ -358,7 +365,8 @@ fn version_if(is_shown: bool, system: OperatingSystem) -> Option<DeploymentTarge
     }
 }
 
-/// Writes a text after what ends at `at`, into a buffer that has room for it. Returns the end of both.
+/// Writes a string after what ends at `at`, into a buffer that has room for it. Returns the end of both.
+#[inline]
 pub(crate) fn put(out: &mut [u8], at: usize, text: &[u8]) -> usize {
     let end = at + text.len();
     out[at..end].copy_from_slice(text);

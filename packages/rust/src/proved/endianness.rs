@@ -27,7 +27,8 @@ impl Endianness {
     /// ```
     /// assert_eq!(target_lexicon::Endianness::Little.name(), "little");
     /// ```
-    pub fn name(self) -> &'static str {
+    #[must_use]
+    pub const fn name(self) -> &'static str {
         match self {
             Endianness::Little => "little",
             Endianness::Big => "big",

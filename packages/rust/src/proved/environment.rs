@@ -16,7 +16,7 @@ use core::str::FromStr;
 /// let triple: Triple = "x86_64-unknown-linux-musl".parse().unwrap();
 /// assert_eq!(triple.environment, Environment::Musl);
 /// ```
-#[non_exhaustive]
+#[cfg_attr(not(feature = "__internals"), non_exhaustive)]
 #[derive(Clone, Copy, Debug, PartialEq, Eq, Hash)]
 pub enum Environment {
     /// An environment that the string doesn't say.
@@ -107,6 +107,7 @@ impl Environment {
     /// ```
     /// assert_eq!(target_lexicon::Environment::Msvc.into_str(), "msvc");
     /// ```
+    #[must_use]
     pub fn into_str(self) -> Cow<'static, str> {
         Cow::Borrowed(self.name())
     }
@@ -118,7 +119,8 @@ impl Environment {
     /// ```
     /// assert_eq!(target_lexicon::Environment::Gnu.name(), "gnu");
     /// ```
-    pub fn name(self) -> &'static str {
+    #[must_use]
+    pub const fn name(self) -> &'static str {
         match self {
             Environment::Unknown => "unknown",
             Environment::AmdGiz => "amdgiz",

@@ -34,7 +34,8 @@ impl<'a> TextPart<'a> {
     ///
     /// assert_eq!(TextPart { text: "foo", start: 13 }.range(), 13..16);
     /// ```
-    pub fn range(&self) -> Range<usize> {
+    #[must_use]
+    pub const fn range(&self) -> Range<usize> {
         self.start..self.start.saturating_add(self.text.len())
     }
 }

@@ -12,6 +12,7 @@ use crate::proved::vendor::Vendor;
 ///
 /// assert_eq!(VendorRef::from_str("apple"), Ok(VendorRef::Known(KnownVendor::Apple)));
 /// ```
+#[cfg_attr(not(feature = "__internals"), non_exhaustive)]
 #[derive(Clone, Copy, Debug, PartialEq, Eq, Hash)]
 pub enum KnownVendor {
     /// A vendor that the string doesn't say, or none.
@@ -56,7 +57,8 @@ impl KnownVendor {
     ///
     /// assert_eq!(KnownVendor::Pc.to_vendor(), Vendor::Pc);
     /// ```
-    pub fn to_vendor(self) -> Vendor {
+    #[must_use]
+    pub const fn to_vendor(self) -> Vendor {
         match self {
             KnownVendor::Unknown => Vendor::Unknown,
             KnownVendor::Amd => Vendor::Amd,
@@ -83,7 +85,8 @@ impl KnownVendor {
     /// ```
     /// assert_eq!(target_lexicon::KnownVendor::Pc.as_str(), "pc");
     /// ```
-    pub fn as_str(self) -> &'static str {
+    #[must_use]
+    pub const fn as_str(self) -> &'static str {
         match self {
             KnownVendor::Unknown => "unknown",
             KnownVendor::Amd => "amd",

@@ -20,7 +20,7 @@ use core::str::FromStr;
 ///     other => panic!("{other}"),
 /// }
 /// ```
-#[non_exhaustive]
+#[cfg_attr(not(feature = "__internals"), non_exhaustive)]
 #[derive(Clone, Copy, Debug, PartialEq, Eq, Hash)]
 pub enum OperatingSystem {
     /// A system that the string doesn't say.
@@ -168,7 +168,8 @@ impl OperatingSystem {
     /// assert!(OperatingSystem::TvOS(None).is_like_darwin());
     /// assert!(!OperatingSystem::Linux.is_like_darwin());
     /// ```
-    pub fn is_like_darwin(&self) -> bool {
+    #[must_use]
+    pub const fn is_like_darwin(&self) -> bool {
         matches!(
             self,
             OperatingSystem::Darwin(_)
@@ -189,7 +190,8 @@ impl OperatingSystem {
     /// let system: target_lexicon::OperatingSystem = "ios17.2".parse().unwrap();
     /// assert_eq!(system.prefix(), "ios");
     /// ```
-    pub fn prefix(self) -> &'static str {
+    #[must_use]
+    pub const fn prefix(self) -> &'static str {
         match self {
             OperatingSystem::Unknown => "unknown",
             OperatingSystem::Aix => "aix",
@@ -244,7 +246,8 @@ impl OperatingSystem {
     /// let system: OperatingSystem = "ios17.2".parse().unwrap();
     /// assert_eq!(system.version().map(|it| (it.major, it.minor, it.patch)), Some((17, 2, 0)));
     /// ```
-    pub fn version(self) -> Option<DeploymentTarget> {
+    #[must_use]
+    pub const fn version(self) -> Option<DeploymentTarget> {
         match self {
             OperatingSystem::Darwin(version)
             | OperatingSystem::IOS(version)

@@ -28,7 +28,8 @@ impl PointerWidth {
     /// ```
     /// assert_eq!(target_lexicon::PointerWidth::U32.bits(), 32);
     /// ```
-    pub fn bits(self) -> u8 {
+    #[must_use]
+    pub const fn bits(self) -> u8 {
         match self {
             PointerWidth::U16 => 16,
             PointerWidth::U32 => 32,
@@ -43,7 +44,8 @@ impl PointerWidth {
     /// ```
     /// assert_eq!(target_lexicon::PointerWidth::U32.bytes(), 4);
     /// ```
-    pub fn bytes(self) -> u8 {
+    #[must_use]
+    pub const fn bytes(self) -> u8 {
         match self {
             PointerWidth::U16 => 2,
             PointerWidth::U32 => 4,
@@ -58,7 +60,8 @@ impl PointerWidth {
     /// ```
     /// assert_eq!(target_lexicon::PointerWidth::U32.name(), "32");
     /// ```
-    pub fn name(self) -> &'static str {
+    #[must_use]
+    pub const fn name(self) -> &'static str {
         match self {
             PointerWidth::U16 => "16",
             PointerWidth::U32 => "32",

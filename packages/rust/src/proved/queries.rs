@@ -18,7 +18,7 @@ impl TripleRef<'_> {
     /// let triple = TripleRef::from_str("s390x-unknown-linux-gnu").unwrap();
     /// assert_eq!(triple.endianness(), Ok(Endianness::Big));
     /// ```
-    pub fn endianness(&self) -> Result<Endianness, ()> {
+    pub const fn endianness(&self) -> Result<Endianness, ()> {
         self.architecture.endianness()
     }
 
@@ -32,7 +32,7 @@ impl TripleRef<'_> {
     /// let triple = TripleRef::from_str("avr-unknown-none").unwrap();
     /// assert_eq!(triple.pointer_width(), Ok(PointerWidth::U16));
     /// ```
-    pub fn pointer_width(&self) -> Result<PointerWidth, ()> {
+    pub const fn pointer_width(&self) -> Result<PointerWidth, ()> {
         match self.environment {
             Environment::Gnux32 | Environment::GnuIlp32 => Ok(PointerWidth::U32),
             _ => self.architecture.pointer_width(),
@@ -49,7 +49,7 @@ impl TripleRef<'_> {
     /// let triple = TripleRef::from_str("x86_64-unknown-linux-gnu").unwrap();
     /// assert_eq!(triple.default_calling_convention(), Ok(CallingConvention::SystemV));
     /// ```
-    pub fn default_calling_convention(&self) -> Result<CallingConvention, ()> {
+    pub const fn default_calling_convention(&self) -> Result<CallingConvention, ()> {
         match self.operating_system {
             OperatingSystem::Darwin(_)
             | OperatingSystem::IOS(_)

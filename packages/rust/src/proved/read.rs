@@ -9,6 +9,7 @@ use crate::proved::triple_ref::TripleRef;
 use crate::proved::Field;
 
 /// The first part of a string, and what follows its dash, if it has one.
+#[must_use]
 #[inline(always)]
 pub fn first_part(text: &str) -> (&str, Option<&str>) {
     match text.as_bytes().iter().position(|&byte| byte == b'-') {
@@ -18,6 +19,7 @@ pub fn first_part(text: &str) -> (&str, Option<&str>) {
 }
 
 /// The field that is expected after this one is filled, if any is left.
+#[must_use]
 pub fn expected_after(last: Field) -> Option<Field> {
     match last {
         Field::Architecture => Some(Field::Vendor),
@@ -34,6 +36,7 @@ pub fn expected_after(last: Field) -> Option<Field> {
 /// A part is of the first field that it parses as, of those after the field of the part before it. So `nuttx` in
 /// `armv7a-nuttx-eabi` is the vendor, since it is the name of no field. The whole of a special string gives all five
 /// fields; its parts have none of their own.
+#[must_use]
 #[inline(always)]
 pub fn explain(text: &str) -> Explanation<'_> {
     if let Some(triple) = TripleRef::from_special_text(text) {

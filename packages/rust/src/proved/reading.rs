@@ -16,6 +16,7 @@ pub struct Reading<'a> {
 }
 
 impl<'a> Reading<'a> {
+    #[must_use]
     pub fn start() -> Reading<'a> {
         Reading {
             expected: Some(Field::Architecture),
@@ -123,6 +124,7 @@ impl<'a> Reading<'a> {
     }
 
     /// The triple of the names so far, and its sources. Without a binary format it has the implied one.
+    #[must_use]
     #[inline(always)]
     pub fn finish(self) -> (TripleRef<'a>, Sources<'a>) {
         let mut triple = self.triple;

@@ -40,13 +40,15 @@ impl<'a> Refusal<'a> {
     /// let refusal = TripleRef::from_str("x86_64-unknown-foo").unwrap_err();
     /// assert_eq!(refusal.range(), 15..18);
     /// ```
-    pub fn range(&self) -> Range<usize> {
+    #[must_use]
+    pub const fn range(&self) -> Range<usize> {
         self.part.range()
     }
 
     /// Writes the line of the refusal, without a line feed, at the front of the buffer if it fits there, and returns
     /// its length. If it doesn't fit, the buffer is unchanged. Nothing is allocated.
     #[doc(hidden)]
+    #[inline]
     pub fn write_to(&self, out: &mut [u8]) -> usize {
         let prefix = refusal_prefix(self.expected);
         let part = self.part.text;
@@ -60,6 +62,7 @@ impl<'a> Refusal<'a> {
 }
 
 /// The words of a refusal's line before the part, such as `Unrecognized vendor: `.
+#[must_use]
 pub fn refusal_prefix(expected: Option<Field>) -> &'static str {
     match expected {
         Some(Field::Architecture) => "Unrecognized architecture: ",

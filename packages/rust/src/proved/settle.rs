@@ -9,14 +9,15 @@ use crate::proved::{
 };
 
 impl Triple {
-    /// Whether the triple comes back: printed and parsed again, it is itself. No text is made and nothing is allocated.
+    /// Whether the triple comes back: printed and parsed again, it is itself. No string is made and nothing is
+    /// allocated.
     ///
     /// A triple comes back unless it is in one of five families:
     /// - The first three fields are those of `armv6k-nintendo-3ds` or `riscv32imc-esp-espidf`, and environment and
     ///   format aren't `Newlib` and `Elf`.
     /// - Vendor and system are those of one of these two, and the environment is `Newlib`, but the architecture is
     ///   another.
-    /// - The text is `riscv32imc-esp-espidf`, but the vendor is the custom `esp`.
+    /// - The string is `riscv32imc-esp-espidf`, but the vendor is the custom `esp`.
     /// - On Clever with an unknown system, the environment is `None`, which parses as the system.
     /// - The vendor isn't plain.
     ///
@@ -28,11 +29,14 @@ impl Triple {
     /// assert!(triple!("x86_64-unknown-linux-gnu").comes_back());
     /// assert!(!triple!("armv7-nintendo-horizon-newlib").comes_back());
     /// ```
+    #[must_use]
+    #[inline]
     pub fn comes_back(&self) -> bool {
         self.as_triple_ref().comes_back()
     }
 
     /// The normal step.
+    #[inline]
     pub(crate) fn step(mut self) -> Triple {
         let step = self.as_triple_ref().step();
         let (architecture, operating_system) = (step.architecture, step.operating_system);
@@ -58,12 +62,15 @@ impl<'a> TripleRef<'a> {
     ///
     /// assert!(!TripleRef::from_str("armv7-nintendo-horizon-newlib").unwrap().comes_back());
     /// ```
+    #[must_use]
+    #[inline]
     pub fn comes_back(&self) -> bool {
         self.is_in_no_family()
     }
 
     /// The normal step of any triple. If the vendor is plain, it is the canonical form.
     #[doc(hidden)]
+    #[inline]
     pub fn step(mut self) -> TripleRef<'a> {
         if self.prints_as_special() {
             self.environment = Environment::Newlib;
@@ -83,6 +90,7 @@ impl<'a> TripleRef<'a> {
     }
 
     /// Whether the triple is in none of the five families.
+    #[inline]
     fn is_in_no_family(&self) -> bool {
         !self.prints_as_special()
             && !self.hides_newlib()
@@ -92,11 +100,13 @@ impl<'a> TripleRef<'a> {
     }
 
     /// Whether the first three fields are those of a special string.
+    #[inline]
     fn is_3ds_or_esp_idf(&self) -> bool {
         self.special_text().is_some()
     }
 
-    /// Whether a special text is printed, and environment and format aren't `Newlib` and `Elf`.
+    /// Whether a special string is printed, and environment and format aren't `Newlib` and `Elf`.
+    #[inline]
     fn prints_as_special(&self) -> bool {
         self.is_3ds_or_esp_idf()
             && !matches!(
@@ -105,14 +115,16 @@ impl<'a> TripleRef<'a> {
             )
     }
 
-    /// Whether the environment is a `Newlib` that isn't shown, and the text isn't special.
+    /// Whether the environment is a `Newlib` that isn't shown, and the string isn't special.
+    #[inline]
     fn hides_newlib(&self) -> bool {
         self.implies_newlib()
             && matches!(self.environment, Environment::Newlib)
             && !self.is_3ds_or_esp_idf()
     }
 
-    /// Whether the vendor is the custom `esp`, and the text is the special one.
+    /// Whether the vendor is the custom `esp`, and the string is the special one.
+    #[inline]
     fn prints_the_esp_idf_text(&self) -> bool {
         match (
             self.architecture,
@@ -133,6 +145,7 @@ impl<'a> TripleRef<'a> {
     }
 
     /// Whether the environment `none` is shown without a system, on Clever.
+    #[inline]
     fn shows_only_none(&self) -> bool {
         match self.environment {
             Environment::None => !self.shows_operating_system(),
@@ -142,6 +155,7 @@ impl<'a> TripleRef<'a> {
 }
 
 /// The format, with `Elf` for an unknown one.
+#[inline]
 fn elf_if_unknown(binary_format: BinaryFormat) -> BinaryFormat {
     match binary_format {
         BinaryFormat::Unknown => BinaryFormat::Elf,

@@ -6,7 +6,7 @@ use crate::proved::triple_ref::TripleRef;
 
 impl Triple {
     /// Whether both triples have the same canonical form. Nothing is moved, copied or allocated. The cases that
-    /// [`Triple::comes_back`] lists give one to a triple whose vendor isn't plain too, but its text is no key.
+    /// [`Triple::comes_back`] lists give one to a triple whose vendor isn't plain too, but its string is no key.
     ///
     /// # Examples
     ///
@@ -17,6 +17,7 @@ impl Triple {
     /// assert_ne!(one, other);
     /// assert!(one.settles_as(&other));
     /// ```
+    #[must_use]
     #[inline]
     pub fn settles_as(&self, other: &Triple) -> bool {
         self.as_triple_ref().settles_as(&other.as_triple_ref())
@@ -35,6 +36,7 @@ impl TripleRef<'_> {
     /// let other = TripleRef::from_str("riscv32imc-esp-espidf-elf").unwrap();
     /// assert!(one != other && one.settles_as(&other));
     /// ```
+    #[must_use]
     #[inline]
     pub fn settles_as(&self, other: &TripleRef<'_>) -> bool {
         self.step() == other.step()

@@ -1,5 +1,5 @@
 // Erased from crates/target_lexicon/src/special.rt by tools/erase. Don't edit it here.
-//! The two texts that have a triple of their own.
+//! The two strings that have a triple of their own.
 
 use crate::proved::triple_ref::TripleRef;
 use crate::proved::{
@@ -12,7 +12,7 @@ const NINTENDO_3DS: &str = "armv6k-nintendo-3ds";
 const ESP_IDF: &str = "riscv32imc-esp-espidf";
 
 impl<'a> TripleRef<'a> {
-    /// The triple of a special text.
+    /// The triple of a special string.
     pub(crate) fn from_special_text(text: &str) -> Option<TripleRef<'a>> {
         match text {
             NINTENDO_3DS => Some(TripleRef {
@@ -33,7 +33,7 @@ impl<'a> TripleRef<'a> {
         }
     }
 
-    /// The special text that the triple prints, if any. Environment and format don't matter.
+    /// The special string that the triple prints, if any. Environment and format don't matter.
     pub(crate) fn special_text(&self) -> Option<&'static str> {
         match (self.architecture, self.vendor, self.operating_system) {
             (

@@ -48,6 +48,7 @@ type Row = (&'static str, u64, Meaning);
 
 /// The row of the string, or `None` if the string is neither a fixed name nor the alias `arm64`: a search by halves.
 /// `steps` ticks once for each row that is compared with the string: at least once, and at most eight times.
+#[must_use]
 #[inline(always)]
 pub fn fixed_row(text: &str) -> Option<FixedRow> {
     match row_number(text) {
@@ -73,6 +74,7 @@ fn row_number(text: &str) -> Option<usize> {
 }
 
 /// The order by bytes of the string of row `i`, counted from 0, relative to `text`. `steps` ticks once.
+#[must_use]
 #[inline(always)]
 pub fn row_order(i: usize, text: &str) -> Ordering {
     // before the row, so that the compilers compute it once for a whole search

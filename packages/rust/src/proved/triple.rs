@@ -3,7 +3,7 @@
 
 use crate::proved::{Architecture, BinaryFormat, Environment, OperatingSystem, Vendor};
 
-/// A target triple, such as `x86_64-unknown-linux-gnu`. It has five fields, of which its text shows some.
+/// A target triple, such as `x86_64-unknown-linux-gnu`. It has five fields, of which its printed string shows some.
 ///
 /// # Examples
 ///
@@ -41,7 +41,8 @@ impl Triple {
     /// ```
     /// assert_eq!(target_lexicon::Triple::unknown().to_string(), "unknown-unknown-unknown");
     /// ```
-    pub fn unknown() -> Self {
+    #[must_use]
+    pub const fn unknown() -> Self {
         Triple {
             architecture: Architecture::Unknown,
             vendor: Vendor::Unknown,

@@ -41,7 +41,8 @@ impl<'a> TripleRef<'a> {
     /// ```
     /// assert_eq!(target_lexicon::TripleRef::unknown().to_string(), "unknown-unknown-unknown");
     /// ```
-    pub fn unknown() -> TripleRef<'a> {
+    #[must_use]
+    pub const fn unknown() -> TripleRef<'a> {
         TripleRef {
             architecture: Architecture::Unknown,
             vendor: VendorRef::Known(KnownVendor::Unknown),
@@ -63,6 +64,7 @@ impl Triple {
     /// let triple = triple!("x86_64-linux");
     /// assert_eq!(Ok(triple.as_triple_ref()), TripleRef::from_str("x86_64-linux"));
     /// ```
+    #[must_use]
     pub fn as_triple_ref(&self) -> TripleRef<'_> {
         TripleRef {
             architecture: self.architecture,

@@ -32,6 +32,7 @@ impl CustomVendor {
     /// ```
     /// assert_eq!(target_lexicon::CustomVendor::Static("acme").as_str(), "acme");
     /// ```
+    #[must_use]
     pub fn as_str(&self) -> &str {
         match self {
             CustomVendor::Owned(text) => text.as_str(),
@@ -65,7 +66,7 @@ impl Hash for CustomVendor {
 /// assert_eq!("acme".parse(), Ok(Vendor::Custom(CustomVendor::Static("acme"))));
 /// assert_eq!("ACME".parse::<Vendor>(), Err(()));
 /// ```
-#[non_exhaustive]
+#[cfg_attr(not(feature = "__internals"), non_exhaustive)]
 #[derive(Debug, Clone, PartialEq, Eq, Hash)]
 pub enum Vendor {
     /// A vendor that the string doesn't say, or none.
@@ -112,6 +113,7 @@ impl Vendor {
     /// ```
     /// assert_eq!(target_lexicon::Vendor::Nvidia.as_str(), "nvidia");
     /// ```
+    #[must_use]
     pub fn as_str(&self) -> &str {
         self.as_vendor_ref().as_str()
     }
@@ -127,6 +129,7 @@ impl Vendor {
     /// assert!(Vendor::Custom(CustomVendor::Static("acme")).is_plain());
     /// assert!(!Vendor::Custom(CustomVendor::Static("linux")).is_plain());
     /// ```
+    #[must_use]
     pub fn is_plain(&self) -> bool {
         self.as_vendor_ref().is_plain()
     }

@@ -58,7 +58,8 @@ impl<'a> VendorRef<'a> {
     /// ```
     /// assert_eq!(target_lexicon::VendorRef::Custom("acme").as_str(), "acme");
     /// ```
-    pub fn as_str(&self) -> &'a str {
+    #[must_use]
+    pub const fn as_str(&self) -> &'a str {
         match *self {
             VendorRef::Known(known) => known.as_str(),
             VendorRef::Custom(text) => text,
@@ -75,6 +76,7 @@ impl<'a> VendorRef<'a> {
     /// assert!(VendorRef::Custom("acme").is_plain());
     /// assert!(!VendorRef::Custom("linux").is_plain());
     /// ```
+    #[must_use]
     pub fn is_plain(&self) -> bool {
         match *self {
             VendorRef::Known(_) => true,
@@ -96,7 +98,8 @@ impl<'a> VendorRef<'a> {
     /// assert!(VendorRef::Custom("acme").is_custom());
     /// assert!(!VendorRef::from_str("apple").unwrap().is_custom());
     /// ```
-    pub fn is_custom(&self) -> bool {
+    #[must_use]
+    pub const fn is_custom(&self) -> bool {
         matches!(self, VendorRef::Custom(_))
     }
 }
@@ -111,6 +114,7 @@ impl Vendor {
     ///
     /// assert_eq!(Vendor::Custom(CustomVendor::Static("acme")).as_vendor_ref(), VendorRef::Custom("acme"));
     /// ```
+    #[must_use]
     pub fn as_vendor_ref(&self) -> VendorRef<'_> {
         match self {
             Vendor::Unknown => VendorRef::Known(KnownVendor::Unknown),

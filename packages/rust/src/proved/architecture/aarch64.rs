@@ -18,7 +18,7 @@ use core::str::FromStr;
 /// let architecture: Architecture = "aarch64_be".parse().unwrap();
 /// assert_eq!(architecture, Architecture::Aarch64(Aarch64Architecture::Aarch64be));
 /// ```
-#[non_exhaustive]
+#[cfg_attr(not(feature = "__internals"), non_exhaustive)]
 #[derive(Clone, Copy, Debug, PartialEq, Eq, Hash)]
 pub enum Aarch64Architecture {
     /// Little-endian.
@@ -35,7 +35,8 @@ impl Aarch64Architecture {
     /// ```
     /// assert!(!target_lexicon::Aarch64Architecture::Aarch64.is_thumb());
     /// ```
-    pub fn is_thumb(self) -> bool {
+    #[must_use]
+    pub const fn is_thumb(self) -> bool {
         false
     }
 
@@ -48,7 +49,8 @@ impl Aarch64Architecture {
     ///
     /// assert_eq!(Aarch64Architecture::Aarch64.pointer_width(), PointerWidth::U64);
     /// ```
-    pub fn pointer_width(self) -> PointerWidth {
+    #[must_use]
+    pub const fn pointer_width(self) -> PointerWidth {
         PointerWidth::U64
     }
 
@@ -61,14 +63,15 @@ impl Aarch64Architecture {
     ///
     /// assert_eq!(Aarch64Architecture::Aarch64be.endianness(), Endianness::Big);
     /// ```
-    pub fn endianness(self) -> Endianness {
+    #[must_use]
+    pub const fn endianness(self) -> Endianness {
         match self {
             Aarch64Architecture::Aarch64 => Endianness::Little,
             Aarch64Architecture::Aarch64be => Endianness::Big,
         }
     }
 
-    /// The value with this name; `arm64` is an alias of `aarch64`. `Err` for every other text.
+    /// The value with this name; `arm64` is an alias of `aarch64`. `Err` for every other string.
     pub(crate) fn from_str(s: &str) -> Result<Self, ()> {
         match Architecture::from_str(s) {
             Ok(Architecture::Aarch64(sub)) => Ok(sub),
@@ -83,11 +86,12 @@ impl Aarch64Architecture {
     /// ```
     /// assert_eq!(target_lexicon::Aarch64Architecture::Aarch64be.into_str(), "aarch64_be");
     /// ```
+    #[must_use]
     pub fn into_str(self) -> Cow<'static, str> {
         Cow::Borrowed(self.name())
     }
 
-    pub(crate) fn name(self) -> &'static str {
+    pub(crate) const fn name(self) -> &'static str {
         match self {
             Aarch64Architecture::Aarch64 => "aarch64",
             Aarch64Architecture::Aarch64be => "aarch64_be",

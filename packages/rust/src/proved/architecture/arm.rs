@@ -18,7 +18,7 @@ use core::str::FromStr;
 /// let architecture: Architecture = "thumbv7em".parse().unwrap();
 /// assert_eq!(architecture, Architecture::Arm(ArmArchitecture::Thumbv7em));
 /// ```
-#[non_exhaustive]
+#[cfg_attr(not(feature = "__internals"), non_exhaustive)]
 #[derive(Clone, Copy, Debug, PartialEq, Eq, Hash)]
 pub enum ArmArchitecture {
     /// Arm of no stated version.
@@ -118,7 +118,8 @@ impl ArmArchitecture {
     /// assert!(ArmArchitecture::Thumbv7em.is_thumb());
     /// assert!(!ArmArchitecture::Armv7a.is_thumb());
     /// ```
-    pub fn is_thumb(self) -> bool {
+    #[must_use]
+    pub const fn is_thumb(self) -> bool {
         matches!(
             self,
             ArmArchitecture::Thumbeb
@@ -143,7 +144,8 @@ impl ArmArchitecture {
     ///
     /// assert_eq!(ArmArchitecture::Armv7a.pointer_width(), PointerWidth::U32);
     /// ```
-    pub fn pointer_width(self) -> PointerWidth {
+    #[must_use]
+    pub const fn pointer_width(self) -> PointerWidth {
         PointerWidth::U32
     }
 
@@ -156,7 +158,8 @@ impl ArmArchitecture {
     ///
     /// assert_eq!(ArmArchitecture::Armeb.endianness(), Endianness::Big);
     /// ```
-    pub fn endianness(self) -> Endianness {
+    #[must_use]
+    pub const fn endianness(self) -> Endianness {
         match self {
             ArmArchitecture::Armeb | ArmArchitecture::Armebv7r | ArmArchitecture::Thumbeb => {
                 Endianness::Big
@@ -218,11 +221,12 @@ impl ArmArchitecture {
     /// ```
     /// assert_eq!(target_lexicon::ArmArchitecture::Thumbv7em.into_str(), "thumbv7em");
     /// ```
+    #[must_use]
     pub fn into_str(self) -> Cow<'static, str> {
         Cow::Borrowed(self.name())
     }
 
-    pub(crate) fn name(self) -> &'static str {
+    pub(crate) const fn name(self) -> &'static str {
         match self {
             ArmArchitecture::Arm => "arm",
             ArmArchitecture::Armeb => "armeb",

@@ -16,7 +16,7 @@ use core::str::FromStr;
 /// let architecture: Architecture = "clever1.0".parse().unwrap();
 /// assert_eq!(architecture, Architecture::Clever(CleverArchitecture::Clever1_0));
 /// ```
-#[non_exhaustive]
+#[cfg_attr(not(feature = "__internals"), non_exhaustive)]
 #[derive(Clone, Copy, Debug, PartialEq, Eq, Hash)]
 pub enum CleverArchitecture {
     /// No stated version.
@@ -41,11 +41,12 @@ impl CleverArchitecture {
     /// ```
     /// assert_eq!(target_lexicon::CleverArchitecture::Clever1_0.into_str(), "clever1.0");
     /// ```
+    #[must_use]
     pub fn into_str(self) -> Cow<'static, str> {
         Cow::Borrowed(self.name())
     }
 
-    pub(crate) fn name(self) -> &'static str {
+    pub(crate) const fn name(self) -> &'static str {
         match self {
             CleverArchitecture::Clever => "clever",
             CleverArchitecture::Clever1_0 => "clever1.0",

@@ -16,7 +16,7 @@ use core::str::FromStr;
 /// let architecture: Architecture = "mipsel".parse().unwrap();
 /// assert_eq!(architecture, Architecture::Mips32(Mips32Architecture::Mipsel));
 /// ```
-#[non_exhaustive]
+#[cfg_attr(not(feature = "__internals"), non_exhaustive)]
 #[derive(Clone, Copy, Debug, PartialEq, Eq, Hash)]
 pub enum Mips32Architecture {
     /// Big-endian.
@@ -45,11 +45,12 @@ impl Mips32Architecture {
     /// ```
     /// assert_eq!(target_lexicon::Mips32Architecture::Mipsel.into_str(), "mipsel");
     /// ```
+    #[must_use]
     pub fn into_str(self) -> Cow<'static, str> {
         Cow::Borrowed(self.name())
     }
 
-    pub(crate) fn name(self) -> &'static str {
+    pub(crate) const fn name(self) -> &'static str {
         match self {
             Mips32Architecture::Mips => "mips",
             Mips32Architecture::Mipsel => "mipsel",
@@ -83,7 +84,7 @@ impl fmt::Display for Mips32Architecture {
 /// let architecture: Architecture = "mips64el".parse().unwrap();
 /// assert_eq!(architecture, Architecture::Mips64(Mips64Architecture::Mips64el));
 /// ```
-#[non_exhaustive]
+#[cfg_attr(not(feature = "__internals"), non_exhaustive)]
 #[derive(Clone, Copy, Debug, PartialEq, Eq, Hash)]
 pub enum Mips64Architecture {
     /// Big-endian.
@@ -112,11 +113,12 @@ impl Mips64Architecture {
     /// ```
     /// assert_eq!(target_lexicon::Mips64Architecture::Mips64el.into_str(), "mips64el");
     /// ```
+    #[must_use]
     pub fn into_str(self) -> Cow<'static, str> {
         Cow::Borrowed(self.name())
     }
 
-    pub(crate) fn name(self) -> &'static str {
+    pub(crate) const fn name(self) -> &'static str {
         match self {
             Mips64Architecture::Mips64 => "mips64",
             Mips64Architecture::Mips64el => "mips64el",

@@ -16,7 +16,7 @@ use core::str::FromStr;
 /// let architecture: Architecture = "riscv32imac".parse().unwrap();
 /// assert_eq!(architecture, Architecture::Riscv32(Riscv32Architecture::Riscv32imac));
 /// ```
-#[non_exhaustive]
+#[cfg_attr(not(feature = "__internals"), non_exhaustive)]
 #[derive(Clone, Copy, Debug, PartialEq, Eq, Hash)]
 pub enum Riscv32Architecture {
     /// No stated extensions.
@@ -53,11 +53,12 @@ impl Riscv32Architecture {
     /// ```
     /// assert_eq!(target_lexicon::Riscv32Architecture::Riscv32imac.into_str(), "riscv32imac");
     /// ```
+    #[must_use]
     pub fn into_str(self) -> Cow<'static, str> {
         Cow::Borrowed(self.name())
     }
 
-    pub(crate) fn name(self) -> &'static str {
+    pub(crate) const fn name(self) -> &'static str {
         match self {
             Riscv32Architecture::Riscv32 => "riscv32",
             Riscv32Architecture::Riscv32gc => "riscv32gc",
@@ -95,7 +96,7 @@ impl fmt::Display for Riscv32Architecture {
 /// let architecture: Architecture = "riscv64gc".parse().unwrap();
 /// assert_eq!(architecture, Architecture::Riscv64(Riscv64Architecture::Riscv64gc));
 /// ```
-#[non_exhaustive]
+#[cfg_attr(not(feature = "__internals"), non_exhaustive)]
 #[derive(Clone, Copy, Debug, PartialEq, Eq, Hash)]
 pub enum Riscv64Architecture {
     /// No stated extensions.
@@ -124,11 +125,12 @@ impl Riscv64Architecture {
     /// ```
     /// assert_eq!(target_lexicon::Riscv64Architecture::Riscv64gc.into_str(), "riscv64gc");
     /// ```
+    #[must_use]
     pub fn into_str(self) -> Cow<'static, str> {
         Cow::Borrowed(self.name())
     }
 
-    pub(crate) fn name(self) -> &'static str {
+    pub(crate) const fn name(self) -> &'static str {
         match self {
             Riscv64Architecture::Riscv64 => "riscv64",
             Riscv64Architecture::Riscv64gc => "riscv64gc",

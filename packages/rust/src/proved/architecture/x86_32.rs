@@ -16,7 +16,7 @@ use core::str::FromStr;
 /// let architecture: Architecture = "i686".parse().unwrap();
 /// assert_eq!(architecture, Architecture::X86_32(X86_32Architecture::I686));
 /// ```
-#[non_exhaustive]
+#[cfg_attr(not(feature = "__internals"), non_exhaustive)]
 #[derive(Clone, Copy, Debug, PartialEq, Eq, Hash)]
 pub enum X86_32Architecture {
     /// Intel's 80386 and later.
@@ -43,11 +43,12 @@ impl X86_32Architecture {
     /// ```
     /// assert_eq!(target_lexicon::X86_32Architecture::I686.into_str(), "i686");
     /// ```
+    #[must_use]
     pub fn into_str(self) -> Cow<'static, str> {
         Cow::Borrowed(self.name())
     }
 
-    pub(crate) fn name(self) -> &'static str {
+    pub(crate) const fn name(self) -> &'static str {
         match self {
             X86_32Architecture::I386 => "i386",
             X86_32Architecture::I586 => "i586",

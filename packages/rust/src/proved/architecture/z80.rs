@@ -16,7 +16,7 @@ use core::str::FromStr;
 /// let architecture: Architecture = "z180".parse().unwrap();
 /// assert_eq!(architecture, Architecture::Z80(Z80Architecture::Z180));
 /// ```
-#[non_exhaustive]
+#[cfg_attr(not(feature = "__internals"), non_exhaustive)]
 #[derive(Clone, Copy, Debug, PartialEq, Eq, Hash)]
 pub enum Z80Architecture {
     /// Zilog's Z80.
@@ -57,11 +57,12 @@ impl Z80Architecture {
     /// ```
     /// assert_eq!(target_lexicon::Z80Architecture::Z180.into_str(), "z180");
     /// ```
+    #[must_use]
     pub fn into_str(self) -> Cow<'static, str> {
         Cow::Borrowed(self.name())
     }
 
-    pub(crate) fn name(self) -> &'static str {
+    pub(crate) const fn name(self) -> &'static str {
         match self {
             Z80Architecture::Z80 => "z80",
             Z80Architecture::Z180 => "z180",

@@ -76,6 +76,7 @@ pub struct ChangedParts<'a> {
 /// assert_eq!(shown("amd64-unknown-freebsd13.2"), ["amd64 -> x86_64", "freebsd13.2 -> freebsd"]);
 /// assert!(shown("x86_64-unknown-freebsd").is_empty());
 /// ```
+#[must_use]
 pub fn changes(text: &str) -> ChangedParts<'_> {
     ChangedParts {
         text,

@@ -16,7 +16,7 @@ use core::str::FromStr;
 /// assert_eq!(Dialect::Debian.write(&triple).unwrap().as_str(), "amd64");
 /// assert_eq!("go".parse(), Ok(Dialect::Go));
 /// ```
-#[non_exhaustive]
+#[cfg_attr(not(feature = "__internals"), non_exhaustive)]
 #[derive(Clone, Copy, Debug, PartialEq, Eq, Hash)]
 pub enum Dialect {
     /// Debian's architectures, as `dpkg` names them: `amd64`, `armhf`, `musl-linux-arm64`.
@@ -43,7 +43,8 @@ impl Dialect {
     /// ```
     /// assert_eq!(target_lexicon::tool_names::Dialect::Go.as_str(), "go");
     /// ```
-    pub fn as_str(self) -> &'static str {
+    #[must_use]
+    pub const fn as_str(self) -> &'static str {
         match self {
             Dialect::Debian => "debian",
             Dialect::Go => "go",

@@ -31,6 +31,7 @@ use crate::proved::{Architecture, BinaryFormat, OperatingSystem, TripleRef};
 ///     assert_eq!((triple.binary_format, object_format(&triple)), (upstreams, format), "{string}");
 /// }
 /// ```
+#[must_use]
 #[inline(always)]
 pub fn object_format(triple: &TripleRef<'_>) -> BinaryFormat {
     let implied = triple.default_binary_format();

@@ -11,6 +11,7 @@ pub(crate) struct MacOsVersion<'a> {
 }
 
 /// The version of a part that is `macos` with a version.
+#[inline]
 pub(crate) fn macos_version(part: &str) -> Option<MacOsVersion<'_>> {
     match part.strip_prefix("macos") {
         Some(text) => match DeploymentTarget::from_text(text) {

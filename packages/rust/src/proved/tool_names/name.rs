@@ -36,6 +36,7 @@ impl Name {
     /// let triple = TripleRef::from_str("x86_64-unknown-freebsd").unwrap();
     /// assert_eq!(Dialect::Go.write(&triple).unwrap().as_str(), "freebsd/amd64");
     /// ```
+    #[must_use]
     pub fn as_str(&self) -> &str {
         match from_utf8(&self.bytes[..self.length]) {
             Ok(text) => text,
@@ -74,6 +75,7 @@ fn put_first(out: &mut [u8], at: usize, numbers: Numbers) -> usize {
 }
 
 /// Writes a text after what ends at `at`. Returns the end.
+#[inline]
 fn put(out: &mut [u8], at: usize, text: &[u8]) -> usize {
     let end = at + text.len();
     out[at..end].copy_from_slice(text);

@@ -1,11 +1,11 @@
 // Erased from crates/tool_names/src/names.rt by tools/erase. Don't edit it here.
 //! Reading and writing the names of a dialect.
 
-use crate::proved::names::misspelling::{misspelling, TOO_MANY_EDITS};
-use crate::proved::names::nearest::nearer;
 use crate::proved::tool_names::dialect::Dialect;
 use crate::proved::tool_names::gnu::read_as_gnu;
+use crate::proved::tool_names::misspelling::{misspelling, TOO_MANY_EDITS};
 use crate::proved::tool_names::name::Name;
+use crate::proved::tool_names::nearest::nearer;
 use crate::proved::tool_names::pattern::{matched, star_count, Numbers};
 use crate::proved::tool_names::tables::{Row, Way, ONLY_WRITTEN};
 use crate::proved::{DeploymentTarget, OperatingSystem, TripleRef};
@@ -71,6 +71,7 @@ impl Dialect {
     /// let triple = TripleRef::from_str("aarch64-apple-darwin").unwrap();
     /// assert_eq!(Dialect::Node.write(&triple).unwrap().to_string(), "darwin-arm64");
     /// ```
+    #[must_use]
     pub fn write(self, triple: &TripleRef<'_>) -> Option<Name> {
         let shape = self.shape(triple);
         let numbers = Numbers::of_system(shape.operating_system);
@@ -86,7 +87,9 @@ impl Dialect {
 
     /// The name that is suggested for an unknown one: the nearest of the names without a version that
     /// [`read`](Dialect::read) knows, if the name may be a misspelling of it. Nothing is allocated.
+    #[must_use]
     pub fn suggestion(self, name: &str) -> Option<&'static str> {
+        let name = name.as_bytes();
         let tables = self.tables();
         nearer(
             name,
@@ -228,7 +231,7 @@ fn without_numbers(system: OperatingSystem) -> OperatingSystem {
 
 /// The nearest of the names without a number that are read, and are written or aren't, if a name may be a misspelling of
 /// it.
-fn nearest_name(name: &str, tables: &[&'static [Row]], written: bool) -> Option<&'static str> {
+fn nearest_name(name: &[u8], tables: &[&'static [Row]], written: bool) -> Option<&'static str> {
     let mut nearest = None;
     for rows in tables {
         nearest = nearer(name, nearest, nearest_in(name, rows, written));
@@ -237,7 +240,7 @@ fn nearest_name(name: &str, tables: &[&'static [Row]], written: bool) -> Option<
 }
 
 /// That name in one table.
-fn nearest_in(name: &str, rows: &'static [Row], written: bool) -> Option<&'static str> {
+fn nearest_in(name: &[u8], rows: &'static [Row], written: bool) -> Option<&'static str> {
     let mut nearest = None;
     let mut limit = TOO_MANY_EDITS;
     for row in rows {

@@ -58,6 +58,7 @@ impl Dialect {
     /// let triple = TripleRef::from_str("x86_64-acme-linux-musl").unwrap();
     /// assert_eq!(Dialect::Go.shape(&triple).to_string(), "x86_64-unknown-linux");
     /// ```
+    #[must_use]
     pub fn shape(self, triple: &TripleRef<'_>) -> TripleRef<'static> {
         let rules = self.rules();
         TripleRef {
@@ -199,7 +200,7 @@ fn arm_of_order(arm: ArmArchitecture) -> ArmArchitecture {
 }
 
 /// The versions 5, 6, 7 and 8 of Arm for applications; every other Arm is itself.
-fn arm_of_version(arm: ArmArchitecture) -> ArmArchitecture {
+pub(crate) fn arm_of_version(arm: ArmArchitecture) -> ArmArchitecture {
     match arm {
         ArmArchitecture::Armv5t | ArmArchitecture::Armv5tej => ArmArchitecture::Armv5te,
         ArmArchitecture::Armv6j

@@ -8,6 +8,7 @@ use crate::proved::{
 use core::fmt;
 
 /// The first part of the end of a string, and where it begins in the string.
+#[inline]
 pub(crate) fn first_at_end<'a>(text: &str, end: &'a str) -> TextPart<'a> {
     let part = first_part(end).0;
     TextPart {
@@ -17,11 +18,13 @@ pub(crate) fn first_at_end<'a>(text: &str, end: &'a str) -> TextPart<'a> {
 }
 
 /// Whether a part is a name of some field, other than a custom vendor.
+#[inline]
 fn is_known_name(part: &str) -> bool {
     fixed_row(part).is_some() || OperatingSystem::from_str(part).is_ok()
 }
 
 /// The value of the first row with this name.
+#[inline]
 pub(crate) fn look_up<T: Copy>(rows: &[(&'static str, T)], text: &str) -> Option<T> {
     for row in rows {
         if text == row.0 {
@@ -32,11 +35,13 @@ pub(crate) fn look_up<T: Copy>(rows: &[(&'static str, T)], text: &str) -> Option
 }
 
 /// The name of the architecture in the table of first parts.
+#[inline]
 pub(crate) fn listed_architecture(part: &str) -> Option<&'static str> {
     look_up(&FIRST_SPELLINGS, part)
 }
 
 /// The name of the architecture that the first part spells.
+#[inline]
 pub(crate) fn first_spelling(part: &str) -> &str {
     if Architecture::from_str(part).is_ok() {
         return part;
@@ -77,6 +82,7 @@ pub struct Spelling<'a> {
 
 impl<'a> Name<'a> {
     /// Gives the name, which this part spells, to a reading.
+    #[inline]
     pub(crate) fn give(
         &self,
         reading: &mut Reading<'a>,
@@ -89,6 +95,7 @@ impl<'a> Name<'a> {
     }
 
     /// Whether the name is this part.
+    #[inline]
     fn is(&self, part: &str) -> bool {
         match *self {
             Name::Text(name) => name == part,
@@ -101,6 +108,7 @@ impl<'a> Name<'a> {
 }
 
 impl fmt::Display for Name<'_> {
+    #[inline]
     fn fmt(&self, f: &mut fmt::Formatter<'_>) -> fmt::Result {
         match *self {
             Name::Text(name) => f.write_str(name),
@@ -113,6 +121,7 @@ impl fmt::Display for Name<'_> {
 }
 
 impl fmt::Display for Spelling<'_> {
+    #[inline]
     fn fmt(&self, f: &mut fmt::Formatter<'_>) -> fmt::Result {
         self.first.fmt(f)?;
         match self.others {
@@ -127,6 +136,7 @@ impl fmt::Display for Spelling<'_> {
 
 impl<'a> Spelling<'a> {
     /// The spelling of one name.
+    #[inline]
     pub(crate) fn of(name: &'a str) -> Spelling<'a> {
         Spelling {
             first: Name::Text(name),
@@ -135,6 +145,7 @@ impl<'a> Spelling<'a> {
     }
 
     /// The spelling of the names of a row.
+    #[inline]
     fn of_row(names: &'static str) -> Spelling<'a> {
         let (first, others) = first_part(names);
         Spelling {
@@ -144,6 +155,7 @@ impl<'a> Spelling<'a> {
     }
 
     /// The names that a second part spells, with this after its dash.
+    #[inline]
     pub(crate) fn of_second(part: &'a str, rest: Option<&str>) -> Spelling<'a> {
         if is_unstated(part, rest) {
             Spelling::of("unknown")
@@ -153,6 +165,7 @@ impl<'a> Spelling<'a> {
     }
 
     /// Whether a part spells only itself.
+    #[inline]
     pub(crate) fn is_only(&self, part: &str) -> bool {
         match self.others {
             Some(_) => false,
@@ -161,6 +174,7 @@ impl<'a> Spelling<'a> {
     }
 
     /// The names that a part spells that isn't the first. A known name stays.
+    #[inline]
     pub(crate) fn of_later(part: &'a str) -> Spelling<'a> {
         if is_known_name(part) {
             return Spelling::of(part);
@@ -172,6 +186,7 @@ impl<'a> Spelling<'a> {
     }
 
     /// The names that a later part spells, if it is listed.
+    #[inline]
     fn of_listed(part: &'a str) -> Option<Spelling<'a>> {
         if let Some(names) = later_spelling(part) {
             return Some(Spelling::of_row(names));
@@ -190,6 +205,7 @@ impl<'a> Spelling<'a> {
 }
 
 /// Whether a second part states no vendor: it is empty, or `none` before the system `linux`.
+#[inline]
 fn is_unstated(part: &str, rest: Option<&str>) -> bool {
     if part.is_empty() {
         return true;
@@ -201,16 +217,19 @@ fn is_unstated(part: &str, rest: Option<&str>) -> bool {
 }
 
 /// The names of the part in the table of later parts.
+#[inline]
 pub(crate) fn later_spelling(part: &str) -> Option<&'static str> {
     look_up(&LATER_SPELLINGS, part)
 }
 
 /// The names of the part in the table of what comes before a version.
+#[inline]
 pub(crate) fn versioned_spelling_of(part: &str) -> Option<&'static str> {
     versioned_spelling(&VERSIONED_SPELLINGS, part)
 }
 
 /// The names of the first row that the part begins with, if a version follows.
+#[inline]
 fn versioned_spelling(rows: &[(&'static str, &'static str)], part: &str) -> Option<&'static str> {
     for row in rows {
         if has_dropped_version(row.0, part) {
@@ -221,29 +240,34 @@ fn versioned_spelling(rows: &[(&'static str, &'static str)], part: &str) -> Opti
 }
 
 /// Whether a part is this prefix and a version that is dropped.
+#[inline]
 fn has_dropped_version(prefix: &str, part: &str) -> bool {
     match part.strip_prefix(prefix) {
-        Some(version) => is_dropped_version(version),
+        Some(version) => is_dropped_version(version.as_bytes()),
         None => false,
     }
 }
 
 /// Whether a string is digits and dots, at least one.
-fn is_dropped_version(text: &str) -> bool {
-    !text.is_empty() && are_digits_or_dots(text.as_bytes())
+#[inline]
+pub(crate) fn is_dropped_version(text: &[u8]) -> bool {
+    !text.is_empty() && are_digits_or_dots(text)
 }
 
+#[inline]
 fn are_digits_or_dots(bytes: &[u8]) -> bool {
     bytes.iter().all(|byte| is_digit_or_dot(*byte))
 }
 
+#[inline]
 fn is_digit_or_dot(byte: u8) -> bool {
     byte.is_ascii_digit() || byte == b'.'
 }
 
 #[rustfmt::skip]
-static FIRST_SPELLINGS: [(&str, &str); 23] = [
+static FIRST_SPELLINGS: [(&str, &str); 31] = [
     ("amd64", "x86_64"),
+    ("x64", "x86_64"),
     ("i486", "i386"),
     ("i786", "i686"),
     ("i886", "i686"),
@@ -260,8 +284,15 @@ static FIRST_SPELLINGS: [(&str, &str); 23] = [
     ("ppc32", "powerpc"),
     ("ppc64", "powerpc64"),
     ("ppc64le", "powerpc64le"),
+    ("ppc64el", "powerpc64le"),
+    ("rs6000", "powerpc"),
+    ("sun4v", "sparc64"),
     ("mipseb", "mips"),
     ("mips64eb", "mips64"),
+    ("mipsr6", "mipsisa32r6"),
+    ("mipsr6el", "mipsisa32r6el"),
+    ("mips64r6", "mipsisa64r6"),
+    ("mips64r6el", "mipsisa64r6el"),
     ("bpf_be", "bpfeb"),
     ("bpf_le", "bpfel"),
     ("systemz", "s390x"),
@@ -269,20 +300,23 @@ static FIRST_SPELLINGS: [(&str, &str); 23] = [
 ];
 
 #[rustfmt::skip]
-static LATER_SPELLINGS: [(&str, &str); 9] = [
+static LATER_SPELLINGS: [(&str, &str); 12] = [
     ("w64", "pc"),
     ("mingw32", "windows-gnu"),
     ("mingw64", "windows-gnu"),
+    ("mingw32ucrt", "windows-gnu"),
     ("win32", "windows-msvc"),
     ("macos", "macosx"),
     ("netbsdelf", "netbsd"),
     ("simulator", "sim"),
+    ("muslgnueabi", "musleabi"),
+    ("muslgnueabihf", "musleabihf"),
     ("uclibcgnueabi", "uclibceabi"),
     ("uclibcgnueabihf", "uclibceabihf"),
 ];
 
 #[rustfmt::skip]
-static VERSIONED_SPELLINGS: [(&str, &str); 12] = [
+static VERSIONED_SPELLINGS: [(&str, &str); 18] = [
     ("aix", "aix"),
     ("bitrig", "bitrig"),
     ("dragonfly", "dragonfly"),
@@ -291,7 +325,13 @@ static VERSIONED_SPELLINGS: [(&str, &str); 12] = [
     ("openbsd", "openbsd"),
     ("solaris", "solaris"),
     ("netbsdelf", "netbsd"),
+    ("vxworks", "vxworks"),
+    ("gnu.", "gnu"),
+    ("gnu2.", "gnu"),
     ("gnu", "hurd-gnu"),
+    ("gnueabi", "gnueabi"),
+    ("gnueabihf", "gnueabihf"),
+    ("musl", "musl"),
     ("android", "android"),
     ("androideabi", "androideabi"),
     ("msvc", "msvc"),
