@@ -329,7 +329,7 @@ fn version_after_prefix<'a>(prefix: &str, part: &'a str) -> Option<&'a str>
 {
     match part.strip_prefix(prefix) {
         Some(version) => {
-            if is_dropped_version(version) {
+            if is_dropped_version(version.as_bytes()) {
                 Some(version)
             } else {
                 None
