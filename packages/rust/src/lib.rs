@@ -39,6 +39,7 @@
     clippy::should_implement_trait,
     clippy::upper_case_acronyms,
     clippy::manual_map,
+    clippy::manual_ok_err,
     clippy::match_like_matches_macro,
     clippy::incompatible_msrv
 )]

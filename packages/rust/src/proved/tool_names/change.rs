@@ -79,6 +79,14 @@ impl Position {
 }
 
 /// The changes of a string, from its start to its end. [`changes`] returns them.
+///
+/// # Examples
+///
+/// ```
+/// use target_lexicon::tool_names::changes;
+///
+/// assert_eq!(changes("amd64-pc-mingw32").count(), 2);
+/// ```
 #[derive(Debug, Clone)]
 pub struct ChangedParts<'a> {
     text: &'a str,
