@@ -5,7 +5,7 @@ from dataclasses import dataclass, field
 PATH = "tools/names/elsewhere.tsv"
 WAYS = {"rw": "Both", "r": "Read", "w": "Written", "-": "NoTriple"}
 DIALECT, ONLY_WRITTEN = "# dialect ", "# only written: "
-# The rules of a dialect: for each word of its line the field of `Rules`, and its value for each choice.
+# The rules of a dialect: for each word of its line the field of `Rules`, and its value for each choice. After them it may have other names.
 RULES = {"arm": ("arm_version", {"order": "false", "version": "true"}),
          "abi": ("abi", {"kept": "AbiRule::Kept", "dropped": "AbiRule::Dropped", "linux": "AbiRule::KeptOnLinux"}),
          "versions": ("versions", {"no": "false", "yes": "true"}), "tags": ("tags", {"no": "false", "yes": "true"})}
@@ -13,9 +13,11 @@ RULES = {"arm": ("arm_version", {"order": "false", "version": "true"}),
 
 @dataclass
 class Dialect:
-    """A dialect: its rules, what is said of it, and its rows. A row is a name, what it means or why it has no triple, and its way."""
+    """A dialect: its rules, its other names, what is said of it, and its rows. A row is a name, what it means or why it has no triple,
+    and its way."""
     name: str
     rules: dict
+    other_names: list
     about: str = ""
     rows: list = field(default_factory=list)
 
@@ -26,6 +28,14 @@ class Dialect:
     @property
     def table(self):
         return self.name.upper()
+
+    @property
+    def is_read(self):
+        return any(way in ("Both", "Read") for _, _, way in self.rows)
+
+    @property
+    def is_written(self):
+        return any(way in ("Both", "Written") for _, _, way in self.rows)
 
 
 @dataclass
@@ -44,9 +54,11 @@ def tables_of(text, wrong):
         if line.startswith(DIALECT):
             name, *rules = line.removeprefix(DIALECT).split()
             rules = dict(rule.partition("=")[::2] for rule in rules)
-            if name in found.dialects or list(rules) != list(RULES) or any(rules[it] not in RULES[it][1] for it in rules):
+            others = rules.pop("names", "").split(",")
+            others = [it for it in others if it]
+            if {name, *others} & {*found.dialects, *(it[0] for it in other_names(found))} or list(rules) != list(RULES) or any(rules[it] not in RULES[it][1] for it in rules):
                 mistake("a new dialect is wanted, and a choice for each of " + ", ".join(RULES))
-            described = found.dialects.setdefault(name, Dialect(name, rules))
+            described = found.dialects.setdefault(name, Dialect(name, rules, others))
         elif line.startswith(ONLY_WRITTEN):
             found.only_written = line.removeprefix(ONLY_WRITTEN)
         elif line.startswith("#"):
@@ -66,6 +78,11 @@ def tables_of(text, wrong):
             meaning = note[0] if ways == "-" else triple.replace("*", "") if dialect in found.dialects else triple
             rows.append((name, meaning, WAYS[ways]))
     return found
+
+
+def other_names(tables):
+    """The other names of dialects, with their dialects."""
+    return [(name, it) for it in tables.dialects.values() for name in it.other_names]
 
 
 def names_that_are_read(tables):
@@ -93,36 +110,51 @@ def rust_lists(tables):
         "the reason of names that are only written": [f'pub(crate) const ONLY_WRITTEN: &str = "{tables.only_written}";'],
         "the dialects": [line for it in dialects for line in (f"/// {it.about}", f"{it.variant},")],
         "the names of the dialects": [f'Dialect::{it.variant} => "{it.name}",' for it in dialects],
-        "the dialects by name": [f"static DIALECTS: [(&str, Dialect); {len(dialects)}] = [",
-                                 *(f'    ("{it.name}", Dialect::{it.variant}),' for it in dialects), "];"],
+        "the dialects by name": [f"static DIALECTS: [(&str, Dialect); {len(dialects) + len(other_names(tables))}] = [",
+                                 *(f'    ("{name}", Dialect::{it.variant}),' for name, it in [*((it.name, it) for it in dialects), *other_names(tables)]),
+                                 "];"],
+        "each dialect": [f"Dialect::{it.variant}," for it in dialects],
         "the rules of the dialects": [f"Dialect::{it.variant} => Rules {{ {', '.join(f'{name}: {value}' for name, value in rules(it, str))} }},"
                                       for it in dialects],
         "the rows of the dialects": [f"Dialect::{it.variant} => {it.name}()," for it in dialects],
         "the tables of the dialects": "\n".join(line for it in dialects for line in table(it)).strip("\n").split("\n"),
-        **lists_of_languages(list(dialects)),
+        **lists_of_languages(list(dialects), other_names(tables)),
         "the dialects by number": [f"{number} => Some(Some(Dialect::{it.variant}))," for number, it in enumerate(dialects, 1)],
     }
 
 
-def lists_of_languages(dialects):
+def lists_of_languages(dialects, others):
     names = ", ".join(f'"{it.name}"' for it in dialects)
     words = [it.name for it in dialects]
-    read = [it for it in dialects if any(way in ("Both", "Read") for _, _, way in it.rows)]
+    read, written = [it for it in dialects if it.is_read], [it for it in dialects if it.is_written]
+    in_order = sorted(dialects, key=lambda it: (it.is_written, not it.is_read))
     return {
         "the dialects for C": [f"LEXICON_DIALECT_{it.table} = {number}, /* {it.about.rstrip('.').replace('`', '')} */" for number, it in enumerate(dialects, 1)],
         "the last dialect": [f"enum {{ LAST_DIALECT = {len(dialects)} }};"],
         "the dialects for C++": [f"{it.variant} = LEXICON_DIALECT_{it.table}," for it in dialects],
         "the dialects' names for C++": [f'constexpr const char* names[] = {{"", {names}}};'],
         "the dialects for the command": [f"pub const DIALECTS: [Dialect; {len(dialects)}] = [",
-                                         *(f"    Dialect::{it.variant}," for it in sorted(dialects, key=lambda it: it not in read)), "];",
-                                         f"const READ: usize = {len(read)};"],
+                                         *(f"    Dialect::{it.variant}," for it in in_order), "];",
+                                         f"pub const READ: usize = {len(read)};", f"pub const ONLY_READ: usize = {len(dialects) - len(written)};"],
+        "the other names of dialects for the command": [f"const OTHER_NAMES: [(&str, Dialect); {len(others)}] = [",
+                                                        *(f'    ("{name}", Dialect::{it.variant}),' for name, it in others), "];"],
         "the dialects for the manual": [f"the tool whose names are read or written: {', '.join(words[:-1])} or {words[-1]}.",
-                                        "Names of a tool that are only written aren't read."],
+                                        "Names of a tool that are only written aren't read, and those that are only read aren't written."],
         "the dialects for Python": [line for it in dialects for line in (f"#: {it.about}", f'{it.table} = "{it.name}"')],
+        "the names of dialects for Python": [f"ReadDialectName = {literal([*(it.name for it in read), *(name for name, it in others if it.is_read)])}",
+                                             f"DialectName = {literal([*words, *(name for name, _ in others)])}",
+                                             f"OTHER_NAMES = {{{', '.join(f'{chr(34)}{name}{chr(34)}: {chr(34)}{it.name}{chr(34)}' for name, it in others)}}}",
+                                             *(f"{name} = [{', '.join(f'Dialect.{it.table}' for it in in_order if getattr(it, of))}]"
+                                               for name, of in (("READ", "is_read"), ("WRITTEN", "is_written")))],
         "the dialects for JavaScript": [f"export const DIALECTS = Object.freeze([{names}]);"],
-        "the type of dialects": ["export type Dialect = " + " | ".join(f'"{it.name}"' for it in dialects) + ";"],
+        "the other names of dialects for JavaScript": [f"const OTHER_NAMES = {{ {', '.join(f'{name}: {chr(34)}{it.name}{chr(34)}' for name, it in others)} }};"],
+        "the type of dialects": ["export type Dialect = " + " | ".join(f'"{it}"' for it in [*words, *(name for name, _ in others)]) + ";"],
         "the dialects for TypeScript": [f"export const DIALECTS: readonly [{names}];"],
     }
+
+
+def literal(names):
+    return "Literal[" + ", ".join(f'"{it}"' for it in names) + "]"
 
 
 def table(it):
@@ -149,6 +181,7 @@ def antt_lists(tables):
         "versioned_spellings": pairs("versioned_spellings", other, names),
         "dialect_name": [f'dialect_name dialect.{it.variant} = codes "{it.name}"' for it in dialects],
         "dialects": ["dialects = " + " ∷ ".join([*(f"dialect.{it.variant}" for it in dialects), "[]"])],
+        "other_dialect_names": ["other_dialect_names = " + " ∷ ".join([*(f'(codes "{name}", dialect.{it.variant})' for name, it in other_names(tables)), "[]"])],
         "dialects_by_number": ["dialects_by_number = " + " ∷ ".join(["None", *(f"Some dialect.{it.variant}" for it in dialects), "[]"])],
         "rules_of": [f"rules_of dialect.{it.variant} = record {{ "
                      + "; ".join(f"{name} = {value}" for name, value in rules(it, lambda value: value.replace("AbiRule::", "abi."))) + " }"

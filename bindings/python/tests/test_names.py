@@ -25,8 +25,11 @@ class Names(unittest.TestCase):
 
     def test_dialects_are_those_of_the_table(self):
         self.assertEqual({it.value for it in Dialect}, {it.dialect for it in NAMES})
-        self.assertEqual(set(typing.get_args(_dialects.DialectName)), set(Dialect))
-        self.assertEqual(set(typing.get_args(_dialects.ReadDialectName)), {it.dialect for it in NAMES if "r" in it.ways})
+        others = set(_dialects.OTHER_NAMES)
+        self.assertEqual(set(typing.get_args(_dialects.DialectName)), {*Dialect, *others})
+        read = {it.dialect for it in NAMES if "r" in it.ways}
+        self.assertEqual(set(typing.get_args(_dialects.ReadDialectName)), {*read, *(it for it in others if _dialects.OTHER_NAMES[it] in read)})
+        self.assertEqual((Triple.read("linux/arm64", "docker").name_in("npm"), "docker" in list(Dialect)), ("linux-arm64", False))
 
     def test_read_rows(self):
         rows = [it for it in NAMES if "r" in it.ways]
@@ -147,8 +150,8 @@ class Names(unittest.TestCase):
                 self.assertRaisesRegex(TypeError, f"must be a str, not {type(value).__name__}", Triple.read, *arguments)
         calls = [lambda it: Triple.read("linux/amd64", it), Triple("x86_64-linux").name_in]
         for call in calls:
-            for value in "Go", "", "docker", "none", "g\u00f6", lexicon.Architecture.ARM:
-                with self.assertRaisesRegex(ValueError, "the dialect must be one of debian, go, oci, node, gnu, python, not ") as caught:
+            for value in "Go", "", "Docker", "none", "g\u00f6", lexicon.Architecture.ARM:
+                with self.assertRaisesRegex(ValueError, f"the dialect must be one of {', '.join(Dialect)}, not ") as caught:
                     call(value)
                 self.assertNotIsInstance(caught.exception, ParseError)
             for value in 1, b"go", Dialect:

@@ -292,18 +292,29 @@ fn values_of_other_names_are_compared_and_displayed(rt: HostRuntime) {
     ];
     assert!(rt; are_distinct(&errors));
     let dialects = [
+        // written by tools/names/write: each dialect
         Dialect::Debian,
         Dialect::Go,
         Dialect::Oci,
         Dialect::Node,
         Dialect::Gnu,
         Dialect::Python,
+        Dialect::Uname,
+        Dialect::Rpm,
+        Dialect::Apk,
+        Dialect::Pacman,
+        Dialect::Dotnet,
+        Dialect::Conda,
+        Dialect::Zig,
+        Dialect::Nix,
+        // end of what is written
     ];
     assert!(rt; are_distinct(&dialects));
     for dialect in dialects {
         assert!(rt; hash_alike(&dialect, &dialect) && prints(&dialect, dialect.as_str()));
         assert!(rt; dialect.as_str().parse() == Ok(dialect));
     }
+    assert!(rt; "docker".parse() == Ok(Dialect::Oci) && "npm".parse() == Ok(Dialect::Node));
     match (
         TripleRef::from_str("x86_64-unknown-linux"),
         TripleRef::from_str("x86_64-unknown-linux-gnu"),

@@ -21,7 +21,7 @@ use Rattle.tool_names.specs.Tables.{Row, is_read_and, is_written, row_named}
 use Rattle.tool_names.specs.ToolNames.{HasNoTriple, Unread, found_meaning, name_meaning, numbers_in, read_or_unknown, row_meaning, shape_row, system_with, text_without_numbers, triple_name, version_of_numbers, with_numbers, without_numbers}
 use Rattle.tool_names.proofs.Filling.{counted_fits, filled_matches, fits_are_within, fits_counted, is_own_tag, is_spaced, match_fits}
 use Rattle.tool_names.proofs.ObjectFormats.{given_kept}
-use Rattle.tool_names.proofs.RowChecks.{IsWrittenFor, both_rows, gives_no_special_text, has_canonical, has_form, has_numbers, has_pair, has_triple, is_both, is_canonical, is_canonical_as, is_known_format, is_ordinary, is_ordinary_architecture, is_ordinary_system, is_long_of, is_pair, is_short_of, name_of, plain-back, row-written, rows-apart, rows-canonical, rows-formed, rows-paired, versioned-back, written_back}
+use Rattle.tool_names.proofs.RowChecks.{IsWrittenFor, both_rows, gives_no_special_text, has_canonical, has_form, has_numbers, has_ordinary, has_pair, has_triple, is_both, is_canonical, is_canonical_as, is_known_format, is_ordinary, is_ordinary_if_read, is_ordinary_architecture, is_ordinary_system, is_long_of, is_pair, is_short_of, name_of, plain-back, row-written, rows-apart, rows-canonical, rows-formed, rows-ordinary, rows-paired, versioned-back, written_back}
 use Rattle.tool_names.proofs.RowLemmas.{all-at, any-at, is_only_written, is_refused, named-at, row-found}
 use Rattle.tool_names.proofs.Tags.{named_tag}
 use Rattle.tool_names.proofs.ShapeLemmas.{has_no_special_text, numbers-within, shape-endianness, shape-no_special, shape-width, with-again, without-range}
@@ -41,21 +41,19 @@ record IsRow (text : List ℕ) (t : Values) : Type 0 where
   prints : text_of t ≡ text
   known : is_custom t.vendor ≡ false
   not_clever : is_clever t.architecture ≡ false
-  ordinary : is_ordinary t ≡ true
 
 canonical-row : (text : List ℕ) → is_canonical text ≡ true → (t : Values) × IsRow text t
 canonical-row text h = by_reading (reading text) refl h
   where
     by_reading : (r : Result Values Refusal) → reading text ≡ r → is_canonical_as text r ≡ true → (t : Values) × IsRow text t
     by_reading (Ok t) is test =
-        let last = and_parts _ _ test in let third = and_parts _ _ last.0 in let second = and_parts _ _ third.0 in (
+        let third = and_parts _ _ test in let second = and_parts _ _ third.0 in (
           t,
           record {
             reads = is;
             prints = (bytes_eq-Decides (text_of t) text).0 second.0;
             known = not-false _ second.1;
             not_clever = not-false _ third.1;
-            ordinary = last.1;
           },
         )
     by_reading (Err x) is test = absurd cc
@@ -91,8 +89,8 @@ row-canonical round_trip read_plain text t row =
     let back = row-comes_back text t row in
     fixed-canonical t back row.known (values_unique (text_of t) (normal_step t) t (round_trip t (read_plain (text_of t) t back)) back)
 
--- a triple whose vendor has no special string, and whose text is that of a row, parses back from it, and is ordinary
-text-row : RoundIsNormalStep → (u : Values) → IsPlainTriple u → has_no_special_text u.vendor ≡ true → is_canonical (text_of u) ≡ true → (reading (text_of u) ≡ Ok u) × (is_ordinary u ≡ true)
+-- a triple whose vendor has no special string, and whose text is that of a row, parses back from it
+text-row : RoundIsNormalStep → (u : Values) → IsPlainTriple u → has_no_special_text u.vendor ≡ true → is_canonical (text_of u) ≡ true → reading (text_of u) ≡ Ok u
 text-row round_trip u plain no_special canonical =
     let row = canonical-row (text_of u) canonical in
     let reads : reading (text_of u) ≡ Ok (normal_step u) = ((reading_computed (text_of u)).read (normal_step u)).0 (round_trip u plain) in
@@ -101,7 +99,7 @@ text-row round_trip u plain no_special canonical =
     let other : is_clever u.architecture ≡ false =
     sym (ap is_clever (kept u).architecture) ∙ sym (ap (λ x. is_clever x.architecture) same) ∙ row.1.not_clever in
     let step = step-no_special u no_special other in
-    (reads ∙ ap Ok step, sym (ap is_ordinary (same ∙ step)) ∙ row.1.ordinary)
+    reads ∙ ap Ok step
 
 -- a name means what its row says
 
@@ -360,6 +358,7 @@ record IsNameOf (d : Dialect) (t : Values) (name : List ℕ) : Type 0 where
   written : IsWrittenFor d (length (numbers_in (shape d t).operating_system)) (text_without_numbers (shape d t)) row
   name_is : filled row.pattern (numbers_in (shape d t).operating_system) ≡ name
   canonical : is_canonical (text_of (base d t)) ≡ true
+  ordinary : is_ordinary_if_read (reading (text_of (base d t))) ≡ true
 
 written-triple : (way : Way) → is_written way ≡ true → has_triple way ≡ true
 written-triple NoTriple is = absurd cc
@@ -374,9 +373,17 @@ name-row d t name h = by_row (shape_row d (shape d t)) refl h
     by_row (Some row) is h =
         let written = row-written d (length (numbers_in (shape d t).operating_system)) (text_without_numbers (shape d t)) row is in
         let canonical = (canonical-at d written.place row written.listed (written-triple row.way written.written)).0 in
-        record { row = row; is = is; written = written; name_is = cc; canonical = subst (λ x. is_canonical x ≡ true) (sym written.text_is) canonical }
+        let ordinary = implied _ _ written.written (all-at has_ordinary (rows_of d) written.place row (rows-ordinary d) written.listed) in
+        record {
+          row = row;
+          is = is;
+          written = written;
+          name_is = cc;
+          canonical = subst (λ x. is_canonical x ≡ true) (sym written.text_is) canonical;
+          ordinary = subst (λ x. is_ordinary_if_read (reading x) ≡ true) (sym written.text_is) ordinary;
+        }
 
-base-row : RoundIsNormalStep → (d : Dialect) (t : Values) → is_canonical (text_of (base d t)) ≡ true → (reading (text_of (base d t)) ≡ Ok (base d t)) × (is_ordinary (base d t) ≡ true)
+base-row : RoundIsNormalStep → (d : Dialect) (t : Values) → is_canonical (text_of (base d t)) ≡ true → reading (text_of (base d t)) ≡ Ok (base d t)
 base-row round_trip d t canonical = text-row round_trip (base d t) (base-plain d t) (shape-no_special d t) canonical
 
 pub names_mean_shape : RoundIsNormalStep → NamesMeanTheShape
@@ -389,7 +396,7 @@ names_mean_shape round_trip d t name range h =
     numbers = numbers_in (shape d t).operating_system
 
     shape-read : IsNameOf d t name → with_numbers numbers (read_or_unknown (reading (text_of (base d t)))) ≡ Ok (shape d t)
-    shape-read it = ap (λ r. with_numbers numbers (read_or_unknown r)) (base-row round_trip d t it.canonical).0 ∙ ap (λ s. Ok (record (shape d t) { operating_system = s })) (with-again d t)
+    shape-read it = ap (λ r. with_numbers numbers (read_or_unknown r)) (base-row round_trip d t it.canonical) ∙ ap (λ s. Ok (record (shape d t) { operating_system = s })) (with-again d t)
 
     by_way : (it : IsNameOf d t name) → IsNamed d it.row (filled it.row.pattern numbers) numbers → (way : Way) → it.row.way ≡ way → MeansTheShape d t (filled it.row.pattern numbers)
     by_way it named Both way =
@@ -465,7 +472,8 @@ shape-format d t = refl
 
 pub names_keep_answers : RoundIsNormalStep → NamesKeepAnswers
 names_keep_answers round_trip d t name h =
-    let ordinary = (base-row round_trip d t (name-row d t name h).canonical).1 in
+    let it = name-row d t name h in
+    let ordinary : is_ordinary (base d t) ≡ true = sym (ap is_ordinary_if_read (base-row round_trip d t it.canonical)) ∙ it.ordinary in
     record {
       endianness = shape-endianness d t;
       pointer_width = shape-width d t;

@@ -43,7 +43,7 @@ is_ordinary t = is_ordinary_architecture t.architecture && is_ordinary_system t.
 
 -- a text parses as a triple with a known vendor that prints as the text
 abbrev pub is_canonical_as : List ℕ → Result Values Refusal → Bool
-is_canonical_as text (Ok t) = bytes_eq (text_of t) text && not (is_custom t.vendor) && not (is_clever t.architecture) && is_ordinary t
+is_canonical_as text (Ok t) = bytes_eq (text_of t) text && not (is_custom t.vendor) && not (is_clever t.architecture)
 is_canonical_as text (Err _) = false
 
 abbrev pub is_canonical : List ℕ → Bool
@@ -66,6 +66,14 @@ gives_no_special_text (Err _) = false
 
 abbrev pub has_canonical : Row → Bool
 has_canonical row = not (has_triple row.way) || (is_canonical row.meaning && (nat_eq (star_count row.pattern) 0 || gives_no_special_text (reading row.meaning)))
+
+-- a name that is written is that of an ordinary triple
+abbrev pub is_ordinary_if_read : Result Values Refusal → Bool
+is_ordinary_if_read (Ok t) = is_ordinary t
+is_ordinary_if_read (Err _) = false
+
+abbrev pub has_ordinary : Row → Bool
+has_ordinary row = not (is_written row.way) || is_ordinary_if_read (reading row.meaning)
 
 -- a name has its numbers apart, and is its own tag where names are tags; one that is written has none, or two and is read too,
 -- and it and its triple are short
@@ -104,6 +112,11 @@ pub rows-canonical : (d : Dialect) → list_all has_canonical (rows_of d) ≡ tr
 unfolding rows_of architecture_of known_vendor_of is_admitted vendor_of version_of fixed_operating_system_of operating_system_of environment_of binary_format_of implied_format special_values special_text shows_vendor shows_operating_system shows_environment shows_binary_format shown_names text_of reading
 rows-canonical Debian = refl
 rows-canonical _ = refl
+
+pub rows-ordinary : (d : Dialect) → list_all has_ordinary (rows_of d) ≡ true
+unfolding rows_of architecture_of known_vendor_of is_admitted vendor_of version_of fixed_operating_system_of operating_system_of environment_of binary_format_of implied_format special_values special_text shows_vendor shows_operating_system shows_environment shows_binary_format shown_names text_of reading
+rows-ordinary Debian = refl
+rows-ordinary _ = refl
 
 pub rows-formed : (d : Dialect) → list_all (has_form (rules_of d).tags) (rows_of d) ≡ true
 unfolding rows_of

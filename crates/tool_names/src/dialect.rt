@@ -27,12 +27,28 @@ pub enum Dialect {
     Go,
     /// Platforms of container images, as containerd writes them: `linux/arm/v7`.
     Oci,
-    /// `process.platform` and `process.arch` of Node, as npm joins them: `linux-x64`, `linux-x64-musl`.
+    /// `process.platform` and `process.arch` of Node, as npm's packages join them, some with a C library: `linux-x64`, `linux-x64-musl`.
     Node,
     /// Prefixes of GNU's cross compilers, which are only written: `x86_64-w64-mingw32`.
     Gnu,
     /// Platforms of Python, as tags of wheels such as `macosx_11_0_arm64`, and as `sysconfig.get_platform()` prints them.
     Python,
+    /// What `uname -s` and `uname -m` print, with a space between them, which is only read: `Linux x86_64`.
+    Uname,
+    /// Architectures of packages of RPM, whose distributions have glibc: `x86_64`, `armv7hl`.
+    Rpm,
+    /// Architectures of Alpine's packages, which has musl: `x86_64`, `armhf`.
+    Apk,
+    /// Architectures of packages of Arch Linux and its ports, which have glibc: `x86_64`, `armv7h`.
+    Pacman,
+    /// Identifiers of .NET's runtimes, in its portable list: `linux-x64`, `win-arm64`.
+    Dotnet,
+    /// Subdirectories of conda's channels, whose packages for Linux have glibc: `linux-64`, `osx-arm64`.
+    Conda,
+    /// Zig's targets: `x86_64-linux-musl`, `aarch64-macos`.
+    Zig,
+    /// Systems of Nix and nixpkgs: `x86_64-linux`, `aarch64-darwin`.
+    Nix,
     // end of what is written
 }
 
@@ -55,6 +71,14 @@ impl Dialect {
             Dialect::Node => "node",
             Dialect::Gnu => "gnu",
             Dialect::Python => "python",
+            Dialect::Uname => "uname",
+            Dialect::Rpm => "rpm",
+            Dialect::Apk => "apk",
+            Dialect::Pacman => "pacman",
+            Dialect::Dotnet => "dotnet",
+            Dialect::Conda => "conda",
+            Dialect::Zig => "zig",
+            Dialect::Nix => "nix",
             // end of what is written
         }
     }
@@ -69,13 +93,23 @@ impl Dialect {
 }
 
 // written by tools/names/write: the dialects by name
-static DIALECTS: [(&str, Dialect); 6] = [
+static DIALECTS: [(&str, Dialect); 16] = [
     ("debian", Dialect::Debian),
     ("go", Dialect::Go),
     ("oci", Dialect::Oci),
     ("node", Dialect::Node),
     ("gnu", Dialect::Gnu),
     ("python", Dialect::Python),
+    ("uname", Dialect::Uname),
+    ("rpm", Dialect::Rpm),
+    ("apk", Dialect::Apk),
+    ("pacman", Dialect::Pacman),
+    ("dotnet", Dialect::Dotnet),
+    ("conda", Dialect::Conda),
+    ("zig", Dialect::Zig),
+    ("nix", Dialect::Nix),
+    ("docker", Dialect::Oci),
+    ("npm", Dialect::Node),
 ];
 // end of what is written
 

@@ -1,5 +1,5 @@
 //! The calls of `lexicon`, their options and their help.
-use clap::builder::PossibleValuesParser;
+use clap::builder::{PossibleValue, PossibleValuesParser};
 use clap::{value_parser, Arg, ArgAction, Command, ValueHint};
 use std::path::PathBuf;
 use target_lexicon::tool_names::Dialect;
@@ -14,22 +14,42 @@ pub const FIELDS: [(&str, Field); 5] = [
     ("binary_format", Field::BinaryFormat),
 ];
 
-/// The tools whose names are known, in the order of answers: first those whose names are read.
+/// The tools whose names are known, in the order of answers: those whose names are only read, those whose names are also
+/// written, and those whose names are only written.
 // written by tools/names/write: the dialects for the command
-pub const DIALECTS: [Dialect; 6] = [
+pub const DIALECTS: [Dialect; 14] = [
+    Dialect::Uname,
     Dialect::Debian,
     Dialect::Go,
     Dialect::Oci,
     Dialect::Node,
     Dialect::Python,
+    Dialect::Rpm,
+    Dialect::Apk,
+    Dialect::Pacman,
+    Dialect::Dotnet,
+    Dialect::Conda,
+    Dialect::Zig,
+    Dialect::Nix,
     Dialect::Gnu,
 ];
-const READ: usize = 5;
+pub const READ: usize = 13;
+pub const ONLY_READ: usize = 1;
+// end of what is written
+
+// written by tools/names/write: the other names of dialects for the command
+const OTHER_NAMES: [(&str, Dialect); 2] = [
+    ("docker", Dialect::Oci),
+    ("npm", Dialect::Node),
+];
 // end of what is written
 
 /// An option for one of the dialects.
 fn dialect(name: &'static str, dialects: &[Dialect], help: &'static str) -> Arg {
-    let names = dialects.iter().map(|dialect| dialect.as_str());
+    let names = dialects.iter().map(|dialect| {
+        let others = OTHER_NAMES.iter().filter(|(_, of)| of == dialect);
+        PossibleValue::new(dialect.as_str()).aliases(others.map(|(name, _)| *name))
+    });
     Arg::new(name)
         .long(name)
         .value_name("DIALECT")
@@ -136,7 +156,7 @@ pub fn command() -> Command {
                 "Write the name that another tool has for each target",
                 "Example:\n  $ lexicon write --to debian aarch64-unknown-linux-gnu",
             )
-            .arg(dialect("to", &DIALECTS, "The tool whose names are written").required(true)),
+            .arg(dialect("to", &DIALECTS[ONLY_READ..], "The tool whose names are written").required(true)),
             of_targets(
                 "elsewhere",
                 "Show the names that other tools have for a target",

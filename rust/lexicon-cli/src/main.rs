@@ -12,7 +12,7 @@ mod output;
 mod refusal;
 mod streams;
 
-use arguments::{DIALECTS, FIELDS};
+use arguments::FIELDS;
 use clap::error::{ContextKind, ContextValue, ErrorKind};
 use clap::ArgMatches;
 use clap_complete::Shell;
@@ -277,10 +277,7 @@ fn completion_script(arguments: &ArgMatches) -> String {
 }
 
 fn dialect(arguments: &ArgMatches, option: &str) -> Option<Dialect> {
-    let requested = arguments.get_one::<String>(option)?;
-    DIALECTS
-        .into_iter()
-        .find(|dialect| dialect.as_str() == requested)
+    arguments.get_one::<String>(option)?.parse().ok()
 }
 
 fn run(arguments: &ArgMatches) -> Result<i32, Fault> {

@@ -16,18 +16,40 @@ class Dialect(NamedValue):
     GO = "go"
     #: Platforms of container images, as containerd writes them: `linux/arm/v7`.
     OCI = "oci"
-    #: `process.platform` and `process.arch` of Node, as npm joins them: `linux-x64`, `linux-x64-musl`.
+    #: `process.platform` and `process.arch` of Node, as npm's packages join them, some with a C library: `linux-x64`, `linux-x64-musl`.
     NODE = "node"
     #: Prefixes of GNU's cross compilers, which are only written: `x86_64-w64-mingw32`.
     GNU = "gnu"
     #: Platforms of Python, as tags of wheels such as `macosx_11_0_arm64`, and as `sysconfig.get_platform()` prints them.
     PYTHON = "python"
+    #: What `uname -s` and `uname -m` print, with a space between them, which is only read: `Linux x86_64`.
+    UNAME = "uname"
+    #: Architectures of packages of RPM, whose distributions have glibc: `x86_64`, `armv7hl`.
+    RPM = "rpm"
+    #: Architectures of Alpine's packages, which has musl: `x86_64`, `armhf`.
+    APK = "apk"
+    #: Architectures of packages of Arch Linux and its ports, which have glibc: `x86_64`, `armv7h`.
+    PACMAN = "pacman"
+    #: Identifiers of .NET's runtimes, in its portable list: `linux-x64`, `win-arm64`.
+    DOTNET = "dotnet"
+    #: Subdirectories of conda's channels, whose packages for Linux have glibc: `linux-64`, `osx-arm64`.
+    CONDA = "conda"
+    #: Zig's targets: `x86_64-linux-musl`, `aarch64-macos`.
+    ZIG = "zig"
+    #: Systems of Nix and nixpkgs: `x86_64-linux`, `aarch64-darwin`.
+    NIX = "nix"
     # end of what is written
 
 
-#: The names of the dialects that are read, and of all.
-ReadDialectName = Literal["debian", "go", "oci", "node", "python"]
-DialectName = Literal[ReadDialectName, "gnu"]
+# The names of the dialects that are read, and of all; the other names of dialects; and those that are read, and that are written, in the
+# order of answers.
+# written by tools/names/write: the names of dialects for Python
+ReadDialectName = Literal["debian", "go", "oci", "node", "python", "uname", "rpm", "apk", "pacman", "dotnet", "conda", "zig", "nix", "docker", "npm"]
+DialectName = Literal["debian", "go", "oci", "node", "gnu", "python", "uname", "rpm", "apk", "pacman", "dotnet", "conda", "zig", "nix", "docker", "npm"]
+OTHER_NAMES = {"docker": "oci", "npm": "node"}
+READ = [Dialect.UNAME, Dialect.DEBIAN, Dialect.GO, Dialect.OCI, Dialect.NODE, Dialect.PYTHON, Dialect.RPM, Dialect.APK, Dialect.PACMAN, Dialect.DOTNET, Dialect.CONDA, Dialect.ZIG, Dialect.NIX]
+WRITTEN = [Dialect.DEBIAN, Dialect.GO, Dialect.OCI, Dialect.NODE, Dialect.PYTHON, Dialect.RPM, Dialect.APK, Dialect.PACMAN, Dialect.DOTNET, Dialect.CONDA, Dialect.ZIG, Dialect.NIX, Dialect.GNU]
+# end of what is written
 
 #: The number in the library for C of no dialect: the string is spelled like a triple.
 NO_DIALECT = 0
@@ -37,7 +59,7 @@ def dialect_number(dialect: Union[Dialect, DialectName]) -> int:
     """The number in the library for C of a dialect, given as a member or by its name."""
     if not isinstance(dialect, str):
         raise TypeError(f"the dialect must be of type Dialect or str, not {type(dialect).__name__}")
-    names = list(Dialect)
+    names, dialect = list(Dialect), OTHER_NAMES.get(dialect, dialect)
     if dialect not in names:
         raise ValueError(f"the dialect must be one of {', '.join(names)}, not {dialect}")
     return names.index(Dialect(dialect)) + 1

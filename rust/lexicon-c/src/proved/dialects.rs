@@ -15,6 +15,14 @@ pub fn dialect_at(number: u32) -> Option<Option<Dialect>> {
         4 => Some(Some(Dialect::Node)),
         5 => Some(Some(Dialect::Gnu)),
         6 => Some(Some(Dialect::Python)),
+        7 => Some(Some(Dialect::Uname)),
+        8 => Some(Some(Dialect::Rpm)),
+        9 => Some(Some(Dialect::Apk)),
+        10 => Some(Some(Dialect::Pacman)),
+        11 => Some(Some(Dialect::Dotnet)),
+        12 => Some(Some(Dialect::Conda)),
+        13 => Some(Some(Dialect::Zig)),
+        14 => Some(Some(Dialect::Nix)),
         _ => None,
     }
 }
