@@ -20,7 +20,7 @@ import time
 TOP = os.path.dirname(os.path.dirname(os.path.realpath(__file__)))
 WORK = tempfile.mkdtemp(prefix="gate-")
 BUILT, CARGO_HOME, WASM = f"{WORK}/built", f"{WORK}/cargo", f"{WORK}/rust"
-COMMANDS = "rust/lexicon-cli/target/release"
+COMMANDS = "packages/command/target/release"
 STARTED = time.time()
 DEBIAN_CRATES = "/usr/share/cargo/registry"
 
@@ -33,20 +33,20 @@ FIRST = [
 PROOFS = ("all proofs, must-fail edits, tests and proved programs", "rt ci", "")
 WITHOUT_PROOF = [
     ("the Rust crate, as its users build it: tests, samples of the documentation, public surface, features, a dependent",
-     "rust/target-lexicon/check", f"cargo {DEBIAN_CRATES}"),
-    ("the command `lexicon`: arguments, output and statuses", "cd rust/lexicon-cli && cargo test --quiet --locked", "cargo"),
-    ("it is built for the next steps, and a program to compare with", "cd rust/lexicon-cli && cargo build --quiet --locked --release --all-features", "cargo"),
-    ("the library for C is built and installed for the next steps", f"rust/lexicon-c/install {BUILT}", "cargo cc"),
-    ("the library for C, header, packages and samples, as C and C++ users have them", "rust/lexicon-c/test", "cargo cc"),
-    ("the Python package: each answer, wheels, types, samples", f"bindings/python/test {BUILT}/lib/liblexicon.so {COMMANDS}/lines",
+     "packages/rust/test", f"cargo {DEBIAN_CRATES}"),
+    ("the command `target-lexicon`: arguments, output and statuses", "packages/command/test", "cargo"),
+    ("it is built for the next steps, and a program to compare with", "cd packages/command && cargo build --quiet --locked --release --all-features", "cargo"),
+    ("the library for C is built and installed for the next steps", f"packages/c/install {BUILT}", "cargo cc"),
+    ("the library for C, header, packages and samples, as C and C++ users have them", "packages/c/test", "cargo cc"),
+    ("the Python package: each answer, wheels, types, samples", f"packages/python/test {BUILT}/lib/libtarget_lexicon.so {COMMANDS}/lines",
      "cargo cc pip venv ensurepip"),
-    ("the module, the package and the page for JavaScript are built", f"bindings/web/build --out {WORK}/web", "wasm32"),
-    ("they answer as the program does, in Node and in a browser", f"bindings/web/check {WORK}/web --program {COMMANDS}/lines",
+    ("the module, the package and the page for JavaScript are built", f"packages/javascript/build --out {WORK}/web", "wasm32"),
+    ("they answer as the program does, in Node and in a browser", f"packages/javascript/test {WORK}/web --program {COMMANDS}/lines",
      "wasm32 node tsc esbuild chromium chromedriver selenium cargo"),
 ]
 LAST = [
     ("links, names, samples, counts and versions of the pages, and the pictures", "checks/pages", "cc cargo"),
-    ("the program `triples` and the command `lexicon`: stored rows, unusual streams, large inputs, samples of the pages", "checks/rows/run", "cram3 cargo"),
+    ("the program `triples` and the command `target-lexicon`: stored rows, unusual streams, large inputs, samples of the pages", "checks/rows/run", "cram3 cargo"),
     ("each allocation fails in turn", "checks/fail_allocations", "cc"),
     ("names, rules and tables are upstream's, by its kept answers; what other tools say of names and targets",
      "checks/compare answers && checks/compare elsewhere && checks/compare llvm", f"cargo {DEBIAN_CRATES}"),
@@ -152,7 +152,7 @@ def install(environment):
     hint = "" if can or not missing else ", which are not installed: that takes root and apt-get"
     say(f"missing packages: {' '.join(missing) or 'none'}{hint}")
     commands = [f"apt-get update && apt-get install -y --no-install-recommends {' '.join(missing)}"] if missing and can else []
-    commands += [f"bindings/web/debian_rust {WASM}"] if has("apt-get") and not has("wasm32") else []
+    commands += [f"packages/javascript/debian_rust {WASM}"] if has("apt-get") and not has("wasm32") else []
     for command in commands:
         process = start(command, {**environment, "DEBIAN_FRONTEND": "noninteractive"})
         lines = process.communicate()[0].splitlines()
@@ -163,14 +163,14 @@ def install(environment):
 
 def debian_crates(environment):
     """Lets cargo take crates from Debian's packages, if they are installed, and then without a network."""
-    if has(f"{DEBIAN_CRATES}/clap-4.0.32") and subprocess.run(["rust/lexicon-cli/debian_crates", CARGO_HOME], cwd=TOP).returncode == 0:
+    if has(f"{DEBIAN_CRATES}/clap-4.0.32") and subprocess.run(["tools/debian_crates", CARGO_HOME], cwd=TOP).returncode == 0:
         environment["CARGO_HOME"] = CARGO_HOME
 
 
 def beside(environment):
     path = f"{WASM}/bin:{environment['PATH']}"
     for step in WITHOUT_PROOF:
-        if not run(step, {**environment, "PATH": path} if "bindings/web" in step[1] else environment, is_beside=True):
+        if not run(step, {**environment, "PATH": path} if "packages/javascript" in step[1] else environment, is_beside=True):
             return
 
 

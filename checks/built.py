@@ -6,9 +6,9 @@ import sys
 ROOT = os.path.dirname(os.path.dirname(os.path.realpath(__file__)))
 BUILT = os.environ.get("BUILT", "")
 # cargo takes crates from Debian's packages where these are installed, and then needs no network.
-DEBIAN_CRATES = f"{ROOT}/rust/debian.toml"
+DEBIAN_CRATES = f"{ROOT}/tools/debian.toml"
 CARGO = ["cargo", *(["--config", DEBIAN_CRATES, "--offline"] if os.path.isdir("/usr/share/cargo/registry") else [])]
-COMMANDS = f"{ROOT}/rust/lexicon-cli"
+COMMANDS = f"{ROOT}/packages/command"
 
 
 def made(check, command, folder, status, **environment):
@@ -22,17 +22,17 @@ def made(check, command, folder, status, **environment):
 
 
 def cargo_program(check, name, status=1):
-    """The path of a program of rust/lexicon-cli, which is a workspace of its own: `lexicon`, or `lines` for comparisons."""
+    """The path of a program of packages/command, which is a workspace of its own: `target-lexicon`, or `lines` for comparisons."""
     environment = {}
     if os.path.isdir("/usr/share/cargo/registry/clap-4.0.32"):
         environment["CARGO_HOME"] = f"{COMMANDS}/target/debian"
-        made(check, ["./debian_crates", environment["CARGO_HOME"]], COMMANDS, status)
+        made(check, [f"{ROOT}/tools/debian_crates", environment["CARGO_HOME"]], COMMANDS, status)
     made(check, ["cargo", "build", "--quiet", "--release", "--locked", "--all-features"], COMMANDS, status, **environment)
     return f"{os.environ.get('CARGO_TARGET_DIR', f'{COMMANDS}/target')}/release/{name}"
 
 
 def program(check, name, status=1, words=()):
-    """The path of a program: of a proved crate, if there is one of its name, otherwise of rust/lexicon-cli.
+    """The path of a program: of a proved crate, if there is one of its name, otherwise of packages/command.
 
     `rt run`, which decides whether it must be built, runs it with these words.
     """

@@ -63,7 +63,7 @@ def quoted_texts(crate, form):
 
 
 def c_program(tree, folder):
-    words = [f"-I{tree}/include", f"{SOURCES}/lines.c", f"{tree}/lib/liblexicon.a", "-o", f"{folder}/lines_c"]
+    words = [f"-I{tree}/include", f"{SOURCES}/lines.c", f"{tree}/lib/libtarget_lexicon.a", "-o", f"{folder}/lines_c"]
     if subprocess.run(["cc", "-O2", *words]).returncode:
         raise RuntimeError(f"cc doesn't build checks/comparisons/lines.c with the library in {tree}")
     return [f"{folder}/lines_c"]
@@ -78,10 +78,10 @@ def program_of(name, options, folder):
         return Program([built.cargo_program("compare", "lines", 2)], (*LINE_MODES, "json"), "the Rust crate with serde_json")
     if name == "rust":
         return Program([rust_program(options.upstream, "lines_ours")], (*LINE_MODES, "parse"), "the Rust crate")
-    if name == "c" and os.path.exists(f"{tree}/lib/liblexicon.a"):
+    if name == "c" and os.path.exists(f"{tree}/lib/libtarget_lexicon.a"):
         return Program(c_program(tree, folder), three, "the library for C")
-    if name == "python" and os.path.exists(f"{tree}/lib/liblexicon.so"):
-        os.environ.update(PYTHONPATH=f"{built.ROOT}/bindings/python/src", LEXICON_LIBRARY=f"{tree}/lib/liblexicon.so")
+    if name == "python" and os.path.exists(f"{tree}/lib/libtarget_lexicon.so"):
+        os.environ.update(PYTHONPATH=f"{built.ROOT}/packages/python/src", TARGET_LEXICON_LIBRARY=f"{tree}/lib/libtarget_lexicon.so")
         return Program([sys.executable, f"{SOURCES}/lines_python.py"], three, "the Python package")
     return None
 

@@ -1,15 +1,15 @@
 """What tools/erase changes besides ghost parts. checks/erased.txt has what comes of it."""
 
-# The crates of each package of rust/, and the module below src/proved that each becomes. The files of a crate without a
+# The crates of each folder of packages/, and the module below src/proved that each becomes. The files of a crate without a
 # module are in src/proved itself.
 PACKAGES = {
-    "rust/target-lexicon": {
+    "packages/rust": {
         "lexicon_fields": "",
         "target_lexicon": "",
         "lexicon_names": "names",
         "tool_names": "tool_names",
     },
-    "rust/lexicon-c": {"lexicon_c": ""},
+    "packages/c": {"lexicon_c": ""},
 }
 # The modules that are compiled only with a feature of their name, and what of each is always compiled: suggestions need it.
 FEATURES = {"tool_names": {"macos", "spelling", "suggestions"}}
@@ -28,17 +28,36 @@ ITEMS = {
 # The enums to which upstream, or a later version, may add variants.
 NON_EXHAUSTIVE = set(
     """Architecture ArmArchitecture Aarch64Architecture CleverArchitecture Riscv32Architecture Riscv64Architecture
-    X86_32Architecture Mips32Architecture Mips64Architecture Z80Architecture Vendor OperatingSystem Environment BinaryFormat
+    X86_32Architecture Mips32Architecture Mips64Architecture Z80Architecture Vendor KnownVendor OperatingSystem Environment BinaryFormat
     CallingConvention CDataModel Dialect""".split())
 
 # Methods that only the crates above need, of which documentation doesn't speak.
 HIDDEN = {"DeploymentTarget::from_text", "Refusal::write_to", "TripleRef::step", "TripleRef::write_upstream_to"}
 
-# Long functions that few programs call: rustc compiles them only where they are called, which saves a fifth of a build.
+# What few programs call: rustc compiles it only where it is called, which saves a third of a build. Functions, and modules
+# of which it is each function.
 INLINE = {
-    "TripleRef::from_str", "suggestion", "Triple::settles_as", "Triple::write_to", "TripleRef::settles_as",
-    "TripleRef::write_to", "TripleRef::write_upstream_to",
+    "TripleRef::from_str", "Triple::write_to", "TripleRef::write_to", "TripleRef::write_upstream_to", "Pieces::write_to",
+    "Pieces::text_length", "Pieces::version_length", "Pieces::put_version", "Pieces::put", "Piece::text_length", "Piece::put",
+    "put", "Refusal::write_to",
 }
+INLINE_MODULES = {
+    "distance", "macos", "misspelling", "nearest", "settle", "settles_as", "spelling", "suggestions",
+}
+
+# Calls that constants can use: what `const fn` can have in Rust 1.65.
+CONST = set(
+    """Architecture::endianness Architecture::is_clever Architecture::name Architecture::pointer_width
+    Aarch64Architecture::endianness Aarch64Architecture::is_thumb Aarch64Architecture::name Aarch64Architecture::pointer_width
+    ArmArchitecture::endianness ArmArchitecture::is_thumb ArmArchitecture::name ArmArchitecture::pointer_width
+    CleverArchitecture::name Mips32Architecture::name Mips64Architecture::name Riscv32Architecture::name
+    Riscv64Architecture::name X86_32Architecture::name Z80Architecture::name BinaryFormat::name CallingConvention::name
+    CDataModel::double_size CDataModel::float_size CDataModel::int_size CDataModel::long_long_size CDataModel::long_size
+    CDataModel::name CDataModel::pointer_width CDataModel::short_size Dialect::as_str Endianness::name Environment::name
+    KnownVendor::as_str KnownVendor::to_vendor OperatingSystem::is_like_darwin OperatingSystem::prefix
+    OperatingSystem::version PointerWidth::bits PointerWidth::bytes PointerWidth::name Refusal::range Size::bits Size::bytes
+    TextPart::range Triple::unknown TripleRef::default_binary_format TripleRef::default_calling_convention
+    TripleRef::endianness TripleRef::pointer_width TripleRef::unknown VendorRef::as_str VendorRef::is_custom""".split())
 
 # The start of the names of files, what is there, and what it becomes.
 REPLACEMENTS = [

@@ -26,7 +26,7 @@ import target_lines
 import upstream
 from comparisons import lines
 
-PATH, PACKAGE, OURS = (f"{built.ROOT}/{path}" for path in ("checks/upstream.tsv", "checks/answers", "rust/target-lexicon"))
+PATH, PACKAGE, OURS = (f"{built.ROOT}/{path}" for path in ("checks/upstream.tsv", "checks/answers", "packages/rust/patch"))
 HEAD = """# Answers of upstream's crate, target-lexicon 0.13.5. checks/comparisons/answers.py says what each line is.
 # `checks/compare answers --write` writes them, and `checks/compare answers` compares them with the answers of this repository.
 """

@@ -89,7 +89,7 @@ class Comparison(Report):
             (word, rows[0][2], ONLY_ONCE.get(word)) for word, rows in words.items()
             if rows[0][2] and len({(dialect, name.replace("*_*", "*")) for dialect, name, _ in rows}) == 1))
         self.fact("a word that says 64 or 32 is that of a machine with as many bits", (
-            (word, rows[0][2], self.lexicon.Triple(rows[0][2]).pointer_width, 64 if "64" in word else 32)
+            (word, rows[0][2], self.target_lexicon.Triple(rows[0][2]).pointer_width, 64 if "64" in word else 32)
             for word, rows in words.items() if re.search("64|32", word)), "x32")
 
     def check_spellings(self):

@@ -1,7 +1,7 @@
 /* The modes `print`, `show` and `settle` of the program `triples`, over the library for C.
 
    usage: lines_c print | show | settle < LINES */
-#include <lexicon.h>
+#include <target_lexicon.h>
 #include <stdio.h>
 #include <stdlib.h>
 #include <string.h>
@@ -20,7 +20,7 @@ static void expect(int is_so, const char *what) {
 static void write_facts(const struct lexicon_triple *triple) {
   struct lexicon_triple_facts facts;
   char width[16];
-  expect(lexicon_facts(triple, &facts) == LEXICON_OK, "facts of a parsed triple");
+  expect(lexicon_facts(triple, &facts, sizeof facts) == LEXICON_OK, "facts of a parsed triple");
   snprintf(width, sizeof width, "%u", (unsigned)facts.pointer_width);
   printf(" %s %s %s %s", byte_orders[facts.endianness], facts.pointer_width ? width : "-", conventions[facts.default_calling_convention],
          models[facts.data_model]);

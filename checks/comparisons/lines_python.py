@@ -1,12 +1,12 @@
-"""The modes `print`, `show` and `settle` of the program `triples`, over the Python package `lexicon`.
+"""The modes `print`, `show` and `settle` of the program `triples`, over the Python package `target_lexicon`.
 
 usage: python3 lines_python.py print | show | settle < LINES
 
-Python must find the package, as by PYTHONPATH=bindings/python/src, and the package the library, as by LEXICON_LIBRARY.
+Python must find the package, as by PYTHONPATH=packages/python/src, and the package the library, as by TARGET_LEXICON_LIBRARY.
 """
 import sys
 
-from lexicon import ParseError, Triple
+from target_lexicon import ParseError, Triple
 
 
 def shown(triple):

@@ -15,24 +15,24 @@ class Report:
     def __init__(self, options, folder):
         self.asked, self.missing, self.failed, self.most = [], [], [], None if options.all else 5
         tree = options.tree
-        if not os.path.exists(f"{tree}/lib/liblexicon.so"):
+        if not os.path.exists(f"{tree}/lib/libtarget_lexicon.so"):
             tree = f"{folder}/tree"
-            subprocess.run([f"{built.ROOT}/rust/lexicon-c/install", tree], check=True, stdout=subprocess.DEVNULL)
-        os.environ["LEXICON_LIBRARY"] = f"{tree}/lib/liblexicon.so"
-        sys.path.insert(0, f"{built.ROOT}/bindings/python/src")
-        import lexicon
-        self.lexicon = lexicon
+            subprocess.run([f"{built.ROOT}/packages/c/install", tree], check=True, stdout=subprocess.DEVNULL)
+        os.environ["TARGET_LEXICON_LIBRARY"] = f"{tree}/lib/libtarget_lexicon.so"
+        sys.path.insert(0, f"{built.ROOT}/packages/python/src")
+        import target_lexicon
+        self.target_lexicon = target_lexicon
 
     def parsed(self, texts):
         """The triples of those strings that parse."""
-        keys = zip(texts, self.lexicon.settle_all(texts))
-        return {text: self.lexicon.Triple(text) for text, key in keys if key}
+        keys = zip(texts, self.target_lexicon.settle_all(texts))
+        return {text: self.target_lexicon.Triple(text) for text, key in keys if key}
 
     def read(self, name, dialect=None):
         """The triple that a name of a dialect means, or a string that is spelled like a triple; or None."""
         try:
-            return self.lexicon.Triple.read(name, dialect)
-        except self.lexicon.ParseError:
+            return self.target_lexicon.Triple.read(name, dialect)
+        except self.target_lexicon.ParseError:
             return None
 
     def has(self, name, there):

@@ -59,6 +59,16 @@ IsVersionRead text v = (is_dash_free text ≡ true) × IsVersionInRange v × (le
 pub length-version : (v : DeploymentTarget) → length (version_name v) ≡ length (decimal v.major) + length (decimal v.minor) + length (decimal v.patch) + 2
 length-version v = simp length-append (omega arith)
 
+pub version-short : (v : DeploymentTarget) → IsVersionInRange v → length (version_name v) ≤ 13
+version-short v (major, minor, patch) =
+    omega (
+      arith,
+      length-version v,
+      length-decimal-le 5 v.major (omega arith) (omega (arith, major)) (omega (arith, major)),
+      length-decimal-le 3 v.minor (omega arith) (omega (arith, minor)) (omega (arith, minor)),
+      length-decimal-le 3 v.patch (omega arith) (omega (arith, patch)) (omega (arith, patch)),
+    )
+
 pieces-read : (pieces : List (List ℕ)) (v : DeploymentTarget) → version_of_pieces pieces ≡ Some v → IsVersionRead (join_with_byte dot pieces) v
 pieces-read [] v is = absurd cc
 pieces-read (major ∷ []) v is =

@@ -111,11 +111,11 @@ architecture_aliases =
 
 -- end of what is written
 
--- each text that parses as an architecture, with the architecture
+-- each string that parses as an architecture, with the architecture
 abbrev pub architecture_texts : List (Pair Architecture)
 architecture_texts = architecture_aliases ++ named_values architecture_name architecture_values
 
--- the architecture that a text parses as, if any
+-- the architecture that a string parses as, if any
 unfoldable pub architecture_of : List ℕ → Option Architecture
 architecture_of text = value_named architecture_texts text
 
@@ -156,6 +156,6 @@ abbrev pub as_z80 : Architecture → Option Z80Architecture
 as_z80 (architecture.Z80 sub) = Some sub
 as_z80 _ = None
 
--- the sub-architecture that a text parses as: that of the architecture that it parses as
+-- the sub-architecture that a string parses as: that of the architecture that it parses as
 abbrev pub sub_architecture_of : {S : Type 0} → (Architecture → Option S) → List ℕ → Option S
 sub_architecture_of as_family text = option_and_then as_family (architecture_of text)

@@ -24,6 +24,6 @@ binary_format_values =
 
 -- end of what is written
 
--- the value that a text parses as, if any
+-- the value that a string parses as, if any
 unfoldable pub binary_format_of : List ℕ → Option BinaryFormat
 binary_format_of text = value_named (named_values binary_format_name binary_format_values) text

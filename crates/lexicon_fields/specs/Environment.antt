@@ -58,6 +58,6 @@ environment_values =
 
 -- end of what is written
 
--- the value that a text parses as, if any
+-- the value that a string parses as, if any
 unfoldable pub environment_of : List ℕ → Option Environment
 environment_of text = value_named (named_values environment_name environment_values) text

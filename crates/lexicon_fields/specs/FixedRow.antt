@@ -3,14 +3,14 @@ use Rattle.std.specs.Prelude.{◌≡◌, ℕ, Bool, true, ◌||◌, List, [], �
 use Rattle.lexicon_fields.specs.{declared.table.FixedRow.FixedRow, Architecture.architecture_of, Vendor.Known, Vendor.known_vendor_of, Vendor.vendor_of, Environment.environment_of}
 use Rattle.lexicon_fields.specs.{OperatingSystem.fixed_operating_system_of, OperatingSystem.operating_system_of, BinaryFormat.binary_format_of}
 
--- a text has a row if it parses as a value of some field other than a custom vendor or a Darwin-like system
+-- a string has a row if it parses as a value of some field other than a custom vendor or a Darwin-like system
 abbrev pub has_row : List ℕ → Bool
 has_row text =
     is_some (architecture_of text) || is_some (known_vendor_of text) || is_some (fixed_operating_system_of text)
     || is_some (environment_of text) || is_some (binary_format_of text)
 
--- the row of a text that has one: the text, and the value that it parses as in each field; the
--- text parses as no other vendor or system
+-- the row of a string that has one: the string, and the value that it parses as in each field; the
+-- string parses as no other vendor or system
 pub record IsRowOf (name : List ℕ) (row : FixedRow) : Type 0 where
   pub exists : has_row name ≡ true
   pub text : row.text.now ≡ name
@@ -22,7 +22,7 @@ pub record IsRowOf (name : List ℕ) (row : FixedRow) : Type 0 where
   pub no_other_vendor : option_map Known row.vendor ≡ vendor_of name
   pub no_other_operating_system : row.operating_system ≡ operating_system_of name
 
--- two rows have the same bytes as text, and the same value in each field
+-- two rows have the same string, and the same value in each field
 pub record HaveSameValues (x y : FixedRow) : Type 0 where
   pub text : x.text.now ≡ y.text.now
   pub architecture : x.architecture ≡ y.architecture
@@ -38,7 +38,7 @@ row_count = 192
 
 -- end of what is written
 
--- the texts that have a row, in the order of their bytes
+-- the strings that have a row, in the order of their bytes
 unfoldable pub row_texts : List (List ℕ)
 -- written by tools/names/write: row_texts
 row_texts =
@@ -67,6 +67,6 @@ row_texts =
 
 -- end of what is written
 
--- the text of row i
+-- the string of row i
 abbrev pub row_text : ℕ → List ℕ
 row_text i = slice_index_or row_texts i []

@@ -6,7 +6,7 @@ use Rattle.std.specs.declared.cmp.Ordering.{Ordering}
 use Rattle.lexicon_fields.specs.{declared.deployment_target.DeploymentTarget.DeploymentTarget, declared.operating_system.OperatingSystem.OperatingSystem, Names.is_dash_free}
 use Rattle.lexicon_fields.specs.OperatingSystem.{system_version}
 
--- each value of this kind parses back from its name, and neither such a name nor any text that parses as a value has
+-- each value of this kind parses back from its name, and neither such a name nor any string that parses as a value has
 -- a dash
 pub record NamesReadBackOn {V : Type 0} (IsOfKind : V → Type 0) (name : V → List ℕ) (find : List ℕ → Option V) : Type 0 where
   pub reads_back : (v : V) → IsOfKind v → find (name v) ≡ Some v
@@ -17,11 +17,11 @@ pub record NamesReadBackOn {V : Type 0} (IsOfKind : V → Type 0) (name : V → 
 abbrev pub NamesReadBack : {V : Type 0} → (V → List ℕ) → (List ℕ → Option V) → Type 0
 NamesReadBack {V} name find = NamesReadBackOn (λ (v : V). Unit {0}) name find
 
--- a text that parses as a value is its name
+-- a string that parses as a value is its name
 abbrev pub TextsAreNames : {V : Type 0} → (V → List ℕ) → (List ℕ → Option V) → Type 0
 TextsAreNames {V} name find = (text : List ℕ) (v : V) → find text ≡ Some v → name v ≡ text
 
--- the name of a value is at most this many bytes longer than a text that parses as it
+-- the name of a value is at most this many bytes longer than a string that parses as it
 abbrev pub NamesGrowAtMost : ℕ → {V : Type 0} → (V → List ℕ) → (List ℕ → Option V) → Type 0
 NamesGrowAtMost bytes {V} name find = (text : List ℕ) (v : V) → find text ≡ Some v → length (name v) ≤ length text + bytes
 

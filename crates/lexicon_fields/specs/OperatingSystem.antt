@@ -6,7 +6,7 @@ use Rattle.lexicon_fields.specs.{declared.deployment_target.DeploymentTarget.Dep
 use Rattle.lexicon_fields.specs.Version.{version_of, version_name}
 use Rattle.lexicon_fields.specs.declared.operating_system.OperatingSystem.TheVariants as operating_system
 
--- the text of an optional version after a prefix
+-- the string of an optional version after a prefix
 abbrev pub version_suffix : Option DeploymentTarget → List ℕ
 version_suffix None = []
 version_suffix (Some version) = version_name version
@@ -110,20 +110,20 @@ darwin_prefixes =
 
 -- end of what is written
 
--- the optional version that a text after a prefix is: `Some None` for no text, `None` for a text that is no version
+-- the optional version that a string after a prefix is: `Some None` for an empty one, `None` for one that is no version
 abbrev pub optional_version_of : List ℕ → Option (Option DeploymentTarget)
 optional_version_of [] = Some None
 optional_version_of (c ∷ cs) = option_map Some (version_of (c ∷ cs))
 
--- a system like Darwin by the text after its prefix
+-- a system like Darwin by the string after its prefix
 abbrev pub system_with_version : (Option DeploymentTarget → OperatingSystem) → List ℕ → Option OperatingSystem
 system_with_version operating_system text = option_map operating_system (optional_version_of text)
 
--- the text after a prefix, if the text begins with it
+-- the string after a prefix, if the string begins with it
 abbrev pub text_after_prefix : List ℕ → List ℕ → Option (List ℕ)
 text_after_prefix prefix text = if starts_with nat_eq text prefix then Some (drop (length prefix) text) else None
 
--- the system like Darwin that a text parses as, by the first of these prefixes that gives one
+-- the system like Darwin that a string parses as, by the first of these prefixes that gives one
 abbrev pub darwin_like_system : List (Pair (Option DeploymentTarget → OperatingSystem)) → List ℕ → Option OperatingSystem
 darwin_like_system [] text = None
 darwin_like_system (row ∷ rows) text = option_or (option_and_then (system_with_version row.1) (text_after_prefix row.0 text)) (darwin_like_system rows text)
@@ -132,6 +132,6 @@ darwin_like_system (row ∷ rows) text = option_or (option_and_then (system_with
 unfoldable pub fixed_operating_system_of : List ℕ → Option OperatingSystem
 fixed_operating_system_of text = value_named (named_values operating_system_name fixed_operating_systems) text
 
--- the value that a text parses as, if any
+-- the value that a string parses as, if any
 unfoldable pub operating_system_of : List ℕ → Option OperatingSystem
 operating_system_of text = option_or (fixed_operating_system_of text) (darwin_like_system darwin_prefixes text)

@@ -1,4 +1,4 @@
--- Version texts, such as `10.14.6` in `macosx10.14.6`.
+-- Version strings, such as `10.14.6` in `macosx10.14.6`.
 use Rattle.std.specs.Prelude.{ℕ, ◌==◌, ◌∷◌, ◌++◌, nat_lt, nat_le, ◌&&◌, List, [], length, Option, Some, None, if◌then◌else◌}
 use Rattle.std.specs.Char.{is_ascii_digit}
 use Rattle.std.specs.List.{list_all, slice_split}
@@ -33,11 +33,11 @@ version_of_pieces (major ∷ minor ∷ []) = version_of_numbers (piece_number_wi
 version_of_pieces (major ∷ minor ∷ patch ∷ []) = version_of_numbers (piece_number_within 65535 major) (piece_number_within 255 minor) (piece_number_within 255 patch)
 version_of_pieces _ = None
 
--- the pieces of a text between its dots
+-- the pieces of a string between its dots
 abbrev pub pieces_of : List ℕ → List (List ℕ)
 pieces_of text = slice_split (λ c. c == dot) text
 
--- the version that a text parses as, if any
+-- the version that a string parses as, if any
 unfoldable pub version_of : List ℕ → Option DeploymentTarget
 version_of text = version_of_pieces (pieces_of text)
 

@@ -4,7 +4,7 @@ ghost use Rattle.std.specs.Prelude.{◌≡◌, ◌↔◌, IsErr, Some};
 ghost use Rattle.std.specs.Cow.{cow_str_bytes, IsBorrowedStr};
 ghost use Rattle.lexicon_fields.specs.Names.{MatchesLookup};
 ghost use Rattle.lexicon_fields.specs.Architecture.{architecture_name, architecture_of};
-ghost use Rattle.lexicon_fields.specs.ArchitectureQueries.{architecture_endianness, architecture_width, is_clever};
+ghost use Rattle.lexicon_fields.specs.ArchitectureQueries as queries;
 
 mod aarch64;
 mod arm;
@@ -143,7 +143,7 @@ impl Architecture {
     /// assert_eq!(Architecture::Unknown.endianness(), Err(()));
     /// ```
     pub fn endianness(self) -> Result<Endianness, ()>
-        ensures answer { MatchesLookup (architecture_endianness self) result }
+        ensures answer { MatchesLookup (queries.architecture_endianness self) result }
         ensures refusal { IsErr result ↔ (self ≡ Architecture.Unknown) }
     {
         match self {
@@ -199,7 +199,7 @@ impl Architecture {
     /// assert_eq!(Architecture::Avr.pointer_width(), Ok(PointerWidth::U16));
     /// ```
     pub fn pointer_width(self) -> Result<PointerWidth, ()>
-        ensures answer { MatchesLookup (architecture_width self) result }
+        ensures answer { MatchesLookup (queries.architecture_width self) result }
         ensures refusal { IsErr result ↔ (self ≡ Architecture.Unknown) }
     {
         Ok(match self {
@@ -251,13 +251,12 @@ impl Architecture {
     /// assert!(Architecture::Clever(CleverArchitecture::Clever).is_clever());
     /// ```
     pub fn is_clever(&self) -> bool
-        ensures { result ≡ is_clever self.now }
+        ensures { result ≡ queries.is_clever self.now }
     {
         matches!(self, Architecture::Clever(_))
     }
 
-    /// The value with this name; `arm64` is an alias of `aarch64`. `Err` for every other text.
-    #[tactic(auto, using(crate::proofs::RowLemmas::no_name_without_row))]
+    /// The value with this name; `arm64` is an alias of `aarch64`. `Err` for every other string.
     pub fn from_str(s: &str) -> Result<Self, ()>
         ensures { MatchesLookup (architecture_of s.now) result }
     {

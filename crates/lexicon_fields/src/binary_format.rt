@@ -47,7 +47,6 @@ impl BinaryFormat {
     }
 
     /// The binary format with the name `s`; `Err` if there is none.
-    #[tactic(auto, using(crate::proofs::RowLemmas::no_name_without_row))]
     pub fn from_str(s: &str) -> Result<Self, ()>
         ensures { MatchesLookup (binary_format_of s.now) result }
     {

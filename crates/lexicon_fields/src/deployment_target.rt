@@ -2,7 +2,7 @@
 ghost use Rattle.std.specs.Prelude.{◌≡◌, ◌+◌, ◌≤◌, ◌∷◌, length};
 ghost use Rattle.std.specs.Fmt.{decimal};
 ghost use Rattle.lexicon_fields.specs.Put.{Puts};
-ghost use Rattle.lexicon_fields.specs.Version.{dot, version_of, version_name, pieces_of};
+ghost use Rattle.lexicon_fields.specs.Version as spec;
 ghost use Rattle.lexicon_fields.specs.Private.{remaining_pieces};
 
 use crate::decimal::{put_byte, put_decimal};
@@ -36,7 +36,7 @@ impl DeploymentTarget {
     /// The version that the string parses as, if any: one to three pieces between dots, each an optional plus and
     /// digits.
     pub fn from_text(text: &str) -> Option<DeploymentTarget>
-        ensures { result ≡ version_of text.now }
+        ensures { result ≡ spec.version_of text.now }
     {
         let (major, rest) = first_piece(text);
         let Ok(major) = major.parse::<u16>() else {
@@ -77,7 +77,7 @@ impl DeploymentTarget {
 
 /// The string up to the first dot, and the string after it.
 fn first_piece(text: &str) -> (&str, Option<&str>)
-    ensures { pieces_of text.now ≡ result.0.now ∷ remaining_pieces result.1 }
+    ensures { spec.pieces_of text.now ≡ result.0.now ∷ remaining_pieces result.1 }
 {
     match text.split_once('.') {
         Some((piece, rest)) => (piece, Some(rest)),
@@ -87,7 +87,7 @@ fn first_piece(text: &str) -> (&str, Option<&str>)
 
 /// A version in decimal, `major.minor.patch`, written into a buffer that has room for the longest.
 pub fn version_text(version: DeploymentTarget, buffer: &mut [u8; MAX_VERSION_LENGTH]) -> &str
-    ensures text { result.now ≡ version_name version }
+    ensures text { result.now ≡ spec.version_name version }
     ensures bound { length result.now ≤ 13 }
 {
     let end = put_version(buffer, 0, version);
@@ -101,8 +101,8 @@ pub fn version_text(version: DeploymentTarget, buffer: &mut [u8; MAX_VERSION_LEN
 
 /// Writes a version, as [`put_byte`] writes a byte.
 fn put_version(out: &mut [u8], at: usize, version: DeploymentTarget) -> usize
-    requires { at + length (version_name version) ≤ length out.old }
-    ensures { Puts (version_name version) out.old at out.new result }
+    requires { at + length (spec.version_name version) ≤ length out.old }
+    ensures { Puts (spec.version_name version) out.old at out.new result }
 {
     let at = put_decimal(out, at, usize::from(version.major));
     let at = put_dotted(out, at, version.minor);
@@ -111,8 +111,8 @@ fn put_version(out: &mut [u8], at: usize, version: DeploymentTarget) -> usize
 
 /// Writes a dot and a number, as [`put_byte`] writes a byte.
 fn put_dotted(out: &mut [u8], at: usize, n: u8) -> usize
-    requires { at + length (dot ∷ decimal n) ≤ length out.old }
-    ensures { Puts (dot ∷ decimal n) out.old at out.new result }
+    requires { at + length (spec.dot ∷ decimal n) ≤ length out.old }
+    ensures { Puts (spec.dot ∷ decimal n) out.old at out.new result }
 {
     let at = put_byte(out, at, b'.');
     put_decimal(out, at, usize::from(n))

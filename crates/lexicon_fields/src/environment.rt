@@ -105,7 +105,6 @@ impl Environment {
     }
 
     /// The environment with the name `s`; `Err` if there is none.
-    #[tactic(auto, using(crate::proofs::RowLemmas::no_name_without_row))]
     pub fn from_str(s: &str) -> Result<Self, ()>
         ensures { MatchesLookup (environment_of s.now) result }
     {

@@ -66,7 +66,6 @@ pub fn names_grow_at_most()
 {}
 
 /// No name has more than 21 bytes, except the string of a custom vendor.
-#[tactic(auto, using(crate::proofs::NameLengths::architectures_are_short, crate::proofs::NameLengths::known_vendors_are_short, crate::proofs::NameLengths::operating_systems_are_short, crate::proofs::NameLengths::environments_are_short, crate::proofs::NameLengths::binary_formats_are_short))]
 pub fn names_are_short()
     ensures architecture { NamesAreShort architecture_name }
     ensures vendor { NamesAreShort known_vendor_name }
@@ -77,8 +76,7 @@ pub fn names_are_short()
     ensures binary_format { NamesAreShort binary_format_name }
 {}
 
-/// A text that is put after another follows it, and one that is put at the start of a buffer is all that is there.
-#[tactic(auto, using(crate::proofs::Puts::puts_first, crate::proofs::Puts::puts_then))]
+/// A string that is put after another follows it, and one that is put at the start of a buffer is all that is there.
 pub fn texts_are_put_in_order()
     ensures first { (x old now : List ℕ) (end : ℕ) →
         Puts x old 0 now end →
@@ -90,7 +88,6 @@ pub fn texts_are_put_in_order()
 {}
 
 /// The version of each system that a string parses as is in range.
-#[tactic(auto, using(crate::proofs::ParsedSystems::version_in_range))]
 pub fn read_versions_are_in_range()
     ensures { (text : List ℕ) (s : OperatingSystem) →
         operating_system_of text ≡ Some s →

@@ -5,8 +5,8 @@ ghost use Rattle.std.specs.Cow.{cow_str_bytes, IsBorrowedStr};
 ghost use Rattle.lexicon_fields.specs.FixedRow.{has_row};
 ghost use Rattle.lexicon_fields.specs.Names.{MatchesLookup};
 ghost use Rattle.lexicon_fields.specs.Version.{version_name};
-ghost use Rattle.lexicon_fields.specs.Private.{version_after, first_system};
-ghost use Rattle.lexicon_fields.specs.OperatingSystem.{operating_system_name, operating_system_of, system_version, version_suffix, optional_version_of, darwin_like_system, darwin_prefixes, is_like_darwin};
+ghost use Rattle.lexicon_fields.specs.Private as private;
+ghost use Rattle.lexicon_fields.specs.OperatingSystem as spec;
 
 use crate::deployment_target::{DeploymentTarget, MAX_VERSION_LENGTH, version_text};
 use crate::steps::Steps;
@@ -128,7 +128,7 @@ impl OperatingSystem {
     /// A string is a fixed name, or the prefix of a system like Darwin with nothing or a version after it: one to three
     /// pieces between dots, each an optional plus and digits, the first at most 65535, the others at most 255.
     pub fn from_str(s: &str) -> Result<Self, ()>
-        ensures { MatchesLookup (operating_system_of s.now) result }
+        ensures { MatchesLookup (spec.operating_system_of s.now) result }
     {
         match OperatingSystem::parse_darwin_like(s) {
             Some(system) => Ok(system),
@@ -141,10 +141,9 @@ impl OperatingSystem {
 
     /// The system like Darwin that the string parses as, if any: one with an optional version. Most other strings are
     /// refused by their first letter.
-    #[tactic(auto, using(crate::proofs::RowLemmas::without_row_is_darwin_like))]
     pub(crate) fn parse_darwin_like(s: &str) -> Option<Self>
-        ensures like { result ≡ darwin_like_system darwin_prefixes s.now }
-        ensures without_row { has_row s.now ≡ false → result ≡ operating_system_of s.now }
+        ensures like { result ≡ spec.darwin_like_system spec.darwin_prefixes s.now }
+        ensures without_row { has_row s.now ≡ false → result ≡ spec.operating_system_of s.now }
     {
         match s.as_bytes().first() {
             // written by tools/names/write: the first letters of systems like Darwin
@@ -158,7 +157,7 @@ impl OperatingSystem {
     /// The system like Darwin with whose prefix the string begins. The rest of the string must be empty or a version.
     #[inline(never)]
     fn parse_by_prefix(s: &str) -> Option<Self>
-        ensures { result ≡ first_system darwin_prefixes s.now }
+        ensures { result ≡ private.first_system spec.darwin_prefixes s.now }
     {
         // written by tools/names/write: the prefixes of systems like Darwin
         if let Some(version) = version_after("darwin", s) {
@@ -189,8 +188,8 @@ impl OperatingSystem {
     /// The name of this system. Without a version it is borrowed; with one it is allocated, and `Err` says that the
     /// allocation failed.
     pub fn into_str(self, alloc: Global) -> Result<CowStr<'static>, AllocError>
-        ensures name { IfOk result (λ text. cow_str_bytes text ≡ operating_system_name self) }
-        ensures borrowed { IsNone (system_version self) → IsOkAnd result IsBorrowedStr }
+        ensures name { IfOk result (λ text. cow_str_bytes text ≡ spec.operating_system_name self) }
+        ensures borrowed { IsNone (spec.system_version self) → IsOkAnd result IsBorrowedStr }
     {
         match self.version() {
             None => Ok(CowStr::Borrowed(self.prefix())),
@@ -209,7 +208,7 @@ impl OperatingSystem {
     /// assert!(!OperatingSystem::Linux.is_like_darwin());
     /// ```
     pub fn is_like_darwin(&self) -> bool
-        ensures { result ≡ is_like_darwin self.now }
+        ensures { result ≡ spec.is_like_darwin self.now }
     {
         matches!(
             self,
@@ -234,7 +233,8 @@ impl OperatingSystem {
     /// assert_eq!(system.prefix(), "ios");
     /// ```
     pub fn prefix(self) -> &'static str
-        ensures { result.now ++ version_suffix (system_version self) ≡ operating_system_name self }
+        ensures { result.now ++ spec.version_suffix (spec.system_version self)
+            ≡ spec.operating_system_name self }
     {
         match self {
             // written by tools/names/write: the names of OperatingSystem
@@ -293,7 +293,7 @@ impl OperatingSystem {
     /// assert_eq!(system.version().map(|it| (it.major, it.minor, it.patch)), Some((17, 2, 0)));
     /// ```
     pub fn version(self) -> Option<DeploymentTarget>
-        ensures { result ≡ system_version self }
+        ensures { result ≡ spec.system_version self }
     {
         match self {
             // written by tools/names/write: the versions of systems like Darwin
@@ -314,14 +314,14 @@ impl OperatingSystem {
 /// or if what follows is no version.
 #[inline(always)]
 fn version_after(prefix: &str, text: &str) -> Option<Option<DeploymentTarget>>
-    ensures { result ≡ version_after prefix.now text.now }
+    ensures { result ≡ private.version_after prefix.now text.now }
 {
     optional_version_of(text.strip_prefix(prefix)?)
 }
 
 /// The version after a prefix: `Some(None)` if nothing follows, `None` if what follows is no version.
 fn optional_version_of(rest: &str) -> Option<Option<DeploymentTarget>>
-    ensures { result ≡ optional_version_of rest.now }
+    ensures { result ≡ spec.optional_version_of rest.now }
 {
     if rest.is_empty() {
         return Some(None);
@@ -335,7 +335,7 @@ fn optional_version_of(rest: &str) -> Option<Option<DeploymentTarget>>
 impl FromStr for OperatingSystem {
     type Err = ();
 
-    ghost from_str_gives = { λ s. MatchesLookup (operating_system_of s) };
+    ghost from_str_gives = { λ s. MatchesLookup (spec.operating_system_of s) };
 
     fn from_str(s: &str) -> Result<OperatingSystem, ()> {
         OperatingSystem::from_str(s)
@@ -343,9 +343,9 @@ impl FromStr for OperatingSystem {
 }
 
 impl fmt::Display for OperatingSystem {
-    ghost output = { λ it. Some (operating_system_name it) };
+    ghost output = { λ it. Some (spec.operating_system_name it) };
 
-    ghost styled_output = { λ it _. Some (operating_system_name it) };
+    ghost styled_output = { λ it _. Some (spec.operating_system_name it) };
 
     fn fmt<W: fmt::Write>(&self, f: &mut fmt::Formatter<W>) -> fmt::Result {
         f.write_str(self.prefix())?;

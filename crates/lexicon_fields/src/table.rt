@@ -2,8 +2,9 @@
 ghost use Rattle.std.specs.Prelude.{◌≡◌, ◌+◌, ◌<◌, ◌≤◌, true, false, length, map, MatchOption};
 ghost use Rattle.std.specs.Cmp.Lexicographic.{slice_cmp};
 ghost use Rattle.std.specs.Ordering.{nat_cmp};
-ghost use Rattle.lexicon_fields.specs.FixedRow.{has_row, IsRowOf, row_count, row_text, row_texts};
-ghost use Rattle.lexicon_fields.specs.Private.{name_values, prefix_key_of, row_values, values_meant};
+ghost use Rattle.lexicon_fields.specs.FixedRow as spec;
+ghost use Rattle.lexicon_fields.specs.FixedRow.{IsRowOf};
+ghost use Rattle.lexicon_fields.specs.Private as private;
 
 use crate::architecture::{
     Aarch64Architecture, Architecture, ArmArchitecture, CleverArchitecture, Mips32Architecture,
@@ -55,7 +56,7 @@ type Row = (&'static str, u64, Meaning);
 /// `steps` ticks once for each row that is compared with the string: at least once, and at most eight times.
 #[inline(always)]
 pub fn fixed_row(text: &str, steps: &mut Steps) -> Option<FixedRow>
-    ensures row { MatchOption result (has_row text.now ≡ false) (IsRowOf text.now) }
+    ensures row { MatchOption result (spec.has_row text.now ≡ false) (IsRowOf text.now) }
     ensures counted { steps.old.count < steps.new.count }
     ensures few { steps.new.count ≤ steps.old.count + 8 }
 {
@@ -67,8 +68,8 @@ pub fn fixed_row(text: &str, steps: &mut Steps) -> Option<FixedRow>
 
 /// The number of the string's row, counted from 0.
 fn row_number(text: &str, steps: &mut Steps) -> Option<usize>
-    ensures row { MatchOption result (has_row text.now ≡ false)
-        (λ i. (i < row_count) × (row_text i ≡ text.now)) }
+    ensures row { MatchOption result (spec.has_row text.now ≡ false)
+        (λ i. (i < spec.row_count) × (spec.row_text i ≡ text.now)) }
     ensures counted { steps.old.count < steps.new.count }
     ensures few { steps.new.count ≤ steps.old.count + 8 }
 {
@@ -89,8 +90,8 @@ fn row_number(text: &str, steps: &mut Steps) -> Option<usize>
 /// The order by bytes of the string of row `i`, counted from 0, relative to `text`. `steps` ticks once.
 #[inline(always)]
 pub fn row_order(i: usize, text: &str, steps: &mut Steps) -> Ordering
-    requires { i < row_count }
-    ensures order { result ≡ slice_cmp nat_cmp (row_text i) text.now }
+    requires { i < spec.row_count }
+    ensures order { result ≡ slice_cmp nat_cmp (spec.row_text i) text.now }
     ensures count { steps.new.count ≡ steps.old.count + 1 }
 {
     steps.tick();
@@ -103,8 +104,8 @@ pub fn row_order(i: usize, text: &str, steps: &mut Steps) -> Ordering
 /// The order by bytes of two strings with these prefix keys.
 #[inline(always)]
 fn order(own_key: u64, own: &str, key: u64, text: &str) -> Ordering
-    requires own { own_key ≡ prefix_key_of 8 own.now }
-    requires text { key ≡ prefix_key_of 8 text.now }
+    requires own { own_key ≡ private.prefix_key_of 8 own.now }
+    requires text { key ≡ private.prefix_key_of 8 text.now }
     ensures { result ≡ slice_cmp nat_cmp own.now text.now }
 {
     // branches, since a line takes a tenth more instructions if this is `own_key.cmp(&key)`
@@ -127,7 +128,7 @@ fn order(own_key: u64, own: &str, key: u64, text: &str) -> Ordering
 /// The prefix key of a string: its first eight bytes as a big-endian number, in which a missing byte is zero.
 #[inline(never)]
 fn prefix_key(text: &str) -> u64
-    ensures { result ≡ prefix_key_of 8 text.now }
+    ensures { result ≡ private.prefix_key_of 8 text.now }
 {
     let bytes = text.as_bytes();
     if let Some(eight) = bytes.first_chunk::<8>() {
@@ -145,7 +146,7 @@ fn prefix_key(text: &str) -> u64
 /// The prefix key of at most three bytes.
 fn prefix_key_of_few(bytes: &[u8]) -> u64
     requires { length bytes.now < 4 }
-    ensures { result ≡ prefix_key_of 8 bytes.now }
+    ensures { result ≡ private.prefix_key_of 8 bytes.now }
 {
     match bytes {
         [a, b, c] => u64::from_be_bytes([*a, *b, *c, 0, 0, 0, 0, 0]),
@@ -159,7 +160,7 @@ fn prefix_key_of_few(bytes: &[u8]) -> u64
 #[inline(always)]
 fn with_values(row: Row) -> FixedRow
     ensures text { result.text.now ≡ row.entry.0.now }
-    ensures values { row_values result ≡ values_meant row.entry.2 }
+    ensures values { private.row_values result ≡ private.values_meant row.entry.2 }
 {
     let (text, _, meaning) = row;
     let none = FixedRow {
@@ -209,19 +210,20 @@ fn with_values(row: Row) -> FixedRow
 
 /// Row `i`, counted from 0.
 fn row_at(i: usize) -> Row
-    requires { i < row_count }
-    ensures text { result.0.now ≡ row_text i }
-    ensures prefix_key { result.1 ≡ prefix_key_of 8 (row_text i) }
-    ensures meaning { values_meant result.2 ≡ name_values (row_text i) }
+    requires { i < spec.row_count }
+    ensures text { result.0.now ≡ spec.row_text i }
+    ensures prefix_key { result.1 ≡ private.prefix_key_of 8 (spec.row_text i) }
+    ensures meaning { private.values_meant result.2 ≡ private.name_values (spec.row_text i) }
 {
     rows()[i]
 }
 
 /// The whole table.
 fn rows() -> &'static [Row]
-    ensures texts { map (λ r. r.0.now) result.now ≡ row_texts }
-    ensures prefix_keys { map (λ r. r.1) result.now ≡ map (prefix_key_of 8) row_texts }
-    ensures meanings { map (λ r. values_meant r.2) result.now ≡ map name_values row_texts }
+    ensures texts { map (λ r. r.0.now) result.now ≡ spec.row_texts }
+    ensures prefix_keys { map (λ r. r.1) result.now ≡ map (private.prefix_key_of 8) spec.row_texts }
+    ensures meanings { map (λ r. private.values_meant r.2) result.now
+        ≡ map private.name_values spec.row_texts }
 {
     &ROWS
 }

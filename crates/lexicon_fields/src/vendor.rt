@@ -5,7 +5,8 @@ ghost use Rattle.std.specs.Cmp.{on_per, on_equiv};
 ghost use Rattle.std.specs.Cmp.Lexicographic.{pointwise, nat_list_eq_equiv, bytes_decides};
 ghost use Rattle.std.specs.Hash as fed;
 ghost use Rattle.std.specs.Hash.{on_Alike, same_Alike};
-ghost use Rattle.lexicon_fields.specs.Vendor.{custom_text, is_owned, owns_text, vendor_value, vendor_name, vendor_of, is_admitted, is_plain, IsVendorErrorOf};
+ghost use Rattle.lexicon_fields.specs.Vendor as spec;
+ghost use Rattle.lexicon_fields.specs.Vendor.{IsVendorErrorOf};
 
 use crate::vendor_ref::VendorRef;
 use std::alloc::{AllocError, Global};
@@ -39,7 +40,7 @@ impl CustomVendor {
     /// assert_eq!(target_lexicon::CustomVendor::Static("acme").as_str(), "acme");
     /// ```
     pub fn as_str(&self) -> &str
-        ensures { result.now ≡ custom_text self.now }
+        ensures { result.now ≡ spec.custom_text self.now }
     {
         match self {
             CustomVendor::Owned(text) => text.as_str(),
@@ -49,9 +50,9 @@ impl CustomVendor {
 
     /// A copy of the same variant: it owns its string if this one does. `Err` if the allocation for that string fails.
     pub fn clone(&self, alloc: Global) -> Result<Self, AllocError>
-        ensures text { IfOk result (λ copy. custom_text copy ≡ custom_text self.now) }
-        ensures variant { IfOk result (λ copy. is_owned copy ≡ is_owned self.now) }
-        ensures succeeds { is_owned self.now ≡ false → IsOk result }
+        ensures text { IfOk result (λ copy. spec.custom_text copy ≡ spec.custom_text self.now) }
+        ensures variant { IfOk result (λ copy. spec.is_owned copy ≡ spec.is_owned self.now) }
+        ensures succeeds { spec.is_owned self.now ≡ false → IsOk result }
     {
         match self {
             CustomVendor::Owned(text) => CustomVendor::owned_copy(alloc, text.as_str()),
@@ -61,8 +62,8 @@ impl CustomVendor {
 
     /// A custom vendor that owns a copy of the string.
     pub(crate) fn owned_copy(alloc: Global, text: &str) -> Result<Self, AllocError>
-        ensures text { IfOk result (λ custom. custom_text custom ≡ text.now) }
-        ensures owned { IfOk result (λ custom. is_owned custom ≡ true) }
+        ensures text { IfOk result (λ custom. spec.custom_text custom ≡ text.now) }
+        ensures owned { IfOk result (λ custom. spec.is_owned custom ≡ true) }
     {
         let copy = String::from_str(alloc, text)?;
         Ok(CustomVendor::Owned(Box::new(alloc, copy)?))
@@ -70,9 +71,9 @@ impl CustomVendor {
 }
 
 impl PartialEq for CustomVendor {
-    ghost eq = { λ x y. pointwise nat_eq (custom_text x) (custom_text y) };
+    ghost eq = { λ x y. pointwise nat_eq (spec.custom_text x) (spec.custom_text y) };
 
-    ghost laws = { on_per custom_text (Cmp.partial_equiv_from_equiv nat_list_eq_equiv) };
+    ghost laws = { on_per spec.custom_text (Cmp.partial_equiv_from_equiv nat_list_eq_equiv) };
 
     fn eq(&self, other: &Self) -> bool {
         self.as_str() == other.as_str()
@@ -80,13 +81,13 @@ impl PartialEq for CustomVendor {
 }
 
 impl Eq for CustomVendor {
-    ghost laws = { on_equiv custom_text nat_list_eq_equiv };
+    ghost laws = { on_equiv spec.custom_text nat_list_eq_equiv };
 }
 
 impl Hash for CustomVendor {
-    ghost hash_input = { λ custom. fed.str (custom_text custom) };
+    ghost hash_input = { λ custom. fed.str (spec.custom_text custom) };
 
-    ghost respects_eq = { (on_Alike custom_text (same_Alike fed.str bytes_decides)).fed };
+    ghost respects_eq = { (on_Alike spec.custom_text (same_Alike fed.str bytes_decides)).fed };
 
     fn hash<H: Hasher>(&self, state: &mut H) {
         self.as_str().hash(state);
@@ -162,8 +163,9 @@ impl Vendor {
     /// - [`VendorError::Unrecognized`] for every other string.
     /// - [`VendorError::OutOfMemory`] if the allocation for an admitted string fails.
     pub fn from_str(alloc: Global, s: &str) -> Result<Self, VendorError>
-        ensures ok { IfOk result (λ vendor. vendor_of s.now ≡ Some (vendor_value vendor)) }
-        ensures owned { IfOk result (λ vendor. owns_text vendor ≡ is_admitted s.now) }
+        ensures ok { IfOk result
+            (λ vendor. spec.vendor_of s.now ≡ Some (spec.vendor_value vendor)) }
+        ensures owned { IfOk result (λ vendor. spec.owns_text vendor ≡ spec.is_admitted s.now) }
         ensures err { IfErr result (IsVendorErrorOf s.now) }
     {
         match VendorRef::from_str(s) {
@@ -183,7 +185,7 @@ impl Vendor {
     /// assert_eq!(target_lexicon::Vendor::Nvidia.as_str(), "nvidia");
     /// ```
     pub fn as_str(&self) -> &str
-        ensures { result.now ≡ vendor_name (vendor_value self.now) }
+        ensures { result.now ≡ spec.vendor_name (spec.vendor_value self.now) }
     {
         self.as_vendor_ref().as_str()
     }
@@ -200,16 +202,16 @@ impl Vendor {
     /// assert!(!Vendor::Custom(CustomVendor::Static("linux")).is_plain());
     /// ```
     pub fn is_plain(&self) -> bool
-        ensures { result ≡ is_plain (vendor_value self.now) }
+        ensures { result ≡ spec.is_plain (spec.vendor_value self.now) }
     {
         self.as_vendor_ref().is_plain()
     }
 
     /// A copy of the same variant: it owns its string if this one does. `Err` if the allocation for that string fails.
     pub fn clone(&self, alloc: Global) -> Result<Self, AllocError>
-        ensures value { IfOk result (λ copy. vendor_value copy ≡ vendor_value self.now) }
-        ensures variant { IfOk result (λ copy. owns_text copy ≡ owns_text self.now) }
-        ensures succeeds { owns_text self.now ≡ false → IsOk result }
+        ensures value { IfOk result (λ copy. spec.vendor_value copy ≡ spec.vendor_value self.now) }
+        ensures variant { IfOk result (λ copy. spec.owns_text copy ≡ spec.owns_text self.now) }
+        ensures succeeds { spec.owns_text self.now ≡ false → IsOk result }
     {
         match self {
             Vendor::Custom(custom) => Ok(Vendor::Custom(custom.clone(alloc)?)),
@@ -219,9 +221,9 @@ impl Vendor {
 }
 
 impl fmt::Display for Vendor {
-    ghost output = { λ it. Some (vendor_name (vendor_value it)) };
+    ghost output = { λ it. Some (spec.vendor_name (spec.vendor_value it)) };
 
-    ghost styled_output = { λ it _. Some (vendor_name (vendor_value it)) };
+    ghost styled_output = { λ it _. Some (spec.vendor_name (spec.vendor_value it)) };
 
     fn fmt<W: fmt::Write>(&self, f: &mut fmt::Formatter<W>) -> fmt::Result {
         f.write_str(self.as_str())

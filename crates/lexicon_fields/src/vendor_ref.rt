@@ -1,7 +1,8 @@
 //! The vendors, of which a custom one borrows its string.
 ghost use Rattle.std.specs.Prelude.{◌≡◌, None, Some, IfOk, OnErr};
 ghost use Rattle.std.specs.List.{list_all};
-ghost use Rattle.lexicon_fields.specs.Vendor.{IsCustom, OwnsCustomText, is_custom, is_plain, has_vendor_form, is_vendor_character, vendor_name, vendor_of, vendor_value};
+ghost use Rattle.lexicon_fields.specs.Vendor as spec;
+ghost use Rattle.lexicon_fields.specs.Vendor.{IsCustom, OwnsCustomText};
 ghost use Rattle.lexicon_fields.specs.VendorRef.{ref_value};
 
 use crate::known_vendor::KnownVendor;
@@ -41,8 +42,9 @@ impl<'a> VendorRef<'a> {
     /// assert_eq!(VendorRef::from_str("ACME"), Err(()));
     /// ```
     pub fn from_str(text: &'a str) -> Result<VendorRef<'a>, ()>
-        ensures ok { IfOk result (λ vendor. vendor_of text.entry.now ≡ Some (ref_value vendor)) }
-        ensures err { OnErr result (vendor_of text.entry.now ≡ None) }
+        ensures ok { IfOk result
+            (λ vendor. spec.vendor_of text.entry.now ≡ Some (ref_value vendor)) }
+        ensures err { OnErr result (spec.vendor_of text.entry.now ≡ None) }
     {
         match fixed_row(text, &mut Steps::new()) {
             Some(row) => match row.vendor {
@@ -67,7 +69,7 @@ impl<'a> VendorRef<'a> {
     /// assert_eq!(target_lexicon::VendorRef::Custom("acme").as_str(), "acme");
     /// ```
     pub fn as_str(&self) -> &'a str
-        ensures { result.now ≡ vendor_name (ref_value self.now) }
+        ensures { result.now ≡ spec.vendor_name (ref_value self.now) }
     {
         match *self {
             VendorRef::Known(known) => known.as_str(),
@@ -86,7 +88,7 @@ impl<'a> VendorRef<'a> {
     /// assert!(!VendorRef::Custom("linux").is_plain());
     /// ```
     pub fn is_plain(&self) -> bool
-        ensures { result ≡ is_plain (ref_value self.now) }
+        ensures { result ≡ spec.is_plain (ref_value self.now) }
     {
         match *self {
             VendorRef::Known(_) => true,
@@ -109,14 +111,14 @@ impl<'a> VendorRef<'a> {
     /// assert!(!VendorRef::from_str("apple").unwrap().is_custom());
     /// ```
     pub fn is_custom(&self) -> bool
-        ensures { result ≡ is_custom (ref_value self.now) }
+        ensures { result ≡ spec.is_custom (ref_value self.now) }
     {
         matches!(self, VendorRef::Custom(_))
     }
 
     /// The same vendor, of which a custom one owns a copy of its string. `Err` if the allocation for that string fails.
     pub fn to_vendor(&self, alloc: Global) -> Result<Vendor, AllocError>
-        ensures value { IfOk result (λ vendor. vendor_value vendor ≡ ref_value self.now) }
+        ensures value { IfOk result (λ vendor. spec.vendor_value vendor ≡ ref_value self.now) }
         ensures owned { IfOk result OwnsCustomText }
         ensures memory { OnErr result (IsCustom (ref_value self.now)) }
     {
@@ -138,7 +140,7 @@ impl Vendor {
     /// assert_eq!(Vendor::Custom(CustomVendor::Static("acme")).as_vendor_ref(), VendorRef::Custom("acme"));
     /// ```
     pub fn as_vendor_ref(&self) -> VendorRef<'_>
-        ensures { ref_value result ≡ vendor_value self.now }
+        ensures { ref_value result ≡ spec.vendor_value self.now }
     {
         match self {
             // written by tools/names/write: each Vendor as a VendorRef
@@ -164,9 +166,9 @@ impl Vendor {
 }
 
 impl<'a> fmt::Display for VendorRef<'a> {
-    ghost output = { λ it. Some (vendor_name (ref_value it)) };
+    ghost output = { λ it. Some (spec.vendor_name (ref_value it)) };
 
-    ghost styled_output = { λ it _. Some (vendor_name (ref_value it)) };
+    ghost styled_output = { λ it _. Some (spec.vendor_name (ref_value it)) };
 
     fn fmt<W: fmt::Write>(&self, f: &mut fmt::Formatter<W>) -> fmt::Result {
         f.write_str(self.as_str())
@@ -175,7 +177,7 @@ impl<'a> fmt::Display for VendorRef<'a> {
 
 /// Whether the string begins with a lower-case letter and has only characters of a vendor.
 fn has_vendor_form(s: &str) -> bool
-    ensures { result ≡ has_vendor_form s.now }
+    ensures { result ≡ spec.has_vendor_form s.now }
 {
     match s.as_bytes().split_first() {
         None => false,
@@ -184,13 +186,13 @@ fn has_vendor_form(s: &str) -> bool
 }
 
 fn are_vendor_characters(bytes: &[u8]) -> bool
-    ensures { result ≡ list_all is_vendor_character bytes.now }
+    ensures { result ≡ list_all spec.is_vendor_character bytes.now }
 {
     bytes.iter().all(|byte| is_vendor_character(*byte))
 }
 
 fn is_vendor_character(byte: u8) -> bool
-    ensures { result ≡ is_vendor_character byte }
+    ensures { result ≡ spec.is_vendor_character byte }
 {
     byte.is_ascii_lowercase() || matches!(byte, b'0'..=b'9' | b'_' | b'.')
 }

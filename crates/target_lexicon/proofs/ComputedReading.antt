@@ -1,4 +1,4 @@
--- The function that parses field by field gives the triple that a text reads as by placements, and how it is refused.
+-- The function that parses field by field gives the triple that a string reads as by placements, and how it is refused.
 use Rattle.std.proofs.Common.{◌≡◌, ℕ, ◌≤◌, List, [], ◌∷◌, true, false, nat_eq, refl, ◌∙◌, ap, subst, Option, Some, None, Result, Ok, Err, arith, inl, inr, ◌↔◌, ◌⊎◌}
 use Rattle.std.specs.Prelude.{MatchResult, is_some}
 use Rattle.lexicon_fields.specs.{declared.architecture.Architecture.Architecture as AnyArchitecture, declared.operating_system.OperatingSystem.OperatingSystem as AnySystem, Environment.environment_of}
@@ -96,7 +96,7 @@ pub vendor-left : (a : AnyArchitecture) (ps : List (List ℕ)) (x : Refusal) →
     → (q : List ℕ) × (rest : List (List ℕ)) × (unread after_architecture ps ≡ q ∷ rest) × (x ≡ refusal_with (expected_after (last_field Architecture (filled after_architecture ps))) q)
 vendor-left a ps x is = subst (λ found. Gives after_architecture Architecture ps (HasVendor a) found) is (vendor-gives a ps)
 
--- what holds for a text: the function gives what it reads as, or how it is refused
+-- what holds for a string: the function gives what it reads as, or how it is refused
 abbrev pub Holds : List ℕ → Result Values Refusal → Type 0
 Holds text found = MatchResult found (λ t. ReadsAs text t) (λ refusal. IsRefusedAs text refusal)
 
@@ -135,7 +135,7 @@ reading-holds : (text : List ℕ) → Holds text (reading text)
 unfolding reading
 reading-holds text = by_special text (special_values text) refl
 
--- a text has at most one outcome, so it has the one that the function gives
+-- a string has at most one outcome, so it has the one that the function gives
 computed : (text : List ℕ) (found : Result Values Refusal) → Holds text found
     → ((t : Values) → ReadsAs text t ↔ (found ≡ Ok t)) × ((x : Refusal) → IsRefusedAs text x ↔ (found ≡ Err x))
 computed text (Ok u) h = (
@@ -150,7 +150,7 @@ computed text (Err y) h = (
 pub reading_computed : ReadingIsComputed
 reading_computed text = let both = computed text (reading text) (reading-holds text) in record { read = both.0; refused = both.1 }
 
--- a text reads or is refused
+-- a string reads or is refused
 outcome : (text : List ℕ) (found : Result Values Refusal) → Holds text found → ((t : Values) × ReadsAs text t) ⊎ IsRefused text
 outcome text (Ok t) h = inl (t, h)
 outcome text (Err x) h = inr (x, h)

@@ -1,35 +1,7 @@
--- Variants without fields feed a hasher injectively, and so do fields that are fed one after another.
-use Rattle.std.proofs.Common.{◌≡◌, ℕ, ◌≤◌, ◌++◌, [], ◌∷◌, ◌∙◌, sym, ap, append_assoc, length, arith}
-use Rattle.std.specs.Hash.{HashWrites, le_bytes, usize}
-use Rattle.lexicon_fields.specs.Laws.{HashInjectiveOn, HashInjective}
-use denote.Enum.Bare.{Bare, tag_one}
-use denote.Enum.Declared.{Record, declared, rowss, tag_of}
-use denote.Enum.Enum.{tag_below}
-
-abbrev first_byte : HashWrites → ℕ
-first_byte [] = 0
-first_byte ([] ∷ writes) = 0
-first_byte ((byte ∷ bytes) ∷ writes) = byte
-
-abbrev after_first : HashWrites → HashWrites
-after_first [] = []
-after_first (write ∷ writes) = writes
-
-bare_distinguished : (N : Record) → Bare N.parts → length (rowss N.parts) ≤ 256 → (x y : N.D) (a b : HashWrites)
-    → usize (tag_of (declared N) x) ++ a ≡ usize (tag_of (declared N) y) ++ b → (x ≡ y) × (a ≡ b)
-unfolding le_bytes
-bare_distinguished N bare few x y a b same =
-    let firsts = ap first_byte same in
-    let below_x = tag_below (rowss N.parts) ((declared N).to x) in
-    let below_y = tag_below (rowss N.parts) ((declared N).to y) in
-    (tag_one (declared N) bare x y (omega arith), ap after_first same)
-
--- variants without fields, at most 256 of them
-pub bare_hash_injective : (N : Record) → Bare N.parts → length (rowss N.parts) ≤ 256 → HashInjective (λ x. usize (tag_of (declared N) x))
-bare_hash_injective N bare few = record {
-  exactly = λ x y _ _. (λ same. (bare_distinguished N bare few x y [] [] (ap (λ fed. fed ++ []) same)).0, ap (λ z. usize (tag_of (declared N) z)));
-  with_more = λ x y a b _ _. bare_distinguished N bare few x y a b;
-}
+-- Fields that are fed to a hasher one after another.
+use Rattle.std.proofs.Common.{◌≡◌, ◌++◌, [], ◌∙◌, sym, ap, append_assoc}
+use Rattle.std.specs.Hash.{HashWrites}
+use Rattle.lexicon_fields.specs.Laws.{HashInjectiveOn}
 
 module _ {T V W X Y : Type 0} {IsFirst : V → Type 0} {IsSecond : X → Type 0} {first : V → W} {second : X → Y}
     {feed_first : V → HashWrites} {feed_second : X → HashWrites} (p : T → V) (q : T → X)

@@ -1,4 +1,5 @@
--- Printed texts are at most so much longer than the text that was parsed, and the canonical form makes no text longer.
+-- Printed strings are at most so much longer than the string that was parsed, and the canonical form makes no string
+-- longer.
 use Rattle.std.proofs.Common.{◌≡◌, ℕ, zero, suc, ◌+◌, ◌≤◌, List, [], ◌∷◌, length, codes, Bool, true, false, true≢false, not, ◌&&◌, ◌||◌, Option, Some, None, Ok, ◌⊎◌, inl, inr, unwrap_or, refl, sym, ap, subst, arith}
 use Rattle.std.specs.List.{join_with_byte, slice_get}
 use Rattle.std.proofs.{lemmas.List.length-append, lemmas.List.Splits.join_with_byte-slice_split, lemmas.Option.MatchOption-at_some, lemmas.Bool.and_parts, lemmas.Bool.not-true, Math.Bool.and-false, Math.Bool.or-true}
@@ -101,7 +102,7 @@ pub unknowns-shown : (t : Values) → shows_unknowns t ≡ true → shows_binary
 unfolding shows_binary_format
 unknowns-shown t shown = let other : is_same_format t.binary_format (default_binary_format t) ≡ false = not-true _ (and_parts _ _ shown).1 in rw other refl
 
--- a special text is short
+-- a special string is short
 
 special-short : (a : Architecture) (v : VendorValue) (s : OperatingSystem) (e : Environment) (f : BinaryFormat) (joined : List ℕ) (n : ℕ) → 21 ≤ n → length joined ≤ n
     → length (unwrap_or (special_text (values a v s e f)) joined) ≤ n
@@ -204,7 +205,7 @@ module _ (formats : TextsAreNames binary_format_name binary_format_of) (environm
     unfolding reading
     printed_max_growth computed text t reads = by_special text (special_values text) t refl (((computed text).read t).0 reads)
 
--- a refused part is a part of the text
+-- a refused part is a part of the string
 
 part-lighter : (parts : List (List ℕ)) (n : ℕ) (part : List ℕ) → slice_get parts n ≡ Some part → suc (length part) ≤ weight parts
 part-lighter [] n part is = absurd cc
@@ -216,12 +217,12 @@ refused_does_not_grow text refusal (ordinary, ([], are, is)) = absurd (are.some 
 refused_does_not_grow text refusal (ordinary, (p ∷ ps, are, is)) =
     omega (arith, part-lighter (p ∷ ps) is.count refusal.part is.refused, weight-joined p ps, ap length are.joined)
 
--- the normal step makes no text longer
+-- the normal step makes no string longer
 
 abbrev DoesNotGrow : Values → Values → Type 0
 DoesNotGrow u t = length (text_of u) ≤ length (text_of t)
 
--- if both print the same special text or none
+-- if both print the same special string or none
 by_weight : (u t : Values) → special_text u ≡ special_text t → weight (printed_names u) ≤ weight (printed_names t) → DoesNotGrow u t
 unfolding text_of
 by_weight u t special lighter = rw special (by_option (special_text t))
@@ -239,7 +240,7 @@ esp-does_not_grow : (t : Values) → PrintsTheEspIdfText t → DoesNotGrow (valu
 unfolding text_of shown_names shows_vendor shows_operating_system shows_environment shows_binary_format implied_format special_text
 esp-does_not_grow t is = rw is (omega arith)
 
--- Clever is the architecture of no special text
+-- Clever is the architecture of no special string
 never_clever : (a : Architecture) → (is_clever_without_system a operating_system.Horizon ≡ false) × (is_clever_without_system a operating_system.Espidf ≡ false)
 never_clever (architecture.Clever sub) = (refl, refl)
 never_clever _ = (refl, refl)

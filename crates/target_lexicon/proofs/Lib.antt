@@ -1,7 +1,7 @@
 -- of one field, parsed as an earlier field); GreedyPlacement, RefusalLemmas, UniqueReading, ComputedReading (from
 -- parsing as a function to the least placement); SourceLemmas, TakenParts (the source of each field); ReadValues (facts about
--- all parsed triples). Printing: PrintingLemmas, Upstream, Lengths (how much longer than the text). Round trips:
--- RoundTrips, TextRoundTrips (a printed text parsed again); StepCases, FixedPointLemmas, SettleLemmas, ModelsKnown,
+-- all parsed triples). Printing: PrintingLemmas, Upstream, Lengths (how much longer than the string). Round trips:
+-- RoundTrips, TextRoundTrips (a printed string parsed again); StepCases, FixedPointLemmas, SettleLemmas, ModelsKnown,
 -- QueriesKept; Elements. SameValues: equality of triples. HashInputPairs: what fields feed a hasher.
 pub mod ComputedReading
 pub mod PartLemmas

@@ -45,7 +45,7 @@ abbrev pub system_as_vendor : OperatingSystem → Option VendorValue
 system_as_vendor operating_system.Unknown = Some (Known Unknown)
 system_as_vendor _ = None
 
--- a text that parses as a system is not admitted
+-- a string that parses as a system is not admitted
 not_admitted : (text : List ℕ) (s : OperatingSystem) → operating_system_of text ≡ Some s → is_admitted text ≡ false
 unfolding is_admitted
 not_admitted text s reads = rw (reads, and-false) refl

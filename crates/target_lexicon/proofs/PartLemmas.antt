@@ -1,4 +1,4 @@
--- A text has exactly one list of parts.
+-- A string has exactly one list of parts.
 use Rattle.std.proofs.Common.{◌≡◌, ◌≢◌, ◌+◌, ◌-◌, get_or, drop, take, ℕ, List, [], ◌∷◌, ◌++◌, Bool, true, false, nat_eq, refl, sym, length, ◌<◌, ◌∙◌, ap, arith, inl, inr}
 use Rattle.std.specs.List.{list_all, list_any, join_with_byte, onto_first, before_first, after_first, slice_range, position_or_len}
 use Rattle.std.specs.Prelude.{◌==◌, ◌||◌, not}
@@ -8,7 +8,7 @@ use Rattle.lexicon_fields.specs.Names.{dash}
 use Rattle.lexicon_fields.specs.Names.{is_dash_free}
 use Rattle.target_lexicon.specs.Placement.{ArePartsOf, parts_of}
 
--- the first byte of a text without dashes is no dash, and the rest has none
+-- the first byte of a string without dashes is no dash, and the rest has none
 dash_free-parts : (b : ℕ) (bs : List ℕ) → is_dash_free (b ∷ bs) ≡ true → (nat_eq b dash ≡ false) × (is_dash_free bs ≡ true)
 dash_free-parts b bs free = by_head (nat_eq b dash) (list_any (λ c. c == dash) bs) free
   where
@@ -65,7 +65,7 @@ pub parts-only : (text : List ℕ) (others : List (List ℕ)) → ArePartsOf tex
 parts-only text [] are = absurd (are.some refl)
 parts-only text (p ∷ ps) are = sym (parts_of-joined p ps are.dash_free) ∙ ap parts_of are.joined
 
--- a text that is cut at its first dash, or that has none
+-- a string that is cut at its first dash, or that has none
 pub parts_of-cut : (text part after : List ℕ) → part ≡ before_first (λ b. b == dash) text → after ≡ after_first (λ b. b == dash) text
     → position_or_len (λ b. b == dash) text < length text → parts_of text ≡ part ∷ parts_of after
 parts_of-cut text part after before rest found = slice_split_first (λ b. b == dash) text 0 found ∙ (λ i. sym before i ∷ parts_of (sym rest i))

@@ -1,5 +1,5 @@
--- The pieces that are written are the text of the triple.
-use Rattle.std.proofs.Common.{◌≡◌, ℕ, Bool, true, false, List, [], ◌∷◌, ◌++◌, ◌||◌, refl, sym, ap, append_assoc, Some, None}
+-- The pieces that are written are the string of the triple.
+use Rattle.std.proofs.Common.{◌≡◌, ℕ, Bool, true, false, List, [], ◌∷◌, ◌++◌, ◌||◌, refl, sym, ap, append_assoc, None}
 use Rattle.std.specs.List.{join_with_byte}
 use Rattle.std.proofs.{lemmas.List.append-nil, Math.Bool.and-false}
 use Rattle.lexicon_fields.specs.Names.{dash}
@@ -44,7 +44,7 @@ system_part : (x : Bool) (prefix name : List ℕ) (s : OperatingSystem) → pref
 system_part true prefix name s is = ap (λ (n : List ℕ). dash ∷ n) is
 system_part false prefix name s is = refl
 
--- without a special text these pieces are the text
+-- without a special string these pieces are the string
 pub text_of_pieces : (last_three : Bool) (t : Values) (first vendor system version environment format v s e f : List ℕ) (w x y z : Bool) → None ≡ special_text t
     → first ≡ architecture_name t.architecture
     → vendor ≡ dashed_if w v → w ≡ shows_vendor t → v ≡ vendor_name t.vendor
@@ -72,9 +72,6 @@ text_of_pieces last_three t first vendor system version environment format v s e
       f_is,
       sym none,
     ) (five_parts _ _ _ _ _ _ _ _ _)
-
-pub special_pieces : (last_three : Bool) (t : Values) (text : List ℕ) → Some text ≡ special_text t → text ≡ text_with last_three t
-special_pieces last_three t text special = rw (sym special) refl
 
 -- an environment other than these two is always shown
 

@@ -8,7 +8,7 @@ use Rattle.lexicon_fields.specs.{Laws.HasVersionInRange, OperatingSystem.operati
 use Rattle.target_lexicon.proofs.Vendors.{vendor-plain}
 use Rattle.target_lexicon.specs.Values.operating_system
 
--- a fact about the two triples of special texts
+-- a fact about the two triples of special strings
 pub special-holds : (P : Values → Type 0) (text : List ℕ) → P nintendo_3ds → P esp_idf → IfSome (special_values text) P
 unfolding special_values
 special-holds P text nintendo esp = by_tests (bytes_eq text nintendo_3ds_text) (bytes_eq text esp_idf_text)

@@ -1,4 +1,4 @@
--- The shown parts of a triple with a plain vendor parse as its normal step, if no special text is printed.
+-- The shown parts of a triple with a plain vendor parse as its normal step, if no special string is printed.
 use Rattle.std.proofs.Common.{◌≡◌, ◌∙◌, ℕ, Bool, true, false, not, ◌&&◌, ◌||◌, cond, List, [], ◌∷◌, None, Result, Ok, is_some, refl, sym, ap, ◌⊎◌, inl, inr}
 use Rattle.lexicon_fields.proofs.LawOfNames.{NamesAreRead}
 use Rattle.target_lexicon.specs.Values.{Architecture, Environment, OperatingSystem, BinaryFormat, VendorValue, Known, Values, values, implies_newlib, is_same_format}
@@ -50,7 +50,7 @@ pub are_unknown : (a : Architecture) (v : VendorValue) (s : OperatingSystem) (e 
 are_unknown a v s environment.Unknown binary_format.Unknown shown = (refl, refl)
 are_unknown a v s _ _ shown = absurd (false≢true shown)
 
--- if no special text is printed
+-- if no special string is printed
 
 none-apart : (t : Values) → special_text t ≡ None → ¬ PrintsAsSpecial t
 unfolding special_text
@@ -232,6 +232,6 @@ module _ (names : NamesAreRead) where
     parts_by true shown = unknowns-round (are_unknown a v s e f shown)
     parts_by false hidden = upstream-round _ refl hidden
 
-    -- if no special text is printed, the shown parts parse as the step
+    -- if no special string is printed, the shown parts parse as the step
     pub parts-round : reading_of_parts (printed_names (values a v s e f)) ≡ Ok (normal_step (values a v s e f))
     parts-round = parts_by (shows_unknowns (values a v s e f)) refl

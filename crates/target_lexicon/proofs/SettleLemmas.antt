@@ -19,7 +19,7 @@ unfolding normal_step special_text
 special-stays t (inl is) = rw (is.architecture, is.vendor, is.operating_system) refl
 special-stays t (inr is) = rw (is.architecture, is.vendor, is.operating_system) refl
 
--- with an unknown environment only the special texts decide whether a triple is unchanged
+-- with an unknown environment only the special strings decide whether a triple is unchanged
 unknown-stays : (t : Values) → t.environment ≡ environment.Unknown → ¬ (IsNintendo3ds t ⊎ IsEspIdf t) → ¬ PrintsTheEspIdfText t → normal_step t ≡ t
 unknown-stays t unknown special esp = outside-fixed t (record {
   special = λ is. special is.fields;
@@ -58,7 +58,7 @@ step-version t range = step_cases (λ u. HasVersionInRange u.operating_system) t
 pub step-plain : (t : Values) → IsPlainTriple t → IsPlainTriple (normal_step t)
 step-plain t plain = record { vendor = step-vendor_plain t plain.vendor; version = step-version t plain.version }
 
--- a canonical form comes back, so no other one has its text
+-- a canonical form comes back, so no other one has its string
 
 module _ (round : RoundIsNormalStep) where
   pub settled_values-comes_back : (t : Values) → IsPlainTriple t → ComesBack (settled_values t)

@@ -8,7 +8,7 @@ use Rattle.lexicon_fields.specs.{declared.architecture.Architecture.Architecture
 use Rattle.lexicon_fields.specs.Names.{dash}
 use Rattle.target_lexicon.specs.Field.{Field, Architecture, Vendor, OperatingSystem, Environment, BinaryFormat, field_number, parses_as}
 use Rattle.target_lexicon.specs.Explanation.{PlacedPart, part_from, placed_from, SourceValue, FromPart, NotGiven, Implied, SourceValues, source_values, source_at, sources_at, whole_text_sources, AreSourcesOf, IsRefusalAfter, IsRefusedAfter, IsInText, IsSourceInText, AreInText}
-use Rattle.target_lexicon.specs.RemainingParts.{texts_of, taken_source, format_source, parts_left, left_by_vendor, left_by_system, left_by_environment, sources_after_architecture, taken_sources, left_after_architecture, left_by_fields}
+use Rattle.target_lexicon.specs.RemainingParts.{texts_of, taken_source, parts_left, left_by_vendor, left_by_system, left_by_environment, sources_after_architecture, taken_sources, left_after_architecture, left_by_fields}
 use Rattle.target_lexicon.specs.{Placement.ArePartsOf, Placement.IsLeastPlacement, Placement.HasPlacement, Placement.parts_of, SpecialTexts.special_values, Values.Values}
 use Rattle.target_lexicon.specs.Reading.{part_at, IsRefusal, IsRefusedAs, PartsReadAs, ReadsAs, expected_after, last_field}
 use Rattle.target_lexicon.specs.Refusal.{Refusal, refusal_with}
@@ -59,20 +59,6 @@ module _ {A : Type 0} (f : Field) (find : List ℕ → Option A) (is_read : (p :
         | inl takes ↦ let found : is_some (find p.text) ≡ true = sym (is_read p.text) ∙ takes in rw (takes, found) refl
         | inr skips ↦ let found : is_some (find p.text) ≡ false = sym (is_read p.text) ∙ skips in rw (skips, found) refl
       ]
-
--- the source of the binary format, if no part is left after it, and if one is
-pub format_source-read : (ps : List PlacedPart) → parts_left binary_format_of ps ≡ [] → format_source ps ≡ taken_source Implied binary_format_of ps
-format_source-read [] none = refl
-format_source-read (p ∷ ps) none =
-    elim (cases_Bool (is_some (binary_format_of p.text))) [
-      | inl takes ↦ rw takes refl
-      | inr skips ↦ absurd (let left = rw skips at none in cc)
-    ]
-
-pub format_source-refused : (ps : List PlacedPart) (q : PlacedPart) (qs : List PlacedPart) → parts_left binary_format_of ps ≡ q ∷ qs
-    → format_source ps ≡ taken_source NotGiven binary_format_of ps
-format_source-refused [] q qs left = absurd cc
-format_source-refused (p ∷ ps) q qs left = refl
 
 unread-none : (ps : List (List ℕ)) → unread [] ps ≡ ps
 unread-none [] = refl

@@ -15,7 +15,7 @@ use Rattle.target_lexicon.specs.Values.operating_system
 use Rattle.target_lexicon.specs.Values.environment
 use Rattle.target_lexicon.specs.Values.binary_format
 
--- a special text is printed
+-- a special string is printed
 
 pub special-is : (a : Architecture) (v : VendorValue) (s : OperatingSystem) (e : Environment) (f : BinaryFormat)
     → is_some (special_text (values a v s e f)) ≡ is_3ds_or_esp_idf a v s
@@ -133,7 +133,3 @@ step_cases P t special newlib esp none outside =
       esp = not_from_Decides _ (prints_the_esp_idf_text-decides t) four;
       none = not_from_Decides _ (shows_only_none-decides t) five;
     })))))
-
--- the step keeps the architecture
-pub step-architecture : (t : Values) → (normal_step t).architecture ≡ t.architecture
-step-architecture t = step_cases (λ x. x.architecture ≡ t.architecture) t (λ _. refl) (λ _. refl) (λ _. refl) (λ _. refl) (λ _. refl)

@@ -8,9 +8,6 @@ use Rattle.lexicon_fields.specs.declared.operating_system.OperatingSystem.{Opera
 none_known : (a k s e f : Bool) → (a || k || s || e || f) ≡ false → k ≡ false
 none_known a k s e f none = grind (arith)
 
-not_free : (k a s e f form : Bool) → s ≡ false → (k && a && s && e && f && form) ≡ false
-not_free k a s e f form is = grind (arith)
-
 neither : (known : Option KnownVendor) (admitted : Bool) (custom : VendorValue) → is_some known ≡ false → admitted ≡ false
     → option_or (option_map Known known) (if admitted then Some custom else None) ≡ None
 neither None false custom none refused = refl

@@ -1,4 +1,4 @@
--- The printed text of a triple with a plain vendor reads as its normal step.
+-- The printed string of a triple with a plain vendor reads as its normal step.
 use Rattle.std.proofs.Common.{◌≡◌, ◌≢◌, ◌∙◌, ℕ, Bool, true, false, cond, is_none, true≢false, inl, inr, List, [], ◌∷◌, Option, Some, None, Ok, Err, codes, refl, sym, ap, subst}
 use Rattle.std.specs.{List.list_all, List.join_with_byte, Str.bytes_eq}
 use Rattle.std.proofs.lemmas.Slice.Eq.{bytes_eq-Decides}
@@ -22,7 +22,7 @@ use Rattle.target_lexicon.specs.Values.environment
 use Rattle.target_lexicon.specs.Values.binary_format
 use Rattle.target_lexicon.specs.Field as field
 
--- texts without dashes are the parts of the text that joins them
+-- strings without dashes are the parts of the string that joins them
 
 parts_of-join : (p : List ℕ) (ps : List (List ℕ)) → is_dash_free p ≡ true → list_all is_dash_free ps ≡ true → parts_of (join_with_byte dash (p ∷ ps)) ≡ p ∷ ps
 parts_of-join p ps free others = parts_of-joined p ps (rw (free, others) refl)
@@ -31,7 +31,7 @@ cons_if-free : (b : Bool) (p : List ℕ) (ps : List (List ℕ)) → is_dash_free
 cons_if-free true p ps free others = rw (free, others) refl
 cons_if-free false p ps free others = others
 
--- the special texts, and the triples that print them
+-- the special strings, and the triples that print them
 
 pub special-round : (a : Architecture) (v : VendorValue) (s : OperatingSystem) (e : Environment) (f : BinaryFormat) (text : List ℕ) → special_text (values a v s e f) ≡ Some text
     → reading (text_of (values a v s e f)) ≡ Ok (normal_step (values a v s e f))
@@ -42,7 +42,7 @@ special-round (architecture.Riscv32 riscv32.Riscv32imc) (Known Espressif) operat
 special-round (architecture.Riscv32 riscv32.Riscv32imc) (Known Espressif) operating_system.Espidf _ _ text is = refl
 special-round _ _ _ e f text is = absurd (true≢false (ap is_none is))
 
--- the triple that prints another's special text
+-- the triple that prints another's special string
 
 abbrev custom_esp : Values
 custom_esp = values (architecture.Riscv32 riscv32.Riscv32imc) (Custom (codes "esp")) operating_system.Espidf environment.Unknown binary_format.Elf
@@ -51,7 +51,7 @@ custom_esp-round : reading (text_of custom_esp) ≡ Ok (normal_step custom_esp)
 unfolding reading text_of special_text special_values shown_names shows_vendor shows_operating_system shows_environment shows_binary_format implied_format normal_step
 custom_esp-round = refl
 
--- the special texts, parsed by their parts
+-- the special strings, parsed by their parts
 
 nintendo-parts : reading_of_parts (parts_of nintendo_3ds_text) ≡ Err (refusal_with (Some field.OperatingSystem) (codes "3ds"))
 unfolding architecture_of vendor_of known_vendor_of operating_system_of fixed_operating_system_of environment_of binary_format_of
@@ -61,7 +61,7 @@ esp_idf-parts : reading_of_parts (parts_of esp_idf_text) ≡ Ok custom_esp
 unfolding architecture_of vendor_of known_vendor_of is_admitted operating_system_of fixed_operating_system_of environment_of binary_format_of implied_format
 esp_idf-parts = refl
 
--- a text that isn't special is parsed by its parts
+-- a string that isn't special is parsed by its parts
 by_tests : (text : List ℕ) (ps : List (List ℕ)) (t : Values) (x y : Bool) → bytes_eq text nintendo_3ds_text ≡ x → bytes_eq text esp_idf_text ≡ y → parts_of text ≡ ps
     → reading_of_parts ps ≡ Ok t → ps ≢ parts_of esp_idf_text → reading_unless_special (cond x (Some nintendo_3ds) (cond y (Some esp_idf) None)) text ≡ Ok t
 by_tests text ps t true y is_x is_y are reads apart =

@@ -1,4 +1,4 @@
--- A text has at most one outcome.
+-- A string has at most one outcome.
 use Rattle.std.proofs.Common.{◌≡◌, ℕ, ◌<◌, List, [], ◌∷◌, take, refl, sym, ◌∙◌, ap, subst, Option, Some, None, arith}
 use Rattle.std.specs.Prelude.{MatchOption, slice_get}
 use Rattle.lexicon_fields.specs.{Architecture.architecture_of, Vendor.vendor_of, OperatingSystem.operating_system_of, Environment.environment_of, BinaryFormat.binary_format_of}
@@ -25,7 +25,7 @@ same_least : (parts : List (List ℕ)) (t u : Values) → PartsReadAs parts t �
 same_least parts t u (fs, least, holds) (gs, other, held) =
     same_held parts gs t u (subst (λ fields. HoldsParts parts fields t) (least-unique parts fs gs least other) holds) held
 
--- a text reads as at most one triple
+-- a string reads as at most one triple
 pub values_unique : (text : List ℕ) (t u : Values) → ReadsAs text t → ReadsAs text u → t ≡ u
 values_unique text t u h k = by_special (special_values text) h k
   where
@@ -63,11 +63,11 @@ same_refusal parts x y a b =
 pub refusal_at : (text : List ℕ) (x : Refusal) → IsRefusedAs text x → IsRefusal (parts_of text) x
 refusal_at text x (ordinary, (parts, are, h)) = subst (λ parts. IsRefusal parts x) (parts-only text parts are) h
 
--- a text is refused in at most one way
+-- a string is refused in at most one way
 pub refusal_unique : (text : List ℕ) (x y : Refusal) → IsRefusedAs text x → IsRefusedAs text y → x ≡ y
 refusal_unique text x y h r = same_refusal (parts_of text) x y (refusal_at text x h) (refusal_at text y r)
 
--- a text that is refused doesn't read
+-- a string that is refused doesn't read
 pub read_not_refused : (text : List ℕ) (t : Values) → ReadsAs text t → IsRefused text → ⊥
 read_not_refused text t h (refusal, r) = by_parts (rw (r.0) at h)
   where

@@ -1,4 +1,4 @@
--- If an unknown environment and an unknown format are shown, the text is longer than upstream's.
+-- If an unknown environment and an unknown format are shown, the string is longer than upstream's.
 use Rattle.std.proofs.Common.{◌≡◌, ◌≢◌, ℕ, Bool, true, false, List, [], ◌∷◌, Option, Some, None, codes, length, arith, refl, sym, ap, ◌∙◌}
 use Rattle.std.specs.List.{join_with_byte}
 use Rattle.std.proofs.{lemmas.List.append_cancel_left, lemmas.List.length-append, lemmas.Bool.and_parts, lemmas.Bool.not-true, lemmas.Bool.true≢false}

@@ -21,18 +21,18 @@ pub record IsEspIdf (t : Values) : Type 0 where
   pub vendor : t.vendor ≡ Known Espressif
   pub operating_system : t.operating_system ≡ operating_system.Espidf
 
--- a special text is printed, which doesn't show environment and format, and these aren't `Newlib` and `Elf`
+-- a special string is printed, which doesn't show environment and format, and these aren't `Newlib` and `Elf`
 pub record PrintsAsSpecial (t : Values) : Type 0 where
   pub fields : IsNintendo3ds t ⊎ IsEspIdf t
   pub others : ¬ ((t.environment ≡ environment.Newlib) × (t.binary_format ≡ binary_format.Elf))
 
--- the environment is a `Newlib` that isn't shown, and the text isn't special
+-- the environment is a `Newlib` that isn't shown, and the string isn't special
 abbrev pub HidesNewlib : Values → Type 0
 HidesNewlib t = (t.environment ≡ environment.Newlib)
     × (((t.vendor ≡ Known Nintendo) × (t.operating_system ≡ operating_system.Horizon) × (t.architecture ≢ architecture.Arm arm.Armv6k))
     ⊎ ((t.vendor ≡ Known Espressif) × (t.operating_system ≡ operating_system.Espidf) × (t.architecture ≢ architecture.Riscv32 riscv32.Riscv32imc)))
 
--- the vendor is the custom `esp`, and the text is the special one
+-- the vendor is the custom `esp`, and the string is the special one
 abbrev pub PrintsTheEspIdfText : Values → Type 0
 PrintsTheEspIdfText t =
     t ≡ values (architecture.Riscv32 riscv32.Riscv32imc) (Custom (codes "esp")) operating_system.Espidf environment.Unknown binary_format.Elf
@@ -43,7 +43,7 @@ pub record ShowsOnlyNone (t : Values) : Type 0 where
   pub operating_system : t.operating_system ≡ operating_system.Unknown
   pub environment : t.environment ≡ environment.None
 
--- the triple is in one of the families; in the last one no text parses as the vendor
+-- the triple is in one of the families; in the last one no string parses as the vendor
 abbrev pub IsInSomeFamily : Values → Type 0
 IsInSomeFamily t =
     PrintsAsSpecial t ⊎ (HidesNewlib t ⊎ (PrintsTheEspIdfText t ⊎ (ShowsOnlyNone t ⊎ (is_plain t.vendor ≡ false))))

@@ -12,7 +12,7 @@ field_number OperatingSystem = 2
 field_number Environment = 3
 field_number BinaryFormat = 4
 
--- whether a text parses as a value of the field
+-- whether a string parses as a value of the field
 unfoldable pub parses_as : Field → List ℕ → Bool
 parses_as Architecture text = is_some (architecture_of text)
 parses_as Vendor text = is_some (vendor_of text)

@@ -1,5 +1,5 @@
--- Laws of round trips, in which a triple is printed and its text parsed again: which triples come back, what the others
--- become, and how long texts are.
+-- Laws of round trips, in which a triple is printed and its string parsed again: which triples come back, what the
+-- others become, and how long strings are.
 use Rattle.std.specs.Prelude.{ℕ, ◌+◌, ◌≤◌, List, length, ◌≡◌, ◌↔◌, ◌⊎◌, true}
 use Rattle.target_lexicon.specs.{Reading.IsRefusedAs, Reading.ReadsAs, Refusal.Refusal, Families.IsInSomeFamily, Laws.EveryTextHasOneOutcome, Laws.ComesBack, NormalStep.normal_step, Printing.text_of}
 use Rattle.target_lexicon.specs.{QueryLaws.QueriesKept, Values.Values}
@@ -10,7 +10,7 @@ pub record IsPlainTriple (t : Values) : Type 0 where
   pub vendor : is_plain t.vendor ≡ true
   pub version : HasVersionInRange t.operating_system
 
--- every triple that a text reads as is such a triple
+-- every triple that a string reads as is such a triple
 abbrev pub ReadTriplesArePlain : Type 0
 ReadTriplesArePlain = (text : List ℕ) (t : Values) → ReadsAs text t → IsPlainTriple t
 
@@ -32,7 +32,7 @@ FixedExactlyOutsideFamilies = (t : Values) → HasVersionInRange t.operating_sys
 abbrev pub settled_values : Values → Values
 settled_values t = normal_step (normal_step t)
 
--- the canonical text: the printed text of the canonical form
+-- the canonical string: the printed string of the canonical form
 abbrev pub canonical_text : Values → List ℕ
 canonical_text t = text_of (settled_values t)
 
@@ -40,16 +40,17 @@ canonical_text t = text_of (settled_values t)
 abbrev pub OneStepSettles : Type 0
 OneStepSettles = (t : Values) → settled_values t ≡ normal_step t
 
--- the canonical form of a plain triple comes back, and no other canonical form has its text
+-- the canonical form of a plain triple comes back, and no other canonical form has its string
 pub record SettledTextsAreKeys : Type 0 where
   pub comes_back : (t : Values) → IsPlainTriple t → ComesBack (settled_values t)
   pub own : (t u : Values) → IsPlainTriple t → IsPlainTriple u → canonical_text t ≡ canonical_text u → settled_values t ≡ settled_values u
 
--- the laws of round trips as one: every text reads or is refused in exactly one way, the triple that a text reads as
--- is plain, a triple comes back exactly outside the families, the round trip of a plain triple succeeds and is the
--- normal step, which keeps the four queries, a second step changes nothing, and canonical texts are keys. What a reader
--- must judge are `texts`, `plain`, `round`, `queries`, `steps`, and the families that `fixed` names. That `fixed` and
--- `keys` hold follows from these, by which a plain triple comes back exactly if the normal step leaves it as it is
+-- the laws of round trips as one: every string reads or is refused in exactly one way, the triple that a string reads
+-- as is plain, a triple comes back exactly outside the families, the round trip of a plain triple succeeds and is the
+-- normal step, which keeps the four queries, a second step changes nothing, and canonical strings are keys. What a
+-- reader must judge are `texts`, `plain`, `round`, `queries`, `steps`, and the families that `fixed` names. That
+-- `fixed` and `keys` hold follows from these, by which a plain triple comes back exactly if the normal step leaves it
+-- as it is
 pub record RoundTripsAreKnown : Type 0 where
   pub texts : EveryTextHasOneOutcome
   pub plain : ReadTriplesArePlain
@@ -59,19 +60,19 @@ pub record RoundTripsAreKnown : Type 0 where
   pub steps : OneStepSettles
   pub keys : SettledTextsAreKeys
 
--- the growth bound: a printed text is at most this much longer than a text that reads as its triple; it is reached by
--- `arm64`, which prints as `aarch64-unknown-unknown-elf`
+-- the growth bound: a printed string is at most this much longer than a string that reads as its triple; it is reached
+-- by `arm64`, which prints as `aarch64-unknown-unknown-elf`
 abbrev pub max_growth : ℕ
 max_growth = 22
 
--- the printed text of a triple is at most that much longer than each text that reads as it
+-- the printed string of a triple is at most that much longer than each string that reads as it
 abbrev pub PrintedTextsGrowAtMost : Type 0
 PrintedTextsGrowAtMost = (text : List ℕ) (t : Values) → ReadsAs text t → length (text_of t) ≤ length text + max_growth
 
--- so is the canonical text
+-- so is the canonical string
 abbrev pub CanonicalTextsGrowAtMost : Type 0
 CanonicalTextsGrowAtMost = (text : List ℕ) (t : Values) → ReadsAs text t → length (canonical_text t) ≤ length text + max_growth
 
--- a refused part is not longer than the text
+-- a refused part is not longer than the string
 abbrev pub RefusedPartsDoNotGrow : Type 0
 RefusedPartsDoNotGrow = (text : List ℕ) (refusal : Refusal) → IsRefusedAs text refusal → length refusal.part ≤ length text

@@ -1,5 +1,5 @@
 -- Reading as a function, by which the least placement can be computed: one field after the other takes the first part
--- that is left, if that reads as it. And what a call that reads a text answers, by that function.
+-- that is left, if that reads as it. And what a call that reads a string answers, by that function.
 use Rattle.std.specs.Prelude.{◌≡◌, ℕ, List, [], ◌∷◌, Option, Some, None, Result, Ok, Err, IfOk, IfErr, IfSome}
 use Rattle.lexicon_fields.specs.{Vendor.IsCustom, Vendor.vendor_of, Architecture.architecture_of, declared.known_vendor.KnownVendor.TheVariants.Unknown, Environment.environment_of}
 use Rattle.lexicon_fields.specs.{OperatingSystem.operating_system_of, BinaryFormat.binary_format_of}
@@ -50,7 +50,7 @@ abbrev pub reading_after_architecture : Option Architecture → List ℕ → Lis
 reading_after_architecture (Some a) p ps = reading_from_vendor a ps
 reading_after_architecture None p ps = Err (refusal_with (Some field.Architecture) p)
 
--- a text has one part at least; without any, the empty one would be refused
+-- a string has one part at least; without any, the empty one would be refused
 abbrev pub reading_of_parts : List (List ℕ) → Result Values Refusal
 reading_of_parts [] = Err (refusal_with (Some field.Architecture) [])
 reading_of_parts (p ∷ ps) = reading_after_architecture (architecture_of p) p ps
@@ -59,7 +59,7 @@ abbrev pub reading_unless_special : Option Values → List ℕ → Result Values
 reading_unless_special (Some t) text = Ok t
 reading_unless_special None text = reading_of_parts (parts_of text)
 
--- what a text reads as, or how it is refused
+-- what a string reads as, or how it is refused
 unfoldable pub reading : List ℕ → Result Values Refusal
 reading text = reading_unless_special (special_values text) text
 
@@ -71,7 +71,7 @@ IsResultOf (Ok t) (Err error) = (refusal_of error ≡ None) × IsCustom t.vendor
 IsResultOf (Err refusal) (Ok triple) = ⊥
 IsResultOf (Err refusal) (Err error) = IfSome (refusal_of error) (λ other. other ≡ refusal)
 
--- a result that is what the text reads as, or its error, is the answer that `reading` gives
+-- a result that is what the string reads as, or its error, is the answer that `reading` gives
 abbrev pub ResultsAreComputed : Type 0
 ResultsAreComputed = (text : List ℕ) (result : Result Triple ParseError)
     → IfOk result (λ triple. ReadsAs text (values_of triple)) → IfErr result (λ error. IsErrorOf text error) → IsResultOf (reading text) result

@@ -9,7 +9,7 @@ use Rattle.target_lexicon.specs.{Refusal.Refusal, Refusal.refusal_of, Refusal.re
 use Rattle.target_lexicon.specs.declared.json_error.JsonError.TheVariants as json_error
 use Rattle.target_lexicon.specs.declared.list_error.ListError.TheVariants as list_error
 
--- the value of a triple: the string of its printed text
+-- the value of a triple: its printed string
 abbrev pub json_of : Values → Data
 json_of t = string (text_of t)
 
@@ -17,11 +17,12 @@ json_of t = string (text_of t)
 abbrev pub list_json_of : List Values → Data
 list_json_of ts = array (items_of (map json_of ts))
 
--- a string parses as its text does, and no other value parses
+-- a JSON string parses as the string in it does, and no other value parses
 abbrev pub JsonReadsAs : Data → Values → Type 0
 JsonReadsAs value t = MatchOption (as_str value) ⊥ (λ text. ReadsAs text t)
 
--- what an error says about a value: it is not a string, or its text is refused, or (without a refusal) memory ran out
+-- what an error says about a value: it is no JSON string, or the string is refused, or (without a refusal) memory ran
+-- out
 pub data JsonErrorValue : Type 0 where
   NotText : JsonErrorValue
   Parse : Option Refusal → JsonErrorValue
@@ -30,8 +31,8 @@ abbrev pub json_error_value : JsonError → JsonErrorValue
 json_error_value json_error.NotText = NotText
 json_error_value (json_error.Parse error) = Parse (refusal_of error)
 
--- why a value doesn't parse: it is not a string, or its text is refused, or an allocation failed where its text may
--- allocate
+-- why a value doesn't parse: it is no JSON string, or the string is refused, or an allocation failed where the string
+-- may allocate
 abbrev pub IsJsonErrorOf : Data → JsonErrorValue → Type 0
 IsJsonErrorOf value NotText = as_str value ≡ None
 IsJsonErrorOf value (Parse refusal) = MatchOption (as_str value) ⊥ (λ text. MatchOption refusal (MayAllocate text) (IsRefusedAs text))

@@ -11,34 +11,34 @@ pub record HasOneLeastPlacement (parts : List (List ℕ)) : Type 0 where
   pub least : IsLeastPlacement parts fields
   pub only : (others : List Field) → IsLeastPlacement parts others → others ≡ fields
 
--- a text reads or is refused, in exactly one way
+-- a string reads or is refused, in exactly one way
 pub record HasOneOutcome (text : List ℕ) : Type 0 where
   pub some : IsRead text ⊎ IsRefused text
   pub values : (t u : Values) → ReadsAs text t → ReadsAs text u → t ≡ u
   pub refusal : (x y : Refusal) → IsRefusedAs text x → IsRefusedAs text y → x ≡ y
   pub apart : (t : Values) → ReadsAs text t → IsRefused text → ⊥
 
--- every text has exactly one outcome
+-- every string has exactly one outcome
 abbrev pub EveryTextHasOneOutcome : Type 0
 EveryTextHasOneOutcome = (text : List ℕ) → HasOneOutcome text
 
--- the function `reading` gives the triple that the text reads as, and how it is refused
+-- the function `reading` gives the triple that the string reads as, and how it is refused
 pub record HasComputedReading (text : List ℕ) : Type 0 where
   pub read : (t : Values) → ReadsAs text t ↔ (reading text ≡ Ok t)
   pub refused : (refusal : Refusal) → IsRefusedAs text refusal ↔ (reading text ≡ Err refusal)
 
--- this holds for every text
+-- this holds for every string
 abbrev pub ReadingIsComputed : Type 0
 ReadingIsComputed = (text : List ℕ) → HasComputedReading text
 
--- every triple that a text reads as has a plain vendor
+-- every triple that a string reads as has a plain vendor
 abbrev pub ReadVendorsArePlain : Type 0
 ReadVendorsArePlain = (text : List ℕ) (t : Values) → ReadsAs text t → is_plain t.vendor ≡ true
 
--- the triple comes back: its printed text reads as the triple
+-- the triple comes back: its printed string reads as the triple
 abbrev pub ComesBack : Values → Type 0
 ComesBack t = ReadsAs (text_of t) t
 
--- two triples that come back are equal exactly if their texts are
+-- two triples that come back are equal exactly if their strings are
 abbrev pub EqualTextsEqualTriples : Type 0
 EqualTextsEqualTriples = (t u : Values) → ComesBack t → ComesBack u → (t ≡ u) ↔ (text_of t ≡ text_of u)

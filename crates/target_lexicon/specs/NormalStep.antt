@@ -1,5 +1,5 @@
--- The triple that the printed text of a triple with a plain vendor reads as. The cases are of the five fields: they know
--- no text and no printer.
+-- The triple that the printed string of a triple with a plain vendor reads as. The cases are of the five fields: they
+-- know no string and no printer.
 use Rattle.std.specs.Prelude.{Bool, true, false, not, ◌&&◌, codes, if◌then◌else◌}
 use Rattle.std.specs.Str.{bytes_eq}
 use Rattle.target_lexicon.specs.Values.{Architecture, OperatingSystem, Environment, BinaryFormat, VendorValue, Known, Custom, Values}

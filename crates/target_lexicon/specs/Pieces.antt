@@ -1,4 +1,4 @@
--- The text of pieces.
+-- The string of pieces.
 use Rattle.std.specs.Prelude.{ℕ, List, ◌++◌}
 use Rattle.lexicon_fields.specs.OperatingSystem.{version_suffix}
 use Rattle.target_lexicon.specs.{declared.display.Pieces.Pieces, Private.piece_text}

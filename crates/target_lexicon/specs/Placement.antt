@@ -1,4 +1,4 @@
--- The parts of a text between its dashes, and the assignment of parts to fields.
+-- The parts of a string between its dashes, and the assignment of parts to fields.
 use Rattle.std.specs.Prelude.{◌≡◌, ◌≢◌, ℕ, ◌==◌, List, [], Option, Some, None, true, ◌≤◌, map, slice_get}
 use Rattle.std.specs.Borrow.{Bor}
 use Rattle.std.specs.{List.AllZip, List.join_with_byte, List.list_all, List.slice_split, List.Sorted.IsStrictlyIncreasing}
@@ -7,13 +7,13 @@ use Rattle.lexicon_fields.specs.Names.{is_dash_free}
 use Rattle.target_lexicon.specs.Field.{Field, field_number, parses_as}
 use Rattle.target_lexicon.specs.Field as field
 
--- the text is these texts, at least one and without dashes, joined by dashes
+-- the string is these strings, at least one and without dashes, joined by dashes
 pub record ArePartsOf (text : List ℕ) (parts : List (List ℕ)) : Type 0 where
   pub some : parts ≢ []
   pub dash_free : list_all is_dash_free parts ≡ true
   pub joined : join_with_byte dash parts ≡ text
 
--- the parts of a text, which is cut at each dash
+-- the parts of a string, which is cut at each dash
 abbrev pub parts_of : List ℕ → List (List ℕ)
 parts_of text = slice_split (λ b. b == dash) text
 

@@ -1,6 +1,6 @@
--- The printed text of a triple: upstream's rules, and one rule on top of them, `shows_unknowns`. These definitions
--- are held to their subject by a comparison with upstream (`checks/compare lines`), from which the texts differ
--- only by that rule (`OnlyUnknownsDifferFromUpstream`), and by the round trip: a printed text reads as the triple or
+-- The printed string of a triple: upstream's rules, and one rule on top of them, `shows_unknowns`. These definitions
+-- are held to their subject by a comparison with upstream (`checks/compare lines`), from which the strings differ
+-- only by that rule (`OnlyUnknownsDifferFromUpstream`), and by the round trip: a printed string reads as the triple or
 -- its normal step (`RoundIsNormalStep`).
 use Rattle.std.specs.Prelude.{◌≡◌, ◌≢◌, ◌↔◌, ℕ, Bool, true, false, not, ◌&&◌, ◌||◌, List, [], ◌∷◌, None, unwrap_or}
 use Rattle.std.specs.List.{join_with_byte}
@@ -112,15 +112,15 @@ shown_names shows_last_three t =
 abbrev pub shows_unknowns : Values → Bool
 shows_unknowns t = is_unknown_environment t.environment && is_same_format t.binary_format binary_format.Unknown && not (is_same_format t.binary_format (default_binary_format t))
 
--- the special text of a triple, or else these names joined by dashes
+-- the special string of a triple, or else these names joined by dashes
 abbrev pub text_with : Bool → Values → List ℕ
 text_with shows_last_three t = unwrap_or (special_text t) (join_with_byte dash (shown_names shows_last_three t))
 
--- the printed text of a triple
+-- the printed string of a triple
 unfoldable pub text_of : Values → List ℕ
 text_of t = text_with (shows_unknowns t) t
 
--- the text that upstream prints for the triple
+-- the string that upstream prints for the triple
 unfoldable pub upstream_text_of : Values → List ℕ
 upstream_text_of t = text_with false t
 
@@ -131,6 +131,6 @@ pub record HasUnimpliedUnknowns (t : Values) : Type 0 where
   pub binary_format : t.binary_format ≡ binary_format.Unknown
   pub special : special_text t ≡ None
 
--- exactly the texts of these triples differ from upstream's
+-- exactly the strings of these triples differ from upstream's
 abbrev pub OnlyUnknownsDifferFromUpstream : Type 0
 OnlyUnknownsDifferFromUpstream = (t : Values) → (text_of t ≢ upstream_text_of t) ↔ HasUnimpliedUnknowns t

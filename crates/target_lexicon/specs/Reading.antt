@@ -1,4 +1,4 @@
--- Parsing: the triple that a text reads as, and how a text is refused.
+-- Parsing: the triple that a string reads as, and how a string is refused.
 use Rattle.std.specs.Prelude.{◌≡◌, ℕ, ◌<◌, suc, List, [], ◌∷◌, Option, Some, None, take, slice_get, if◌then◌else◌, ◌==◌, IfSome, MatchOption, ◌⊎◌}
 use Rattle.lexicon_fields.specs.{Architecture.architecture_of, Vendor.IsCustom, Vendor.vendor_of, OperatingSystem.operating_system_of, Environment.environment_of, BinaryFormat.binary_format_of}
 use Rattle.target_lexicon.specs.{declared.parse_error.ParseError.ParseError, Field.Field, Field.field_number, ImpliedFormat.default_binary_format, Placement.ArePartsOf, Placement.IsLeastPlacement, Placement.HasPlacement}
@@ -33,7 +33,7 @@ pub record HoldsParts (parts : List (List ℕ)) (fields : List Field) (t : Value
 abbrev pub PartsReadAs : List (List ℕ) → Values → Type 0
 PartsReadAs parts t = (fields : List Field) × IsLeastPlacement parts fields × HoldsParts parts fields t
 
--- the triple that a text reads as: a special text as its triple, every other text by its parts
+-- the triple that a string reads as: a special string as its triple, every other string by its parts
 abbrev pub ReadsAs : List ℕ → Values → Type 0
 ReadsAs text t = MatchOption (special_values text)
     ((parts : List (List ℕ)) × ArePartsOf text parts × PartsReadAs parts t) (λ values. t ≡ values)
@@ -67,27 +67,27 @@ pub record IsRefusal (parts : List (List ℕ)) (refusal : Refusal) : Type 0 wher
   pub placed : (k : ℕ) → k < count → HasPlacement (take (suc k) parts)
   pub expected : IsExpectedAfter (take count parts) refusal.expected
 
--- the text isn't special, and this is the refusal of its parts
+-- the string isn't special, and this is the refusal of its parts
 abbrev pub IsRefusedAs : List ℕ → Refusal → Type 0
 IsRefusedAs text refusal =
     (special_values text ≡ None) × ((parts : List (List ℕ)) × ArePartsOf text parts × IsRefusal parts refusal)
 
--- the text reads as some triple
+-- the string reads as some triple
 abbrev pub IsRead : List ℕ → Type 0
 IsRead text = (t : Values) × ReadsAs text t
 
--- the text is refused in some way
+-- the string is refused in some way
 abbrev pub IsRefused : List ℕ → Type 0
 IsRefused text = (refusal : Refusal) × IsRefusedAs text refusal
 
--- the only texts whose parsing may allocate: those that are refused, or read with a custom vendor
+-- the only strings whose parsing may allocate: those that are refused, or read with a custom vendor
 abbrev pub MayAllocate : List ℕ → Type 0
 MayAllocate text = IsRefused text ⊎ ((t : Values) × ReadsAs text t × IsCustom t.vendor)
 
--- the error is the refusal of the text, or out of memory if its parsing may allocate
+-- the error is the refusal of the string, or out of memory if its parsing may allocate
 abbrev pub IsErrorOf : List ℕ → ParseError → Type 0
 IsErrorOf text error = MatchOption (refusal_of error) (MayAllocate text) (λ refusal. IsRefusedAs text refusal)
 
--- the error is the refusal of the text, or out of memory: the errors of a call that allocates more than parsing does
+-- the error is the refusal of the string, or out of memory: the errors of a call that allocates more than parsing does
 abbrev pub IsRefusalOrOutOfMemory : List ℕ → ParseError → Type 0
 IsRefusalOrOutOfMemory text error = IfSome (refusal_of error) (λ refusal. IsRefusedAs text refusal)

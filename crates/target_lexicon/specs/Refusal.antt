@@ -1,4 +1,4 @@
--- How a text is refused, and the error for it.
+-- How a string is refused, and the error for it.
 use Rattle.std.specs.Prelude.{ℕ, List, ◌++◌, Option, Some, None, codes, string_bytes}
 use Rattle.std.specs.Option.{option_map_or}
 use Rattle.target_lexicon.specs.{declared.parse_error.ParseError.ParseError, Field.Field}

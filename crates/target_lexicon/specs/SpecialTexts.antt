@@ -1,4 +1,4 @@
--- The two texts that have a triple of their own.
+-- The two strings that have a triple of their own.
 use Rattle.std.specs.Prelude.{ℕ, List, [], ◌∷◌, codes, Option, Some, None}
 use Rattle.target_lexicon.specs.Values.{Architecture, OperatingSystem, VendorValue, Known, Values, values}
 use Rattle.lexicon_fields.specs.{Names.value_named, declared.known_vendor.KnownVendor.TheVariants.Nintendo, declared.known_vendor.KnownVendor.TheVariants.Espressif}
@@ -21,11 +21,11 @@ esp_idf_text = codes "riscv32imc-esp-espidf"
 abbrev pub esp_idf : Values
 esp_idf = values (architecture.Riscv32 riscv32.Riscv32imc) (Known Espressif) operating_system.Espidf environment.Newlib binary_format.Elf
 
--- the triple of a special text
+-- the triple of a special string
 unfoldable pub special_values : List ℕ → Option Values
 special_values text = value_named ((nintendo_3ds_text, nintendo_3ds) ∷ (esp_idf_text, esp_idf) ∷ []) text
 
--- the special text that a triple prints, by its first three fields
+-- the special string that a triple prints, by its first three fields
 unfoldable pub special_text : Values → Option (List ℕ)
 special_text t = by_fields t.architecture t.vendor t.operating_system
   where

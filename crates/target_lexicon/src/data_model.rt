@@ -1,6 +1,6 @@
 //! The data models of C, and the sizes of its types.
 ghost use Rattle.std.specs.Prelude.{◌≡◌, ◌*◌};
-ghost use Rattle.target_lexicon.specs.DataModel.{model_name, size_bits, size_bytes, sizes_of};
+ghost use Rattle.target_lexicon.specs.DataModel as spec;
 
 /// The size of a type.
 ///
@@ -32,8 +32,8 @@ impl Size {
     /// assert_eq!(target_lexicon::Size::U16.bits(), 16);
     /// ```
     pub fn bits(self) -> u8
-        ensures value { result ≡ size_bits self }
-        ensures of_bytes { result ≡ 8 * size_bytes self }
+        ensures value { result ≡ spec.size_bits self }
+        ensures of_bytes { result ≡ 8 * spec.size_bytes self }
     {
         match self {
             Size::U8 => 8,
@@ -51,8 +51,8 @@ impl Size {
     /// assert_eq!(target_lexicon::Size::U16.bytes(), 2);
     /// ```
     pub fn bytes(self) -> u8
-        ensures value { result ≡ size_bytes self }
-        ensures in_bits { 8 * result ≡ size_bits self }
+        ensures value { result ≡ spec.size_bytes self }
+        ensures in_bits { 8 * result ≡ spec.size_bits self }
     {
         match self {
             Size::U8 => 1,
@@ -96,7 +96,7 @@ impl CDataModel {
     /// assert_eq!(target_lexicon::CDataModel::LLP64.name(), "LLP64");
     /// ```
     pub fn name(self) -> &'static str
-        ensures { result.now ≡ model_name self }
+        ensures { result.now ≡ spec.model_name self }
     {
         match self {
             CDataModel::LP32 => "LP32",
@@ -117,7 +117,7 @@ impl CDataModel {
     /// assert_eq!(CDataModel::LLP64.pointer_width(), Size::U64);
     /// ```
     pub fn pointer_width(self) -> Size
-        ensures { result ≡ (sizes_of self).pointer }
+        ensures { result ≡ (spec.sizes_of self).pointer }
     {
         match self {
             CDataModel::LP32 | CDataModel::ILP32 => Size::U32,
@@ -135,7 +135,7 @@ impl CDataModel {
     /// assert_eq!(CDataModel::LLP64.short_size(), Size::U16);
     /// ```
     pub fn short_size(self) -> Size
-        ensures { result ≡ (sizes_of self).short }
+        ensures { result ≡ (spec.sizes_of self).short }
     {
         match self {
             CDataModel::LP32
@@ -156,7 +156,7 @@ impl CDataModel {
     /// assert_eq!(CDataModel::LLP64.int_size(), Size::U32);
     /// ```
     pub fn int_size(self) -> Size
-        ensures { result ≡ (sizes_of self).int }
+        ensures { result ≡ (spec.sizes_of self).int }
     {
         match self {
             CDataModel::LP32 => Size::U16,
@@ -175,7 +175,7 @@ impl CDataModel {
     /// assert_eq!(CDataModel::LLP64.long_size(), Size::U32);
     /// ```
     pub fn long_size(self) -> Size
-        ensures { result ≡ (sizes_of self).long }
+        ensures { result ≡ (spec.sizes_of self).long }
     {
         match self {
             CDataModel::LP32 | CDataModel::ILP32 | CDataModel::LLP64 => Size::U32,
@@ -193,7 +193,7 @@ impl CDataModel {
     /// assert_eq!(CDataModel::LLP64.long_long_size(), Size::U64);
     /// ```
     pub fn long_long_size(self) -> Size
-        ensures { result ≡ (sizes_of self).long_long }
+        ensures { result ≡ (spec.sizes_of self).long_long }
     {
         match self {
             CDataModel::LP32
@@ -214,7 +214,7 @@ impl CDataModel {
     /// assert_eq!(CDataModel::LLP64.float_size(), Size::U32);
     /// ```
     pub fn float_size(self) -> Size
-        ensures { result ≡ (sizes_of self).float }
+        ensures { result ≡ (spec.sizes_of self).float }
     {
         Size::U32
     }
@@ -229,7 +229,7 @@ impl CDataModel {
     /// assert_eq!(CDataModel::LLP64.double_size(), Size::U64);
     /// ```
     pub fn double_size(self) -> Size
-        ensures { result ≡ (sizes_of self).double }
+        ensures { result ≡ (spec.sizes_of self).double }
     {
         Size::U64
     }

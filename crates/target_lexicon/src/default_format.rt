@@ -1,6 +1,6 @@
 //! The binary format that the other fields imply.
 ghost use Rattle.std.specs.Prelude.{◌≡◌};
-ghost use Rattle.target_lexicon.specs.ImpliedFormat.{default_binary_format};
+ghost use Rattle.target_lexicon.specs.ImpliedFormat as spec;
 ghost use Rattle.target_lexicon.specs.Values.{values_of};
 ghost use Rattle.target_lexicon.specs.ValuesRef.{values_of_ref};
 
@@ -21,7 +21,7 @@ use lexicon_fields::{Architecture, BinaryFormat, Environment, OperatingSystem};
 /// assert_eq!(default_binary_format(&triple), BinaryFormat::Elf);
 /// ```
 pub fn default_binary_format(triple: &Triple) -> BinaryFormat
-    ensures { result ≡ default_binary_format (values_of triple.now) }
+    ensures { result ≡ spec.default_binary_format (values_of triple.now) }
 {
     triple.as_triple_ref().default_binary_format()
 }
@@ -37,9 +37,8 @@ impl TripleRef<'_> {
     /// let triple = TripleRef::from_str("x86_64-unknown-linux-gnu-coff").unwrap();
     /// assert_eq!(triple.default_binary_format(), BinaryFormat::Elf);
     /// ```
-    #[tactic(auto, unfolding(crate::specs::ImpliedFormat::implied_format))]
     pub fn default_binary_format(&self) -> BinaryFormat
-        ensures { result ≡ default_binary_format (values_of_ref self.now) }
+        ensures { result ≡ spec.default_binary_format (values_of_ref self.now) }
     {
         match self.operating_system {
             OperatingSystem::None_ => match self.environment {

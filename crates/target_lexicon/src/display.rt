@@ -6,9 +6,9 @@ ghost use Rattle.lexicon_fields.specs.OperatingSystem.{version_suffix, system_ve
 ghost use Rattle.lexicon_fields.specs.Put.{IsPut, Puts};
 ghost use Rattle.lexicon_fields.specs.VendorRef.{ref_value};
 ghost use Rattle.target_lexicon.specs.Printing as spec;
-ghost use Rattle.target_lexicon.specs.Printing.{text_of, upstream_text_of};
 ghost use Rattle.target_lexicon.specs.Private.{piece_text, dashed_if, shown_version};
-ghost use Rattle.target_lexicon.specs.Values.{values_of, implies_newlib};
+ghost use Rattle.target_lexicon.specs.Values as values;
+ghost use Rattle.target_lexicon.specs.Values.{values_of};
 ghost use Rattle.target_lexicon.specs.ValuesRef.{values_of_ref};
 ghost use Rattle.target_lexicon.specs.Written.{IsWritten};
 
@@ -23,21 +23,20 @@ use std::alloc::{AllocError, Global};
 use std::fmt;
 
 impl fmt::Display for TripleRef<'_> {
-    ghost output = { λ it. Some (text_of (values_of_ref it)) };
+    ghost output = { λ it. Some (spec.text_of (values_of_ref it)) };
 
-    ghost styled_output = { λ it _. Some (text_of (values_of_ref it)) };
+    ghost styled_output = { λ it _. Some (spec.text_of (values_of_ref it)) };
 
     #[inline(always)]
-    #[tactic(auto, unfolding(crate::specs::Printing::text_of))]
     fn fmt<W: fmt::Write>(&self, f: &mut fmt::Formatter<W>) -> fmt::Result {
         self.pieces(self.shows_unknowns()).fmt(f)
     }
 }
 
 impl fmt::Display for Triple {
-    ghost output = { λ it. Some (text_of (values_of it)) };
+    ghost output = { λ it. Some (spec.text_of (values_of it)) };
 
-    ghost styled_output = { λ it _. Some (text_of (values_of it)) };
+    ghost styled_output = { λ it _. Some (spec.text_of (values_of it)) };
 
     fn fmt<W: fmt::Write>(&self, f: &mut fmt::Formatter<W>) -> fmt::Result {
         self.as_triple_ref().fmt(f)
@@ -45,25 +44,25 @@ impl fmt::Display for Triple {
 }
 
 impl Triple {
-    /// The printed text. `Err` if the allocation for it fails.
+    /// The printed string. `Err` if the allocation for it fails.
     pub fn to_text(&self, alloc: Global) -> Result<String, AllocError>
-        ensures { IfOk result (λ text. string_bytes text ≡ text_of (values_of self.now)) }
+        ensures { IfOk result (λ text. string_bytes text ≡ spec.text_of (values_of self.now)) }
     {
         self.as_triple_ref().to_text(alloc)
     }
 
-    /// The text that upstream prints for the triple. `Err` if the allocation for it fails. It differs from the printed
-    /// text only if environment and format are both unknown and another format is implied (law
+    /// The string that upstream prints for the triple. `Err` if the allocation for it fails. It differs from the
+    /// printed string only if environment and format are both unknown and another format is implied (law
     /// `only_unknowns_differ_from_upstream`); then upstream parses it as another triple.
     pub fn to_upstream_text(&self, alloc: Global) -> Result<String, AllocError>
         ensures { IfOk result
-            (λ text. string_bytes text ≡ upstream_text_of (values_of self.now)) }
+            (λ text. string_bytes text ≡ spec.upstream_text_of (values_of self.now)) }
     {
         self.as_triple_ref().to_upstream_text(alloc)
     }
 
-    /// Writes the printed text at the front of the buffer if it fits there, and returns its length. If it doesn't fit,
-    /// the buffer is unchanged: compare the result with `out.len()`. Nothing is allocated.
+    /// Writes the printed string at the front of the buffer if it fits there, and returns its length. If it doesn't
+    /// fit, the buffer is unchanged: compare the result with `out.len()`. Nothing is allocated.
     ///
     /// # Examples
     ///
@@ -75,7 +74,7 @@ impl Triple {
     /// assert_eq!(&bytes[..length], b"wasm32-wasi");
     /// ```
     pub fn write_to(&self, out: &mut [u8]) -> usize
-        ensures { IsWritten (text_of (values_of self.now)) out.old out.new result }
+        ensures { IsWritten (spec.text_of (values_of self.now)) out.old out.new result }
     {
         self.as_triple_ref().write_to(out)
     }
@@ -84,25 +83,23 @@ impl Triple {
 impl<'a> TripleRef<'a> {
     ghost use Rattle.target_lexicon.specs.Pieces.{pieces_text};
 
-    /// The printed text. `Err` if the allocation for it fails.
-    #[tactic(auto, unfolding(crate::specs::Printing::text_of))]
+    /// The printed string. `Err` if the allocation for it fails.
     pub fn to_text(&self, alloc: Global) -> Result<String, AllocError>
-        ensures { IfOk result (λ text. string_bytes text ≡ text_of (values_of_ref self.now)) }
+        ensures { IfOk result (λ text. string_bytes text ≡ spec.text_of (values_of_ref self.now)) }
     {
         self.pieces(self.shows_unknowns()).to_text(alloc)
     }
 
-    /// The text that upstream prints for the triple, as [`Triple::to_upstream_text`] says.
-    #[tactic(auto, unfolding(crate::specs::Printing::upstream_text_of))]
+    /// The string that upstream prints for the triple, as [`Triple::to_upstream_text`] says.
     pub fn to_upstream_text(&self, alloc: Global) -> Result<String, AllocError>
         ensures { IfOk result
-            (λ text. string_bytes text ≡ upstream_text_of (values_of_ref self.now)) }
+            (λ text. string_bytes text ≡ spec.upstream_text_of (values_of_ref self.now)) }
     {
         self.pieces(false).to_text(alloc)
     }
 
-    /// Writes the printed text at the front of the buffer if it fits there, and returns its length. If it doesn't fit,
-    /// the buffer is unchanged: compare the result with `out.len()`. Nothing is allocated.
+    /// Writes the printed string at the front of the buffer if it fits there, and returns its length. If it doesn't
+    /// fit, the buffer is unchanged: compare the result with `out.len()`. Nothing is allocated.
     ///
     /// # Examples
     ///
@@ -113,17 +110,16 @@ impl<'a> TripleRef<'a> {
     /// let length = TripleRef::from_str("x86_64-linux").unwrap().write_to(&mut bytes);
     /// assert_eq!((length, bytes), ("x86_64-unknown-linux".len(), [0; 8]));
     /// ```
-    #[tactic(auto, unfolding(crate::specs::Printing::text_of))]
     pub fn write_to(&self, out: &mut [u8]) -> usize
-        ensures { IsWritten (text_of (values_of_ref self.now)) out.old out.new result }
+        ensures { IsWritten (spec.text_of (values_of_ref self.now)) out.old out.new result }
     {
         self.pieces(self.shows_unknowns()).write_to(out)
     }
 
-    /// Writes the text that upstream prints for the triple, as [`TripleRef::write_to`] writes the printed one.
-    #[tactic(auto, unfolding(crate::specs::Printing::upstream_text_of))]
+    /// Writes the string that upstream prints for the triple, as [`TripleRef::write_to`] writes the printed one.
     pub fn write_upstream_to(&self, out: &mut [u8]) -> usize
-        ensures { IsWritten (upstream_text_of (values_of_ref self.now)) out.old out.new result }
+        ensures { IsWritten (spec.upstream_text_of (values_of_ref self.now))
+            out.old out.new result }
     {
         self.pieces(false).write_to(out)
     }
@@ -152,7 +148,6 @@ impl<'a> TripleRef<'a> {
 
     /// Whether the vendor is shown.
     #[inline(always)]
-    #[tactic(auto, unfolding(crate::specs::Printing::shows_vendor))]
     fn shows_vendor(&self) -> bool
         ensures { result ≡ spec.shows_vendor (values_of_ref self.now) }
     {
@@ -190,7 +185,6 @@ impl<'a> TripleRef<'a> {
     }
 
     /// Whether the operating system is shown by upstream's rule.
-    #[tactic(auto, unfolding(crate::specs::Printing::shows_operating_system))]
     pub(crate) fn shows_operating_system(&self) -> bool
         ensures { result ≡ spec.shows_operating_system (values_of_ref self.now) }
     {
@@ -201,7 +195,6 @@ impl<'a> TripleRef<'a> {
     }
 
     /// Whether the environment is shown.
-    #[tactic(auto, unfolding(crate::specs::Printing::shows_environment))]
     fn shows_environment(&self) -> bool
         ensures { result ≡ spec.shows_environment (values_of_ref self.now) }
     {
@@ -214,7 +207,8 @@ impl<'a> TripleRef<'a> {
 
     /// Whether the environment `Newlib` is omitted.
     pub(crate) fn implies_newlib(&self) -> bool
-        ensures { result ≡ implies_newlib (ref_value self.now.vendor) self.now.operating_system }
+        ensures { result
+            ≡ values.implies_newlib (ref_value self.now.vendor) self.now.operating_system }
     {
         matches!(
             (self.vendor, self.operating_system),
@@ -230,7 +224,6 @@ impl<'a> TripleRef<'a> {
 
     /// Whether the binary format is shown: if it isn't the implied one, or `shows_implied_format` holds.
     #[inline(always)]
-    #[tactic(auto, unfolding(crate::specs::Printing::shows_binary_format))]
     fn shows_binary_format(&self) -> bool
         ensures { result ≡ spec.shows_binary_format (values_of_ref self.now) }
     {
@@ -316,7 +309,7 @@ impl<'a> Piece<'a> {
         }
     }
 
-    /// The length of the text.
+    /// The length of the string.
     fn text_length(self) -> usize
         ensures { result ≡ length (piece_text self.entry) }
     {
@@ -326,7 +319,7 @@ impl<'a> Piece<'a> {
         }
     }
 
-    /// Writes the text, as [`put`] writes a text.
+    /// Writes the string, as [`put`] writes a string.
     fn put(self, out: &mut [u8], at: usize) -> usize
         requires { at + length (piece_text self) ≤ length out.old }
         ensures { Puts (piece_text self.entry) out.old at out.new result }
@@ -358,7 +351,7 @@ impl fmt::Display for Piece<'_> {
     }
 }
 
-/// What is shown of a triple: the name of the architecture, or the special text, and a piece for each of the other
+/// What is shown of a triple: the name of the architecture, or the special string, and a piece for each of the other
 /// fields. The version of the operating system follows its name without a dash.
 #[derive(Clone, Copy)]
 struct Pieces<'a> {
@@ -377,7 +370,7 @@ struct Pieces<'a> {
 impl Pieces<'_> {
     ghost use Rattle.target_lexicon.specs.Pieces.{pieces_text};
 
-    /// The pieces of a special text, of which it is the only one.
+    /// The pieces of a special string, of which it is the only one.
     fn of_special_text(text: &'static str) -> Self
         requires { length text.now ≤ max_name_length }
         ensures { pieces_text result ≡ text.entry.now }
@@ -392,7 +385,7 @@ impl Pieces<'_> {
         }
     }
 
-    /// The text. `Err` if the allocation for it fails.
+    /// The string. `Err` if the allocation for it fails.
     fn to_text(&self, alloc: Global) -> Result<String, AllocError>
         ensures { IfOk result (λ text. string_bytes text ≡ pieces_text self.now) }
     {
@@ -401,7 +394,7 @@ impl Pieces<'_> {
         Ok(text)
     }
 
-    /// Writes the text at the front of the buffer if it fits there, and returns its length. If it doesn't fit, the
+    /// Writes the string at the front of the buffer if it fits there, and returns its length. If it doesn't fit, the
     /// buffer is unchanged.
     fn write_to(&self, out: &mut [u8]) -> usize
         ensures { IsWritten (pieces_text self.now) out.old out.new result }
@@ -413,7 +406,7 @@ impl Pieces<'_> {
         length
     }
 
-    /// The length of the text.
+    /// The length of the string.
     fn text_length(&self) -> usize
         ensures { result ≡ length (pieces_text self.now) }
     {
@@ -425,7 +418,7 @@ impl Pieces<'_> {
             + self.binary_format.text_length()
     }
 
-    /// The length of the version's text.
+    /// The length of the version's string.
     fn version_length(&self) -> usize
         ensures { result ≡ length (version_suffix self.now.version) }
     {
@@ -435,7 +428,7 @@ impl Pieces<'_> {
         }
     }
 
-    /// Writes the version's text, as [`put`] writes a text.
+    /// Writes the version's string, as [`put`] writes a string.
     fn put_version(&self, out: &mut [u8], at: usize) -> usize
         requires { at + length (version_suffix self.now.version) ≤ length out.old }
         ensures { Puts (version_suffix self.now.version) out.old at out.new result }
@@ -450,7 +443,7 @@ impl Pieces<'_> {
         }
     }
 
-    /// Writes the text at the front of a buffer that has room for it, and returns its end.
+    /// Writes the string at the front of a buffer that has room for it, and returns its end.
     fn put(&self, out: &mut [u8]) -> usize
         requires { length (pieces_text self.now) ≤ length out.old }
         ensures { IsPut (pieces_text self.now) out.old out.new result }
@@ -496,7 +489,7 @@ fn version_if(is_shown: bool, system: OperatingSystem) -> Option<DeploymentTarge
     if is_shown { system.version() } else { None }
 }
 
-/// Writes a text after what ends at `at`, into a buffer that has room for it. Returns the end of both.
+/// Writes a string after what ends at `at`, into a buffer that has room for it. Returns the end of both.
 pub(crate) fn put(out: &mut [u8], at: usize, text: &[u8]) -> usize
     requires { at + length text.now ≤ length out.old }
     ensures { Puts text.now out.old at out.new result }

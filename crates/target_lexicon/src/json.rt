@@ -2,7 +2,8 @@
 ghost use Rattle.std.specs.Prelude.{◌≡◌, true, map, All, IfOk, IfErr};
 ghost use Rattle.serde_json.specs.View.{view};
 ghost use Rattle.lexicon_fields.specs.Vendor.{OwnsCustomText, is_plain, vendor_value};
-ghost use Rattle.target_lexicon.specs.Json.{json_of, list_json_of, JsonReadsAs, IsJsonErrorOf, json_error_value, ListReadsAs, IsListErrorOf, list_error_value};
+ghost use Rattle.target_lexicon.specs.Json as spec;
+ghost use Rattle.target_lexicon.specs.Json.{JsonReadsAs, IsJsonErrorOf, ListReadsAs, IsListErrorOf};
 ghost use Rattle.target_lexicon.specs.Values.{values_of};
 ghost use Rattle.target_lexicon.specs.ValuesRef.{values_of_ref};
 
@@ -14,26 +15,26 @@ use serde_json::Value;
 use std::alloc::{AllocError, Global};
 
 impl Triple {
-    /// The JSON string of the printed text. `Err` if the allocation for it fails.
+    /// The printed string as a JSON string. `Err` if the allocation for it fails.
     pub fn to_json(&self, alloc: Global) -> Result<Value, AllocError>
-        ensures { IfOk result (λ value. view value ≡ json_of (values_of self.now)) }
+        ensures { IfOk result (λ value. view value ≡ spec.json_of (values_of self.now)) }
     {
         self.as_triple_ref().to_json(alloc)
     }
 
-    /// The triple that the text of a JSON string parses as, by [`Triple::from_str`].
+    /// The triple that a JSON string parses as, by [`Triple::from_str`].
     ///
     /// # Errors
     ///
     /// - [`JsonError::NotText`] if the value is not a string.
-    /// - [`JsonError::Parse`] if the text of the string is refused, or an allocation for parsing it fails. Nothing is
+    /// - [`JsonError::Parse`] if the string is refused, or an allocation for parsing it fails. Nothing is
     ///   allocated for another value.
     pub fn from_json(alloc: Global, value: &Value) -> Result<Triple, JsonError>
         ensures ok { IfOk result (λ triple. JsonReadsAs (view value.now) (values_of triple)) }
         ensures owned { IfOk result (λ triple. OwnsCustomText triple.vendor) }
         ensures plain { IfOk result (λ triple. is_plain (vendor_value triple.vendor) ≡ true) }
         ensures err { IfErr result
-            (λ error. IsJsonErrorOf (view value.now) (json_error_value error)) }
+            (λ error. IsJsonErrorOf (view value.now) (spec.json_error_value error)) }
     {
         let Some(text) = value.as_str() else {
             return Err(JsonError::NotText);
@@ -46,9 +47,9 @@ impl Triple {
 }
 
 impl TripleRef<'_> {
-    /// The JSON string of the printed text. `Err` if the allocation for it fails.
+    /// The printed string as a JSON string. `Err` if the allocation for it fails.
     pub fn to_json(&self, alloc: Global) -> Result<Value, AllocError>
-        ensures { IfOk result (λ value. view value ≡ json_of (values_of_ref self.now)) }
+        ensures { IfOk result (λ value. view value ≡ spec.json_of (values_of_ref self.now)) }
     {
         Ok(Value::from(self.to_text(alloc)?))
     }
@@ -56,7 +57,7 @@ impl TripleRef<'_> {
 
 /// The JSON array of the triples' JSON strings, in order. `Err` if an allocation for it fails.
 pub fn list_to_json(alloc: Global, triples: &[Triple]) -> Result<Value, AllocError>
-    ensures { IfOk result (λ value. view value ≡ list_json_of (map values_of triples.now)) }
+    ensures { IfOk result (λ value. view value ≡ spec.list_json_of (map values_of triples.now)) }
 {
     let mut values = Vec::new(alloc);
     for triple in triples {
@@ -81,7 +82,8 @@ pub fn list_from_json(alloc: Global, value: &Value) -> Result<Vec<Triple>, ListE
         (λ triples. All (λ triple. OwnsCustomText triple.vendor) triples.items) }
     ensures plain { IfOk result
         (λ triples. All (λ triple. is_plain (vendor_value triple.vendor) ≡ true) triples.items) }
-    ensures err { IfErr result (λ error. IsListErrorOf (view value.now) (list_error_value error)) }
+    ensures err { IfErr result
+        (λ error. IsListErrorOf (view value.now) (spec.list_error_value error)) }
 {
     let Some(elements) = value.as_array() else {
         return Err(ListError::NotList);

@@ -9,7 +9,7 @@ use std::fmt;
 pub enum JsonError {
     /// The value is not a string.
     NotText,
-    /// The text of the string is refused, or an allocation for parsing it failed.
+    /// The string is refused, or an allocation for parsing it failed.
     Parse(ParseError),
 }
 

@@ -1,5 +1,5 @@
 //! Laws of the definitions. Each function's contract is a law; a call does nothing.
-ghost use Rattle.std.specs.Prelude.{◌≡◌, ◌≢◌, ◌↔◌, ℕ, suc, true, List, All, take, IsTrue};
+ghost use Rattle.std.specs.Prelude.{◌≡◌, ◌≢◌, ◌↔◌, ℕ, suc, List, All, take, IsTrue};
 ghost use Rattle.target_lexicon.specs.GreedyReading.{ResultsAreComputed};
 ghost use Rattle.target_lexicon.specs.Laws.{ComesBack, HasOneLeastPlacement, EveryTextHasOneOutcome, ReadingIsComputed, ReadVendorsArePlain, EqualTextsEqualTriples};
 ghost use Rattle.lexicon_fields.specs.Laws.{HashInjectiveOn, HashInjective, ComparesByValue, CopiesEqualTheirSources, HasVersionInRange};
@@ -48,21 +48,19 @@ pub use lexicon_fields::laws::{
 use std::hash::Hash;
 
 /// Parts that have a placement have exactly one least placement, and so does each prefix of them.
-#[tactic(auto, using(crate::proofs::GreedyPlacement::placement_prefix, crate::proofs::GreedyPlacement::placement_least))]
 pub fn one_least_placement()
     ensures { (parts : List (List ℕ)) →
         HasPlacement parts →
         HasOneLeastPlacement parts × ((n : ℕ) → HasOneLeastPlacement (take (suc n) parts)) }
 {}
 
-/// Every text parses or is refused, in exactly one way.
+/// Every string parses or is refused, in exactly one way.
 pub fn every_text_has_one_outcome()
     ensures { EveryTextHasOneOutcome }
 {}
 
-/// The function `reading` of the definitions gives the triple that a text parses as, or how it is refused. So a
-/// caller's proof can compute the result for a text.
-#[tactic(auto, using(crate::proofs::ComputedReading::reading_computed))]
+/// The function `reading` of the definitions gives the triple that a string parses as, or how it is refused. So a
+/// caller's proof can compute the result for a string.
 pub fn reading_is_computed()
     ensures { ReadingIsComputed }
 {}
@@ -73,24 +71,21 @@ pub fn results_are_computed()
     ensures { ResultsAreComputed }
 {}
 
-/// Every triple that a text parses as has a plain vendor.
-#[tactic(auto, using(crate::proofs::ReadValues::read_plain))]
+/// Every triple that a string parses as has a plain vendor.
 pub fn read_vendors_are_plain()
     ensures { ReadVendorsArePlain }
 {}
 
-/// Every triple that a text parses as has a plain vendor, and a version in range if its system has one. So the laws of
-/// round trips apply to it.
-#[tactic(auto, using(crate::proofs::ReadValues::read_plain, crate::proofs::ReadValues::read_in_range))]
+/// Every triple that a string parses as has a plain vendor, and a version in range if its system has one. So the laws
+/// of round trips apply to it.
 pub fn read_triples_are_plain()
     ensures { ReadTriplesArePlain }
 {
     read_versions_are_in_range();
 }
 
-/// The printed text of a triple is at most 22 bytes longer than each text that parses as it, and so is the text of the
-/// canonical triple. A refused part is not longer than the text.
-#[tactic(auto, using(crate::proofs::Lengths::printed_max_growth, crate::proofs::Lengths::canonical_max_growth, crate::proofs::Lengths::refused_does_not_grow))]
+/// The printed string of a triple is at most 22 bytes longer than each string that parses as it, and so is the string
+/// of the canonical triple. A refused part is not longer than the string.
 pub fn printed_texts_grow_at_most()
     ensures printed { PrintedTextsGrowAtMost }
     ensures settled { CanonicalTextsGrowAtMost }
@@ -100,7 +95,7 @@ pub fn printed_texts_grow_at_most()
     names_grow_at_most();
 }
 
-/// Two triples that come back are equal exactly if their printed texts are.
+/// Two triples that come back are equal exactly if their printed strings are.
 pub fn equal_texts_equal_triples()
     ensures { EqualTextsEqualTriples }
 {}
@@ -136,13 +131,11 @@ pub fn refusals_are_equal_by_value()
 {}
 
 /// If a triple has a data model, the pointers of the model have as many bits as those of the triple.
-#[tactic(auto, using(crate::proofs::ModelsKnown::model_pointers))]
 pub fn model_width()
     ensures { ModelWidth }
 {}
 
 /// No triple has the data model `LP32` or `ILP64`.
-#[tactic(auto, using(crate::proofs::ModelsKnown::one_of_three))]
 pub fn no_rare_model()
     ensures { (t : Values) →
         (data_model t ≢ Some CDataModel.LP32) × (data_model t ≢ Some CDataModel.ILP64) }
@@ -155,7 +148,6 @@ pub fn integers_grow_in_each_model()
 
 /// The normal step (`Triple::normal`) keeps the architecture of a triple, and so its byte order, pointer width, calling
 /// convention and data model, or that it has none.
-#[tactic(auto, using(crate::proofs::QueriesKept::kept))]
 pub fn queries_kept()
     ensures { QueriesKept }
 {}
@@ -179,33 +171,30 @@ pub fn defaults_are_equal_by_value()
 
 /// A triple comes back (it is printed and parsed again as itself) exactly if it is in none of five families, also if
 /// its vendor is not plain. Each triple comes back or is in a family.
-#[tactic(auto, using(crate::proofs::FixedPointLemmas::fixed_exactly_outside_families))]
 pub fn fixed_exactly_outside_families()
     ensures { FixedExactlyOutsideFamilies }
 {}
 
-/// The printed text of each triple with a plain vendor parses as the triple's normal step.
-#[tactic(auto, using(crate::proofs::TextRoundTrips::round))]
+/// The printed string of each triple with a plain vendor parses as the triple's normal step.
 pub fn round_is_normal_step()
     ensures { RoundIsNormalStep }
 {}
 
 /// A second normal step changes none: one round trip gives the canonical form. The name is from upstream's rules of
 /// printing, by which it changes one.
-#[tactic(auto, using(crate::proofs::SettleLemmas::second_changes_none))]
 pub fn second_step_changes_one()
     ensures { OneStepSettles }
 {}
 
-/// The canonical form of a triple with a plain vendor comes back, and no other canonical triple has its text.
+/// The canonical form of a triple with a plain vendor comes back, and no other canonical triple has its string.
 pub fn settled_texts_are_keys()
     ensures { SettledTextsAreKeys }
 {}
 
-/// The headline, all of these laws in one: every text parses or is refused, in exactly one way. Each parsed triple has
-/// a plain vendor. A triple comes back exactly if it is in none of five families. The round trip of each triple with a
-/// plain vendor succeeds, is the normal step, keeps the answers of the four queries, and gives the canonical form; and
-/// each canonical triple has a text of its own.
+/// The headline, all of these laws in one: every string parses or is refused, in exactly one way. Each parsed triple
+/// has a plain vendor. A triple comes back exactly if it is in none of five families. The round trip of each triple
+/// with a plain vendor succeeds, is the normal step, keeps the answers of the four queries, and gives the canonical
+/// form; and each canonical triple has a string of its own.
 pub fn round_trips_are_known()
     ensures { RoundTripsAreKnown }
 {
@@ -218,9 +207,8 @@ pub fn round_trips_are_known()
     settled_texts_are_keys();
 }
 
-/// The printed text of a triple differs from upstream's exactly if environment and format are unknown, another format
-/// is implied, and no special text is printed.
-#[tactic(auto, using(crate::proofs::Upstream::only_unknowns_differ))]
+/// The printed string of a triple differs from upstream's exactly if environment and format are unknown, another format
+/// is implied, and no special string is printed.
 pub fn only_unknowns_differ_from_upstream()
     ensures { OnlyUnknownsDifferFromUpstream }
 {}
@@ -234,7 +222,7 @@ pub fn lists_read_back()
     every_text_has_one_outcome();
 }
 
-/// Two errors of a JSON value are equal exactly if both say that it is not a string, or the same about its text.
+/// Two errors of a JSON value are equal exactly if both say that it is not a string, or the same about the string.
 pub fn json_errors_are_equal_by_value()
     ensures { (x y : JsonError) →
         IsTrue (⟦<JsonError as PartialEq>⟧.eq x y) ↔ (json_error_value x ≡ json_error_value y) }

@@ -1,6 +1,6 @@
 //! The macro.
 
-/// [`Triple::from_str`](crate::Triple::from_str) of an allocator and a text, for function bodies.
+/// [`Triple::from_str`](crate::Triple::from_str) of an allocator and a string, for function bodies.
 #[macro_export]
 macro_rules! triple {
     ($alloc:expr, $text:expr $(,)?) => {

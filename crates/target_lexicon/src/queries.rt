@@ -1,7 +1,7 @@
 //! Queries for code generators.
 ghost use Rattle.std.specs.Prelude.{◌≡◌, ◌↔◌, IsErr, false};
 ghost use Rattle.lexicon_fields.specs.Names.{MatchesLookup};
-ghost use Rattle.target_lexicon.specs.Queries.{endianness, pointer_width, calling_convention, data_model, is_ilp32, model_64, model_32};
+ghost use Rattle.target_lexicon.specs.Queries as spec;
 ghost use Rattle.target_lexicon.specs.Values.{values_of};
 ghost use Rattle.target_lexicon.specs.ValuesRef.{values_of_ref};
 
@@ -23,7 +23,7 @@ impl TripleRef<'_> {
     /// assert_eq!(triple.endianness(), Ok(Endianness::Big));
     /// ```
     pub fn endianness(&self) -> Result<Endianness, ()>
-        ensures answer { MatchesLookup (endianness (values_of_ref self.now)) result }
+        ensures answer { MatchesLookup (spec.endianness (values_of_ref self.now)) result }
         ensures refusal { IsErr result ↔ (self.now.architecture ≡ Architecture.Unknown) }
     {
         self.architecture.endianness()
@@ -39,12 +39,11 @@ impl TripleRef<'_> {
     /// let triple = TripleRef::from_str("avr-unknown-none").unwrap();
     /// assert_eq!(triple.pointer_width(), Ok(PointerWidth::U16));
     /// ```
-    #[tactic(auto, unfolding(crate::specs::Queries::pointer_width))]
     pub fn pointer_width(&self) -> Result<PointerWidth, ()>
-        ensures answer { MatchesLookup (pointer_width (values_of_ref self.now)) result }
+        ensures answer { MatchesLookup (spec.pointer_width (values_of_ref self.now)) result }
         ensures refusal { IsErr result
             ↔ ((self.now.architecture ≡ Architecture.Unknown)
-            × (is_ilp32 self.now.environment ≡ false)) }
+            × (spec.is_ilp32 self.now.environment ≡ false)) }
     {
         match self.environment {
             Environment::Gnux32 | Environment::GnuIlp32 => Ok(PointerWidth::U32),
@@ -62,9 +61,8 @@ impl TripleRef<'_> {
     /// let triple = TripleRef::from_str("x86_64-unknown-linux-gnu").unwrap();
     /// assert_eq!(triple.default_calling_convention(), Ok(CallingConvention::SystemV));
     /// ```
-    #[tactic(auto, unfolding(crate::specs::Queries::convention_on))]
     pub fn default_calling_convention(&self) -> Result<CallingConvention, ()>
-        ensures { MatchesLookup (calling_convention (values_of_ref self.now)) result }
+        ensures { MatchesLookup (spec.calling_convention (values_of_ref self.now)) result }
     {
         match self.operating_system {
             OperatingSystem::Darwin(_)
@@ -126,9 +124,8 @@ impl TripleRef<'_> {
     /// let triple = TripleRef::from_str("x86_64-pc-windows-msvc").unwrap();
     /// assert_eq!(triple.data_model(), Ok(CDataModel::LLP64));
     /// ```
-    #[tactic(auto, unfolding(crate::specs::Queries::data_model))]
     pub fn data_model(&self) -> Result<CDataModel, ()>
-        ensures { MatchesLookup (data_model (values_of_ref self.now)) result }
+        ensures { MatchesLookup (spec.data_model (values_of_ref self.now)) result }
     {
         match self.pointer_width()? {
             PointerWidth::U64 => self.data_model_64(),
@@ -139,7 +136,8 @@ impl TripleRef<'_> {
 
     /// The data model for pointers of 64 bits.
     fn data_model_64(&self) -> Result<CDataModel, ()>
-        ensures { MatchesLookup (model_64 self.now.architecture self.now.operating_system) result }
+        ensures { MatchesLookup
+            (spec.model_64 self.now.architecture self.now.operating_system) result }
     {
         match self.operating_system {
             OperatingSystem::Windows => Ok(CDataModel::LLP64),
@@ -157,7 +155,8 @@ impl TripleRef<'_> {
 
     /// The data model for pointers of 32 bits.
     fn data_model_32(&self) -> Result<CDataModel, ()>
-        ensures { MatchesLookup (model_32 self.now.architecture self.now.operating_system) result }
+        ensures { MatchesLookup
+            (spec.model_32 self.now.architecture self.now.operating_system) result }
     {
         match self.operating_system {
             OperatingSystem::Windows => Ok(CDataModel::ILP32),
@@ -183,7 +182,7 @@ impl Triple {
     /// assert_eq!(triple!("s390x-unknown-linux-gnu").endianness(), Ok(Endianness::Big));
     /// ```
     pub fn endianness(&self) -> Result<Endianness, ()>
-        ensures answer { MatchesLookup (endianness (values_of self.now)) result }
+        ensures answer { MatchesLookup (spec.endianness (values_of self.now)) result }
         ensures refusal { IsErr result ↔ (self.now.architecture ≡ Architecture.Unknown) }
     {
         self.as_triple_ref().endianness()
@@ -201,10 +200,10 @@ impl Triple {
     /// assert_eq!(triple!("x86_64-unknown-linux-gnux32").pointer_width(), Ok(PointerWidth::U32));
     /// ```
     pub fn pointer_width(&self) -> Result<PointerWidth, ()>
-        ensures answer { MatchesLookup (pointer_width (values_of self.now)) result }
+        ensures answer { MatchesLookup (spec.pointer_width (values_of self.now)) result }
         ensures refusal { IsErr result
             ↔ ((self.now.architecture ≡ Architecture.Unknown)
-            × (is_ilp32 self.now.environment ≡ false)) }
+            × (spec.is_ilp32 self.now.environment ≡ false)) }
     {
         self.as_triple_ref().pointer_width()
     }
@@ -223,7 +222,7 @@ impl Triple {
     /// assert_eq!(triple!("wasm32-wasip1").default_calling_convention(), Err(()));
     /// ```
     pub fn default_calling_convention(&self) -> Result<CallingConvention, ()>
-        ensures { MatchesLookup (calling_convention (values_of self.now)) result }
+        ensures { MatchesLookup (spec.calling_convention (values_of self.now)) result }
     {
         self.as_triple_ref().default_calling_convention()
     }
@@ -240,7 +239,7 @@ impl Triple {
     /// assert_eq!(triple!("avr-unknown-none").data_model(), Err(()));
     /// ```
     pub fn data_model(&self) -> Result<CDataModel, ()>
-        ensures { MatchesLookup (data_model (values_of self.now)) result }
+        ensures { MatchesLookup (spec.data_model (values_of self.now)) result }
     {
         self.as_triple_ref().data_model()
     }

@@ -5,7 +5,8 @@ ghost use Rattle.lexicon_fields.specs.Vendor.{OwnsCustomText, vendor_value, is_p
 ghost use Rattle.lexicon_fields.specs.VendorRef.{ref_value};
 ghost use Rattle.target_lexicon.specs.Explanation.{AreInText, AreSourcesOf, IsInText, IsRefusedAfter, IsRefusedAt, part_value, sources_of};
 ghost use Rattle.target_lexicon.specs.Placement.{parts_after, parts_of};
-ghost use Rattle.target_lexicon.specs.Reading.{ReadsAs, IsErrorOf, IsRefusedAs, expected_after};
+ghost use Rattle.target_lexicon.specs.Reading as spec;
+ghost use Rattle.target_lexicon.specs.Reading.{ReadsAs, IsErrorOf, IsRefusedAs};
 ghost use Rattle.target_lexicon.specs.Values.{values_of};
 ghost use Rattle.target_lexicon.specs.ValuesRef.{refusal_value, values_of_ref};
 
@@ -33,7 +34,7 @@ pub fn first_part(text: &str) -> (&str, Option<&str>)
 
 /// The field that is expected after this one is filled, if any is left.
 pub fn expected_after(last: Field) -> Option<Field>
-    ensures { result ≡ expected_after last }
+    ensures { result ≡ spec.expected_after last }
 {
     match last {
         Field::Architecture => Some(Field::Vendor),

@@ -1,7 +1,6 @@
 //! Reading: a state that takes one name after the other, each spelled by a part of the string.
-ghost use Rattle.std.specs.Prelude.{◌≡◌, ◌∷◌, [], ℕ, List, Some, Ok, Err, IfOk, IfErr, option_map};
-ghost use Rattle.std.specs.Option.{option_map_or};
-ghost use Rattle.target_lexicon.specs.Explanation.{SourceValue, FromPart, part_value, same_sources, source_value, sources_of, NotGiven, Implied};
+ghost use Rattle.std.specs.Prelude.{◌≡◌, ◌∷◌, [], ℕ, List, Some, Ok, Err, IfOk, IfErr};
+ghost use Rattle.target_lexicon.specs.Explanation.{SourceValue, FromPart, part_value, same_sources, sources_of, NotGiven, Implied};
 ghost use Rattle.target_lexicon.specs.Reading.{expected_after};
 ghost use Rattle.target_lexicon.specs.Refusal.{refusal_with};
 ghost use Rattle.target_lexicon.specs.Resumed.{HasOpenFormat, IsSystemName, NamedPart, named, resumed, resumed_left, resumed_sources, with_source};
@@ -150,7 +149,6 @@ impl<'a> Reading<'a> {
 
     /// Takes a system that a part spells, as [`take`](Reading::take) takes the system's name. The name is in no string:
     /// it has no row, and parses as the system.
-    #[tactic(auto, using(crate::proofs::SystemNames::system_no_vendor))]
     pub fn take_system(
         &mut self,
         system: OperatingSystem,

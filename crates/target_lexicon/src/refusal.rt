@@ -1,6 +1,6 @@
 //! Why a string doesn't parse as a triple.
 ghost use Rattle.std.specs.Prelude.{◌≡◌, ◌<◌, Some, IfOk, length};
-ghost use Rattle.target_lexicon.specs.Refusal.{refusal_of, refusal_line, refusal_prefix};
+ghost use Rattle.target_lexicon.specs.Refusal as spec;
 ghost use Rattle.target_lexicon.specs.ValuesRef.{refusal_value};
 ghost use Rattle.target_lexicon.specs.Written.{IsWritten};
 
@@ -59,7 +59,7 @@ impl<'a> Refusal<'a> {
 
     /// The same refusal as upstream's error, with a copy of the part. `Err` if the allocation for that copy fails.
     pub fn to_error(&self, alloc: Global) -> Result<ParseError, AllocError>
-        ensures { IfOk result (λ error. refusal_of error ≡ Some (refusal_value self.now)) }
+        ensures { IfOk result (λ error. spec.refusal_of error ≡ Some (refusal_value self.now)) }
     {
         let part = String::from_str(alloc, self.part.text)?;
         Ok(ParseError::new(self.expected, part))
@@ -68,7 +68,7 @@ impl<'a> Refusal<'a> {
     /// Writes the line of the refusal, without a line feed, at the front of the buffer if it fits there, and returns
     /// its length. If it doesn't fit, the buffer is unchanged. Nothing is allocated.
     pub fn write_to(&self, out: &mut [u8]) -> usize
-        ensures { IsWritten (refusal_line (refusal_value self.now)) out.old out.new result }
+        ensures { IsWritten (spec.refusal_line (refusal_value self.now)) out.old out.new result }
     {
         let prefix = refusal_prefix(self.expected);
         let part = self.part.text;
@@ -84,7 +84,7 @@ impl<'a> Refusal<'a> {
 
 /// The words of a refusal's line before the part, such as `Unrecognized vendor: `.
 pub fn refusal_prefix(expected: Option<Field>) -> &'static str
-    ensures words { result.now ≡ refusal_prefix expected }
+    ensures words { result.now ≡ spec.refusal_prefix expected }
     ensures bound { length result.now < 32 }
 {
     match expected {
@@ -98,9 +98,9 @@ pub fn refusal_prefix(expected: Option<Field>) -> &'static str
 }
 
 impl fmt::Display for Refusal<'_> {
-    ghost output = { λ it. Some (refusal_line (refusal_value it)) };
+    ghost output = { λ it. Some (spec.refusal_line (refusal_value it)) };
 
-    ghost styled_output = { λ it _. Some (refusal_line (refusal_value it)) };
+    ghost styled_output = { λ it _. Some (spec.refusal_line (refusal_value it)) };
 
     fn fmt<W: fmt::Write>(&self, f: &mut fmt::Formatter<W>) -> fmt::Result {
         f.write_str(refusal_prefix(self.expected))?;

@@ -8,8 +8,8 @@ ghost use Rattle.lexicon_fields.specs.declared.vendor_ref.VendorRef.TheVariants.
 ghost use Rattle.target_lexicon.specs.FixedPoints.{settled_values};
 ghost use Rattle.lexicon_fields.specs.Laws.{HasVersionInRange};
 ghost use Rattle.target_lexicon.specs.Laws.{ComesBack};
-ghost use Rattle.target_lexicon.specs.NormalStep.{is_3ds_or_esp_idf, normal_step, prints_as_special, hides_newlib, prints_the_esp_idf_text, shows_only_none, elf_if_unknown};
-ghost use Rattle.target_lexicon.specs.Private.{is_in_no_family};
+ghost use Rattle.target_lexicon.specs.NormalStep as spec;
+ghost use Rattle.target_lexicon.specs.Private as private;
 ghost use Rattle.target_lexicon.specs.Printing.{text_of};
 ghost use Rattle.target_lexicon.specs.Reading.{ReadsAs};
 ghost use Rattle.target_lexicon.specs.Values.{values_of};
@@ -24,14 +24,15 @@ use lexicon_fields::{
 };
 
 impl Triple {
-    /// Whether the triple comes back: printed and parsed again, it is itself. No text is made and nothing is allocated.
+    /// Whether the triple comes back: printed and parsed again, it is itself. No string is made and nothing is
+    /// allocated.
     ///
     /// A triple comes back unless it is in one of five families:
     /// - The first three fields are those of `armv6k-nintendo-3ds` or `riscv32imc-esp-espidf`, and environment and
     ///   format aren't `Newlib` and `Elf`.
     /// - Vendor and system are those of one of these two, and the environment is `Newlib`, but the architecture is
     ///   another.
-    /// - The text is `riscv32imc-esp-espidf`, but the vendor is the custom `esp`.
+    /// - The string is `riscv32imc-esp-espidf`, but the vendor is the custom `esp`.
     /// - On Clever with an unknown system, the environment is `None`, which parses as the system.
     /// - The vendor isn't plain.
     ///
@@ -49,8 +50,8 @@ impl Triple {
         self.as_triple_ref().comes_back()
     }
 
-    /// The normal step of the triple: the triple that its printed text parses as. The vendor must be plain, as that of
-    /// every parsed triple is. Nothing is copied or allocated.
+    /// The normal step of the triple: the triple that its printed string parses as. The vendor must be plain, as that
+    /// of every parsed triple is. Nothing is copied or allocated.
     ///
     /// A triple that comes back is unchanged. Otherwise the first of these cases that holds decides, by the families of
     /// `comes_back`:
@@ -58,10 +59,9 @@ impl Triple {
     /// - Second: the environment becomes `Unknown`, and an `Unknown` format becomes `Elf`.
     /// - Third: the vendor becomes `Espressif`, environment and format become `Newlib` and `Elf`.
     /// - Fourth: the system becomes `None_`, and the environment `Unknown`.
-    #[tactic(auto, using(crate::proofs::TextRoundTrips::round_by_step))]
     pub fn normal(self) -> Triple
         requires { is_plain (vendor_value self.vendor) ≡ true }
-        ensures step { values_of result ≡ normal_step (values_of self) }
+        ensures step { values_of result ≡ spec.normal_step (values_of self) }
         ensures round { ReadsAs (text_of (values_of self)) (values_of result) }
         ensures vendor { (result.vendor ≡ self.vendor) ⊎ (result.vendor ≡ Espressif) }
     {
@@ -72,8 +72,8 @@ impl Triple {
 
     /// The canonical form of the triple, which is what one normal step gives: it comes back, and a second step changes
     /// nothing (law `second_step_changes_one`). The vendor must be plain, as for `normal`. A triple that comes back is
-    /// unchanged. No other canonical triple has the same text (law `settled_texts_are_keys`), so the text serves as a
-    /// key. Nothing is allocated.
+    /// unchanged. No other canonical triple has the same string (law `settled_texts_are_keys`), so the string serves as
+    /// a key. Nothing is allocated.
     pub fn settle(self) -> Triple
         requires { is_plain (vendor_value self.vendor) ≡ true }
         ensures steps { values_of result ≡ settled_values (values_of self) }
@@ -88,7 +88,7 @@ impl Triple {
 
     /// The normal step.
     pub(crate) fn step(mut self) -> Triple
-        ensures step { values_of result ≡ normal_step (values_of self) }
+        ensures step { values_of result ≡ spec.normal_step (values_of self) }
         ensures vendor { (result.vendor ≡ self.vendor) ⊎ (result.vendor ≡ Espressif) }
     {
         let step = self.as_triple_ref().step();
@@ -123,11 +123,10 @@ impl<'a> TripleRef<'a> {
         self.is_in_no_family()
     }
 
-    /// The triple that the printed text parses as, as [`Triple::normal`] says. The vendor must be plain.
-    #[tactic(auto, using(crate::proofs::TextRoundTrips::round_by_step))]
+    /// The triple that the printed string parses as, as [`Triple::normal`] says. The vendor must be plain.
     pub fn normal(self) -> TripleRef<'a>
         requires { is_plain (ref_value self.vendor) ≡ true }
-        ensures step { values_of_ref result ≡ normal_step (values_of_ref self.entry) }
+        ensures step { values_of_ref result ≡ spec.normal_step (values_of_ref self.entry) }
         ensures round { ReadsAs (text_of (values_of_ref self.entry)) (values_of_ref result) }
         ensures vendor { (result.vendor ≡ self.entry.vendor)
             ⊎ (result.vendor ≡ Known known_vendor.Espressif) }
@@ -153,9 +152,8 @@ impl<'a> TripleRef<'a> {
     }
 
     /// The normal step of any triple. If the vendor is plain, it is the canonical form.
-    #[tactic(auto, unfolding(crate::specs::NormalStep::normal_step))]
     pub fn step(mut self) -> TripleRef<'a>
-        ensures step { values_of_ref result ≡ normal_step (values_of_ref self.entry) }
+        ensures step { values_of_ref result ≡ spec.normal_step (values_of_ref self.entry) }
         ensures vendor { (result.vendor ≡ self.entry.vendor)
             ⊎ (result.vendor ≡ Known known_vendor.Espressif) }
     {
@@ -177,9 +175,8 @@ impl<'a> TripleRef<'a> {
     }
 
     /// Whether the triple is in none of the five families.
-    #[tactic(auto, unfolding(crate::specs::Private::is_in_no_family))]
     fn is_in_no_family(&self) -> bool
-        ensures { result ≡ is_in_no_family (values_of_ref self.now) }
+        ensures { result ≡ private.is_in_no_family (values_of_ref self.now) }
     {
         !self.prints_as_special()
             && !self.hides_newlib()
@@ -190,15 +187,15 @@ impl<'a> TripleRef<'a> {
 
     /// Whether the first three fields are those of a special string.
     fn is_3ds_or_esp_idf(&self) -> bool
-        ensures { result ≡ is_3ds_or_esp_idf self.now.architecture (ref_value self.now.vendor)
+        ensures { result ≡ spec.is_3ds_or_esp_idf self.now.architecture (ref_value self.now.vendor)
             self.now.operating_system }
     {
         self.special_text().is_some()
     }
 
-    /// Whether a special text is printed, and environment and format aren't `Newlib` and `Elf`.
+    /// Whether a special string is printed, and environment and format aren't `Newlib` and `Elf`.
     fn prints_as_special(&self) -> bool
-        ensures { result ≡ prints_as_special (values_of_ref self.now) }
+        ensures { result ≡ spec.prints_as_special (values_of_ref self.now) }
     {
         self.is_3ds_or_esp_idf()
             && !matches!(
@@ -207,18 +204,18 @@ impl<'a> TripleRef<'a> {
             )
     }
 
-    /// Whether the environment is a `Newlib` that isn't shown, and the text isn't special.
+    /// Whether the environment is a `Newlib` that isn't shown, and the string isn't special.
     fn hides_newlib(&self) -> bool
-        ensures { result ≡ hides_newlib (values_of_ref self.now) }
+        ensures { result ≡ spec.hides_newlib (values_of_ref self.now) }
     {
         self.implies_newlib()
             && matches!(self.environment, Environment::Newlib)
             && !self.is_3ds_or_esp_idf()
     }
 
-    /// Whether the vendor is the custom `esp`, and the text is the special one.
+    /// Whether the vendor is the custom `esp`, and the string is the special one.
     fn prints_the_esp_idf_text(&self) -> bool
-        ensures { result ≡ prints_the_esp_idf_text (values_of_ref self.now) }
+        ensures { result ≡ spec.prints_the_esp_idf_text (values_of_ref self.now) }
     {
         match (
             self.architecture,
@@ -239,9 +236,8 @@ impl<'a> TripleRef<'a> {
     }
 
     /// Whether the environment `none` is shown without a system, on Clever.
-    #[tactic(auto, unfolding(crate::specs::Printing::shows_operating_system))]
     fn shows_only_none(&self) -> bool
-        ensures { result ≡ shows_only_none (values_of_ref self.now) }
+        ensures { result ≡ spec.shows_only_none (values_of_ref self.now) }
     {
         match self.environment {
             Environment::None => !self.shows_operating_system(),
@@ -252,7 +248,7 @@ impl<'a> TripleRef<'a> {
 
 /// The format, with `Elf` for an unknown one.
 fn elf_if_unknown(binary_format: BinaryFormat) -> BinaryFormat
-    ensures { result ≡ elf_if_unknown binary_format }
+    ensures { result ≡ spec.elf_if_unknown binary_format }
 {
     match binary_format {
         BinaryFormat::Unknown => BinaryFormat::Elf,

@@ -10,7 +10,7 @@ use crate::triple_ref::TripleRef;
 
 impl Triple {
     /// Whether both triples have the same canonical form. Nothing is moved, copied or allocated. The cases that
-    /// [`Triple::comes_back`] lists give one to a triple whose vendor isn't plain too, but its text is no key.
+    /// [`Triple::comes_back`] lists give one to a triple whose vendor isn't plain too, but its string is no key.
     ///
     /// # Examples
     ///

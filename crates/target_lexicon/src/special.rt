@@ -1,7 +1,7 @@
-//! The two texts that have a triple of their own.
+//! The two strings that have a triple of their own.
 ghost use Rattle.std.specs.Prelude.{◌≡◌, ◌≤◌, length, Option, option_map, IfSome, List, ℕ};
 ghost use Rattle.lexicon_fields.specs.Laws.{max_name_length};
-ghost use Rattle.target_lexicon.specs.SpecialTexts.{special_text, special_values};
+ghost use Rattle.target_lexicon.specs.SpecialTexts as spec;
 ghost use Rattle.target_lexicon.specs.ValuesRef.{values_of_ref};
 
 use crate::triple_ref::TripleRef;
@@ -15,10 +15,9 @@ const NINTENDO_3DS: &str = "armv6k-nintendo-3ds";
 const ESP_IDF: &str = "riscv32imc-esp-espidf";
 
 impl<'a> TripleRef<'a> {
-    /// The triple of a special text.
-    #[tactic(auto, unfolding(crate::specs::SpecialTexts::special_values))]
+    /// The triple of a special string.
     pub(crate) fn from_special_text(text: &str) -> Option<TripleRef<'a>>
-        ensures { option_map values_of_ref result ≡ special_values text.now }
+        ensures { option_map values_of_ref result ≡ spec.special_values text.now }
     {
         match text {
             NINTENDO_3DS => Some(TripleRef {
@@ -39,11 +38,10 @@ impl<'a> TripleRef<'a> {
         }
     }
 
-    /// The special text that the triple prints, if any. Environment and format don't matter.
-    #[tactic(auto, unfolding(crate::specs::SpecialTexts::special_text))]
+    /// The special string that the triple prints, if any. Environment and format don't matter.
     pub(crate) fn special_text(&self) -> Option<&'static str>
         ensures text { option_map {U = List ℕ} (λ text. text.now) result
-            ≡ special_text (values_of_ref self.now) }
+            ≡ spec.special_text (values_of_ref self.now) }
         ensures bound { IfSome result (λ text. length text.now ≤ max_name_length) }
     {
         match (self.architecture, self.vendor, self.operating_system) {

@@ -5,7 +5,7 @@ ghost use Rattle.lexicon_fields.specs.Vendor.{owns_text};
 use lexicon_fields::{Architecture, BinaryFormat, Environment, OperatingSystem, Vendor};
 use std::alloc::{AllocError, Global};
 
-/// A target triple, such as `x86_64-unknown-linux-gnu`. It has five fields, of which its text shows some.
+/// A target triple, such as `x86_64-unknown-linux-gnu`. It has five fields, of which its printed string shows some.
 ///
 /// # Examples
 ///

@@ -6,7 +6,7 @@ use Rattle.triples.specs.declared.mode.Mode.{Mode}
 use Rattle.triples.specs.declared.mode.Mode.TheVariants.{Print, Show, Settle, Json, Matrix}
 
 -- the mode that a word names
-unfoldable pub mode_from_word : List ℕ → Option Mode
+abbrev pub mode_from_word : List ℕ → Option Mode
 mode_from_word word =
     value_named ((codes "print", Print) ∷ (codes "show", Show) ∷ (codes "settle", Settle) ∷ (codes "json", Json) ∷ (codes "matrix", Matrix) ∷ []) word
 

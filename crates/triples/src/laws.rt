@@ -43,13 +43,11 @@ pub fn entries_are_kept_once()
 
 /// The matrix follows the order of the lines: each refused line and the first entry of each string are added at its
 /// end, and a later entry of the same string changes nothing.
-#[tactic(auto, using(crate::proofs::MatrixLawLemmas::first_entries_stay_in_order))]
 pub fn first_entries_stay_in_order()
     ensures { FirstEntriesStayInOrder }
 {}
 
 /// The canonical triple of each line that parses has exactly one entry in the matrix.
-#[tactic(auto, using(crate::proofs::MatrixLawLemmas::each_settled_triple_has_an_entry))]
 pub fn each_settled_triple_has_an_entry()
     ensures { EachSettledTripleHasAnEntry }
 {
@@ -57,7 +55,6 @@ pub fn each_settled_triple_has_an_entry()
 }
 
 /// Mode `matrix` gives the entries of a matrix back, if they are its input.
-#[tactic(auto, using(crate::proofs::MatrixLawLemmas::matrices_are_their_own))]
 pub fn matrices_are_their_own()
     ensures { MatricesAreTheirOwn }
 {

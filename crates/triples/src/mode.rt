@@ -20,7 +20,6 @@ impl Mode {
     ghost use Rattle.triples.specs.Words.{mode_from_word};
 
     /// The mode that the word names, if any.
-    #[tactic(auto, unfolding(crate::specs::Words::mode_from_word))]
     pub fn from_word(word: &str) -> Option<Mode>
         ensures { result ≡ mode_from_word word.now }
     {

@@ -80,7 +80,7 @@ impl Aarch64Architecture {
         }
     }
 
-    /// The value with this name; `arm64` is an alias of `aarch64`. `Err` for every other text.
+    /// The value with this name; `arm64` is an alias of `aarch64`. `Err` for every other string.
     pub fn from_str(s: &str) -> Result<Self, ()>
         ensures { MatchesLookup (sub_architecture_of as_aarch64 s.now) result }
     {

@@ -4,7 +4,7 @@ ghost use Rattle.std.specs.Cow.{cow_str_bytes, IsBorrowedStr};
 ghost use Rattle.lexicon_fields.specs.Names.{MatchesLookup};
 ghost use Rattle.lexicon_fields.specs.Architecture.{as_arm, sub_architecture_of};
 ghost use Rattle.lexicon_fields.specs.SubArchitecture.{arm_name};
-ghost use Rattle.lexicon_fields.specs.ArchitectureQueries.{is_thumb, arm_endianness};
+ghost use Rattle.lexicon_fields.specs.ArchitectureQueries as queries;
 
 use crate::architecture::Architecture;
 use crate::endianness::Endianness;
@@ -125,7 +125,7 @@ impl ArmArchitecture {
     /// assert!(!ArmArchitecture::Armv7a.is_thumb());
     /// ```
     pub fn is_thumb(self) -> bool
-        ensures { result ≡ is_thumb self }
+        ensures { result ≡ queries.is_thumb self }
     {
         matches!(
             self,
@@ -167,7 +167,7 @@ impl ArmArchitecture {
     /// assert_eq!(ArmArchitecture::Armeb.endianness(), Endianness::Big);
     /// ```
     pub fn endianness(self) -> Endianness
-        ensures { result ≡ arm_endianness self }
+        ensures { result ≡ queries.arm_endianness self }
     {
         match self {
             ArmArchitecture::Armeb | ArmArchitecture::Armebv7r | ArmArchitecture::Thumbeb =>

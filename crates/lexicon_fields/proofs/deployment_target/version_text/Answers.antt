@@ -2,7 +2,7 @@ use Rattle.std.proofs.Common.{ℕ, ◌<◌, ◌^◌, ◌∙◌, [], ◌∷◌, a
 use Rattle.std.specs.{Fmt.decimal, Str.IsAscii, Str.IsUtf8}
 use Rattle.std.proofs.lemmas.{Fmt.IsAscii-decimal, Str.IsAscii-append, Str.IsUtf8-from_ascii}
 use Rattle.lexicon_fields.specs.{declared.deployment_target.DeploymentTarget.DeploymentTarget, Laws.IsVersionInRange, Version.dot, Version.version_name}
-use Rattle.lexicon_fields.proofs.{NameLengths.version-short, Puts.put_taken}
+use Rattle.lexicon_fields.proofs.{ParsedSystems.version-short, Puts.put_taken}
 use Rattle.lexicon_fields.proofs.deployment_target.version_text.Goals as goal
 
 -- digits and dots are UTF-8

@@ -1,5 +1,5 @@
 use Rattle.std.proofs.Common.{arith}
-use Rattle.target_lexicon.proofs.HashInputPairs.{bare_hash_injective}
+use Rattle.lexicon_fields.proofs.HashInputs.{bare_hash_injective}
 use Rattle.target_lexicon.specs.contracts.data_model.Size as size
 use Rattle.target_lexicon.specs.contracts.data_model.CDataModel as data_model
 use Rattle.target_lexicon.specs.contracts.calling_convention.CallingConvention as calling_convention

@@ -13,3 +13,6 @@ returns-in-Some-eq100-clause-without_row c =
 
 pub returns-in_default-clause-without_row : goal.returns-in_default-clause-without_row
 returns-in_default-clause-without_row c = without_row_is_darwin_like c.args.s.now _ (search rules)
+
+pub returns-in_default-2-clause-without_row : goal.returns-in_default-2-clause-without_row
+returns-in_default-2-clause-without_row c = without_row_is_darwin_like c.args.s.now _ (search rules)

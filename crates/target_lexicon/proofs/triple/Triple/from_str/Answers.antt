@@ -5,7 +5,7 @@ use Rattle.target_lexicon.specs.{declared.parse_error.ParseError.ParseError, dec
 use Rattle.target_lexicon.specs.declared.parse_error.ParseError.TheVariants.{OutOfMemory}
 use Rattle.target_lexicon.proofs.triple.Triple.from_str.Goals as goal
 
--- parsing a refused text may run out of memory
+-- parsing a refused string may run out of memory
 refused-error : (text : List ℕ) (x : Refusal) → IsRefusedAs text x → (found : Result Triple ParseError) → IsErrAnd found (λ error. error ≡ OutOfMemory)
     → IfErr found (λ error. IsErrorOf text error)
 refused-error text x h (Err error) same = rw same (inl (x, h))

@@ -1,0 +1,6 @@
+use Rattle.std.proofs.Common.{arith}
+use Rattle.lexicon_fields.proofs.RowLemmas.{no_name_without_row}
+use Rattle.lexicon_fields.proofs.architecture.Architecture.from_str.Goals as goal
+
+pub returns-in-None : goal.returns-in-None
+returns-in-None c = grind (arith, no_name_without_row)

@@ -1,0 +1,79 @@
+use Rattle.std.proofs.Common.{◌≡◌, ◌≤◌, ◌++◌, ℕ, List, [], codes, length, nat_le, true, Option, Some, None, IfSome, refl, arith}
+use Rattle.std.proofs.{lemmas.Bool.leb-true, lemmas.List.length-append}
+use Rattle.lexicon_fields.specs.{declared.architecture.Architecture.Architecture, declared.environment.Environment.Environment, declared.binary_format.BinaryFormat.BinaryFormat}
+use Rattle.lexicon_fields.specs.{declared.operating_system.OperatingSystem.OperatingSystem, declared.known_vendor.KnownVendor.KnownVendor}
+use Rattle.lexicon_fields.specs.{declared.deployment_target.DeploymentTarget.DeploymentTarget, Version.version_name, OperatingSystem.version_suffix}
+use Rattle.lexicon_fields.specs.{Laws.IsVersionInRange, Laws.HasVersionInRange, Laws.max_name_length}
+use Rattle.lexicon_fields.specs.{Architecture.architecture_name, Environment.environment_name, BinaryFormat.binary_format_name, OperatingSystem.operating_system_name, Vendor.known_vendor_name}
+use Rattle.lexicon_fields.proofs.ParsedSystems.{version-short}
+use Rattle.lexicon_fields.specs.declared.architecture.Architecture.TheVariants as architecture
+use Rattle.lexicon_fields.specs.declared.architecture.arm.ArmArchitecture.TheVariants as arm
+use Rattle.lexicon_fields.specs.declared.architecture.aarch64.Aarch64Architecture.TheVariants as aarch64
+use Rattle.lexicon_fields.specs.declared.architecture.x86_32.X86_32Architecture.TheVariants as x86_32
+use Rattle.lexicon_fields.specs.declared.architecture.mips.Mips32Architecture.TheVariants as mips32
+use Rattle.lexicon_fields.specs.declared.architecture.mips.Mips64Architecture.TheVariants as mips64
+use Rattle.lexicon_fields.specs.declared.architecture.riscv.Riscv32Architecture.TheVariants as riscv32
+use Rattle.lexicon_fields.specs.declared.architecture.riscv.Riscv64Architecture.TheVariants as riscv64
+use Rattle.lexicon_fields.specs.declared.architecture.clever.CleverArchitecture.TheVariants as clever
+use Rattle.lexicon_fields.specs.declared.architecture.z80.Z80Architecture.TheVariants as z80
+use Rattle.lexicon_fields.specs.declared.known_vendor.KnownVendor.TheVariants as known_vendor
+use Rattle.lexicon_fields.specs.declared.environment.Environment.TheVariants as environment
+use Rattle.lexicon_fields.specs.declared.binary_format.BinaryFormat.TheVariants as binary_format
+use Rattle.lexicon_fields.specs.declared.operating_system.OperatingSystem.TheVariants as operating_system
+use Rattle.lexicon_fields.proofs.laws.names_are_short.Goals as goal
+
+-- the tests, which compute for each value
+
+architecture-is_short : (a : Architecture) → nat_le (length (architecture_name a)) max_name_length ≡ true
+architecture-is_short (architecture.Arm arm.Arm) = refl
+architecture-is_short (architecture.Aarch64 aarch64.Aarch64) = refl
+architecture-is_short (architecture.X86_32 x86_32.I386) = refl
+architecture-is_short (architecture.Mips32 mips32.Mips) = refl
+architecture-is_short (architecture.Mips64 mips64.Mips64) = refl
+architecture-is_short (architecture.Riscv32 riscv32.Riscv32) = refl
+architecture-is_short (architecture.Riscv64 riscv64.Riscv64) = refl
+architecture-is_short (architecture.Clever clever.Clever) = refl
+architecture-is_short (architecture.Z80 z80.Z80) = refl
+architecture-is_short _ = refl
+
+environment-is_short : (e : Environment) → nat_le (length (environment_name e)) max_name_length ≡ true
+environment-is_short environment.Unknown = refl
+environment-is_short _ = refl
+
+binary_format-is_short : (f : BinaryFormat) → nat_le (length (binary_format_name f)) max_name_length ≡ true
+binary_format-is_short binary_format.Unknown = refl
+binary_format-is_short _ = refl
+
+known_vendor-is_short : (k : KnownVendor) → nat_le (length (known_vendor_name k)) max_name_length ≡ true
+known_vendor-is_short known_vendor.Unknown = refl
+known_vendor-is_short _ = refl
+
+pub returns-clause-architecture : goal.returns-clause-architecture
+returns-clause-architecture c = λ a. leb-true _ _ (architecture-is_short a)
+
+pub returns-clause-environment : goal.returns-clause-environment
+returns-clause-environment c = λ e. leb-true _ _ (environment-is_short e)
+
+pub returns-clause-binary_format : goal.returns-clause-binary_format
+returns-clause-binary_format c = λ f. leb-true _ _ (binary_format-is_short f)
+
+pub returns-clause-vendor : goal.returns-clause-vendor
+returns-clause-vendor c = λ k. leb-true _ _ (known_vendor-is_short k)
+
+-- the longest prefix of a system like Darwin has eight bytes
+with_version : (prefix : List ℕ) (version : Option DeploymentTarget) → nat_le (length prefix) 8 ≡ true → IfSome version IsVersionInRange → length (prefix ++ version_suffix version) ≤ max_name_length
+with_version prefix None short range = omega (arith, length-append prefix [], leb-true _ _ short)
+with_version prefix (Some v) short range = omega (arith, length-append prefix (version_name v), leb-true _ _ short, version-short v range)
+
+system-is_short : (s : OperatingSystem) → HasVersionInRange s → length (operating_system_name s) ≤ max_name_length
+system-is_short (operating_system.Darwin version) range = with_version (codes "darwin") version refl range
+system-is_short (operating_system.IOS version) range = with_version (codes "ios") version refl range
+system-is_short (operating_system.MacOSX version) range = with_version (codes "macosx") version refl range
+system-is_short (operating_system.TvOS version) range = with_version (codes "tvos") version refl range
+system-is_short (operating_system.VisionOS version) range = with_version (codes "visionos") version refl range
+system-is_short (operating_system.WatchOS version) range = with_version (codes "watchos") version refl range
+system-is_short (operating_system.XROS version) range = with_version (codes "xros") version refl range
+system-is_short _ range = leb-true _ _ refl
+
+pub returns-clause-operating_system : goal.returns-clause-operating_system
+returns-clause-operating_system c = system-is_short

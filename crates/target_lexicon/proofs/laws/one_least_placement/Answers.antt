@@ -1,0 +1,5 @@
+use Rattle.target_lexicon.proofs.GreedyPlacement.{placement_least, placement_prefix}
+use Rattle.target_lexicon.proofs.laws.one_least_placement.Goals as goal
+
+pub returns : goal.returns
+returns c = λ parts some. (placement_least parts some, λ n. placement_least _ (placement_prefix n parts some))

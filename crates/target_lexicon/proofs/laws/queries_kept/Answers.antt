@@ -1,0 +1,5 @@
+use Rattle.target_lexicon.proofs.QueriesKept.{kept}
+use Rattle.target_lexicon.proofs.laws.queries_kept.Goals as goal
+
+pub returns : goal.returns
+returns c = kept

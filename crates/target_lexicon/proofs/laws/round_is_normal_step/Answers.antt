@@ -1,0 +1,5 @@
+use Rattle.target_lexicon.proofs.TextRoundTrips.{round}
+use Rattle.target_lexicon.proofs.laws.round_is_normal_step.Goals as goal
+
+pub returns : goal.returns
+returns c = round

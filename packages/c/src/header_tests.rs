@@ -1,0 +1,219 @@
+//! The numbers of target_lexicon.h and target_lexicon.hpp are the library's.
+use crate::proved::{dialect_at, expected_at, facts, name_at, NumberedTriple, TripleNumbers};
+use std::collections::BTreeMap;
+use target_lexicon::proved::names::{architecture_at, field_at, operating_system_at};
+use target_lexicon::TripleRef;
+
+const HEADER: &str = include_str!("../include/target_lexicon.h");
+const CPP_HEADER: &str = include_str!("../include/target_lexicon.hpp");
+const FIELDS: [(&str, &str); 5] = [
+    ("ARCHITECTURE", "Architecture"),
+    ("VENDOR", "Vendor"),
+    ("OPERATING_SYSTEM", "OperatingSystem"),
+    ("ENVIRONMENT", "Environment"),
+    ("BINARY_FORMAT", "BinaryFormat"),
+];
+
+/// The enumerators `NAME = NUMBER` of a text, whose names begin with a prefix, without it.
+fn enumerators(text: &str, prefix: &str) -> BTreeMap<u32, String> {
+    let uncommented = text.lines().map(|line| line.split("/*").next().unwrap_or("").split("//").next().unwrap_or(""));
+    let text: Vec<&str> = uncommented.collect();
+    let pairs = text.iter().flat_map(|line| line.split(&[',', '{', '}'][..])).filter_map(|it| it.split_once('='));
+    pairs
+        .filter_map(|(name, number)| Some((number.trim().parse().ok()?, name.trim().strip_prefix(prefix)?.to_string())))
+        .collect()
+}
+
+/// The enumerators of one type of target_lexicon.hpp.
+fn cpp_enumerators(name: &str) -> BTreeMap<u32, String> {
+    let (_, after) = CPP_HEADER.split_once(&format!("enum class {name} : ")).expect(name);
+    enumerators(after.split_once("};").expect("an end").0, "")
+}
+
+#[test]
+fn the_enumerators_are_the_values() {
+    for (number, (c, cpp)) in FIELDS.iter().enumerate() {
+        let field = field_at(number as u32).expect("a field");
+        let names: Vec<&str> = (0..).map_while(|number| name_at(field, number)).collect();
+        let (found, cpp_found) = (enumerators(HEADER, &format!("LEXICON_{c}_")), cpp_enumerators(cpp));
+        assert_eq!(enumerators(HEADER, "LEXICON_FIELD_")[&(number as u32)], *c);
+        assert_eq!(found.len(), names.len() + usize::from(*c == "VENDOR"));
+        assert_eq!(cpp_found.len(), names.len());
+        for (number, name) in names.iter().enumerate() {
+            let upper = name.replace('.', "_").to_uppercase();
+            assert_eq!(found[&(number as u32)], upper);
+            let letters = |text: &str| text.to_uppercase().replace(['_', '.'], "");
+            let (cpp, name) = (letters(&cpp_found[&(number as u32)]), letters(name));
+            assert!(cpp == name || cpp.starts_with(&name) || name.starts_with(&cpp), "{cpp} {name}");
+        }
+    }
+}
+
+#[test]
+fn the_dialects_are_those_of_the_library() {
+    let (found, cpp_found) = (enumerators(HEADER, "LEXICON_DIALECT_"), cpp_names("Dialect"));
+    let names: Vec<_> = (0..).map_while(dialect_at).map(|it| it.map_or("none", |it| it.as_str())).collect();
+    assert_eq!(found.len(), names.len());
+    assert_eq!(cpp_found[1..], names[1..]);
+    for (number, name) in (0..).zip(names) {
+        assert_eq!(found[&number], name.to_uppercase());
+    }
+}
+
+/// The names of the values of a type in target_lexicon.hpp, by number.
+fn cpp_names(of: &str) -> Vec<&'static str> {
+    let (_, after) = CPP_HEADER.split_once(&format!("name({of} value)")).expect(of);
+    let listed = after.split_once("};").expect("an end").0;
+    listed.split('"').skip(1).step_by(2).collect()
+}
+
+/// A triple of an architecture and a system, as C has it.
+fn numbered(architecture: u16, operating_system: u8) -> NumberedTriple<'static> {
+    let numbers = TripleNumbers {
+        architecture,
+        vendor: 0,
+        operating_system,
+        environment: 0,
+        binary_format: 0,
+        has_version: 0,
+        minor: 0,
+        patch: 0,
+        major: 0,
+    };
+    NumberedTriple { numbers, custom_vendor: &[] }
+}
+
+#[test]
+fn the_families_are_the_values() {
+    let (found, cpp_found) = (enumerators(HEADER, "LEXICON_FAMILY_"), cpp_enumerators("Family"));
+    for number in 0.. {
+        let Some(architecture) = architecture_at(number) else { break };
+        let family = facts(&numbered(number, 0)).ok().expect("a triple").family.into();
+        let shown = format!("{architecture:?}");
+        let variant = shown.split('(').next().unwrap_or("");
+        assert_eq!(found[&family], variant.to_uppercase());
+        assert_eq!(cpp_found[&family], variant);
+    }
+    assert_eq!(found.len(), cpp_found.len());
+}
+
+/// The names of the values of a type by number, which target_lexicon.h and target_lexicon.hpp have alike; that of 0 is empty.
+fn names_of_answers(prefix: &str, of: &str) -> Vec<&'static str> {
+    let (found, names) = (enumerators(HEADER, prefix), cpp_names(of));
+    let expected = names.iter().map(|name| if name.is_empty() { "NONE".into() } else { name.to_uppercase() });
+    assert_eq!(found.values().map(|name| name.replace('_', "")).collect::<Vec<_>>(), expected.collect::<Vec<_>>());
+    assert!(found.keys().copied().eq(0..names.len() as u32));
+    names
+}
+
+#[test]
+fn the_conventions_and_models_are_those_of_the_queries() {
+    let conventions = names_of_answers("LEXICON_CALLING_CONVENTION_", "CallingConvention");
+    let models = names_of_answers("LEXICON_DATA_MODEL_", "DataModel");
+    for (number, architecture) in (0..).map_while(|it| Some((it, architecture_at(it)?))) {
+        for (system_number, operating_system) in (0..).map_while(|it| Some((it, operating_system_at(it, None)?))) {
+            let triple = TripleRef { architecture, operating_system, ..TripleRef::unknown() };
+            let facts = facts(&numbered(number, system_number)).ok().expect("a triple");
+            let convention = triple.default_calling_convention().map_or("", |it| it.name());
+            assert_eq!(conventions[usize::from(facts.default_calling_convention)], convention);
+            assert_eq!(models[usize::from(facts.data_model)], triple.data_model().map_or("", |it| it.name()));
+        }
+    }
+}
+
+#[test]
+fn the_statuses_are_those_of_the_calls() {
+    let (_, after) = HEADER.split_once("enum lexicon_status {").expect("the statuses");
+    let found = enumerators(after.split_once("};").expect("an end").0, "LEXICON_");
+    let declared = include_str!("lib.rs").lines().filter_map(|line| {
+        let (name, number) = line.strip_prefix("const ")?.strip_suffix(';')?.split_once(": Status = ")?;
+        Some((number.parse().expect(name), name.to_string()))
+    });
+    let mut statuses: BTreeMap<u32, String> = declared.collect();
+    for (status, (field, _)) in (1..).zip(FIELDS) {
+        assert_eq!(expected_at(status).map(|it| it == field_at(status - 1)), Some(true));
+        statuses.insert(status, format!("UNRECOGNIZED_{field}"));
+    }
+    assert_eq!(expected_at(6).map(|it| it.is_none()), Some(true));
+    statuses.insert(6, "UNRECOGNIZED_FIELD".to_string());
+    assert_eq!(found, statuses);
+}
+
+/// A call may be given null for a text, a buffer, `length` and `error`, and for no other pointer.
+#[test]
+fn the_pointers_that_may_not_be_null_are_marked() {
+    let (_, prototypes) = HEADER.split_once("#define LEXICON_MAX_GROWTH").expect("the calls");
+    let (prototypes, inline) = prototypes.split_once("/* The calls above for a string").expect("those without a size");
+    // Each call that takes a string's size has one without, where the string may not be null either.
+    let sizes = ["size_t text_size", "size_t name_size"].map(|it| prototypes.matches(it).count());
+    let count_of = |what| inline.matches(what).count();
+    assert_eq!((count_of("_z("), count_of("LEXICON_NONNULL(")), (sizes[0] + sizes[1], sizes[0] + sizes[1]));
+    let prototypes = uncommented(prototypes);
+    let declared = prototypes.split(';').filter_map(|it| it.trim().strip_suffix(')')?.rsplit_once('('));
+    let mut count = 0;
+    for (before, given) in declared.filter(|(before, _)| before.contains("lexicon_")) {
+        let marked = before.split_once("LEXICON_NONNULL(").map_or("", |(_, after)| after.split_once(')').expect("an end").0);
+        let pointers = (1..).zip(given.split(',')).filter_map(|(number, it)| Some((number, it.rsplit_once('*')?.1)));
+        let needed = pointers.filter(|(_, name)| !["text", "name", "out", "length", "error"].contains(name));
+        assert_eq!(marked, needed.map(|(number, _)| i32::to_string(&number)).collect::<Vec<_>>().join(", "), "{before}");
+        count += 1;
+    }
+    assert_eq!(count, include_str!("lib.rs").matches("extern \"C\" fn lexicon_").count());
+}
+
+/// The text without its comments.
+fn uncommented(text: &str) -> String {
+    text.split("/*").map(|it| it.split_once("*/").map_or(it, |(_, after)| after)).collect()
+}
+
+const TYPES: [(&str, &str); 7] = [
+    ("uint8_t", "u8"),
+    ("uint16_t", "u16"),
+    ("uint32_t", "u32"),
+    ("size_t", "usize"),
+    ("bool", "bool"),
+    ("const char *", "*const u8"),
+    ("struct lexicon_source", "FieldSource"),
+];
+
+/// The members of a struct of target_lexicon.h, each as its type in Rust and its name.
+fn members(name: &str) -> Vec<(String, String)> {
+    let (_, after) = HEADER.split_once(&format!("struct {name} {{")).expect(name);
+    let listed = after.split_once("\n};").expect("an end").0;
+    let listed = uncommented(listed);
+    let declared = listed.split(';').map(str::trim).filter(|it| !it.is_empty());
+    declared
+        .flat_map(|it| {
+            let (names, of) = TYPES.iter().find_map(|(c, rust)| Some((it.strip_prefix(c)?, rust))).expect(it);
+            names.split(',').map(|name| (of.to_string(), name.trim().to_string())).collect::<Vec<_>>()
+        })
+        .collect()
+}
+
+/// The fields of a struct in a source of Rust, likewise.
+fn fields(source: &str, name: &str) -> Vec<(String, String)> {
+    let (_, after) = source.split_once(&format!("pub struct {name} {{")).expect(name);
+    let lines = after.split_once("\n}").expect("an end").0.lines().map(str::trim);
+    let declared = lines.filter_map(|line| line.trim_start_matches("pub ").strip_suffix(',')?.split_once(": "));
+    declared.map(|(name, of)| (of.to_string(), name.to_string())).collect()
+}
+
+/// The fields of a struct, where one of them is the fields of another struct, with these names.
+fn flattened(fields: Vec<(String, String)>, inner: &str, of: &[(String, String)]) -> Vec<(String, String)> {
+    fields.into_iter().flat_map(|it| if it.0 == inner { of.to_vec() } else { vec![it] }).collect()
+}
+
+#[test]
+fn the_structs_are_those_of_the_library() {
+    let (triple, facts) = (include_str!("proved/triple.rs"), include_str!("proved/triple_facts.rs"));
+    let (error, sources) = (include_str!("proved/error.rs"), include_str!("proved/sources.rs"));
+    let library = include_str!("lib.rs");
+    let numbers = fields(triple, "TripleNumbers");
+    assert_eq!(members("lexicon_triple"), flattened(fields(library, "Triple"), "TripleNumbers", &numbers));
+    let sizes: Vec<_> = fields(facts, "TypeSizes").into_iter().map(|(of, name)| (of, name + "_size")).collect();
+    assert_eq!(members("lexicon_triple_facts"), flattened(fields(library, "Facts"), "TypeSizes", &sizes));
+    assert_eq!(members("lexicon_error"), fields(error, "TextError"));
+    assert_eq!(members("lexicon_source"), fields(sources, "FieldSource"));
+    assert_eq!(members("lexicon_sources"), fields(sources, "FieldSources"));
+    assert_eq!((numbers.len(), sizes.len(), members("lexicon_sources").len()), (9, 6, 5));
+}

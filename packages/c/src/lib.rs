@@ -1,0 +1,459 @@
+//! The calls of target_lexicon.h. What they answer is decided in `proved`; here is what only concerns memory: pointers and sizes
+//! become slices, answers are written where the caller wants them, and texts get a zero byte at the end.
+//!
+//! What a call writes, the caller may have left without a value, and so too what target_lexicon.h says is not read. To such memory
+//! no reference is formed: it is read and written by pointers, field by field or whole.
+//!
+//! Each `unsafe` here depends on what target_lexicon.h asks of the caller: that a pointer is valid for what the call reads or
+//! writes, that only one of size 0, `length` and `error` may be null, that what a call writes overlaps no other argument, and
+//! that the text of a custom vendor stays as long as its struct is used. Nothing else is asked.
+#![cfg_attr(not(test), no_std)]
+#![deny(unsafe_op_in_unsafe_fn)]
+#![allow(clippy::missing_safety_doc)] // target_lexicon.h says it
+
+mod error_text;
+#[cfg(test)]
+mod header_tests;
+mod lines;
+mod names;
+#[allow(unused_imports)] // the proved crate exports more
+mod proved;
+#[cfg(not(test))]
+mod runtime;
+mod text;
+
+use core::mem::size_of;
+use core::ptr::{self, addr_of, null};
+use core::{slice, str};
+use error_text::{line, line_and_caret, suggestion};
+use lines::settle_lines;
+use names::{c_name, c_reason};
+use proved::triple::CUSTOM_VENDOR;
+use proved::{
+    dialect_at, explain, name_at, name_in, name_suggestion, number_in, parse, print, read, reason, same_target, settle, Fault,
+    FieldSource, FieldSources, NumberedTriple, TextError, TripleFacts, TripleNumbers, TypeSizes,
+};
+use target_lexicon::proved::names::field_at;
+use target_lexicon::{tool_names, Field};
+use text::{write_text, Text};
+
+/// `enum lexicon_status`. From 1 to 6 a text is refused, where a value of the first to the fifth field was expected, or none.
+pub type Status = u32;
+
+const OK: Status = 0;
+const NOT_UTF8: Status = 7;
+const TOO_SMALL: Status = 8;
+const NO_SUCH_FIELD: Status = 9;
+const NO_SUCH_VALUE: Status = 10;
+const NO_SUCH_VENDOR: Status = 11;
+const UNKNOWN_NAME: Status = 12;
+const NAME_WITHOUT_TRIPLE: Status = 13;
+const TRIPLE_WITHOUT_NAME: Status = 14;
+const NO_SUCH_DIALECT: Status = 15;
+const TOO_LARGE: Status = 16;
+
+/// The greatest size of anything in memory, `PTRDIFF_MAX`. Rust has no slice that is larger.
+const MAX_SIZE: usize = isize::MAX as usize;
+
+impl From<Fault> for Status {
+    fn from(fault: Fault) -> Status {
+        match fault {
+            Fault::NoSuchValue => NO_SUCH_VALUE,
+            Fault::NoSuchVendor => NO_SUCH_VENDOR,
+        }
+    }
+}
+
+/// `struct lexicon_triple`.
+#[repr(C)]
+pub struct Triple {
+    numbers: TripleNumbers,
+    custom_vendor: *const u8,
+    custom_vendor_size: usize,
+}
+
+/// `struct lexicon_triple_facts`. First is what the queries of the Rust crate answer. A later version adds members at the end.
+#[repr(C)]
+pub struct Facts {
+    endianness: u8,
+    pointer_width: u8,
+    default_calling_convention: u8,
+    data_model: u8,
+    sizes: TypeSizes,
+    is_thumb: bool,
+    is_like_darwin: bool,
+    has_custom_vendor: bool,
+    implied_format: u8,
+    object_format: u8,
+    family: u8,
+}
+
+impl From<TripleFacts> for Facts {
+    #[inline(always)]
+    fn from(it: TripleFacts) -> Facts {
+        Facts {
+            endianness: it.endianness,
+            pointer_width: it.pointer_width,
+            default_calling_convention: it.default_calling_convention,
+            data_model: it.data_model,
+            sizes: it.sizes,
+            is_thumb: it.is_thumb,
+            is_like_darwin: it.is_like_darwin,
+            has_custom_vendor: it.has_custom_vendor,
+            implied_format: it.implied_format,
+            object_format: it.object_format,
+            family: it.family,
+        }
+    }
+}
+
+/// The sizes that the structs of target_lexicon.h have, with words of 64 bits or of 32.
+const _: () = {
+    let word = size_of::<usize>();
+    assert!(size_of::<TripleNumbers>() == 12);
+    assert!(size_of::<Triple>() == if word == 8 { 32 } else { 20 });
+    assert!(size_of::<TextError>() == 3 * word);
+    assert!(size_of::<FieldSources>() == 15 * word);
+    assert!(size_of::<Facts>() == 16);
+};
+
+impl Triple {
+    fn new(it: &NumberedTriple<'_>) -> Triple {
+        let vendor = it.custom_vendor;
+        Triple {
+            numbers: it.numbers,
+            custom_vendor: if vendor.is_empty() { null() } else { vendor.as_ptr() },
+            custom_vendor_size: vendor.len(),
+        }
+    }
+
+    /// The triple of a caller's struct. The numbers of a version are read only if it has one, and the text only of a custom
+    /// vendor. One of a size that no text has is empty here, which no string parses as either.
+    #[inline(always)]
+    unsafe fn read<'a>(from: *const Triple) -> NumberedTriple<'a> {
+        // SAFETY: the caller's struct, in which what is read has a value.
+        unsafe {
+            let it = addr_of!((*from).numbers);
+            let has_version = (*it).has_version;
+            let has = has_version == 1;
+            let numbers = TripleNumbers {
+                architecture: (*it).architecture,
+                vendor: (*it).vendor,
+                operating_system: (*it).operating_system,
+                environment: (*it).environment,
+                binary_format: (*it).binary_format,
+                has_version,
+                minor: if has { (*it).minor } else { 0 },
+                patch: if has { (*it).patch } else { 0 },
+                major: if has { (*it).major } else { 0 },
+            };
+            let custom_vendor = match numbers.vendor {
+                CUSTOM_VENDOR => bytes_at((*from).custom_vendor, (*from).custom_vendor_size).unwrap_or(&[]),
+                _ => &[],
+            };
+            NumberedTriple { numbers, custom_vendor }
+        }
+    }
+}
+
+/// The caller's bytes.
+#[inline(always)]
+unsafe fn bytes_at<'a>(text: *const u8, size: usize) -> Result<&'a [u8], TextError> {
+    match size {
+        0 => Ok(&[]),
+        // SAFETY: the caller's text of this size, which isn't null.
+        1..=MAX_SIZE => Ok(unsafe { slice::from_raw_parts(text, size) }),
+        _ => Err(TextError { status: TOO_LARGE, start: 0, end: 0 }),
+    }
+}
+
+/// Bytes as a text. Most are ASCII, which is found faster than other text.
+#[inline(always)]
+fn text_of(bytes: &[u8]) -> Result<&str, TextError> {
+    if bytes.is_ascii() {
+        // SAFETY: ASCII is UTF-8.
+        return Ok(unsafe { str::from_utf8_unchecked(bytes) });
+    }
+    str::from_utf8(bytes).map_err(|error| not_utf8(bytes, error))
+}
+
+/// The caller's text.
+#[inline(always)]
+unsafe fn text_at<'a>(text: *const u8, size: usize) -> Result<&'a str, TextError> {
+    // SAFETY: the arguments of the caller.
+    text_of(unsafe { bytes_at(text, size) }?)
+}
+
+/// The caller's bytes and error, if there is one, for a call that says why a text is refused.
+unsafe fn refused_at<'a>(text: *const u8, size: usize, error: *const TextError) -> Result<(&'a [u8], TextError), Status> {
+    // SAFETY: the arguments of the caller.
+    unsafe {
+        let bytes = bytes_at(text, size).map_err(|error| error.status)?;
+        Ok((bytes, *error.as_ref().ok_or(NO_SUCH_VALUE)?))
+    }
+}
+
+/// Writes an answer if there is one.
+#[inline(always)]
+unsafe fn answer<T>(to: *mut T, answer: Result<T, impl Into<Status>>) -> Status {
+    match answer {
+        Ok(it) => {
+            // SAFETY: the caller's variable.
+            unsafe { to.write(it) }
+            OK
+        }
+        Err(fault) => fault.into(),
+    }
+}
+
+/// Writes what parsing gives. The error is written if the caller wants it.
+#[inline(always)]
+unsafe fn parsed(result: Result<NumberedTriple<'_>, TextError>, triple: *mut Triple, error: *mut TextError) -> Status {
+    // SAFETY: the caller's variables.
+    match result {
+        Ok(it) => unsafe {
+            triple.write(Triple::new(&it));
+            OK
+        },
+        Err(it) => unsafe {
+            if !error.is_null() {
+                error.write(it);
+            }
+            it.status
+        },
+    }
+}
+
+/// The error of bytes that aren't UTF-8: the range of the first that are no character.
+#[cold]
+fn not_utf8(bytes: &[u8], error: str::Utf8Error) -> TextError {
+    let start = error.valid_up_to();
+    let end = error.error_len().map_or(bytes.len(), |size| start + size);
+    TextError { status: NOT_UTF8, start, end }
+}
+
+// SAFETY, of each `unsafe` below: the arguments are the caller's, as target_lexicon.h asks for them.
+
+#[no_mangle]
+pub unsafe extern "C" fn lexicon_parse(text: *const u8, text_size: usize, triple: *mut Triple, error: *mut TextError) -> Status {
+    unsafe { parsed(text_at(text, text_size).and_then(parse), triple, error) }
+}
+
+#[no_mangle]
+pub unsafe extern "C" fn lexicon_explain(
+    text: *const u8,
+    text_size: usize,
+    triple: *mut Triple,
+    sources: *mut FieldSources,
+    error: *mut TextError,
+) -> Status {
+    let (result, found) = match unsafe { text_at(text, text_size) } {
+        Ok(text) => explain(text),
+        Err(error) => (Err(error), NO_SOURCES),
+    };
+    unsafe {
+        sources.write(found);
+        parsed(result, triple, error)
+    }
+}
+
+const NO_SOURCE: FieldSource = FieldSource { origin: 0, start: 0, end: 0 };
+const NO_SOURCES: FieldSources = FieldSources {
+    architecture: NO_SOURCE,
+    vendor: NO_SOURCE,
+    operating_system: NO_SOURCE,
+    environment: NO_SOURCE,
+    binary_format: NO_SOURCE,
+};
+
+#[no_mangle]
+pub unsafe extern "C" fn lexicon_print(triple: *const Triple, out: *mut u8, out_size: usize, length: *mut usize) -> Status {
+    let triple = unsafe { Triple::read(triple) };
+    unsafe { write_text(out, out_size, length, |out| print(&triple, out).map_err(Status::from)) }
+}
+
+#[no_mangle]
+pub unsafe extern "C" fn lexicon_settle(triple: *mut Triple) -> Status {
+    let settled = settle(&unsafe { Triple::read(triple) });
+    unsafe { answer(triple, settled.map(|it| Triple::new(&it))) }
+}
+
+#[no_mangle]
+pub unsafe extern "C" fn lexicon_settle_lines(
+    text: *const u8,
+    text_size: usize,
+    out: *mut u8,
+    out_size: usize,
+    length: *mut usize,
+) -> Status {
+    match unsafe { bytes_at(text, text_size) } {
+        Ok(text) => unsafe { Text::write(out, out_size, length, |out| Ok(settle_lines(text, out))) },
+        Err(error) => error.status,
+    }
+}
+
+#[no_mangle]
+pub unsafe extern "C" fn lexicon_comes_back(triple: *const Triple, comes_back: *mut bool) -> Status {
+    unsafe { answer(comes_back, proved::comes_back(&Triple::read(triple))) }
+}
+
+#[no_mangle]
+pub unsafe extern "C" fn lexicon_equal(first: *const Triple, second: *const Triple, equal: *mut bool) -> Status {
+    unsafe { answer(equal, proved::equal(&Triple::read(first), &Triple::read(second))) }
+}
+
+#[no_mangle]
+pub unsafe extern "C" fn lexicon_same_target(first: *const Triple, second: *const Triple, same: *mut bool) -> Status {
+    unsafe { answer(same, same_target(&Triple::read(first), &Triple::read(second))) }
+}
+
+#[no_mangle]
+pub unsafe extern "C" fn lexicon_facts(triple: *const Triple, facts: *mut u8, facts_size: usize) -> Status {
+    if facts_size > MAX_SIZE {
+        return TOO_LARGE;
+    }
+    match proved::facts(&unsafe { Triple::read(triple) }) {
+        Ok(it) if facts_size == size_of::<Facts>() => unsafe { facts.cast::<Facts>().write(it.into()) },
+        Ok(it) => unsafe { write_part(&it.into(), facts, facts_size) },
+        Err(fault) => return fault.into(),
+    }
+    OK
+}
+
+/// Writes facts into the caller's struct, which has fewer members than that of this version, or more: these become zeros,
+/// which are no answer.
+#[cold]
+unsafe fn write_part(facts: &Facts, to: *mut u8, size: usize) {
+    let known = size.min(size_of::<Facts>());
+    // SAFETY: the caller's struct of this size, whose members are bytes.
+    unsafe {
+        ptr::copy_nonoverlapping((facts as *const Facts).cast(), to, known);
+        to.add(known).write_bytes(0, size - known);
+    }
+}
+
+#[no_mangle]
+pub unsafe extern "C" fn lexicon_read(
+    dialect: u32,
+    text: *const u8,
+    text_size: usize,
+    triple: *mut Triple,
+    error: *mut TextError,
+) -> Status {
+    let find = || {
+        let bytes = unsafe { bytes_at(text, text_size) }?;
+        let dialect = dialect_at(dialect).ok_or(TextError { status: NO_SUCH_DIALECT, start: 0, end: 0 })?;
+        read(dialect, text_of(bytes)?)
+    };
+    unsafe { parsed(find(), triple, error) }
+}
+
+#[no_mangle]
+pub unsafe extern "C" fn lexicon_write(
+    dialect: u32,
+    triple: *const Triple,
+    out: *mut u8,
+    out_size: usize,
+    length: *mut usize,
+) -> Status {
+    let find = || {
+        if out_size > MAX_SIZE {
+            return Err(TOO_LARGE);
+        }
+        let dialect = dialect_at(dialect).flatten().ok_or(NO_SUCH_DIALECT)?;
+        name_in(dialect, &unsafe { Triple::read(triple) })?.ok_or(TRIPLE_WITHOUT_NAME)
+    };
+    match find() {
+        Ok(name) => unsafe { write_text(out, out_size, length, |out| Ok(written(name.as_str(), out))) },
+        Err(status) => status,
+    }
+}
+
+/// The length of a text, which is written if the buffer has room for it.
+fn written(text: &str, out: &mut [u8]) -> usize {
+    if let Some(out) = out.get_mut(..text.len()) {
+        out.copy_from_slice(text.as_bytes());
+    }
+    text.len()
+}
+
+#[no_mangle]
+pub unsafe extern "C" fn lexicon_reason(dialect: u32, name: *const u8, name_size: usize) -> *const u8 {
+    let dialect = dialect_at(dialect).flatten();
+    let name = unsafe { text_at(name, name_size) }.ok();
+    dialect.zip(name).and_then(|(dialect, name)| reason(dialect, name)).map_or(null(), c_reason)
+}
+
+#[no_mangle]
+pub unsafe extern "C" fn lexicon_name_suggestion(dialect: u32, name: *const u8, name_size: usize) -> *const u8 {
+    let dialect = dialect_at(dialect).flatten();
+    let name = unsafe { text_at(name, name_size) }.ok();
+    dialect.zip(name).and_then(|(dialect, name)| name_suggestion(dialect, name)).map_or(null(), c_name)
+}
+
+#[no_mangle]
+pub unsafe extern "C" fn lexicon_error_line(
+    text: *const u8,
+    text_size: usize,
+    error: *const TextError,
+    out: *mut u8,
+    out_size: usize,
+    length: *mut usize,
+) -> Status {
+    match unsafe { refused_at(text, text_size, error) } {
+        Ok((bytes, error)) => unsafe { Text::write(out, out_size, length, |out| line(bytes, &error, out)) },
+        Err(status) => status,
+    }
+}
+
+#[no_mangle]
+pub unsafe extern "C" fn lexicon_error_text(
+    text: *const u8,
+    text_size: usize,
+    error: *const TextError,
+    out: *mut u8,
+    out_size: usize,
+    length: *mut usize,
+) -> Status {
+    match unsafe { refused_at(text, text_size, error) } {
+        Ok((bytes, error)) => unsafe { Text::write(out, out_size, length, |out| line_and_caret(bytes, &error, out)) },
+        Err(status) => status,
+    }
+}
+
+#[no_mangle]
+pub unsafe extern "C" fn lexicon_suggestion(text: *const u8, text_size: usize, error: *const TextError) -> *const u8 {
+    let refused = unsafe { refused_at(text, text_size, error) }.ok();
+    refused.and_then(|(bytes, error)| suggestion(bytes, &error)).map_or(null(), c_name)
+}
+
+#[no_mangle]
+pub unsafe extern "C" fn lexicon_vendor_suggestion(triple: *const Triple) -> *const u8 {
+    let triple = unsafe { Triple::read(triple) };
+    let vendor = str::from_utf8(triple.custom_vendor).unwrap_or("");
+    match vendor {
+        "" => null(),
+        _ => tool_names::suggestion(Field::Vendor, vendor).map_or(null(), c_name),
+    }
+}
+
+#[no_mangle]
+pub unsafe extern "C" fn lexicon_number(field: u32, text: *const u8, text_size: usize, number: *mut u32) -> Status {
+    let find = || {
+        let status_of = |error: TextError| error.status;
+        let bytes = unsafe { bytes_at(text, text_size) }.map_err(status_of)?;
+        let named = field_at(field).ok_or(NO_SUCH_FIELD)?;
+        number_in(named, text_of(bytes).map_err(status_of)?).ok_or(1 + field)
+    };
+    unsafe { answer(number, find()) }
+}
+
+#[no_mangle]
+pub extern "C" fn lexicon_name(field: u32, number: u32) -> *const u8 {
+    field_at(field).and_then(|field| name_at(field, number)).map_or(null(), c_name)
+}
+
+#[no_mangle]
+pub extern "C" fn lexicon_version() -> *const u8 {
+    concat!(env!("CARGO_PKG_VERSION"), env!("LEXICON_COMMIT"), "\0").as_ptr()
+}

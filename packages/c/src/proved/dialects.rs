@@ -1,0 +1,81 @@
+// Erased from crates/lexicon_c/src/dialects.rt by tools/erase. Don't edit it here.
+//! Names of targets in other tools.
+
+use crate::proved::error::{error_of, TextError};
+use crate::proved::triple::{numbers_of, triple_in, Fault, NumberedTriple};
+use target_lexicon::proved::tool_names::{Dialect, Name, NameError};
+
+/// The dialect with this number. 0 is no dialect: that of strings that are spelled like triples.
+#[must_use]
+pub fn dialect_at(number: u32) -> Option<Option<Dialect>> {
+    match number {
+        0 => Some(None),
+        1 => Some(Some(Dialect::Debian)),
+        2 => Some(Some(Dialect::Go)),
+        3 => Some(Some(Dialect::Oci)),
+        4 => Some(Some(Dialect::Node)),
+        5 => Some(Some(Dialect::Gnu)),
+        6 => Some(Some(Dialect::Python)),
+        7 => Some(Some(Dialect::Uname)),
+        8 => Some(Some(Dialect::Rpm)),
+        9 => Some(Some(Dialect::Apk)),
+        10 => Some(Some(Dialect::Pacman)),
+        11 => Some(Some(Dialect::Dotnet)),
+        12 => Some(Some(Dialect::Conda)),
+        13 => Some(Some(Dialect::Zig)),
+        14 => Some(Some(Dialect::Nix)),
+        _ => None,
+    }
+}
+
+/// The triple that a name of a dialect means, or a string that is spelled like a triple; or why there is none.
+pub fn read(dialect: Option<Dialect>, text: &str) -> Result<NumberedTriple<'_>, TextError> {
+    match dialect {
+        Some(dialect) => match dialect.read(text) {
+            Ok(triple) => Ok(numbers_of(&triple)),
+            Err(error) => Err(name_error(error, text)),
+        },
+        None => match target_lexicon::proved::tool_names::read(text) {
+            Ok(triple) => Ok(numbers_of(&triple)),
+            Err(refusal) => Err(error_of(&refusal)),
+        },
+    }
+}
+
+/// The name of a triple in a dialect, if it has one.
+pub fn name_in(dialect: Dialect, triple: &NumberedTriple<'_>) -> Result<Option<Name>, Fault> {
+    match triple_in(triple) {
+        Ok(named) => Ok(dialect.write(&named)),
+        Err(fault) => Err(fault),
+    }
+}
+
+/// Why a name of a dialect has no triple, if it is a name and has none.
+#[must_use]
+pub fn reason(dialect: Dialect, name: &str) -> Option<&'static str> {
+    match dialect.read(name) {
+        Err(NameError::WithoutTriple(why)) => Some(why),
+        _ => None,
+    }
+}
+
+/// The name of a dialect that is suggested for an unknown one, if there is one.
+#[must_use]
+pub fn name_suggestion(dialect: Dialect, name: &str) -> Option<&'static str> {
+    match dialect.read(name) {
+        Err(NameError::Unknown) => dialect.suggestion(name),
+        _ => None,
+    }
+}
+
+/// Why a name isn't read, as numbers. The range is the whole name.
+fn name_error(error: NameError, name: &str) -> TextError {
+    TextError {
+        status: match error {
+            NameError::Unknown => 12,
+            NameError::WithoutTriple(_) => 13,
+        },
+        start: 0,
+        end: name.len(),
+    }
+}

@@ -1,0 +1,613 @@
+/* Makes each call of the library, and compares its status and what it writes with what is expected. Valid as C and as C++. */
+#include <stdio.h>
+#include <string.h>
+
+#include "target_lexicon.h"
+
+static unsigned failures, count;
+
+static void expect(bool right, const char *what, const char *text) {
+  count++;
+  if (right) return;
+  if (failures++ < 20) fprintf(stderr, "wrong: %s: %s\n", what, text);
+}
+
+/* The bytes that a struct or buffer has before a call. */
+static void fill(void *at, size_t size) { memset(at, '~', size); }
+
+static bool is_filled(const void *at, size_t size) {
+  const char *bytes = (const char *)at;
+  for (size_t i = 0; i < size; i++)
+    if (bytes[i] != '~') return false;
+  return true;
+}
+
+/* A string, the status of parsing it, and what the triple prints, what its canonical form prints, and whether it comes back; or
+   where the refused part is, and the two texts of the error. */
+static const struct { const char *text, *printed, *settled; bool comes_back; } parsed[] = {
+    {"wasm32-unknown-wasi", "wasm32-wasi", "wasm32-wasi", true},
+    {"avr-pc-linux-gnu", "avr-pc-linux-gnu", "avr-pc-linux-gnu", true},
+    {"x86_64-unknown-linux-gnu", "x86_64-unknown-linux-gnu", "x86_64-unknown-linux-gnu", true},
+    {"arm64-apple-darwin23.6", "aarch64-apple-darwin23.6.0", "aarch64-apple-darwin23.6.0", true},
+    {"arm64", "aarch64-unknown-unknown-elf", "aarch64-unknown-unknown-elf", true},
+    {"x86_64-acme-linux", "x86_64-acme-linux", "x86_64-acme-linux", true},
+    {"riscv32imc-esp-espidf-elf", "riscv32imc-esp-espidf", "riscv32imc-esp-espidf", false},
+    {"clever-unknown-unknown-none", "clever-unknown-none-elf", "clever-unknown-none-elf", false},
+    {"armv7-nintendo-horizon-newlib", "armv7-nintendo-horizon", "armv7-nintendo-horizon", false},
+};
+
+static const struct { const char *text; enum lexicon_status status; size_t start, end; const char *line, *rest; } refused[] = {
+    {"", LEXICON_UNRECOGNIZED_ARCHITECTURE, 0, 0, "Unrecognized architecture: ", "\n  \n  ^"},
+    {"foo", LEXICON_UNRECOGNIZED_ARCHITECTURE, 0, 3, "Unrecognized architecture: foo", "\n  foo\n  ^^^"},
+    {"x86_64-", LEXICON_UNRECOGNIZED_VENDOR, 7, 7, "Unrecognized vendor: ", "\n  x86_64-\n         ^"},
+    {"avr---", LEXICON_UNRECOGNIZED_VENDOR, 4, 4, "Unrecognized vendor: ", "\n  avr---\n      ^"},
+    {"x86_64-pc-linx", LEXICON_UNRECOGNIZED_OPERATING_SYSTEM, 10, 14, "Unrecognized operating system: linx",
+     "\n  x86_64-pc-linx\n            ^^^^ did you mean `linux`?"},
+    {"x86_64-linux-gnuu", LEXICON_UNRECOGNIZED_ENVIRONMENT, 13, 17, "Unrecognized environment: gnuu",
+     "\n  x86_64-linux-gnuu\n               ^^^^ did you mean `gnu`?"},
+    {"x86_64-linux-gn\xc3\xbc", LEXICON_UNRECOGNIZED_ENVIRONMENT, 13, 17, "Unrecognized environment: gn\xc3\xbc",
+     "\n  x86_64-linux-gn\xc3\xbc\n               ^^^"},
+    {"x86_64-gnu-linux", LEXICON_UNRECOGNIZED_BINARY_FORMAT, 11, 16, "Unrecognized binary format: linux",
+     "\n  x86_64-gnu-linux\n             ^^^^^"},
+    {"x86_64-elf-linux", LEXICON_UNRECOGNIZED_FIELD, 11, 16, "Unrecognized field: linux", "\n  x86_64-elf-linux\n             ^^^^^"},
+    {"avr-\xff-linux", LEXICON_NOT_UTF8, 4, 5, "Not UTF-8", "\n  avr-\xef\xbf\xbd-linux\n      ^"},
+    {"x86_64-\xe2\x82", LEXICON_NOT_UTF8, 7, 9, "Not UTF-8", "\n  x86_64-\xef\xbf\xbd\xef\xbf\xbd\n         ^^"},
+};
+
+/* What a call writes, with a buffer of exactly its size, one that is a byte smaller, and none. */
+typedef enum lexicon_status (*writes)(const void *of, char *out, size_t size, size_t *length);
+
+static void try_text(writes call, const void *of, const char *expected, bool truncates) {
+  size_t size = strlen(expected), length = 0;
+  char out[256];
+  fill(out, sizeof out);
+  expect(call(of, out, size + 1, &length) == LEXICON_OK && length == size, "the length of", expected);
+  expect(memcmp(out, expected, size + 1) == 0 && out[size + 1] == '~', "the text", expected);
+  length = 0;
+  expect(call(of, NULL, 0, &length) == LEXICON_TOO_SMALL && length == size, "no buffer for", expected);
+  expect(call(of, out, sizeof out, NULL) == LEXICON_OK, "no length for", expected);
+  fill(out, sizeof out);
+  length = 0;
+  expect(call(of, out, size, &length) == LEXICON_TOO_SMALL && length == size, "a small buffer for", expected);
+  if (truncates) expect(strlen(out) <= size - 1 && strlen(out) + 4 > size - 1 && strncmp(out, expected, strlen(out)) == 0, "the start of", expected);
+  else expect(is_filled(out, sizeof out), "the small buffer is unchanged", expected);
+}
+
+static enum lexicon_status print(const void *triple, char *out, size_t size, size_t *length) {
+  return lexicon_print((const struct lexicon_triple *)triple, out, size, length);
+}
+
+static const char *error_of;
+static enum lexicon_status error_line(const void *error, char *out, size_t size, size_t *length) {
+  return lexicon_error_line(error_of, strlen(error_of), (const struct lexicon_error *)error, out, size, length);
+}
+static enum lexicon_status error_text(const void *error, char *out, size_t size, size_t *length) {
+  return lexicon_error_text(error_of, strlen(error_of), (const struct lexicon_error *)error, out, size, length);
+}
+
+static void try_refused(void) {
+  for (size_t i = 0; i < sizeof refused / sizeof *refused; i++) {
+    struct lexicon_triple triple;
+    struct lexicon_error error, other;
+    struct lexicon_sources sources;
+    const char *text = *refused[i].text ? refused[i].text : NULL, *named;
+    size_t size = strlen(refused[i].text);
+    char whole[256];
+    fill(&triple, sizeof triple);
+    expect(lexicon_parse(text, size, &triple, &error) == refused[i].status, "parse", refused[i].text);
+    expect(lexicon_explain(text, size, &triple, &sources, &other) == refused[i].status, "explain", refused[i].text);
+    expect(lexicon_parse(text, size, &triple, NULL) == refused[i].status, "parse without an error", refused[i].text);
+    expect(lexicon_explain(text, size, &triple, &sources, NULL) == refused[i].status, "explain without an error", refused[i].text);
+    expect(is_filled(&triple, sizeof triple), "the triple is unchanged", refused[i].text);
+    expect(error.status == refused[i].status && error.start == refused[i].start && error.end == refused[i].end, "error", refused[i].text);
+    expect(other.status == error.status && other.start == error.start && other.end == error.end, "both errors", refused[i].text);
+    bool has_format = refused[i].status == LEXICON_UNRECOGNIZED_FIELD;
+    expect((sources.binary_format.origin == LEXICON_ORIGIN_GIVEN) == has_format, "the last source", refused[i].text);
+    error_of = refused[i].text;
+    try_text(error_line, &error, refused[i].line, true);
+    named = strstr(refused[i].rest, "`");
+    snprintf(whole, sizeof whole, "%s%s", refused[i].line, refused[i].rest);
+    try_text(error_text, &error, whole, true);
+    const char *suggestion = lexicon_suggestion(text, size, &error);
+    expect((suggestion == NULL) == (named == NULL), "whether there is a suggestion", refused[i].text);
+    expect(suggestion == NULL || named == NULL || strncmp(suggestion, named + 1, strlen(suggestion)) == 0, "the suggestion", refused[i].text);
+  }
+}
+
+/* Errors that are none of the text. */
+static void try_bad_errors(void) {
+  static const struct lexicon_error bad[] = {{0, 0, 1}, {8, 0, 1}, {1, 2, 1}, {1, 0, 9}, {3, 2, 3}, {7, 9, 9}};
+  static const char text[] = "a\xc3\xbc";
+  for (size_t i = 0; i < sizeof bad / sizeof *bad; i++) {
+    char out[8];
+    size_t length = 77;
+    fill(out, sizeof out);
+    expect(lexicon_error_line(text, 3, &bad[i], out, sizeof out, &length) == LEXICON_NO_SUCH_VALUE, "a bad error", "line");
+    expect(lexicon_error_text(text, 3, &bad[i], out, sizeof out, &length) == LEXICON_NO_SUCH_VALUE, "a bad error", "text");
+    expect(lexicon_suggestion(text, 3, &bad[i]) == NULL, "a bad error", "suggestion");
+    expect(length == 77 && is_filled(out, sizeof out), "a bad error", "unchanged");
+  }
+  struct lexicon_error error = {LEXICON_UNRECOGNIZED_ARCHITECTURE, 0, 9};
+  char out[128];
+  fill(out, sizeof out);
+  expect(lexicon_error_line(text, 3, NULL, out, sizeof out, NULL) == LEXICON_NO_SUCH_VALUE, "no error", "line");
+  expect(lexicon_error_text(text, 3, NULL, out, sizeof out, NULL) == LEXICON_NO_SUCH_VALUE, "no error", "text");
+  expect(lexicon_suggestion(text, 3, NULL) == NULL && is_filled(out, sizeof out), "no error", "suggestion");
+  expect(lexicon_error_text("\x1b[31m\xe2\x80\xae!", 9, &error, out, sizeof out, NULL) == LEXICON_OK, "control characters", "");
+  expect(strcmp(out, "Unrecognized architecture: \xef\xbf\xbd[31m\xef\xbf\xbd!\n  \xef\xbf\xbd[31m\xef\xbf\xbd!\n  ^^^^^^^") == 0, out, "replaced");
+}
+
+static struct lexicon_triple triple_of(const char *text) {
+  struct lexicon_triple triple;
+  struct lexicon_error error;
+  fill(&triple, sizeof triple);
+  expect(lexicon_parse(text, strlen(text), &triple, &error) == LEXICON_OK, "triple_of", text);
+  return triple;
+}
+
+static void try_parsed(void) {
+  for (size_t i = 0; i < sizeof parsed / sizeof *parsed; i++) {
+    const char *text = parsed[i].text;
+    struct lexicon_triple triple = triple_of(text), explained;
+    struct lexicon_sources sources;
+    struct lexicon_error error;
+    bool answer = !parsed[i].comes_back;
+    fill(&error, sizeof error);
+    expect(lexicon_explain(text, strlen(text), &explained, &sources, &error) == LEXICON_OK, "explain", text);
+    expect(is_filled(&error, sizeof error), "the error is unchanged", text);
+    expect(lexicon_parse(text, strlen(text), &explained, NULL) == LEXICON_OK, "parse without an error", text);
+    expect(lexicon_equal(&triple, &explained, &answer) == LEXICON_OK && answer, "parse and explain", text);
+    expect(lexicon_comes_back(&triple, &answer) == LEXICON_OK && answer == parsed[i].comes_back, "comes_back", text);
+    try_text(print, &triple, parsed[i].printed, false);
+    expect(lexicon_settle(&triple) == LEXICON_OK, "settle", text);
+    try_text(print, &triple, parsed[i].settled, false);
+    expect(lexicon_equal(&explained, &triple, &answer) == LEXICON_OK && answer == parsed[i].comes_back, "equal", text);
+    expect(lexicon_same_target(&explained, &triple, &answer) == LEXICON_OK && answer, "same_target", text);
+  }
+}
+
+/* Whether each member is the same. What is between them has no value. */
+static bool are_same(const struct lexicon_triple *a, const struct lexicon_triple *b) {
+  return a->architecture == b->architecture && a->vendor == b->vendor && a->operating_system == b->operating_system &&
+         a->environment == b->environment && a->binary_format == b->binary_format && a->has_version == b->has_version &&
+         a->minor == b->minor && a->patch == b->patch && a->major == b->major && a->custom_vendor == b->custom_vendor &&
+         a->custom_vendor_size == b->custom_vendor_size;
+}
+
+/* Every call with the triple gives the status, and changes nothing. */
+static void try_bad(struct lexicon_triple bad, enum lexicon_status status, const char *what) {
+  struct lexicon_triple good = triple_of("x86_64-linux"), copy = bad;
+  struct lexicon_triple_facts facts;
+  char out[64];
+  size_t length = 77;
+  bool answer = true;
+  fill(out, sizeof out);
+  fill(&facts, sizeof facts);
+  expect(lexicon_print(&bad, out, sizeof out, &length) == status && length == 77 && is_filled(out, sizeof out), "bad print", what);
+  expect(lexicon_facts(&bad, &facts, sizeof facts) == status && is_filled(&facts, sizeof facts), "bad facts", what);
+  expect(lexicon_settle(&copy) == status && are_same(&copy, &bad), "bad settle", what);
+  expect(lexicon_comes_back(&bad, &answer) == status && answer, "bad comes_back", what);
+  expect(lexicon_equal(&bad, &good, &answer) == status && lexicon_equal(&good, &bad, &answer) == status && answer, "bad equal", what);
+  expect(lexicon_same_target(&bad, &good, &answer) == status && lexicon_same_target(&good, &bad, &answer) == status, "bad target", what);
+  struct lexicon_triple value = good, vendor = triple_of("x86_64-acme-linux"); /* of two that are wrong, the first one's */
+  value.binary_format = 99;
+  vendor.custom_vendor_size = 0;
+  expect(lexicon_equal(&bad, &value, &answer) == status && lexicon_same_target(&bad, &vendor, &answer) == status, "the first of two", what);
+  expect(lexicon_equal(&value, &bad, &answer) == LEXICON_NO_SUCH_VALUE, "the first of two", what);
+  expect(lexicon_equal(&vendor, &bad, &answer) == LEXICON_NO_SUCH_VENDOR && answer, "the first of two", what);
+}
+
+#define TRY_BAD(text, field, number) \
+  do { \
+    struct lexicon_triple bad = triple_of(text); \
+    bad.field = number; \
+    try_bad(bad, LEXICON_NO_SUCH_VALUE, #field); \
+  } while (0)
+
+static void try_all_bad(void) {
+  static const char *const vendors[] = {"PC", "apple", "linux", "ios17", "a-b", "9a", "\xff", "", "unknown", "x86_64"};
+  TRY_BAD("x86_64-linux", architecture, 0xffff);
+  TRY_BAD("x86_64-linux", vendor, LEXICON_VENDOR_CUSTOM - 1);
+  TRY_BAD("x86_64-linux", operating_system, 255);
+  TRY_BAD("x86_64-linux", environment, 255);
+  TRY_BAD("x86_64-linux", binary_format, 255);
+  TRY_BAD("x86_64-linux", has_version, 1);
+  TRY_BAD("x86_64-apple-ios17", has_version, 2);
+  for (size_t i = 0; i < sizeof vendors / sizeof *vendors; i++) {
+    struct lexicon_triple bad = triple_of("x86_64-acme-linux");
+    bad.custom_vendor = *vendors[i] ? vendors[i] : NULL;
+    bad.custom_vendor_size = strlen(vendors[i]);
+    try_bad(bad, LEXICON_NO_SUCH_VENDOR, vendors[i]);
+    bad.environment = 255;
+    try_bad(bad, LEXICON_NO_SUCH_VENDOR, "vendor before environment");
+    bad.architecture = 999;
+    try_bad(bad, LEXICON_NO_SUCH_VALUE, "architecture before vendor");
+  }
+}
+
+static void try_pairs(void) {
+  static const struct { const char *first, *second; bool equal, same; } pairs[] = {
+      {"x86_64-linux", "x86_64-unknown-linux", true, true},
+      {"x86_64-linux", "x86_64-linux-gnu", false, false},
+      {"x86_64-acme-linux", "x86_64-acme-linux-unknown", true, true},
+      {"x86_64-acme-linux", "x86_64-acmf-linux", false, false},
+      {"riscv32imc-esp-espidf", "riscv32imc-espressif-espidf-unknown-elf", false, true},
+      {"arm64-apple-ios17", "arm64-apple-ios17.0.0", true, true},
+      {"arm64-apple-ios17", "arm64-apple-ios", false, false},
+      {"armv7-nintendo-horizon-newlib", "armv7-nintendo-horizon", false, true}};
+  for (size_t i = 0; i < sizeof pairs / sizeof *pairs; i++) {
+    struct lexicon_triple first = triple_of(pairs[i].first), second = triple_of(pairs[i].second);
+    bool answer = !pairs[i].equal;
+    expect(lexicon_equal(&first, &second, &answer) == LEXICON_OK && answer == pairs[i].equal, "equal", pairs[i].second);
+    answer = !pairs[i].same;
+    expect(lexicon_same_target(&first, &second, &answer) == LEXICON_OK && answer == pairs[i].same, "same_target", pairs[i].second);
+  }
+}
+
+static void try_facts(const char *text, struct lexicon_triple_facts expected) {
+  struct lexicon_triple triple = triple_of(text);
+  struct lexicon_triple_facts facts;
+  expect(lexicon_facts(&triple, &facts, sizeof facts) == LEXICON_OK && memcmp(&facts, &expected, sizeof facts) == 0, "facts", text);
+  /* with the struct of an older header, and of a newer one */
+  struct { struct lexicon_triple_facts facts; unsigned char more[4]; } newer;
+  for (size_t size = 0; size <= sizeof newer; size++) {
+    unsigned char *bytes = (unsigned char *)&newer;
+    size_t i, known = size < sizeof expected ? size : sizeof expected;
+    fill(&newer, sizeof newer);
+    expect(lexicon_facts(&triple, &newer.facts, size) == LEXICON_OK && memcmp(bytes, &expected, known) == 0, "facts of a size", text);
+    for (i = known; i < size && bytes[i] == 0; i++) {}
+    expect(i >= size && is_filled(bytes + i, sizeof newer - i), "facts of a size", text);
+  }
+  fill(&newer, sizeof newer);
+  expect(lexicon_facts(&triple, &newer.facts, (size_t)-1) == LEXICON_TOO_LARGE && is_filled(&newer, sizeof newer), "facts of a size", text);
+}
+
+static void try_all_facts(void) {
+  struct lexicon_triple_facts ios = {LEXICON_ENDIANNESS_LITTLE, 64, LEXICON_CALLING_CONVENTION_APPLE_AARCH64, LEXICON_DATA_MODEL_LP64,
+      2, 4, 8, 8, 4, 8, false, true, false, LEXICON_BINARY_FORMAT_MACHO, LEXICON_BINARY_FORMAT_ELF, LEXICON_FAMILY_AARCH64};
+  struct lexicon_triple_facts thumb = {LEXICON_ENDIANNESS_LITTLE, 32, LEXICON_CALLING_CONVENTION_WINDOWS_FASTCALL, LEXICON_DATA_MODEL_ILP32,
+      2, 4, 4, 8, 4, 8, true, false, true, LEXICON_BINARY_FORMAT_COFF, LEXICON_BINARY_FORMAT_ELF, LEXICON_FAMILY_ARM};
+  struct lexicon_triple_facts avr = {LEXICON_ENDIANNESS_LITTLE, 16, LEXICON_CALLING_CONVENTION_NONE, LEXICON_DATA_MODEL_NONE,
+      0, 0, 0, 0, 0, 0, false, false, false, LEXICON_BINARY_FORMAT_UNKNOWN, LEXICON_BINARY_FORMAT_ELF, LEXICON_FAMILY_AVR};
+  struct lexicon_triple_facts windows = {LEXICON_ENDIANNESS_LITTLE, 64, LEXICON_CALLING_CONVENTION_WINDOWS_FASTCALL,
+      LEXICON_DATA_MODEL_LLP64, 2, 4, 4, 8, 4, 8, false, false, false, LEXICON_BINARY_FORMAT_COFF, LEXICON_BINARY_FORMAT_COFF, LEXICON_FAMILY_X86_64};
+  struct lexicon_triple_facts s390x = {LEXICON_ENDIANNESS_BIG, 64, LEXICON_CALLING_CONVENTION_SYSTEM_V, LEXICON_DATA_MODEL_LP64,
+      2, 4, 8, 8, 4, 8, false, false, false, LEXICON_BINARY_FORMAT_ELF, LEXICON_BINARY_FORMAT_ELF, LEXICON_FAMILY_S390X};
+  struct lexicon_triple_facts unknown;
+  memset(&unknown, 0, sizeof unknown);
+  try_facts("arm64-apple-ios17.2.1-elf", ios);
+  try_facts("thumbv7m-acme-windows-eabi-elf", thumb);
+  try_facts("avr-none", avr);
+  try_facts("x86_64-pc-windows-msvc", windows);
+  try_facts("s390x-linux", s390x);
+  try_facts("unknown", unknown);
+}
+
+/* The struct as the header says: each number by its name, and 0 in what is not read. */
+static void try_struct(void) {
+  static const char custom[] = "avr-acme-linux";
+  struct lexicon_triple triple = triple_of("arm64-apple-ios17.2.1-macabi");
+  expect(triple.architecture == LEXICON_ARCHITECTURE_AARCH64 && triple.vendor == LEXICON_VENDOR_APPLE, "numbers", "apple");
+  expect(triple.operating_system == LEXICON_OPERATING_SYSTEM_IOS && triple.environment == LEXICON_ENVIRONMENT_MACABI, "numbers", "ios");
+  expect(triple.binary_format == LEXICON_BINARY_FORMAT_MACHO && triple.has_version == 1, "numbers", "macho");
+  expect(triple.major == 17 && triple.minor == 2 && triple.patch == 1, "the version", "17.2.1");
+  expect(triple.custom_vendor == NULL && triple.custom_vendor_size == 0, "no custom vendor", "apple");
+  triple = triple_of(custom);
+  expect(triple.vendor == LEXICON_VENDOR_CUSTOM && triple.custom_vendor == custom + 4 && triple.custom_vendor_size == 4, "custom", custom);
+  expect(triple.has_version == 0 && triple.major == 0 && triple.minor == 0 && triple.patch == 0, "no version", custom);
+  memset(&triple, 0, sizeof triple);
+  try_text(print, &triple, "unknown-unknown-unknown", false);
+  triple = triple_of("x86_64-linux");
+  triple.custom_vendor = custom; /* what is not read becomes 0 */
+  triple.custom_vendor_size = 99;
+  triple.major = 7;
+  expect(lexicon_settle(&triple) == LEXICON_OK && triple.custom_vendor == NULL && triple.custom_vendor_size == 0, "settle", "unread");
+  expect(triple.major == 0, "settle", "an unread version");
+  char text[3000] = "avr-";
+  memset(text + 4, 'v', 2900);
+  strcpy(text + 2904, "-linux");
+  char out[3001];
+  triple = triple_of(text);
+  expect(lexicon_print(&triple, out, strlen(text) + 1, NULL) == LEXICON_OK && strcmp(out, text) == 0, "print", "a long vendor");
+}
+
+/* All strings above as lines, with and without a line feed after the last one, into buffers of each size. */
+static void try_lines(void) {
+  static const char *const more[] = {"x86_64-\xf0\x9f\x98\x80", "x86_64-linux\r", "arm64-acme-linux"};
+  static const char *const settled[] = {"", "", "aarch64-acme-linux"};
+  char text[4000] = "", expected[4000] = "", out[4000];
+  size_t lines = 0, length = 77;
+  for (size_t i = 0; i < sizeof parsed / sizeof *parsed; i++, lines++) {
+    strcat(strcat(text, parsed[i].text), "\n");
+    strcat(strcat(expected, parsed[i].settled), "\n");
+  }
+  for (size_t i = 0; i < sizeof refused / sizeof *refused; i++, lines++) {
+    strcat(strcat(text, refused[i].text), "\n");
+    strcat(expected, "\n");
+  }
+  for (size_t i = 0; i < sizeof more / sizeof *more; i++, lines++) {
+    strcat(strcat(text, more[i]), "\n");
+    strcat(strcat(expected, settled[i]), "\n");
+  }
+  for (size_t cut = 0; cut < 2; cut++) {
+    size_t size = strlen(text) - cut, whole = strlen(expected);
+    expect(lexicon_settle_lines(text, size, out, size + lines * LEXICON_MAX_GROWTH + 2, &length) == LEXICON_OK, "the buffer for", "lines");
+    expect(length == whole && strcmp(out, expected) == 0, "lines", out);
+    fill(out, sizeof out);
+    expect(lexicon_settle_lines(text, size, out, sizeof out, NULL) == LEXICON_OK && strcmp(out, expected) == 0, "room for more than", "lines");
+    expect(is_filled(out + whole + 1, sizeof out - whole - 1), "the rest of the buffer is unchanged", out);
+    for (size_t room = 0; room <= whole; room++) {
+      fill(out, sizeof out);
+      expect(lexicon_settle_lines(text, size, room ? out : NULL, room, &length) == LEXICON_TOO_SMALL && length == whole, "a small buffer for", "lines");
+      if (room == 0) continue;
+      size_t kept = strlen(out);
+      expect(kept < room && strncmp(out, expected, kept) == 0, "the first lines", out);
+      expect(is_filled(out + kept + 1, sizeof out - kept - 1), "the rest is unchanged", out);
+      expect(kept == room - 1 || strchr(expected + kept, '\n') > expected + room - 1, "each line that fits", out);
+    }
+    expect(lexicon_settle_lines(text, size, out, whole + 1, NULL) == LEXICON_OK && strcmp(out, expected) == 0, "no length for", "lines");
+  }
+  expect(lexicon_settle_lines(NULL, 0, out, 1, &length) == LEXICON_OK && length == 0 && *out == 0, "no lines", "");
+  expect(lexicon_settle_lines("\n", 1, out, 2, &length) == LEXICON_OK && strcmp(out, "\n") == 0, "an empty line", "");
+  char vendor[300] = "avr-"; /* a line that is longer than those of known names */
+  memset(vendor + 4, 'v', 250);
+  strcpy(vendor + 254, "-linux\n");
+  fill(out, sizeof out);
+  expect(lexicon_settle_lines(vendor, 261, out, 262, &length) == LEXICON_OK && length == 261 && strcmp(out, vendor) == 0, "a long line", "");
+  fill(out, sizeof out);
+  expect(lexicon_settle_lines(vendor, 261, out, 260, &length) == LEXICON_TOO_SMALL && length == 261 && *out == 0, "a long line", "too small");
+  expect(is_filled(out + 1, sizeof out - 1), "a long line", "unchanged");
+}
+
+/* Sizes that no memory has, of which one is 4 with a bit more. What is there isn't looked at, and nothing is written. */
+static void try_too_large(void) {
+  static const char text[] = "x86_64-linux";
+  const size_t sizes[] = {(size_t)PTRDIFF_MAX + 1, (size_t)PTRDIFF_MAX + 5, SIZE_MAX};
+  const struct lexicon_error why = {LEXICON_UNRECOGNIZED_ARCHITECTURE, 0, 1};
+  const struct lexicon_triple known = triple_of(text);
+  for (size_t i = 0; i < sizeof sizes / sizeof *sizes; i++) {
+    struct lexicon_triple triple, bad = known;
+    struct lexicon_error errors[3];
+    struct lexicon_sources sources;
+    char out[64];
+    size_t large = sizes[i], length = 77;
+    uint32_t number = 77;
+    fill(&triple, sizeof triple);
+    fill(out, sizeof out);
+    expect(lexicon_parse(text, large, &triple, &errors[0]) == LEXICON_TOO_LARGE, "too large", "parse");
+    expect(lexicon_parse(text, large, &triple, NULL) == LEXICON_TOO_LARGE, "too large", "parse without an error");
+    expect(lexicon_explain(text, large, &triple, &sources, &errors[1]) == LEXICON_TOO_LARGE, "too large", "explain");
+    expect(sources.architecture.origin == LEXICON_ORIGIN_NOT_GIVEN, "too large", "sources");
+    expect(lexicon_read(LEXICON_DIALECT_NONE, text, large, &triple, &errors[2]) == LEXICON_TOO_LARGE, "too large", "read");
+    for (size_t j = 0; j < 3; j++)
+      expect(errors[j].status == LEXICON_TOO_LARGE && errors[j].start == 0 && errors[j].end == 0, "too large", "error");
+    expect(lexicon_read(99, text, large, &triple, NULL) == LEXICON_TOO_LARGE, "too large", "read, with no dialect");
+    expect(lexicon_reason(LEXICON_DIALECT_GO, text, large) == NULL, "too large", "reason");
+    expect(lexicon_name_suggestion(LEXICON_DIALECT_GO, text, large) == NULL, "too large", "name_suggestion");
+    expect(lexicon_suggestion(text, large, &why) == NULL, "too large", "suggestion");
+    expect(lexicon_number(LEXICON_FIELD_VENDOR, text, large, &number) == LEXICON_TOO_LARGE, "too large", "number");
+    expect(lexicon_number(5, text, large, &number) == LEXICON_TOO_LARGE && number == 77, "too large", "number, with no field");
+    expect(lexicon_error_line(text, large, &why, out, sizeof out, &length) == LEXICON_TOO_LARGE, "too large", "error_line");
+    expect(lexicon_error_text(text, large, &why, out, sizeof out, &length) == LEXICON_TOO_LARGE, "too large", "error_text");
+    expect(lexicon_error_line(text, 5, &why, out, large, &length) == LEXICON_TOO_LARGE, "a buffer too large", "error_line");
+    expect(lexicon_error_text(text, 5, &why, out, large, &length) == LEXICON_TOO_LARGE, "a buffer too large", "error_text");
+    expect(lexicon_settle_lines(text, large, out, sizeof out, &length) == LEXICON_TOO_LARGE, "too large", "settle_lines");
+    expect(lexicon_settle_lines(text, 5, out, large, &length) == LEXICON_TOO_LARGE, "a buffer too large", "settle_lines");
+    expect(lexicon_print(&known, out, large, &length) == LEXICON_TOO_LARGE, "a buffer too large", "print");
+    expect(lexicon_write(LEXICON_DIALECT_GO, &known, out, large, &length) == LEXICON_TOO_LARGE, "a buffer too large", "write");
+    bad.environment = 255;
+    expect(lexicon_print(&bad, out, large, &length) == LEXICON_TOO_LARGE, "a buffer too large", "print, of no value");
+    expect(lexicon_write(99, &known, out, large, &length) == LEXICON_TOO_LARGE, "a buffer too large", "write, with no dialect");
+    expect(is_filled(&triple, sizeof triple) && is_filled(out, sizeof out) && length == 77, "too large", "unchanged");
+    bad = triple_of("x86_64-acme-linux");
+    bad.custom_vendor_size = large;
+    expect(lexicon_vendor_suggestion(&bad) == NULL, "too large", "vendor_suggestion");
+    try_bad(bad, LEXICON_NO_SUCH_VENDOR, "a vendor too large");
+  }
+}
+
+static void try_sources(void) {
+  static const char text[] = "x86_64-linux-gnu";
+  struct lexicon_triple triple;
+  struct lexicon_sources it;
+  struct lexicon_error error;
+  expect(lexicon_explain(text, strlen(text), &triple, &it, &error) == LEXICON_OK, "explain", text);
+  expect(it.architecture.origin == LEXICON_ORIGIN_GIVEN && it.architecture.start == 0 && it.architecture.end == 6, "source", "architecture");
+  expect(it.vendor.origin == LEXICON_ORIGIN_NOT_GIVEN && it.vendor.start == 0 && it.vendor.end == 0, "source", "vendor");
+  expect(it.operating_system.origin == LEXICON_ORIGIN_GIVEN && it.operating_system.start == 7 && it.operating_system.end == 12, "source", "system");
+  expect(it.environment.start == 13 && it.environment.end == 16 && it.binary_format.origin == LEXICON_ORIGIN_IMPLIED, "source", "others");
+  static const struct { const char *text; enum lexicon_origin architecture, operating_system; } origins[] = {
+    {"aarch64-apple-ios17.0.0", LEXICON_ORIGIN_GIVEN, LEXICON_ORIGIN_GIVEN}, {"arm64-apple-ios", LEXICON_ORIGIN_ALIAS, LEXICON_ORIGIN_GIVEN},
+    {"aarch64-apple-ios17", LEXICON_ORIGIN_GIVEN, LEXICON_ORIGIN_ALIAS}, {"aarch64-apple-ios017.0.0", LEXICON_ORIGIN_GIVEN, LEXICON_ORIGIN_ALIAS},
+    {"armv6k-nintendo-3ds", LEXICON_ORIGIN_ALIAS, LEXICON_ORIGIN_ALIAS}, {"arm64-apple-ios1-x", LEXICON_ORIGIN_ALIAS, LEXICON_ORIGIN_ALIAS},
+  };
+  for (size_t i = 0; i < sizeof origins / sizeof *origins; i++) {
+    enum lexicon_status status = lexicon_explain(origins[i].text, strlen(origins[i].text), &triple, &it, NULL);
+    expect(status == LEXICON_OK || i == 5, "explain", origins[i].text);
+    expect(it.architecture.origin == origins[i].architecture && it.operating_system.origin == origins[i].operating_system, "origin", origins[i].text);
+  }
+}
+
+static void try_names(void) {
+  static const struct { const char *text; uint32_t field, number; enum lexicon_status status; } numbers[] = {
+      {"arm64", LEXICON_FIELD_ARCHITECTURE, LEXICON_ARCHITECTURE_AARCH64, LEXICON_OK},
+      {"acme", LEXICON_FIELD_VENDOR, LEXICON_VENDOR_CUSTOM, LEXICON_OK},
+      {"ios17.2", LEXICON_FIELD_OPERATING_SYSTEM, LEXICON_OPERATING_SYSTEM_IOS, LEXICON_OK},
+      {"gnu", LEXICON_FIELD_ENVIRONMENT, LEXICON_ENVIRONMENT_GNU, LEXICON_OK},
+      {"gnu", LEXICON_FIELD_BINARY_FORMAT, 77, LEXICON_UNRECOGNIZED_BINARY_FORMAT},
+      {"PC", LEXICON_FIELD_VENDOR, 77, LEXICON_UNRECOGNIZED_VENDOR},
+      {"\xff", LEXICON_FIELD_VENDOR, 77, LEXICON_NOT_UTF8},
+      {"gnu", 5, 77, LEXICON_NO_SUCH_FIELD}};
+  for (size_t i = 0; i < sizeof numbers / sizeof *numbers; i++) {
+    uint32_t number = 77;
+    expect(lexicon_number(numbers[i].field, numbers[i].text, strlen(numbers[i].text), &number) == numbers[i].status, "number", numbers[i].text);
+    expect(number == numbers[i].number, "the number of", numbers[i].text);
+  }
+  expect(strcmp(lexicon_name(LEXICON_FIELD_ARCHITECTURE, LEXICON_ARCHITECTURE_ARMV8M_MAIN), "armv8m.main") == 0, "name", "armv8m.main");
+  expect(strcmp(lexicon_name(LEXICON_FIELD_OPERATING_SYSTEM, LEXICON_OPERATING_SYSTEM_IOS), "ios") == 0, "name", "ios");
+  expect(lexicon_name(LEXICON_FIELD_VENDOR, LEXICON_VENDOR_CUSTOM) == NULL && lexicon_name(5, 0) == NULL, "no name", "");
+  expect(lexicon_name(LEXICON_FIELD_ARCHITECTURE, 256) == NULL && lexicon_name(LEXICON_FIELD_ARCHITECTURE, ~0u) == NULL, "no name", "");
+  struct lexicon_triple known = triple_of("x86_64-pc-linux"), custom = triple_of("x86_64-linx"), far = triple_of("x86_64-customvendor");
+  const char *meant = lexicon_vendor_suggestion(&custom);
+  expect(meant != NULL && strcmp(meant, "linux") == 0, "what is meant by a vendor", "linx");
+  expect(lexicon_vendor_suggestion(&known) == NULL && lexicon_vendor_suggestion(&far) == NULL, "nothing else is meant", "customvendor");
+  expect(strncmp(lexicon_version(), LEXICON_VERSION, strlen(LEXICON_VERSION)) == 0, "version", lexicon_version());
+  expect(LEXICON_VERSION_NUMBER >= 5000 && LEXICON_VERSION_NUMBER % 1000 == LEXICON_VERSION_PATCH, "the version as a number", LEXICON_VERSION);
+}
+
+/* A dialect and a name; what the triple prints and its name there, or the status, the range, the line, the reason and the suggestion. */
+static const struct { uint32_t dialect; const char *name, *printed, *written; } read[] = {
+    {LEXICON_DIALECT_NONE, "x86_64-w64-mingw32", "x86_64-pc-windows-gnu", NULL},
+    {LEXICON_DIALECT_NONE, "amd64-unknown-freebsd13.2", "x86_64-unknown-freebsd", NULL},
+    {LEXICON_DIALECT_NONE, "armv7l-unknown-linux-gnueabihf", "armv7-unknown-linux-gnueabihf", NULL},
+    {LEXICON_DIALECT_NONE, "arm64-apple-macos13.1", "aarch64-apple-macosx13.1.0", NULL},
+    {LEXICON_DIALECT_NONE, "x86_64-acme-linux", "x86_64-acme-linux", NULL},
+    {LEXICON_DIALECT_DEBIAN, "armhf", "arm-unknown-linux-gnueabihf", "armhf"},
+    {LEXICON_DIALECT_GO, "linux/arm64", "aarch64-unknown-linux", "linux/arm64"},
+    {LEXICON_DIALECT_OCI, "linux/arm64", "aarch64-unknown-linux", "linux/arm64"},
+    {LEXICON_DIALECT_NODE, "darwin-arm64", "aarch64-apple-darwin", "darwin-arm64"},
+    {LEXICON_DIALECT_PYTHON, "macosx-11.0-arm64", "aarch64-apple-macosx11.0.0", "macosx_11_0_arm64"},
+    {LEXICON_DIALECT_PYTHON, "ios_65535_255_arm64_iphonesimulator", "aarch64-apple-ios65535.255.0-sim", "ios_65535_255_arm64_iphonesimulator"},
+    {LEXICON_DIALECT_PYTHON, "manylinux_2_17_x86_64", "x86_64-unknown-linux-gnu", "linux_x86_64"},
+};
+
+static const struct { uint32_t dialect; const char *name; enum lexicon_status status; size_t start, end; const char *line, *reason, *meant; } unread[] = {
+    {LEXICON_DIALECT_NONE, "amd64-pc-linx", LEXICON_UNRECOGNIZED_OPERATING_SYSTEM, 9, 13, "Unrecognized operating system: linx", NULL, NULL},
+    {LEXICON_DIALECT_NONE, "linux/arm64", LEXICON_UNRECOGNIZED_ARCHITECTURE, 0, 11, "Unrecognized architecture: linux/arm64", NULL, NULL},
+    {LEXICON_DIALECT_NONE, "x86_64-\xff", LEXICON_NOT_UTF8, 7, 8, "Not UTF-8", NULL, NULL},
+    {LEXICON_DIALECT_GO, "\xff", LEXICON_NOT_UTF8, 0, 1, "Not UTF-8", NULL, NULL},
+    {LEXICON_DIALECT_GO, "", LEXICON_UNKNOWN_NAME, 0, 0, "Unknown name: ", NULL, NULL},
+    {LEXICON_DIALECT_GO, "linux", LEXICON_UNKNOWN_NAME, 0, 5, "Unknown name: linux", NULL, NULL},
+    {LEXICON_DIALECT_GO, "linux/amd46", LEXICON_UNKNOWN_NAME, 0, 11, "Unknown name: linux/amd46", NULL, "linux/amd64"},
+    {LEXICON_DIALECT_DEBIAN, "amd46", LEXICON_UNKNOWN_NAME, 0, 5, "Unknown name: amd46", NULL, "amd64"},
+    {LEXICON_DIALECT_OCI, "linux/arm/v77", LEXICON_UNKNOWN_NAME, 0, 13, "Unknown name: linux/arm/v77", NULL, "linux/arm/v7"},
+    {LEXICON_DIALECT_GNU, "x86_64-linux-gnuu", LEXICON_UNKNOWN_NAME, 0, 17, "Unknown name: x86_64-linux-gnuu", NULL, NULL},
+    {LEXICON_DIALECT_GO, "js/wasm", LEXICON_NAME_WITHOUT_TRIPLE, 0, 7, "No triple has this name: js/wasm",
+     "Go's pointers have 64 bits there, those of wasm32 32", NULL},
+    {LEXICON_DIALECT_GNU, "x86_64-w64-mingw32", LEXICON_NAME_WITHOUT_TRIPLE, 0, 18, "No triple has this name: x86_64-w64-mingw32",
+     "names of cross compilers are only written", NULL},
+    {LEXICON_DIALECT_PYTHON, "macosx_10_9_universal2", LEXICON_NAME_WITHOUT_TRIPLE, 0, 22, "No triple has this name: macosx_10_9_universal2",
+     "several machines", NULL},
+    {LEXICON_DIALECT_PYTHON, "linux_x86_46", LEXICON_UNKNOWN_NAME, 0, 12, "Unknown name: linux_x86_46", NULL, "linux_x86_64"},
+    {LEXICON_DIALECT_PYTHON, "macosx_11_0_amr64", LEXICON_UNKNOWN_NAME, 0, 17, "Unknown name: macosx_11_0_amr64", NULL, NULL},
+};
+
+static uint32_t dialect_of;
+static enum lexicon_status write_name(const void *triple, char *out, size_t size, size_t *length) {
+  return lexicon_write(dialect_of, (const struct lexicon_triple *)triple, out, size, length);
+}
+
+static void try_dialects(void) {
+  struct lexicon_triple triple;
+  struct lexicon_error error;
+  for (size_t i = 0; i < sizeof read / sizeof *read; i++) {
+    const char *name = read[i].name;
+    fill(&error, sizeof error);
+    expect(lexicon_read(read[i].dialect, name, strlen(name), &triple, &error) == LEXICON_OK, "read", name);
+    expect(is_filled(&error, sizeof error), "the error is unchanged", name);
+    try_text(print, &triple, read[i].printed, false);
+    dialect_of = read[i].dialect;
+    if (read[i].written) try_text(write_name, &triple, read[i].written, false);
+    expect(lexicon_reason(read[i].dialect, name, strlen(name)) == NULL, "no reason", name);
+    expect(lexicon_name_suggestion(read[i].dialect, name, strlen(name)) == NULL, "no suggestion", name);
+  }
+  for (size_t i = 0; i < sizeof unread / sizeof *unread; i++) {
+    const char *name = *unread[i].name ? unread[i].name : NULL, *reason, *meant;
+    size_t size = strlen(unread[i].name);
+    char whole[256];
+    fill(&triple, sizeof triple);
+    expect(lexicon_read(unread[i].dialect, name, size, &triple, &error) == unread[i].status, "read", unread[i].name);
+    expect(lexicon_read(unread[i].dialect, name, size, &triple, NULL) == unread[i].status, "read without an error", unread[i].name);
+    expect(is_filled(&triple, sizeof triple), "the triple is unchanged", unread[i].name);
+    expect(error.status == unread[i].status && error.start == unread[i].start && error.end == unread[i].end, "error", unread[i].name);
+    error_of = unread[i].name;
+    try_text(error_line, &error, unread[i].line, true);
+    expect(lexicon_error_text(name, size, &error, whole, sizeof whole, NULL) == LEXICON_OK, "error text", unread[i].name);
+    expect(strncmp(whole, unread[i].line, strlen(unread[i].line)) == 0 && strstr(whole, "\n  ") != NULL, "error text", whole);
+    reason = lexicon_reason(unread[i].dialect, name, size);
+    expect(unread[i].reason ? reason && strcmp(reason, unread[i].reason) == 0 : reason == NULL, "the reason", unread[i].name);
+    meant = lexicon_name_suggestion(unread[i].dialect, name, size);
+    expect(unread[i].meant ? meant && strcmp(meant, unread[i].meant) == 0 : meant == NULL, "the suggestion", unread[i].name);
+  }
+  char out[64];
+  size_t length = 77;
+  fill(&triple, sizeof triple);
+  fill(out, sizeof out);
+  expect(lexicon_read(99, "avr", 3, &triple, &error) == LEXICON_NO_SUCH_DIALECT && is_filled(&triple, sizeof triple), "no dialect", "99");
+  expect(lexicon_read(99, "avr", 3, &triple, NULL) == LEXICON_NO_SUCH_DIALECT, "no dialect, without an error", "99");
+  expect(error.status == LEXICON_NO_SUCH_DIALECT && error.start == 0 && error.end == 0 && lexicon_reason(~0u, "avr", 3) == NULL, "no dialect", "99");
+  expect(lexicon_name_suggestion(99, "linux/amd46", 11) == NULL && lexicon_name_suggestion(~0u, "amd46", 5) == NULL, "no dialect", "99");
+  expect(lexicon_error_line("avr", 3, &error, out, sizeof out, NULL) == LEXICON_NO_SUCH_VALUE, "no line", "7");
+  triple = triple_of("x86_64-acme-linux-gnu"); /* the vendor doesn't matter */
+  dialect_of = LEXICON_DIALECT_DEBIAN;
+  try_text(write_name, &triple, "amd64", false);
+  dialect_of = LEXICON_DIALECT_GNU;
+  try_text(write_name, &triple, "x86_64-linux-gnu", false);
+  expect(lexicon_write(LEXICON_DIALECT_NONE, &triple, out, sizeof out, &length) == LEXICON_NO_SUCH_DIALECT, "no dialect", "0");
+  expect(lexicon_write(99, &triple, out, sizeof out, &length) == LEXICON_NO_SUCH_DIALECT, "no dialect", "99");
+  triple.custom_vendor_size = 0;
+  expect(lexicon_write(LEXICON_DIALECT_GO, &triple, out, sizeof out, &length) == LEXICON_NO_SUCH_VENDOR, "a bad vendor", "write");
+  triple.environment = 255;
+  triple.vendor = LEXICON_VENDOR_PC;
+  expect(lexicon_write(LEXICON_DIALECT_GO, &triple, out, sizeof out, &length) == LEXICON_NO_SUCH_VALUE, "a bad value", "write");
+  triple = triple_of("avr-none");
+  expect(lexicon_write(LEXICON_DIALECT_GO, &triple, out, sizeof out, &length) == LEXICON_TRIPLE_WITHOUT_NAME, "no name", "avr");
+  expect(length == 77 && is_filled(out, sizeof out), "write", "unchanged");
+}
+
+/* The calls without a size do the same as those with one. */
+static void try_zero_ended(void) {
+  for (size_t i = 0; i < sizeof refused / sizeof *refused; i++) {
+    const char *text = refused[i].text;
+    size_t size = strlen(text), length = 0, same = 0;
+    struct lexicon_triple triple;
+    struct lexicon_error error, other;
+    struct lexicon_sources sources;
+    char out[256], expected[256];
+    expect(lexicon_parse_z(text, &triple, &error) == refused[i].status && error.end == refused[i].end, "parse_z", text);
+    expect(lexicon_explain_z(text, &triple, &sources, &other) == refused[i].status && other.start == error.start, "explain_z", text);
+    expect(lexicon_parse_z(text, &triple, NULL) == refused[i].status, "parse_z without an error", text);
+    expect(lexicon_error_line_z(text, &error, out, sizeof out, &length) == LEXICON_OK && strcmp(out, refused[i].line) == 0, "error_line_z", text);
+    expect(lexicon_error_text_z(text, &error, out, sizeof out, &length) == LEXICON_OK, "error_text_z", text);
+    expect(lexicon_error_text(text, size, &error, expected, sizeof expected, &same) == LEXICON_OK, "error_text", text);
+    expect(length == same && strcmp(out, expected) == 0, "error_text_z", text);
+    expect(lexicon_suggestion_z(text, &error) == lexicon_suggestion(text, size, &error), "suggestion_z", text);
+  }
+  for (size_t i = 0; i < sizeof unread / sizeof *unread; i++) {
+    struct lexicon_triple triple;
+    struct lexicon_error error;
+    const char *name = unread[i].name;
+    expect(lexicon_read_z(unread[i].dialect, name, &triple, &error) == unread[i].status && error.end == unread[i].end, "read_z", name);
+    expect(lexicon_reason_z(unread[i].dialect, name) == lexicon_reason(unread[i].dialect, name, strlen(name)), "reason_z", name);
+    expect(lexicon_name_suggestion_z(unread[i].dialect, name) == lexicon_name_suggestion(unread[i].dialect, name, strlen(name)), "name_suggestion_z", name);
+  }
+  struct lexicon_triple triple;
+  struct lexicon_sources sources;
+  char out[64];
+  size_t length = 0;
+  uint32_t number = 0;
+  expect(lexicon_parse_z("arm64-linux", &triple, NULL) == LEXICON_OK && triple.architecture == LEXICON_ARCHITECTURE_AARCH64, "parse_z", "arm64-linux");
+  expect(lexicon_explain_z("arm64-linux", &triple, &sources, NULL) == LEXICON_OK && sources.operating_system.end == 11, "explain_z", "arm64-linux");
+  expect(lexicon_read_z(LEXICON_DIALECT_GO, "linux/arm64", &triple, NULL) == LEXICON_OK, "read_z", "linux/arm64");
+  expect(lexicon_number_z(LEXICON_FIELD_ARCHITECTURE, "arm64", &number) == LEXICON_OK && number == LEXICON_ARCHITECTURE_AARCH64, "number_z", "arm64");
+  expect(lexicon_settle_lines_z("arm64-linux\nfoo\n", out, sizeof out, &length) == LEXICON_OK && length == 23, "settle_lines_z", "arm64-linux");
+  expect(strcmp(out, "aarch64-unknown-linux\n\n") == 0, "settle_lines_z", out);
+}
+
+int main(void) {
+  try_parsed();
+  try_refused();
+  try_bad_errors();
+  try_all_bad();
+  try_pairs();
+  try_all_facts();
+  try_struct();
+  try_lines();
+  try_too_large();
+  try_sources();
+  try_names();
+  try_dialects();
+  try_zero_ended();
+  fprintf(stderr, "calls: %u right, %u wrong\n", count - failures, failures);
+  return failures ? 1 : 0;
+}

@@ -1,0 +1,267 @@
+// Makes each call of target_lexicon.hpp, and compares what it gives with what is expected.
+#include <iostream>
+#include <map>
+#include <sstream>
+#include <unordered_set>
+
+#include "target_lexicon.hpp"
+
+using namespace lexicon;
+
+static int failures = 0;
+
+#define EXPECT(right) \
+  do { \
+    if (!(right)) std::cerr << "wrong: line " << __LINE__ << ": " #right "\n", failures++; \
+  } while (0)
+
+template <class Value> static std::string shown(const Value& value) {
+  std::ostringstream out;
+  out << value;
+  return out.str();
+}
+
+static Triple parsed(std::string_view text) {
+  auto triple = Triple::parse(text);
+  EXPECT(triple.has_value());
+  return triple.value_or(Triple());
+}
+
+static void try_triple() {
+  Triple ios = parsed("arm64-apple-ios17.2");
+  EXPECT(ios.architecture() == Architecture::Aarch64 && ios.vendor() == Vendor::Apple && ios.operating_system() == OperatingSystem::IOS);
+  EXPECT(ios.environment() == Environment::Unknown && ios.binary_format() == BinaryFormat::Macho);
+  EXPECT((ios.version() == Version{17, 2, 0}) && shown(*ios.version()) == "17.2.0" && (Version{17, 1, 9} < *ios.version()));
+  EXPECT(ios.endianness() == Endianness::Little && ios.pointer_width() == 64u && ios.data_model() == DataModel::LP64);
+  EXPECT(ios.default_calling_convention() == CallingConvention::AppleAarch64 && ios.implied_format() == BinaryFormat::Macho);
+  EXPECT(ios.short_size() == 2u && ios.int_size() == 4u && ios.long_size() == 8u && ios.long_long_size() == 8u);
+  EXPECT(ios.float_size() == 4u && ios.double_size() == 8u && ios.family() == Family::Aarch64);
+  EXPECT(ios.is_like_darwin() && !ios.is_thumb() && !ios.has_custom_vendor() && ios.vendor_name() == "apple");
+  EXPECT(ios.printed() == "aarch64-apple-ios17.2.0" && shown(ios) == ios.printed() && ios.comes_back());
+  Triple none = parsed("thumbv7m-none-eabi");
+  EXPECT(none.is_thumb() && none.pointer_width() == 32u && !none.data_model() && !none.int_size() && !none.version());
+  EXPECT(!Triple().endianness() && Triple().printed() == "unknown-unknown-unknown");
+  EXPECT(parsed("x86_64-unknown-uefi").object_format() == BinaryFormat::Coff);
+  EXPECT(parsed("x86_64-unknown-uefi").implied_format() == BinaryFormat::Elf);
+  Triple esp = parsed("riscv32imc-esp-espidf-elf");
+  EXPECT(!esp.comes_back() && esp.settle() != esp && esp.same_target(esp.settle()) && esp.canonical() == "riscv32imc-esp-espidf");
+}
+
+// A number that no enumerator of the type has, and the greatest.
+template <class Value> static Value no_enumerator(bool greatest) {
+  std::uint32_t number = 0;
+  while (!name(static_cast<Value>(number)).empty()) number++;
+  return greatest ? static_cast<Value>(~0u) : static_cast<Value>(number);
+}
+
+// Values make a triple only if they are those of one, so that no two different things have the same key.
+static void try_values() {
+  constexpr auto x86_64 = Architecture::X86_64;
+  constexpr auto linux_ = OperatingSystem::Linux;
+  EXPECT(Triple::of(Architecture::Aarch64, Vendor::Unknown, linux_) == parsed("aarch64-linux"));
+  EXPECT(Triple::of(Architecture::Avr, Vendor::Pc, linux_, Environment::Gnu, BinaryFormat::Coff) == parsed("avr-pc-linux-gnu-coff"));
+  EXPECT(Triple::of(x86_64, "acme", linux_, Environment::Gnu) == parsed("x86_64-acme-linux-gnu"));
+  EXPECT(Triple::of(x86_64, "pc", linux_) == parsed("x86_64-pc-linux") && !Triple::of(x86_64, "pc", linux_)->has_custom_vendor());
+  EXPECT(Triple::of(Architecture::Unknown, Vendor::Unknown, OperatingSystem::Unknown) == Triple());
+  EXPECT(!Triple::of(x86_64, Vendor::Custom, linux_) && !Triple::of(x86_64, "", linux_) && !Triple::of(x86_64, "PC", linux_));
+  EXPECT(!Triple::of(x86_64, "linux", linux_) && !Triple::of(x86_64, "a-b", linux_) && !Triple::of(x86_64, "\xff", linux_));
+  for (bool greatest : {false, true}) {
+    auto environment = no_enumerator<Environment>(greatest);
+    EXPECT(!Triple::of(no_enumerator<Architecture>(greatest), Vendor::Pc, linux_));
+    EXPECT(!Triple::of(x86_64, no_enumerator<Vendor>(greatest), linux_));
+    EXPECT(!Triple::of(x86_64, Vendor::Pc, no_enumerator<OperatingSystem>(greatest)));
+    EXPECT(!Triple::of(x86_64, Vendor::Pc, linux_, environment) && !Triple::of(x86_64, "acme", linux_, environment));
+    EXPECT(!Triple::of(x86_64, Vendor::Pc, linux_, Environment::Gnu, no_enumerator<BinaryFormat>(greatest)));
+  }
+}
+
+// A struct of C makes a triple only if it is one. What isn't read of it doesn't matter.
+static void try_c() {
+  for (const char* text : {"x86_64-acme-linux", "arm64-apple-ios17.2", "x86_64-pc-windows-msvc", "unknown"}) {
+    Triple triple = parsed(text);
+    lexicon_triple it = triple.c_triple();
+    EXPECT(Triple::from_c(it) == triple && Triple::from_c(it)->hash() == triple.hash());
+    if (!it.has_version) it.major = 7, it.minor = 8, it.patch = 9;
+    if (it.vendor != LEXICON_VENDOR_CUSTOM) it.custom_vendor = text, it.custom_vendor_size = 99;
+    EXPECT(Triple::from_c(it) == triple && Triple::from_c(it)->hash() == triple.hash());
+    it.environment = 255;
+    EXPECT(!Triple::from_c(it));
+  }
+  lexicon_triple it = parsed("x86_64-linux").c_triple();
+  it.vendor = LEXICON_VENDOR_CUSTOM;
+  EXPECT(!Triple::from_c(it));
+  it = parsed("x86_64-linux").c_triple();
+  it.has_version = 1;
+  EXPECT(!Triple::from_c(it));
+}
+
+// Each field is another value, and no other field changes, except a format that is implied and the version of another system.
+static void try_changes() {
+  Triple gnu = parsed("x86_64-unknown-linux-gnu"), ios = parsed("arm64-apple-ios17.2"), acme = parsed("x86_64-acme-linux");
+  EXPECT(gnu.with_architecture(Architecture::Aarch64) == parsed("aarch64-unknown-linux-gnu"));
+  EXPECT(gnu.with_vendor(Vendor::Pc) == parsed("x86_64-pc-linux-gnu") && gnu.with_vendor("pc") == gnu.with_vendor(Vendor::Pc));
+  EXPECT(gnu.with_vendor("acme") == parsed("x86_64-acme-linux-gnu") && acme.with_vendor("unknown") == parsed("x86_64-linux"));
+  EXPECT(acme.with_environment(Environment::Musl) == parsed("x86_64-acme-linux-musl"));
+  EXPECT(gnu.with_environment(Environment::Musl) == parsed("x86_64-unknown-linux-musl"));
+  EXPECT(gnu.with_operating_system(OperatingSystem::Windows) == parsed("x86_64-unknown-windows-gnu"));
+  EXPECT(gnu.with_operating_system(OperatingSystem::Windows)->binary_format() == BinaryFormat::Coff);
+  EXPECT(gnu.with_binary_format(BinaryFormat::Coff) == parsed("x86_64-unknown-linux-gnu-coff"));
+  EXPECT(gnu.with_binary_format(BinaryFormat::Macho)->with_operating_system(OperatingSystem::Windows)->binary_format() == BinaryFormat::Macho);
+  EXPECT(ios.with_version(Version{18, 1, 2}) == parsed("arm64-apple-ios18.1.2") && ios.with_version(std::nullopt) == parsed("arm64-apple-ios"));
+  EXPECT(ios.with_operating_system(OperatingSystem::TvOS) == parsed("arm64-apple-tvos"));
+  EXPECT(ios.with_operating_system(OperatingSystem::TvOS, Version{9}) == parsed("arm64-apple-tvos9"));
+  EXPECT(ios.with_environment(Environment::Sim) == parsed("arm64-apple-ios17.2-sim"));
+  EXPECT(!gnu.with_version(Version{6}) && !gnu.with_operating_system(OperatingSystem::Linux, Version{6}) && gnu.with_version(std::nullopt) == gnu);
+  EXPECT(!gnu.with_vendor(Vendor::Custom) && !acme.with_vendor(Vendor::Custom) && !gnu.with_vendor("PC") && !gnu.with_vendor(""));
+  for (bool greatest : {false, true}) {
+    EXPECT(!gnu.with_architecture(no_enumerator<Architecture>(greatest)) && !gnu.with_vendor(no_enumerator<Vendor>(greatest)));
+    EXPECT(!gnu.with_operating_system(no_enumerator<OperatingSystem>(greatest)));
+    EXPECT(!gnu.with_environment(no_enumerator<Environment>(greatest)));
+    EXPECT(!gnu.with_binary_format(no_enumerator<BinaryFormat>(greatest)));
+  }
+}
+
+static void try_explain() {
+  const std::string_view text = "x86_64-acme-linux";
+  auto it = Triple::explain(text);
+  auto part = [&](const Source& source) { return text.substr(source.start, source.end - source.start); };
+  EXPECT(it && it->triple == parsed(text) && part(it->architecture) == "x86_64" && part(it->vendor) == "acme" && part(it->operating_system) == "linux");
+  EXPECT(it->vendor.origin == Origin::Given && it->environment.origin == Origin::NotGiven && it->environment.end == 0);
+  EXPECT(it->binary_format.origin == Origin::Implied && shown(it->binary_format.origin) == "implied" && name(Origin::Given) == "given");
+  auto alias = Triple::explain("arm64-apple-ios17");
+  EXPECT(alias->architecture.origin == Origin::Alias && shown(alias->operating_system.origin) == "alias" && alias->vendor.origin == Origin::Given);
+  EXPECT(Triple::explain("arm64-linux-gnu-elf")->environment.start == 12 && Triple::explain("arm64-linux-gnu-elf")->binary_format.start == 16);
+  ParseError error;
+  EXPECT(!Triple::explain("x86_64-pc-linx", &error) && error.part == "linx" && error.suggestion == "linux" && !Triple::explain("foo"));
+}
+
+static void try_lines() {
+  EXPECT(settle_lines("arm64-linux\nfoo\n\nx86_64-acme-linux") == "aarch64-unknown-linux\n\n\nx86_64-acme-linux\n");
+  EXPECT(settle_lines("") == "" && settle_lines({}) == "" && settle_lines("\n") == "\n");
+  std::string text, settled;
+  for (int i = 0; i < 1000; i++) text += "arm64\n", settled += "aarch64-unknown-unknown-elf\n";  // no string grows by more
+  EXPECT(settle_lines(text) == settled);
+}
+
+// The sample of the repository's README.
+static void try_sample() {
+  std::ostringstream out;
+  auto triple = lexicon::Triple::parse("arm64-apple-ios17");
+  if (triple) out << triple->settle() << ' ' << triple->object_format() << ' ' << *triple->pointer_width();
+  EXPECT(out.str() == "aarch64-apple-ios17.0.0 macho 64");
+}
+
+// A custom vendor is owned: neither the string that was parsed nor the triple that was copied is needed.
+static void try_ownership() {
+  std::string text = "x86_64-acme-linux";
+  Triple copy, moved;
+  {
+    Triple triple = parsed(text);
+    text.assign(text.size(), '?');
+    copy = triple;
+    moved = std::move(triple);
+  }
+  EXPECT(copy == moved && copy.has_custom_vendor() && copy.vendor() == Vendor::Custom && copy.vendor_name() == "acme");
+  Triple taken = std::move(copy);
+  EXPECT(Triple::parse(copy.printed()) == copy && taken == moved);  // what was moved from is a triple, whichever it is
+  copy = taken;
+  EXPECT(copy.printed() == "x86_64-acme-linux" && moved.settle().vendor_name() == "acme" && copy != parsed("x86_64-acmf-linux"));
+  std::string vendor(300, 'v');
+  EXPECT(parsed("avr-" + vendor + "-linux").printed() == "avr-" + vendor + "-linux");
+}
+
+static void try_containers() {
+  std::unordered_set<Triple> set{parsed("x86_64-linux"), parsed("x86_64-unknown-linux"), parsed("x86_64-acme-linux"), parsed("arm64-apple-ios17")};
+  EXPECT(set.size() == 3 && set.count(parsed("x86_64-acme-linux")) == 1 && set.count(parsed("x86_64-acmf-linux")) == 0);
+  std::map<Triple, int> map{{parsed("x86_64-linux"), 1}, {parsed("arm64-linux"), 2}};
+  EXPECT(map.at(parsed("aarch64-unknown-linux")) == 2);
+  EXPECT(parsed("x86_64-wrs-linux") < parsed("x86_64-acme-linux") && parsed("x86_64-acme-linux") < parsed("x86_64-acmf-linux"));
+}
+
+static void try_errors() {
+  ParseError error;
+  EXPECT(!Triple::parse("x86_64-pc-linx", &error) && error.status == LEXICON_UNRECOGNIZED_OPERATING_SYSTEM);
+  EXPECT(error.field() == Field::OperatingSystem && shown(*error.field()) == "operating system");
+  EXPECT(error.part == "linx" && error.start == 10 && error.end == 14 && error.suggestion == "linux");
+  EXPECT(error.line == "Unrecognized operating system: linx");
+  EXPECT(shown(error) == "Unrecognized operating system: linx\n  x86_64-pc-linx\n            ^^^^ did you mean `linux`?");
+  EXPECT(!Triple::parse("x86_64-elf-linux", &error) && !error.field() && error.suggestion.empty());
+  EXPECT(!Triple::parse("avr-\xff", &error) && error.status == LEXICON_NOT_UTF8 && !error.field() && error.line == "Not UTF-8");
+  EXPECT(!Triple::parse("") && !Triple::parse({}));
+  std::string part(3000, 'x');
+  EXPECT(!Triple::parse("avr-pc-linux-" + part, &error) && error.line == "Unrecognized environment: " + part);
+}
+
+static void try_names() {
+  EXPECT(name(Architecture::X86_64) == "x86_64" && name(Vendor::Custom).empty() && shown(OperatingSystem::None_) == "none");
+  EXPECT(shown(Environment::Gnu) == "gnu" && shown(BinaryFormat::Macho) == "macho" && shown(Vendor::Pc) == "pc");
+  EXPECT(shown(Endianness::Big) == "big" && shown(CallingConvention::SystemV) == "SystemV" && shown(DataModel::LLP64) == "LLP64");
+  EXPECT(value_of<Architecture>("arm64") == Architecture::Aarch64 && !value_of<Environment>("linux"));
+  EXPECT(value_of<Vendor>("acme") == Vendor::Custom && value_of<OperatingSystem>("ios17") == OperatingSystem::IOS);
+  EXPECT(version().substr(0, 5) == LEXICON_VERSION);
+  EXPECT(shown(Endianness::Little) == "little" && shown(Field::BinaryFormat) == "binary format" && shown(DataModel::ILP64) == "ILP64");
+}
+
+// A number that is no enumerator has no name, and nothing else is read in its place.
+template <class Value> static void try_no_name() {
+  for (std::uint32_t number = 0; number < 70000; number++) {
+    std::string_view found = name(static_cast<Value>(number));
+    EXPECT(found.size() < 20 && found.find('\0') == std::string_view::npos);
+  }
+  EXPECT(name(static_cast<Value>(~0u)).empty());
+}
+
+static void try_no_names() {
+  try_no_name<Architecture>();
+  try_no_name<Vendor>();
+  try_no_name<OperatingSystem>();
+  try_no_name<Environment>();
+  try_no_name<BinaryFormat>();
+  try_no_name<Field>();
+  try_no_name<Dialect>();
+  try_no_name<Endianness>();
+  try_no_name<CallingConvention>();
+  try_no_name<DataModel>();
+  try_no_name<Origin>();
+  ParseError error;
+  EXPECT(!Triple::read("amd64", static_cast<Dialect>(99), &error) && error.status == LEXICON_NO_SUCH_DIALECT);
+  EXPECT(!parsed("x86_64-linux").name_in(static_cast<Dialect>(99)));
+}
+
+static void try_dialects() {
+  ParseError error;
+  auto mingw = Triple::read("x86_64-w64-mingw32");
+  EXPECT(mingw && mingw->printed() == "x86_64-pc-windows-gnu" && mingw->name_in(Dialect::Node) == "win32-x64");
+  auto arm = Triple::read("linux/arm64", Dialect::Oci);
+  EXPECT(arm && *arm == parsed("aarch64-linux") && arm->name_in(Dialect::Oci) == "linux/arm64" && arm->name_in(Dialect::Debian) == std::nullopt);
+  EXPECT(Triple::read("x86_64-acme-linux")->vendor_name() == "acme" && !Triple::read("linux/arm64"));
+  auto wheel = Triple::read("macosx_11_0_arm64", Dialect::Python);
+  EXPECT(wheel && wheel->printed() == "aarch64-apple-macosx11.0.0" && wheel->name_in(Dialect::Python) == "macosx_11_0_arm64");
+  EXPECT(!Triple::read("linux", Dialect::Go, &error) && error.status == LEXICON_UNKNOWN_NAME && error.part == "linux" && !error.field());
+  EXPECT(shown(error) == "Unknown name: linux\n  linux\n  ^^^^^" && error.reason.empty() && error.suggestion.empty());
+  EXPECT(!Triple::read("linux/amd46", Dialect::Go, &error) && error.suggestion == "linux/amd64" && error.reason.empty());
+  EXPECT(shown(error) == "Unknown name: linux/amd46\n  linux/amd46\n  ^^^^^^^^^^^ did you mean `linux/amd64`?");
+  EXPECT(!Triple::read("plan9/386", Dialect::Go, &error) && error.status == LEXICON_NAME_WITHOUT_TRIPLE);
+  EXPECT(error.reason == "Plan 9 is no known name");
+  EXPECT(shown(error) == "No triple has this name: plan9/386\n  plan9/386\n  ^^^^^^^^^ Plan 9 is no known name");
+  EXPECT(!Triple::read("amd64-pc-linx", &error) && error.suggestion == "linux" && error.start == 9 && error.reason.empty());
+  EXPECT(shown(Dialect::Gnu) == "gnu" && shown(Dialect::Python) == "python" && name(Dialect::Debian) == "debian");
+}
+
+int main() {
+  try_triple();
+  try_values();
+  try_c();
+  try_changes();
+  try_explain();
+  try_lines();
+  try_sample();
+  try_ownership();
+  try_containers();
+  try_errors();
+  try_names();
+  try_no_names();
+  try_dialects();
+  std::cerr << "cpp: " << failures << " wrong\n";
+  return failures != 0;
+}

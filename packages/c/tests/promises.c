@@ -1,0 +1,389 @@
+/* Makes all calls with arbitrary bytes and arbitrary structs, and checks what the header promises: for libFuzzer, or, with
+   -DLINES, with each line of the input. Each string, struct and buffer ends where a page ends that may not be touched, so that
+   the library is watched too, which has no sanitizer. */
+#define _DEFAULT_SOURCE
+#include <stdint.h>
+#include <stdio.h>
+#include <stdlib.h>
+#include <string.h>
+#include <sys/mman.h>
+
+#include "target_lexicon.h"
+
+enum { ROOM = 1 << 16, PAGE = 4096, REGIONS = 8 };
+
+#define CHECK(right) \
+  do { \
+    if (!(right)) { fprintf(stderr, "%s:%d: broken promise: %s\n", __FILE__, __LINE__, #right); abort(); } \
+  } while (0)
+
+/* Memory of a size, before a page that may not be touched. */
+static void *before_guard(int region, size_t size) {
+  static char *ends[REGIONS];
+  if (ends[region] == NULL) {
+    char *at = (char *)mmap(NULL, ROOM + PAGE, PROT_READ | PROT_WRITE, MAP_PRIVATE | MAP_ANONYMOUS, -1, 0);
+    if (at == MAP_FAILED || mprotect(at + ROOM, PAGE, PROT_NONE) != 0) abort();
+    ends[region] = at + ROOM;
+  }
+  return ends[region] - size;
+}
+
+struct input { const uint8_t *at; size_t size; };
+
+static void take(struct input *input, void *to, size_t size) {
+  size_t given = size < input->size ? size : input->size;
+  memset(to, 0, size);
+  if (given) memcpy(to, input->at, given);
+  input->at += given;
+  input->size -= given;
+}
+
+static uint8_t take_byte(struct input *input) {
+  uint8_t byte;
+  take(input, &byte, 1);
+  return byte;
+}
+
+/* A text of at most this size, null if it is empty. */
+static const char *take_text(struct input *input, int region, size_t most, size_t *size) {
+  *size = most < input->size ? most : input->size;
+  char *text = (char *)before_guard(region, *size);
+  take(input, text, *size);
+  return *size ? text : NULL;
+}
+
+static bool is_unchanged(const void *at, size_t size) {
+  const uint8_t *bytes = (const uint8_t *)at;
+  for (size_t i = 0; i < size; i++)
+    if (bytes[i] != 0xa5) return false;
+  return true;
+}
+
+/* The printed text, in the region, with each size of buffer that matters. */
+static size_t printed(const struct lexicon_triple *triple, int region, char **text) {
+  size_t length = 0, again = 0;
+  CHECK(lexicon_print(triple, NULL, 0, &length) == LEXICON_TOO_SMALL && length > 0 && length < ROOM);
+  char *small = (char *)before_guard(region, length);
+  memset(small, 0xa5, length);
+  CHECK(lexicon_print(triple, small, length, &again) == LEXICON_TOO_SMALL && again == length && is_unchanged(small, length));
+  *text = (char *)before_guard(region, length + 1);
+  again = 0;
+  CHECK(lexicon_print(triple, *text, length + 1, &again) == LEXICON_OK && again == length && (*text)[length] == 0);
+  return length;
+}
+
+static bool are_equal(const struct lexicon_triple *first, const struct lexicon_triple *second) {
+  bool answer = false;
+  CHECK(lexicon_equal(first, second, &answer) == LEXICON_OK);
+  return answer;
+}
+
+/* Whether every field that is not read is 0. */
+static bool has_zeros(const struct lexicon_triple *it) {
+  bool no_vendor = it->custom_vendor == NULL && it->custom_vendor_size == 0;
+  bool no_version = it->major == 0 && it->minor == 0 && it->patch == 0;
+  return (it->vendor == LEXICON_VENDOR_CUSTOM || no_vendor) && (it->has_version || no_version);
+}
+
+/* written by tools/names/write: the last dialect */
+enum { LAST_DIALECT = 14 };
+/* end of what is written */
+
+/* The names of a triple that is well: each that is read means the shape, which has the same name and the same answers. */
+static void try_names(const struct lexicon_triple *triple) {
+  for (uint32_t dialect = LEXICON_DIALECT_DEBIAN; dialect <= LAST_DIALECT; dialect++) {
+    struct lexicon_triple shape;
+    struct lexicon_error error;
+    struct lexicon_triple_facts facts, shape_facts;
+    char name[37], again[37];
+    size_t length = 77;
+    uint32_t status = lexicon_write(dialect, triple, name, sizeof name, &length);
+    CHECK(status == LEXICON_OK ? length == strlen(name) : status == LEXICON_TRIPLE_WITHOUT_NAME && length == 77);
+    if (status != LEXICON_OK) continue;
+    status = lexicon_read(dialect, name, length, &shape, &error);
+    CHECK(status == LEXICON_OK || status == LEXICON_NAME_WITHOUT_TRIPLE);
+    CHECK((lexicon_reason(dialect, name, length) == NULL) == (status == LEXICON_OK));
+    if (status != LEXICON_OK) continue;
+    CHECK(lexicon_write(dialect, &shape, again, sizeof again, NULL) == LEXICON_OK && strcmp(again, name) == 0);
+    CHECK(lexicon_facts(triple, &facts, sizeof facts) == LEXICON_OK && lexicon_facts(&shape, &shape_facts, sizeof shape_facts) == LEXICON_OK);
+    CHECK(facts.endianness == shape_facts.endianness && facts.pointer_width == shape_facts.pointer_width);
+    CHECK(facts.object_format == shape_facts.object_format);
+  }
+}
+
+/* What holds of each triple that is well. */
+static void try_triple(const struct lexicon_triple *triple) {
+  struct lexicon_triple settled = *triple, again;
+  struct lexicon_error error;
+  struct lexicon_triple_facts facts, same_facts;
+  bool comes_back = false, same = false;
+  char *text, *settled_text;
+  CHECK(lexicon_settle(&settled) == LEXICON_OK && has_zeros(&settled));
+  CHECK(lexicon_comes_back(triple, &comes_back) == LEXICON_OK);
+  CHECK(lexicon_same_target(triple, &settled, &same) == LEXICON_OK && same);
+  size_t length = printed(triple, 2, &text);
+  CHECK(lexicon_parse(text, length, &again, &error) == LEXICON_OK);
+  CHECK(are_equal(&again, triple) == comes_back);
+  size_t settled_length = printed(&settled, 3, &settled_text);
+  CHECK(lexicon_parse(settled_text, settled_length, &again, &error) == LEXICON_OK && are_equal(&again, &settled));
+  CHECK(lexicon_facts(triple, &facts, sizeof facts) == LEXICON_OK && lexicon_facts(&settled, &same_facts, sizeof same_facts) == LEXICON_OK);
+  CHECK(facts.endianness == same_facts.endianness && facts.pointer_width == same_facts.pointer_width);
+  CHECK(facts.data_model == same_facts.data_model && facts.default_calling_convention == same_facts.default_calling_convention);
+  CHECK((facts.data_model == 0) == (facts.short_size == 0) && facts.pointer_width % 16 == 0);
+  CHECK(facts.has_custom_vendor == (triple->vendor == LEXICON_VENDOR_CUSTOM));
+  CHECK(!triple->has_version || facts.is_like_darwin);
+  try_names(triple);
+}
+
+static bool has_name(uint32_t field, uint32_t number) {
+  const char *name = lexicon_name(field, number);
+  uint32_t found = ~number;
+  CHECK(name == NULL || (lexicon_number(field, name, strlen(name), &found) == LEXICON_OK && found == number));
+  return name != NULL;
+}
+
+/* A number that is small enough to name a value of the field in most cases, and none in one. */
+static uint32_t small_number(uint32_t field, uint32_t number) {
+  static uint32_t counts[5];
+  if (counts[field] == 0)
+    while (has_name(field, counts[field])) counts[field]++;
+  return number % (counts[field] + 1);
+}
+
+/* The status that each call with the struct must give, by the names and numbers of the library. */
+static uint32_t expected_status(const struct lexicon_triple *it) {
+  uint32_t number = 0;
+  static const char *const darwin[] = {"darwin", "ios", "macosx", "tvos", "visionos", "watchos", "xros"};
+  if (!has_name(LEXICON_FIELD_ARCHITECTURE, it->architecture)) return LEXICON_NO_SUCH_VALUE;
+  if (it->vendor == LEXICON_VENDOR_CUSTOM) {
+    uint32_t status = lexicon_number(LEXICON_FIELD_VENDOR, it->custom_vendor, it->custom_vendor_size, &number);
+    if (status != LEXICON_OK || number != LEXICON_VENDOR_CUSTOM) return LEXICON_NO_SUCH_VENDOR;
+  } else if (!has_name(LEXICON_FIELD_VENDOR, it->vendor)) {
+    return LEXICON_NO_SUCH_VALUE;
+  }
+  bool takes_version = false;
+  for (size_t i = 0; i < sizeof darwin / sizeof *darwin; i++) {
+    CHECK(lexicon_number(LEXICON_FIELD_OPERATING_SYSTEM, darwin[i], strlen(darwin[i]), &number) == LEXICON_OK);
+    takes_version = takes_version || number == it->operating_system;
+  }
+  if (!has_name(LEXICON_FIELD_OPERATING_SYSTEM, it->operating_system) || it->has_version > takes_version) return LEXICON_NO_SUCH_VALUE;
+  bool well = has_name(LEXICON_FIELD_ENVIRONMENT, it->environment) && has_name(LEXICON_FIELD_BINARY_FORMAT, it->binary_format);
+  return well ? LEXICON_OK : LEXICON_NO_SUCH_VALUE;
+}
+
+/* All calls give the status, and change nothing. */
+static void try_bad(const struct lexicon_triple *bad, const struct lexicon_triple *other, uint32_t other_status, uint32_t status) {
+  struct lexicon_triple copy = *bad;
+  struct lexicon_triple_facts facts;
+  char out[64];
+  size_t length = 77;
+  bool answer = true;
+  memset(&facts, 0xa5, sizeof facts);
+  memset(out, 0xa5, sizeof out);
+  CHECK(lexicon_print(bad, out, sizeof out, &length) == status && length == 77 && is_unchanged(out, sizeof out));
+  CHECK(lexicon_write(LEXICON_DIALECT_GO, bad, out, sizeof out, &length) == status && length == 77 && is_unchanged(out, sizeof out));
+  CHECK(lexicon_facts(bad, &facts, sizeof facts) == status && is_unchanged(&facts, sizeof facts));
+  CHECK(lexicon_settle(&copy) == status && memcmp(&copy, bad, sizeof copy) == 0);
+  CHECK(lexicon_comes_back(bad, &answer) == status && lexicon_equal(bad, other, &answer) == status && answer);
+  CHECK(lexicon_equal(other, bad, &answer) == (other_status ? other_status : status) && answer);
+  CHECK(lexicon_same_target(other, bad, &answer) == (other_status ? other_status : status) && answer);
+}
+
+/* An arbitrary struct. By the first byte its numbers are small, so that most are values. */
+static struct lexicon_triple *take_triple(struct input *input, int region, int vendor_region) {
+  struct lexicon_triple *it = (struct lexicon_triple *)before_guard(region, sizeof *it);
+  uint8_t how = take_byte(input);
+  take(input, it, sizeof *it);
+  if (how & 1) {
+    it->architecture = small_number(LEXICON_FIELD_ARCHITECTURE, it->architecture);
+    it->vendor = it->vendor >= 0xf0 ? LEXICON_VENDOR_CUSTOM : small_number(LEXICON_FIELD_VENDOR, it->vendor);
+    it->operating_system = small_number(LEXICON_FIELD_OPERATING_SYSTEM, it->operating_system);
+    it->environment = small_number(LEXICON_FIELD_ENVIRONMENT, it->environment);
+    it->binary_format = small_number(LEXICON_FIELD_BINARY_FORMAT, it->binary_format);
+    it->has_version %= 3;
+  }
+  if (how & 2) it->vendor = LEXICON_VENDOR_CUSTOM;
+  if (it->vendor == LEXICON_VENDOR_CUSTOM) it->custom_vendor = take_text(input, vendor_region, how >> 2, &it->custom_vendor_size);
+  return it;
+}
+
+static void try_structs(struct input *input) {
+  const struct lexicon_triple *first = take_triple(input, 4, 5), *second = take_triple(input, 6, 7);
+  uint32_t status = expected_status(first), other = expected_status(second);
+  if (status == LEXICON_OK) try_triple(first);
+  else try_bad(first, second, other, status);
+  if (other == LEXICON_OK) try_triple(second);
+  else try_bad(second, first, status, other);
+  if (status == LEXICON_OK && other == LEXICON_OK) {
+    struct lexicon_triple a = *first, b = *second;
+    bool same = false;
+    CHECK(lexicon_settle(&a) == LEXICON_OK && lexicon_settle(&b) == LEXICON_OK);
+    CHECK(lexicon_same_target(first, second, &same) == LEXICON_OK && same == are_equal(&a, &b));
+    CHECK(are_equal(first, second) == are_equal(second, first));
+  }
+}
+
+/* Both texts of an error, which begin with the same line, with each size of buffer that matters. */
+static void try_error(const char *text, size_t size, const struct lexicon_error *error) {
+  size_t line = 77, whole = 77, again = 0;
+  enum lexicon_status status = lexicon_error_line(text, size, error, NULL, 0, &line);
+  CHECK(lexicon_error_text(text, size, error, NULL, 0, &whole) == status);
+  if (status == LEXICON_NO_SUCH_VALUE) {
+    CHECK(line == 77 && whole == 77);
+    return;
+  }
+  CHECK(status == LEXICON_TOO_SMALL && line <= 31 + error->end - error->start && whole > line);
+  char *out = (char *)before_guard(2, whole + 1);
+  CHECK(lexicon_error_text(text, size, error, out, whole + 1, &again) == LEXICON_OK && again == whole && strlen(out) == whole);
+  bool of_name = strncmp(out, "Unknown name: ", 14) == 0 || strncmp(out, "No triple has this name: ", 25) == 0;
+  CHECK(of_name || strncmp(out, "Unrecognized ", 13) == 0 || strncmp(out, "Not UTF-8", 9) == 0);
+  out = (char *)before_guard(2, whole / 2 + 1);
+  CHECK(lexicon_error_text(text, size, error, out, whole / 2 + 1, &again) == LEXICON_TOO_SMALL && again == whole);
+  CHECK(strlen(out) <= whole / 2 && strlen(out) + 4 > whole / 2);
+  out = (char *)before_guard(2, line + 1);
+  CHECK(lexicon_error_line(text, size, error, out, line + 1, &again) == LEXICON_OK && again == line && out[line] == 0);
+  const char *name = lexicon_suggestion(text, size, error);
+  uint32_t number, field = error->status - 1;
+  size_t first = name ? strcspn(name, "-") : 0; /* windows-gnu is two names */
+  if (name != NULL) while (lexicon_number(field, name, first, &number) != LEXICON_OK) CHECK(++field < 5);
+}
+
+static void try_source(const struct lexicon_source *it, size_t size) {
+  if (it->origin == LEXICON_ORIGIN_GIVEN || it->origin == LEXICON_ORIGIN_ALIAS) CHECK(it->start <= it->end && it->end <= size);
+  else CHECK((it->origin == LEXICON_ORIGIN_NOT_GIVEN || it->origin == LEXICON_ORIGIN_IMPLIED) && it->start == 0 && it->end == 0);
+}
+
+/* Of a text that is parsed, both calls write the same triple, which is well and points into the text. */
+static void try_parsed(const char *text, size_t size, const struct lexicon_triple *triple, const struct lexicon_triple *explained) {
+  CHECK(are_equal(triple, explained) && expected_status(triple) == LEXICON_OK);
+  bool is_custom = triple->vendor == LEXICON_VENDOR_CUSTOM;
+  CHECK(!is_custom || (triple->custom_vendor >= text && triple->custom_vendor + triple->custom_vendor_size <= text + size));
+  CHECK(has_zeros(triple) && has_zeros(explained));
+  char *out;
+  CHECK(printed(triple, 2, &out) <= size + LEXICON_MAX_GROWTH);
+  try_triple(triple);
+}
+
+/* A text as a name of each dialect, and of none, where parsing it gave this status and, if that is LEXICON_OK, this triple. */
+static void try_read(const char *text, size_t size, uint32_t parsed, const struct lexicon_triple *same) {
+  for (uint32_t dialect = LEXICON_DIALECT_NONE; dialect <= LAST_DIALECT + 1; dialect++) {
+    struct lexicon_triple triple;
+    struct lexicon_error error;
+    memset(&triple, 0xa5, sizeof triple);
+    memset(&error, 0xa5, sizeof error);
+    uint32_t status = lexicon_read(dialect, text, size, &triple, &error);
+    CHECK((status == LEXICON_NO_SUCH_DIALECT) == (dialect > LAST_DIALECT));
+    CHECK((lexicon_reason(dialect, text, size) != NULL) == (status == LEXICON_NAME_WITHOUT_TRIPLE));
+    const char *meant = lexicon_name_suggestion(dialect, text, size);
+    if (meant != NULL) {
+      struct lexicon_triple suggested;
+      struct lexicon_error none;
+      CHECK(status == LEXICON_UNKNOWN_NAME && lexicon_read(dialect, meant, strlen(meant), &suggested, &none) == LEXICON_OK);
+    }
+    if (status == LEXICON_OK) {
+      CHECK(is_unchanged(&error, sizeof error) && expected_status(&triple) == LEXICON_OK && has_zeros(&triple));
+      bool is_custom = triple.vendor == LEXICON_VENDOR_CUSTOM;
+      CHECK(!is_custom || dialect == LEXICON_DIALECT_NONE);
+      CHECK(!is_custom || (triple.custom_vendor >= text && triple.custom_vendor + triple.custom_vendor_size <= text + size));
+      if (dialect != LEXICON_DIALECT_NONE) try_triple(&triple);
+    } else {
+      CHECK(is_unchanged(&triple, sizeof triple) && error.status == status && error.start <= error.end && error.end <= size);
+      try_error(text, size, &error);
+    }
+    if (dialect != LEXICON_DIALECT_NONE) {
+      CHECK(status == LEXICON_OK || status == LEXICON_NOT_UTF8 || status >= LEXICON_UNKNOWN_NAME);
+    } else if (parsed == LEXICON_OK && same->vendor != LEXICON_VENDOR_CUSTOM) {
+      CHECK(status == LEXICON_OK && are_equal(&triple, same));
+    } else {
+      CHECK(status <= LEXICON_NOT_UTF8);
+    }
+  }
+}
+
+/* Each line of a text is settled as it is by itself. */
+static void try_lines(const char *text, size_t size) {
+  size_t lines = 1, length = 0;
+  for (size_t i = 0; i < size; i++) lines += text[i] == '\n';
+  size_t room = size + lines * LEXICON_MAX_GROWTH + 2;
+  if (room > ROOM) return;
+  char *out = (char *)before_guard(1, room), *settled;
+  memset(out, 0xa5, room);
+  CHECK(lexicon_settle_lines(text, size, out, room, &length) == LEXICON_OK && length < room && out[length] == 0);
+  CHECK(is_unchanged(out + length + 1, room - length - 1));
+  const char *line = out;
+  for (size_t start = 0, end; start < size; start = end + 1) {
+    struct lexicon_triple triple;
+    struct lexicon_error error;
+    size_t wanted = 0;
+    for (end = start; end < size && text[end] != '\n'; end++) {}
+    if (lexicon_parse(text + start, end - start, &triple, &error) == LEXICON_OK) {
+      CHECK(lexicon_settle(&triple) == LEXICON_OK);
+      wanted = printed(&triple, 3, &settled);
+      CHECK(memcmp(line, settled, wanted) == 0);
+    }
+    CHECK(line[wanted] == '\n');
+    line += wanted + 1;
+  }
+  CHECK(line == out + length);
+}
+
+static void try_text(const char *text, size_t size) {
+  struct lexicon_triple triple, explained;
+  struct lexicon_error error, other;
+  struct lexicon_sources sources;
+  memset(&triple, 0xa5, sizeof triple);
+  memset(&explained, 0xa5, sizeof explained);
+  memset(&error, 0xa5, sizeof error);
+  memset(&other, 0xa5, sizeof other);
+  memset(&sources, 0xa5, sizeof sources);
+  uint32_t status = lexicon_parse(text, size, &triple, &error);
+  CHECK(lexicon_explain(text, size, &explained, &sources, &other) == status && status <= LEXICON_NOT_UTF8);
+  struct lexicon_triple alone = triple;
+  CHECK(lexicon_parse(text, size, &alone, NULL) == status);
+  const struct lexicon_source *each[] = {&sources.architecture, &sources.vendor, &sources.operating_system, &sources.environment,
+      &sources.binary_format};
+  for (size_t i = 0; i < 5; i++) try_source(each[i], size);
+  if (status == LEXICON_OK) {
+    CHECK(is_unchanged(&error, sizeof error) && is_unchanged(&other, sizeof other));
+    try_parsed(text, size, &triple, &explained);
+    try_read(text, size, status, &triple);
+    return;
+  }
+  CHECK(is_unchanged(&triple, sizeof triple) && is_unchanged(&explained, sizeof explained));
+  CHECK(error.status == status && error.start <= error.end && error.end <= size);
+  CHECK(other.status == status && other.start == error.start && other.end == error.end);
+  try_error(text, size, &error);
+  try_read(text, size, status, &triple);
+}
+
+int LLVMFuzzerTestOneInput(const uint8_t *data, size_t data_size) {
+  struct input input = {data, data_size};
+  uint8_t how = take_byte(&input), word = take_byte(&input);
+  if (how & 1) try_structs(&input);
+  size_t size;
+  const char *text = take_text(&input, 0, ROOM - 64, &size);
+  try_text(text, size);
+  try_lines(text, size);
+  uint32_t number = 12345, status = lexicon_number(word % 7, text, size, &number);
+  CHECK(status == LEXICON_OK || number == 12345);
+  CHECK((status == LEXICON_NO_SUCH_FIELD) == (word % 7 > 4));
+  if (status == LEXICON_OK) CHECK(has_name(word % 7, number) || number == LEXICON_VENDOR_CUSTOM);
+  has_name(word % 7, how);
+  struct lexicon_error error = {word & 15u, how & 15u, word >> 3};
+  try_error(text, size, &error);
+  return 0;
+}
+
+#ifdef LINES
+int main(void) {
+  static char line[ROOM];
+  unsigned count = 0;
+  line[0] = line[1] = 0;
+  while (fgets(line + 2, sizeof line - 2, stdin) != NULL) {
+    line[1] = (char)count++;
+    LLVMFuzzerTestOneInput((const uint8_t *)line, 2 + strcspn(line + 2, "\n"));
+  }
+  printf("promises: %u lines\n", count);
+  return count ? 0 : 1;
+}
+#endif

@@ -1,0 +1,181 @@
+//! The calls of `target-lexicon`, their options and their help.
+use clap::builder::{PossibleValue, PossibleValuesParser};
+use clap::{value_parser, Arg, ArgAction, Command, ValueHint};
+use std::path::PathBuf;
+use target_lexicon::tool_names::Dialect;
+use target_lexicon::Field;
+
+/// The fields of a triple, by the names that they have in arguments and in answers.
+pub const FIELDS: [(&str, Field); 5] = [
+    ("architecture", Field::Architecture),
+    ("vendor", Field::Vendor),
+    ("operating_system", Field::OperatingSystem),
+    ("environment", Field::Environment),
+    ("binary_format", Field::BinaryFormat),
+];
+
+/// The tools whose names are known, in the order of answers: those whose names are only read, those whose names are also
+/// written, and those whose names are only written.
+// written by tools/names/write: the dialects for the command
+pub const DIALECTS: [Dialect; 14] = [
+    Dialect::Uname,
+    Dialect::Debian,
+    Dialect::Go,
+    Dialect::Oci,
+    Dialect::Node,
+    Dialect::Python,
+    Dialect::Rpm,
+    Dialect::Apk,
+    Dialect::Pacman,
+    Dialect::Dotnet,
+    Dialect::Conda,
+    Dialect::Zig,
+    Dialect::Nix,
+    Dialect::Gnu,
+];
+pub const READ: usize = 13;
+pub const ONLY_READ: usize = 1;
+// end of what is written
+
+// written by tools/names/write: the other names of dialects for the command
+const OTHER_NAMES: [(&str, Dialect); 2] = [
+    ("docker", Dialect::Oci),
+    ("npm", Dialect::Node),
+];
+// end of what is written
+
+/// An option for one of the dialects.
+fn dialect(name: &'static str, dialects: &[Dialect], help: &'static str) -> Arg {
+    let names = dialects.iter().map(|dialect| {
+        let others = OTHER_NAMES.iter().filter(|(_, of)| of == dialect);
+        PossibleValue::new(dialect.as_str()).aliases(others.map(|(name, _)| *name))
+    });
+    Arg::new(name)
+        .long(name)
+        .value_name("DIALECT")
+        .value_parser(PossibleValuesParser::new(names))
+        .help(help)
+}
+
+fn flag(name: &'static str, help: &'static str) -> Arg {
+    Arg::new(name)
+        .long(name)
+        .action(ArgAction::SetTrue)
+        .help(help)
+}
+
+/// A call that answers for targets.
+fn of_targets(name: &'static str, about: &'static str, example: &'static str) -> Command {
+    Command::new(name).about(about).after_help(example).args([
+        Arg::new("target")
+            .value_name("TARGET")
+            .action(ArgAction::Append)
+            .value_hint(ValueHint::Other)
+            .help("Targets; `-` is standard input, with one target per line. Without a TARGET or FILE it is read"),
+        Arg::new("file")
+            .short('f')
+            .long("file")
+            .value_name("FILE")
+            .action(ArgAction::Append)
+            .value_parser(value_parser!(PathBuf))
+            .value_hint(ValueHint::FilePath)
+            .help("Answer for the lines of FILE too; `-` is standard input. May be given more than once"),
+        flag("comments", "Skip blank lines, and what follows `#` in a line"),
+        flag("null", "End targets in files, and answers, with a zero byte instead of a line feed")
+            .short('0')
+            .conflicts_with("comments"),
+        flag("quiet", "Write nothing, and end at the first target that is refused: the status says it")
+            .short('q')
+            .conflicts_with_all(["json", "json-lines"]),
+        flag("strict", "Refuse custom vendors, which may be any lower-case word").hide(name == "read"),
+        flag("json", "Write one JSON array on one line").conflicts_with("json-lines"),
+        flag("json-lines", "Write one JSON object per line"),
+        Arg::new("color")
+            .long("color")
+            .value_name("WHEN")
+            .value_parser(PossibleValuesParser::new(["auto", "always", "never"]))
+            .default_value("auto")
+            .help("Colour what is refused; `auto` does on a terminal, unless NO_COLOR is set"),
+    ])
+}
+
+pub fn command() -> Command {
+    Command::new("target-lexicon")
+        .version(env!("CARGO_PKG_VERSION"))
+        .about("Answers questions about target triples such as x86_64-unknown-linux-gnu")
+        .after_help(
+            "Status: 0 if all targets were parsed, 1 if one was refused, 2 for wrong arguments,\n\
+             3 if something couldn't be read or written. `target-lexicon manual` writes the manual page.",
+        )
+        .args_override_self(true)
+        .subcommand_required(true)
+        .arg_required_else_help(true)
+        .subcommands([
+            of_targets(
+                "explain",
+                "Show each field of a target, and where its value comes from",
+                "Example:\n  $ target-lexicon explain arm64-apple-ios17",
+            ),
+            of_targets(
+                "facts",
+                "Show the fields of a target, and what a compiler asks",
+                "Example:\n  $ target-lexicon facts --json x86_64-unknown-linux-gnu | jq '.[].pointer_width'",
+            ),
+            of_targets(
+                "settle",
+                "Write the canonical form of each target: one string for all its spellings",
+                "Example:\n  $ target-lexicon settle x86_64-linux arm64-linux-gnu",
+            ),
+            of_targets(
+                "check",
+                "Write only what is refused: nothing, if all targets parse",
+                "Example:\n  $ target-lexicon check --strict --comments -f targets.txt",
+            ),
+            of_targets(
+                "matrix",
+                "Write each canonical target once, with the places that it came from",
+                "Without --json, a line has the canonical form, the first spelling and the places, between tabs.\n\
+                 If a target is refused, there is no matrix.\n\n\
+                 Example:\n  $ target-lexicon matrix --json -f targets.txt | jq -c 'map(.canonical)'",
+            )
+            .arg(flag("ignore-vendor", "Merge targets that differ only in their vendors")),
+            of_targets(
+                "read",
+                "Write the canonical form of the target that another tool's name means",
+                "Without --from a name is one that GNU and LLVM tools print.\n\n\
+                 Examples:\n  $ target-lexicon read --from oci linux/arm/v7\n  $ target-lexicon read \"$(cc -dumpmachine)\"",
+            )
+            .mut_arg("target", |names| names.value_name("NAME"))
+            .arg(dialect("from", &DIALECTS[..READ], "The tool whose names are read"))
+            .arg(
+                flag("changes", "Show which parts of a name are read as others, such as amd64 as x86_64")
+                    .conflicts_with("from"),
+            ),
+            of_targets(
+                "write",
+                "Write the name that another tool has for each target",
+                "Example:\n  $ target-lexicon write --to debian aarch64-unknown-linux-gnu",
+            )
+            .arg(dialect("to", &DIALECTS[ONLY_READ..], "The tool whose names are written").required(true)),
+            of_targets(
+                "elsewhere",
+                "Show the names that other tools have for a target",
+                "Example:\n  $ target-lexicon elsewhere aarch64-unknown-linux-gnu",
+            ),
+            Command::new("names")
+                .about("List the known names of a field, or of all fields")
+                .after_help("Example:\n  $ target-lexicon names environment")
+                .arg(
+                    Arg::new("field")
+                        .value_name("FIELD")
+                        .value_parser(PossibleValuesParser::new(FIELDS.map(|(name, _)| name))),
+                ),
+            Command::new("completions")
+                .about("Write a completion script for a shell")
+                .after_help("Example:\n  $ target-lexicon completions bash > ~/.local/share/bash-completion/completions/target-lexicon")
+                .arg(Arg::new("shell").required(true).value_name("SHELL").value_parser(value_parser!(clap_complete::Shell))),
+            Command::new("manual")
+                .about("Write the manual page")
+                .after_help("Example:\n  $ target-lexicon manual | man -l -"),
+        ])
+}

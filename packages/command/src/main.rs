@@ -1,0 +1,360 @@
+//! The command `target-lexicon`. What it says of a target it asks the crate `target-lexicon`; here is how targets are read, and how
+//! answers are laid out.
+#![deny(unsafe_code)] // except where `streams` looks before the runtime starts
+
+mod answers;
+mod arguments;
+mod blocks;
+mod input;
+mod json;
+mod matrix;
+mod output;
+mod refusal;
+mod streams;
+
+use arguments::FIELDS;
+use clap::error::{ContextKind, ContextValue, ErrorKind};
+use clap::ArgMatches;
+use clap_complete::Shell;
+use input::{each_target, end_of_line, Answers, Place, Target};
+use json::{Json, Object};
+use matrix::Matrix;
+use output::Outputs;
+use refusal::{visible, Refusal};
+use std::env;
+use std::io::{self, Write};
+use std::path::Path;
+use std::process;
+use target_lexicon::tool_names::{Dialect, Name};
+use target_lexicon::TripleRef;
+
+/// What ends a run early.
+pub enum Fault {
+    /// A stream can't be read or written.
+    Stream {
+        name: String,
+        why: io::Error,
+    },
+    NotUtf8 {
+        place: String,
+    },
+    /// Nobody reads the output any more.
+    Closed,
+    /// A target is refused, and nobody asks for more.
+    Refused,
+}
+
+/// The status of what a closed pipe ended, as the shell shows it for other tools.
+const CLOSED: i32 = 141;
+
+#[derive(Clone, Copy, PartialEq, Eq)]
+enum Call {
+    Explain,
+    Facts,
+    Settle,
+    Check,
+    Matrix,
+    Read(Option<Dialect>),
+    Write(Dialect),
+    Elsewhere,
+}
+
+/// What was found out about a target.
+enum Found<'a> {
+    Parsed(refusal::Parsed<'a>),
+    Read(TripleRef<'a>),
+    Name(Name),
+}
+
+/// A call that answers for targets.
+struct Run {
+    call: Call,
+    is_strict: bool,
+    is_quiet: bool,
+    skips_comments: bool,
+    end_of_line: u8,
+    ignores_vendor: bool,
+    shows_changes: bool,
+    has_json: bool,
+    matrix: Matrix,
+    outputs: Outputs,
+    is_refused: bool,
+}
+
+impl Answers for Run {
+    fn answer(&mut self, target: Target<'_>) -> Result<(), Fault> {
+        match self.find(target.text) {
+            Ok(_) if self.is_quiet => Ok(()),
+            Err(_) if self.is_quiet => Err(Fault::Refused),
+            Ok(Found::Parsed(explanation)) if self.call == Call::Matrix => {
+                self.matrix
+                    .add(target, explanation.triple, self.ignores_vendor);
+                Ok(())
+            }
+            Ok(_) if self.call == Call::Check => Ok(()),
+            Ok(found) if self.has_json => {
+                let members = self.members(target.text, &found);
+                self.outputs
+                    .object([answers::head(target), members].concat())
+            }
+            Ok(found) => {
+                let (call, shows_changes) = (self.call, self.shows_changes);
+                self.outputs.answer(self.end_of_line, |out| match found {
+                    Found::Parsed(explanation) => match call {
+                        Call::Explain => answers::write_explained(out, target, &explanation),
+                        Call::Facts => answers::write_facts(
+                            out,
+                            target.text,
+                            answers::facts(&explanation.triple),
+                        ),
+                        Call::Elsewhere => answers::write_facts(
+                            out,
+                            target.text,
+                            answers::elsewhere(&explanation.triple),
+                        ),
+                        _ => writeln!(out, "{}", answers::canonical(explanation.triple)),
+                    },
+                    Found::Read(triple) => {
+                        writeln!(out, "{}", answers::canonical(triple))?;
+                        match shows_changes {
+                            true => answers::write_changes(out, target.text),
+                            false => Ok(()),
+                        }
+                    }
+                    Found::Name(name) => writeln!(out, "{name}"),
+                })
+            }
+            Err(refusal) => {
+                self.is_refused = true;
+                if self.has_json && self.call != Call::Matrix {
+                    return self
+                        .outputs
+                        .object([answers::head(target), refusal.members()].concat());
+                }
+                let note = self.note(target);
+                self.outputs
+                    .refuse(|out, has_color| refusal.write(out, target, has_color, note.as_deref()))
+            }
+        }
+    }
+
+    fn pause(&mut self) -> Result<(), Fault> {
+        self.outputs.flush()
+    }
+}
+
+impl Run {
+    fn find<'a>(&self, text: &'a str) -> Result<Found<'a>, Refusal<'a>> {
+        if let Call::Read(dialect) = self.call {
+            return refusal::read(text, dialect).map(Found::Read);
+        }
+        let explanation = refusal::explanation(text, self.is_strict)?;
+        match self.call {
+            Call::Write(dialect) => {
+                refusal::name_in(dialect, text, &explanation.triple).map(Found::Name)
+            }
+            _ => Ok(Found::Parsed(explanation)),
+        }
+    }
+
+    /// The members of the object for what was found.
+    fn members(&self, text: &str, found: &Found<'_>) -> Object {
+        let canonical = |triple| vec![("canonical", answers::canonical(triple).to_string().into())];
+        match found {
+            Found::Parsed(explanation) => match self.call {
+                Call::Explain => answers::explained(explanation),
+                Call::Facts => answers::facts(&explanation.triple),
+                Call::Elsewhere => answers::elsewhere(&explanation.triple),
+                _ => canonical(explanation.triple),
+            },
+            Found::Read(triple) => {
+                let changes = match self.call {
+                    Call::Read(None) => answers::changed_parts(text),
+                    _ => Json::Null,
+                };
+                [canonical(*triple), vec![("changes", changes)]].concat()
+            }
+            Found::Name(name) => vec![("name", name.as_str().into())],
+        }
+    }
+
+    fn new(call: Call, arguments: &ArgMatches) -> Self {
+        Run {
+            call,
+            is_strict: arguments.get_flag("strict"),
+            is_quiet: arguments.get_flag("quiet"),
+            skips_comments: arguments.get_flag("comments"),
+            end_of_line: end_of_line(arguments),
+            ignores_vendor: call == Call::Matrix && arguments.get_flag("ignore-vendor"),
+            shows_changes: matches!(call, Call::Read(_)) && arguments.get_flag("changes"),
+            has_json: arguments.get_flag("json") || arguments.get_flag("json-lines"),
+            matrix: Matrix::default(),
+            outputs: Outputs::new(arguments),
+            is_refused: false,
+        }
+    }
+
+    /// What the user may have meant by a target that is refused.
+    fn note(&self, target: Target<'_>) -> Option<String> {
+        let text = target.text.trim();
+        if let (false, Some(meant)) = (
+            matches!(self.call, Call::Read(_)),
+            answers::meaning_elsewhere(text),
+        ) {
+            return Some(format!(
+                "other tools mean `{meant}`, which `target-lexicon read` gives"
+            ));
+        }
+        if let (Call::Read(None), Some(note)) = (self.call, refusal::dialects_note(text)) {
+            return Some(note);
+        }
+        match target.place {
+            Place::Argument(_) => (!text.is_empty() && Path::new(text).is_file()).then(|| {
+                format!(
+                    "there is a file of that name: `-f {}` answers for its lines",
+                    visible(text)
+                )
+            }),
+            Place::Line { .. } if self.end_of_line == 0 => None,
+            Place::Line { .. } => (!self.skips_comments && (text.is_empty() || text.contains('#')))
+                .then(|| "with `--comments` blank lines and comments are skipped".to_string()),
+        }
+    }
+
+    /// Answers for all targets. Returns the status.
+    fn finish(mut self, arguments: &ArgMatches) -> Result<i32, Fault> {
+        if let Err(fault) = each_target(arguments, &mut self) {
+            // What was answered is whole; if it can't be written either, the first fault is the one to show.
+            let _ = self.outputs.end(self.call != Call::Matrix);
+            return Err(fault);
+        }
+        if self.call == Call::Matrix && !self.is_refused {
+            let matrix = std::mem::take(&mut self.matrix);
+            if self.has_json {
+                matrix
+                    .into_objects()
+                    .try_for_each(|object| self.outputs.object(object))?;
+            } else {
+                let end = self.end_of_line;
+                self.outputs.write(|out| matrix.write(out, end))?;
+            }
+        }
+        // A matrix that isn't whole is none, so that nobody takes it for one.
+        self.outputs
+            .end(self.call != Call::Matrix || !self.is_refused)?;
+        Ok(i32::from(self.is_refused))
+    }
+}
+
+/// The names of the requested field, or of each field below its own name.
+fn write_names(out: &mut dyn Write, arguments: &ArgMatches) -> io::Result<()> {
+    let requested = arguments.get_one::<String>("field");
+    for (key, field) in FIELDS {
+        let indent = match requested {
+            None => {
+                writeln!(out, "{key}")?;
+                "  "
+            }
+            Some(requested) if requested == key => "",
+            Some(_) => continue,
+        };
+        field
+            .names()
+            .iter()
+            .try_for_each(|name| writeln!(out, "{indent}{name}"))?;
+    }
+    Ok(())
+}
+
+fn completion_script(arguments: &ArgMatches) -> String {
+    let shell = *arguments
+        .get_one::<Shell>("shell")
+        .expect("a shell is required");
+    let mut script = Vec::new();
+    clap_complete::generate(shell, &mut arguments::command(), "target-lexicon", &mut script);
+    // For bash the names of arguments are among the words that it offers.
+    String::from_utf8_lossy(&script).replace(" [TARGET]...", "")
+}
+
+fn dialect(arguments: &ArgMatches, option: &str) -> Option<Dialect> {
+    arguments.get_one::<String>(option)?.parse().ok()
+}
+
+fn run(arguments: &ArgMatches) -> Result<i32, Fault> {
+    let (name, arguments) = arguments.subcommand().expect("a subcommand is required");
+    let call = match name {
+        "explain" => Call::Explain,
+        "facts" => Call::Facts,
+        "settle" => Call::Settle,
+        "check" => Call::Check,
+        "matrix" => Call::Matrix,
+        "read" => Call::Read(dialect(arguments, "from")),
+        "write" => Call::Write(dialect(arguments, "to").expect("a dialect is required")),
+        "elsewhere" => Call::Elsewhere,
+        _ => {
+            let mut outputs = Outputs::plain();
+            outputs.write(|out| match name {
+                "names" => write_names(out, arguments),
+                "completions" => out.write_all(completion_script(arguments).as_bytes()),
+                "manual" => out.write_all(include_bytes!("../man/target-lexicon.1")),
+                other => unreachable!("{other} is no subcommand"),
+            })?;
+            outputs.end(false)?;
+            return Ok(0);
+        }
+    };
+    Run::new(call, arguments).finish(arguments)
+}
+
+/// What clap says of the arguments, without a control character of theirs: it is asked about the escaped ones.
+fn usage_text(error: &clap::Error) -> String {
+    let shown = env::args_os().map(|word| visible(&word.to_string_lossy()));
+    let text = match arguments::command().try_get_matches_from(shown) {
+        Err(again) if again.kind() == error.kind() => again.render().to_string(),
+        _ => error.render().to_string(),
+    };
+    text.split('\n').map(visible).collect::<Vec<_>>().join("\n")
+}
+
+/// Help, the version, or what is wrong with the arguments. Returns the status.
+fn usage(error: &clap::Error) -> Result<i32, Fault> {
+    let mut outputs = Outputs::plain();
+    let text = usage_text(error) + &target_note(error);
+    let is_wrong = error.use_stderr();
+    match is_wrong {
+        true => outputs.refuse(|out, _| out.write_all(text.as_bytes()))?,
+        false => outputs.write(|out| out.write_all(text.as_bytes()))?,
+    }
+    outputs.flush()?;
+    Ok(if is_wrong { 2 } else { 0 })
+}
+
+/// What the user may have meant by a subcommand that is none.
+fn target_note(error: &clap::Error) -> String {
+    if let (ErrorKind::InvalidSubcommand, Some(ContextValue::String(word))) =
+        (error.kind(), error.get(ContextKind::InvalidSubcommand))
+    {
+        if TripleRef::from_str(word).is_ok() {
+            return format!("\nA target follows a command: target-lexicon explain {word}\n");
+        }
+    }
+    String::new()
+}
+
+fn main() {
+    let ended = match arguments::command().try_get_matches() {
+        Ok(arguments) => run(&arguments),
+        Err(error) => usage(&error),
+    };
+    let status = ended.unwrap_or_else(|fault| {
+        let why = match fault {
+            Fault::Closed => process::exit(CLOSED),
+            Fault::Refused => return 1,
+            Fault::Stream { name, why } => format!("{}: {why}", visible(&name)),
+            Fault::NotUtf8 { place } => format!("{}: not UTF-8", visible(&place)),
+        };
+        let _ = io::stderr().write_all(format!("target-lexicon: {why}\n").as_bytes());
+        3
+    });
+    process::exit(status);
+}

@@ -1,0 +1,728 @@
+//! The command `target-lexicon`, as its users run it. What it answers is in the samples of README.md.
+use serde_json::{json, Value};
+use std::fs::{self, File};
+use std::io::{BufRead, BufReader, Write};
+use std::process::{Command, Output, Stdio};
+use std::sync::mpsc;
+use std::thread;
+use std::time::Duration;
+
+fn target_lexicon(words: &[&str]) -> Command {
+    let mut command = Command::new(env!("CARGO_BIN_EXE_target-lexicon"));
+    command.args(words).stdin(Stdio::null());
+    command
+}
+
+fn run_on(words: &[&str], input: &[u8]) -> Output {
+    let mut child = target_lexicon(words)
+        .stdin(Stdio::piped())
+        .stdout(Stdio::piped())
+        .stderr(Stdio::piped())
+        .spawn()
+        .unwrap();
+    let mut stdin = child.stdin.take().unwrap();
+    let input = input.to_vec();
+    let writer = thread::spawn(move || {
+        let _ = stdin.write_all(&input);
+    });
+    let output = child.wait_with_output().unwrap();
+    writer.join().unwrap();
+    output
+}
+
+/// What is written to both outputs, and the status.
+fn texts(output: &Output) -> (String, String, i32) {
+    let text = |bytes: &[u8]| String::from_utf8(bytes.to_vec()).unwrap();
+    (
+        text(&output.stdout),
+        text(&output.stderr),
+        output.status.code().unwrap(),
+    )
+}
+
+fn answers(words: &[&str]) -> (String, String, i32) {
+    texts(&target_lexicon(words).output().unwrap())
+}
+
+fn answers_on(words: &[&str], input: &str) -> (String, String, i32) {
+    texts(&run_on(words, input.as_bytes()))
+}
+
+fn json_of(words: &[&str]) -> Value {
+    serde_json::from_str(&answers(words).0).unwrap()
+}
+
+/// A file of this test run.
+fn file(name: &str, text: &str) -> String {
+    let path = format!("{}/{name}", env!("CARGO_TARGET_TMPDIR"));
+    fs::write(&path, text).unwrap();
+    path
+}
+
+#[test]
+fn a_refused_line_is_shown_with_its_place() {
+    // Carriage returns and a byte order mark are dropped; columns count characters of the line.
+    let (out, errors, status) = answers_on(
+        &["settle"],
+        "\u{feff}z80\r\nx86_64-pc-linx\r\nx86_64-éé-a\r\n",
+    );
+    assert_eq!(out, "z80-unknown-unknown-elf\n");
+    assert_eq!(
+        errors,
+        "<stdin>:2:11: error: unrecognized operating system `linx`\n  x86_64-pc-linx\n            ^^^^ did you mean `linux`?\n\
+         <stdin>:3:8: error: unrecognized vendor `éé`\n  x86_64-éé-a\n         ^^\n"
+    );
+    assert_eq!(status, 1);
+    // Arguments have no place, and follow each other and the lines of files in the order given.
+    let path = file("order", "foo");
+    let (out, errors, status) = answers(&["settle", "z80", "nowhere", "-f", &path]);
+    assert_eq!(out, "z80-unknown-unknown-elf\n");
+    assert_eq!(
+        errors,
+        format!(
+            "error: unrecognized architecture `nowhere`\n  nowhere\n  ^^^^^^^\n\
+             {path}:1:1: error: unrecognized architecture `foo`\n  foo\n  ^^^\n"
+        )
+    );
+    assert_eq!(status, 1);
+}
+
+#[test]
+fn comments_are_skipped_if_asked() {
+    let lines = "# all of them\n\n \t\n  x86_64-linux # the first\n\tfoo#x\n";
+    let (out, errors, status) = answers_on(&["settle", "--comments"], lines);
+    assert_eq!(out, "x86_64-unknown-linux\n");
+    assert_eq!(
+        errors,
+        "<stdin>:5:2: error: unrecognized architecture `foo`\n  foo\n  ^^^\n"
+    );
+    assert_eq!(status, 1);
+    // Without the option each line is a target, and a note says that there is one.
+    let (out, errors, _) = answers_on(&["settle"], lines);
+    assert_eq!(out, "");
+    assert_eq!(errors.matches("error: ").count(), 5);
+    assert_eq!(errors.matches("note: with `--comments`").count(), 5);
+}
+
+#[test]
+fn targets_and_answers_end_with_a_zero_byte_if_asked() {
+    let answers = |words: &[&str], input: &[u8]| texts(&run_on(words, input));
+    let input = b"z80\0x86_64-\nlinux\0arm64-linux\r\0\0x86_64-linux";
+    let (out, errors, status) = answers(&["settle", "-0"], input);
+    assert_eq!(
+        (out.as_str(), status),
+        ("z80-unknown-unknown-elf\0x86_64-unknown-linux\0", 1)
+    );
+    let places: Vec<&str> = errors
+        .lines()
+        .filter_map(|it| it.split_once(": error: "))
+        .map(|it| it.0)
+        .collect();
+    assert_eq!(places, ["<stdin>:2:8", "<stdin>:3:7", "<stdin>:4:1"]);
+    assert!(!errors.contains("--comments"));
+    // Only the last line feed of an answer is another, and none of JSON.
+    let (lines, _, _) = answers(&["facts"], b"z80\navr\n");
+    let (out, _, _) = answers(&["facts", "--null"], b"z80\0avr\0");
+    assert_eq!(out.matches('\0').count(), 2);
+    assert_eq!(out.replace('\0', "\n"), lines);
+    let (out, _, _) = answers(&["read", "--changes", "-0"], b"amd64-linux\0z80");
+    assert_eq!(
+        out,
+        "x86_64-unknown-linux\n  `amd64` is read as `x86_64`\0z80-unknown-unknown-elf\0"
+    );
+    let (out, _, _) = answers(&["matrix", "-0"], b"z80\0avr");
+    assert_eq!(
+        out,
+        "z80-unknown-unknown-elf\tz80\t<stdin>:1\0avr-unknown-unknown\tavr\t<stdin>:2\0"
+    );
+    let json = |words: &[&str], input: &[u8]| answers(words, input).0;
+    assert_eq!(
+        json(&["settle", "-0", "--json"], b"z80\0avr"),
+        json(&["settle", "--json"], b"z80\navr")
+    );
+    // The lines before one that isn't UTF-8 are answered here too.
+    let (out, errors, status) = answers(&["settle", "-0"], b"z80\0x\xc3\0z80");
+    assert_eq!((out.as_str(), status), ("z80-unknown-unknown-elf\0", 3));
+    assert_eq!(errors, "target-lexicon: <stdin>:2:2: not UTF-8\n");
+    assert_eq!(answers(&["settle", "-0", "--comments"], b"").2, 2);
+}
+
+#[test]
+fn a_quiet_run_has_only_a_status() {
+    for call in ["explain", "facts", "settle", "check", "matrix", "elsewhere"] {
+        assert_eq!(
+            answers(&[call, "-q", "z80", "x86_64-linx"]),
+            ("".into(), "".into(), 0)
+        );
+        assert_eq!(
+            answers(&[call, "-q", "--strict", "z80", "x86_64-linx"]),
+            ("".into(), "".into(), 1)
+        );
+        // The first target that is refused ends it.
+        assert_eq!(
+            answers(&[call, "--quiet", "foo", "-f", "nowhere"]),
+            ("".into(), "".into(), 1)
+        );
+        let (out, errors, status) = answers(&[call, "-q", "z80", "-f", "nowhere"]);
+        assert_eq!((out.as_str(), status), ("", 3));
+        assert!(errors.starts_with("target-lexicon: nowhere: "));
+        assert_eq!(answers(&[call, "-q", "--json", "z80"]).2, 2);
+    }
+    assert_eq!(
+        answers(&["read", "-q", "--from", "go", "linux/arm64", "linux/foo"]),
+        ("".into(), "".into(), 1)
+    );
+    assert_eq!(
+        answers(&["write", "-q", "--to", "go", "avr-none"]),
+        ("".into(), "".into(), 1)
+    );
+}
+
+#[test]
+fn hostile_targets_do_not_reach_the_terminal() {
+    let hostile = "x86_64-\u{1b}[2J\u{202e}b\u{9b}\u{7f}\u{200b}\t'\\-linux";
+    let (_, errors, _) = answers(&["check", hostile]);
+    assert!(errors.contains(r"`\u{1b}[2J\u{202e}b\u{9b}\u{7f}\u{200b}\t'\`"));
+    let carets = errors.lines().nth(2).unwrap();
+    assert_eq!(
+        carets.trim_start().len(),
+        r"\u{1b}[2J\u{202e}b\u{9b}\u{7f}\u{200b}\t'\".len()
+    );
+    let (out, _, _) = answers(&["explain", "--json", hostile]);
+    assert!(out
+        .trim_end()
+        .bytes()
+        .all(|byte| (b' '..=b'~').contains(&byte)));
+    let objects: Value = serde_json::from_str(&out).unwrap();
+    assert_eq!(objects[0]["target"], hostile);
+    // A name of a file is no less hostile.
+    let (_, errors, status) = answers(&["check", "-f", "no\u{1b}file"]);
+    assert_eq!(status, 3);
+    assert!(errors.starts_with(r"target-lexicon: no\u{1b}file: "));
+}
+
+#[test]
+fn hostile_arguments_do_not_reach_the_terminal() {
+    let hostile = "\u{1b}]0;x\u{7}\n\u{202e}\u{9b}";
+    let shown = r"\u{1b}]0;x\u{7}\n\u{202e}\u{9b}";
+    let option = format!("--{hostile}");
+    let value = format!("--json={hostile}");
+    for words in [
+        &["check", &option] as &[&str],
+        &["check", "z80", &option, "z80"],
+        &["check", &value],
+        &["settle", "--color", hostile],
+        &["write", "--to", hostile],
+        &["names", hostile],
+        &["completions", hostile],
+        &["manual", hostile],
+        &["names", "vendor", hostile],
+        &[hostile],
+        &[&option],
+    ] {
+        let (out, errors, status) = answers(words);
+        assert_eq!((out.as_str(), status), ("", 2), "{words:?}");
+        assert!(errors.contains(shown), "{errors:?}");
+        // With plain words it has as many lines.
+        let plain: Vec<String> = words.iter().map(|it| it.replace(hostile, "#")).collect();
+        let plain: Vec<&str> = plain.iter().map(String::as_str).collect();
+        assert_eq!(errors.lines().count(), answers(&plain).1.lines().count());
+        assert!(!errors.contains(|c: char| c.is_control() && c != '\n' || c == '\u{202e}'));
+    }
+}
+
+#[test]
+fn long_targets_are_shortened_where_they_are_shown() {
+    let long = "a".repeat(10_000_000);
+    let (_, errors, status) = answers_on(&["check"], &format!("x86_64-{long}-{long}-b\n"));
+    assert_eq!(status, 1);
+    assert!(errors.len() < 2000);
+    assert!(errors.starts_with("<stdin>:1:10000009: error: unrecognized operating system `aaa"));
+    // Of what is accepted nothing is left out.
+    let (out, _, status) = answers_on(&["explain"], &format!("x86_64-{long}-linux\n"));
+    assert_eq!((out.matches(&long).count(), status), (3, 0));
+}
+
+#[test]
+fn json_has_the_same_names_everywhere() {
+    let target = "arm64-apple-ios17";
+    let head = json!({ "target": target, "file": null, "line": null });
+    let mut facts = json_of(&["facts", "--json", target]);
+    let (out, _, _) = answers(&["facts", target]);
+    let labels: Vec<_> = out
+        .lines()
+        .skip(1)
+        .map(|line| line.split_whitespace().next().unwrap())
+        .collect();
+    let keys = |value: &Value| {
+        value
+            .as_object()
+            .unwrap()
+            .keys()
+            .cloned()
+            .collect::<Vec<_>>()
+    };
+    let mut wanted: Vec<_> = labels
+        .iter()
+        .map(|it| it.to_string())
+        .chain(keys(&head))
+        .collect();
+    wanted.sort();
+    assert_eq!(keys(&facts[0]), wanted);
+    assert_eq!(facts[0]["operating_system"], "ios");
+    assert_eq!(facts[0]["version"], "17.0.0");
+    assert_eq!(facts[0]["pointer_width"], 64);
+    assert_eq!(facts[0]["is_like_darwin"], true);
+    facts = json_of(&["facts", "--json", "avr-none"]);
+    assert_eq!(facts[0]["data_model"], Value::Null);
+    assert_eq!(facts[0]["binary_format"], "unknown");
+    assert_eq!(facts[0]["implied_format"], "unknown");
+    facts = json_of(&["facts", "--json", "x86_64-unknown-uefi"]);
+    assert_eq!(
+        (&facts[0]["binary_format"], &facts[0]["object_format"]),
+        (&json!("elf"), &json!("coff"))
+    );
+
+    let explained = json_of(&["explain", "--json", target]);
+    assert_eq!(
+        explained[0]["operating_system"],
+        json!({ "value": "ios", "origin": "alias", "part": "ios17" })
+    );
+    assert_eq!(
+        explained[0]["binary_format"],
+        json!({ "value": "macho", "origin": "implied", "part": null })
+    );
+    let refused = json_of(&["explain", "--json", "x86_64-pc-linx"]);
+    assert_eq!(
+        refused,
+        json!([{
+            "target": "x86_64-pc-linx", "file": null, "line": null, "error": "unrecognized operating system",
+            "part": "linx", "start": 10, "end": 14, "field": "operating_system", "suggestion": "linux",
+        }])
+    );
+}
+
+#[test]
+fn json_is_an_array_or_lines() {
+    for call in ["explain", "facts", "settle", "check", "matrix"] {
+        assert_eq!(answers(&[call, "--json"]), ("[]\n".into(), "".into(), 0));
+        assert_eq!(answers(&[call, "--json-lines"]), ("".into(), "".into(), 0));
+    }
+    let input = "z80\nfoo\nx86_64-linux\n";
+    let (array, errors, status) = answers_on(&["settle", "--json"], input);
+    assert_eq!((errors.as_str(), status), ("", 1));
+    assert_eq!(array.matches('\n').count(), 1);
+    let (lines, _, _) = answers_on(&["settle", "--json-lines"], input);
+    let objects: Vec<Value> = lines
+        .lines()
+        .map(|it| serde_json::from_str(it).unwrap())
+        .collect();
+    assert_eq!(serde_json::from_str::<Vec<Value>>(&array).unwrap(), objects);
+    assert_eq!(
+        objects[2],
+        json!({ "target": "x86_64-linux", "file": "<stdin>", "line": 3, "canonical": "x86_64-unknown-linux" })
+    );
+    // It is whole where the run ends early, too.
+    for (words, input, count) in [
+        (
+            &["settle", "z80", "-f", "nowhere"] as &[&str],
+            b"" as &[u8],
+            1,
+        ),
+        (&["settle", "-f", "nowhere"], b"", 0),
+        (&["check", "foo", "bar", "-f", "nowhere"], b"", 2),
+        (&["explain"], b"z80\nfoo\nx\xff\n", 2),
+    ] {
+        for layout in ["--json", "--json-lines"] {
+            let (out, _, status) = texts(&run_on(&[words, &[layout]].concat(), input));
+            assert_eq!(status, 3);
+            let objects: Vec<Value> = match layout {
+                "--json" => serde_json::from_str(&out).unwrap(),
+                _ => out
+                    .lines()
+                    .map(|it| serde_json::from_str(it).unwrap())
+                    .collect(),
+            };
+            assert_eq!(objects.len(), count, "{words:?}");
+        }
+    }
+    let (out, errors, status) = answers(&["matrix", "--json", "z80", "-f", "nowhere"]);
+    assert_eq!((out.as_str(), status), ("", 3));
+    assert!(errors.starts_with("target-lexicon: nowhere: "));
+    // Of `check` there are only those that are refused.
+    let (lines, _, status) = answers_on(&["check", "--json-lines"], input);
+    assert_eq!((lines.lines().count(), status), (1, 1));
+}
+
+#[test]
+fn the_matrix_has_each_target_once() {
+    let path = file(
+        "targets",
+        "x86_64-linux\nz80\nx86_64-unknown-linux\nx86_64-pc-linux\n",
+    );
+    let (out, _, status) = answers(&["matrix", "-f", &path]);
+    assert_eq!(
+        out,
+        format!(
+            "x86_64-unknown-linux\tx86_64-linux\t{path}:1 {path}:3\nz80-unknown-unknown-elf\tz80\t{path}:2\n\
+             x86_64-pc-linux\tx86_64-pc-linux\t{path}:4\n"
+        )
+    );
+    assert_eq!(status, 0);
+    let merged = json_of(&["matrix", "--json", "--ignore-vendor", "-f", &path]);
+    assert_eq!(merged[0]["canonical"], "x86_64-unknown-linux");
+    let lines: Vec<_> = merged[0]["from"]
+        .as_array()
+        .unwrap()
+        .iter()
+        .map(|it| &it["line"])
+        .collect();
+    assert_eq!(lines, [1, 3, 4]);
+    // A refused line ends it without a matrix.
+    let refused = file("refused", "x86_64-linux\nfoo\n");
+    for layout in ["--color=never", "--json", "--json-lines"] {
+        let (out, errors, status) = answers(&["matrix", layout, "-f", &refused]);
+        assert_eq!((out.as_str(), status), ("", 1));
+        assert!(errors.starts_with(&format!(
+            "{refused}:2:1: error: unrecognized architecture `foo`\n"
+        )));
+    }
+}
+
+#[test]
+fn names_of_other_tools_are_read_and_written() {
+    let read = |words: &[&str]| answers(&[&["read"], words].concat());
+    assert_eq!(
+        read(&["--from", "oci", "linux/arm/v7"]).0,
+        "armv7-unknown-linux\n"
+    );
+    assert_eq!(read(&["amd64-w64-mingw32"]).0, "x86_64-pc-windows-gnu\n");
+    let (out, errors, status) = read(&["--from", "go", "linux/foo", "linux/arm64"]);
+    assert_eq!((out.as_str(), status), ("aarch64-unknown-linux\n", 1));
+    assert_eq!(
+        errors,
+        "error: unknown name of go `linux/foo`\n  linux/foo\n  ^^^^^^^^^\n"
+    );
+    let (_, errors, _) = read(&["--from", "go", "linux/amd46"]);
+    assert_eq!(
+        errors,
+        "error: unknown name of go `linux/amd46`\n  linux/amd46\n  ^^^^^^^^^^^ did you mean `linux/amd64`?\n"
+    );
+    let note = |words: &[&str]| {
+        let (out, errors, _) = answers(words);
+        let last = [out, errors].concat();
+        last.lines()
+            .last()
+            .unwrap()
+            .split_whitespace()
+            .collect::<Vec<_>>()
+            .join(" ")
+    };
+    assert_eq!(
+        note(&["check", "amd64-linux"]),
+        "note: other tools mean `x86_64-unknown-linux`, which `target-lexicon read` gives"
+    );
+    assert_eq!(
+        note(&["explain", "x86_64-freebsd13.2"]),
+        "note other tools mean `x86_64-unknown-freebsd`, which `target-lexicon read` gives"
+    );
+    for (target, name) in [
+        ("x86_64-freebsd13.2", "freebsd"),
+        ("x86_64-mingw32", "windows-gnu"),
+    ] {
+        let explained = json_of(&["explain", "--json", target]);
+        assert_eq!(explained[0]["suggestion"], json!(name));
+    }
+    assert!(answers(&["check", "amd64-linux"])
+        .1
+        .contains("\n  ^^^^^ did you mean `x86_64`?\n"));
+    // What was changed is shown on request, and always in JSON.
+    assert_eq!(
+        read(&["--changes", "amd64--freebsd13.2", "x86_64-linux-gnu"]).0,
+        "x86_64-unknown-freebsd\n  `amd64` is read as `x86_64`\n  the empty part is read as `unknown`\n  \
+         `freebsd13.2` is read as `freebsd`\nx86_64-unknown-linux-gnu\n"
+    );
+    assert_eq!(
+        json_of(&["read", "--json", "x86_64-mingw32", "x86_64-linux"])
+            .as_array()
+            .unwrap()
+            .iter()
+            .map(|it| it["changes"].clone())
+            .collect::<Vec<_>>(),
+        [
+            json!([{"part": "mingw32", "start": 7, "end": 14, "read_as": "windows-gnu"}]),
+            json!([])
+        ]
+    );
+    assert_eq!(
+        json_of(&["read", "--from", "oci", "--json", "linux/arm"])[0]["changes"],
+        json!(null)
+    );
+    assert_eq!(read(&["--from", "oci", "--changes", "linux/arm"]).2, 2);
+    // A name of a tool that wasn't named is refused, with the dialects that have it.
+    for (name, expected) in [
+        (
+            "linux/arm64",
+            "note: it is a name of another tool: use `--from go` or `--from oci`",
+        ),
+        ("linux/foo", "note: a name of another tool needs `--from`"),
+        (
+            "armhf",
+            "note: it is a name of another tool: use `--from debian` or `--from apk`",
+        ),
+        ("foo", "^^^"),
+    ] {
+        assert_eq!(note(&["read", name]), expected);
+    }
+    // The part that is shown is the user's.
+    let refused = json_of(&["read", "--json", "amd64-pc-foo"]);
+    assert_eq!(
+        (&refused[0]["part"], &refused[0]["start"]),
+        (&json!("foo"), &json!(9))
+    );
+    assert_eq!(
+        answers(&["write", "--to", "debian", "aarch64-linux-gnu"]).0,
+        "arm64\n"
+    );
+    // A dialect may have another name, and one that is only read isn't written.
+    assert_eq!(
+        answers(&["write", "--to", "docker", "aarch64-linux-gnu"]).0,
+        "linux/arm64\n"
+    );
+    assert_eq!(
+        answers(&["read", "--from", "uname", "Linux x86_64"]).0,
+        "x86_64-unknown-linux\n"
+    );
+    assert_eq!(answers(&["write", "--to", "uname", "x86_64"]).2, 2);
+    assert_eq!(
+        json_of(&["write", "--to", "go", "--json", "x86_64-apple-darwin"])[0]["name"],
+        "darwin/amd64"
+    );
+    assert_eq!(
+        answers(&["write", "--to", "python", "arm64-apple-macosx11"]).0,
+        "macosx_11_0_arm64\n"
+    );
+    assert_eq!(
+        answers(&["read", "--from", "python", "manylinux_2_17_x86_64"]).0,
+        "x86_64-unknown-linux-gnu\n"
+    );
+    assert!(answers(&["read", "--from", "python", "linux_x86_46"])
+        .1
+        .contains(" did you mean `linux_x86_64`?\n"));
+    assert_eq!(answers(&["write", "--to", "debian", "wasm32-wasip1"]).2, 1);
+    let names = json_of(&["elsewhere", "--json", "x86_64-pc-windows-msvc"]);
+    assert_eq!(
+        (&names[0]["go"], &names[0]["debian"]),
+        (&json!("windows/amd64"), &Value::Null)
+    );
+}
+
+#[test]
+fn custom_vendors_are_refused_if_asked() {
+    for call in ["explain", "facts", "settle", "check", "matrix"] {
+        assert_eq!(answers(&[call, "x86_64-linx"]).2, 0);
+        let (out, errors, status) = answers(&[call, "x86_64-linx", "--strict"]);
+        assert_eq!((out.as_str(), status), ("", 1));
+        assert_eq!(
+            errors,
+            "error: custom vendor `linx`\n  x86_64-linx\n         ^^^^ did you mean `linux`?\n"
+        );
+    }
+}
+
+#[test]
+fn the_status_says_what_went_wrong() {
+    for words in [
+        &[] as &[&str],
+        &["explains"],
+        &["x86_64-linux"],
+        &["names", "field"],
+        &["settle", "-x"],
+        &["settle", "--ignore-vendor"],
+        &["facts", "--json", "--json-lines"],
+        &["completions", "sh"],
+    ] {
+        let (out, errors, status) = answers(words);
+        assert_eq!((out.as_str(), status), ("", 2), "{words:?}");
+        assert!(
+            errors.contains("Usage: ") || errors.contains("possible values"),
+            "{errors}"
+        );
+    }
+    assert!(answers(&["x86_64-linux"])
+        .1
+        .contains("target-lexicon explain x86_64-linux"));
+    assert_eq!(answers(&["settle", "--", "-x"]).2, 1);
+    let (out, _, status) = answers(&["settle", "x86_64-linux", "--color", "always", "--strict"]);
+    assert_eq!((out.as_str(), status), ("x86_64-unknown-linux\n", 0));
+    assert_eq!(
+        answers(&["--version"]).0,
+        format!("target-lexicon {}\n", env!("CARGO_PKG_VERSION"))
+    );
+
+    // A file that a user takes for an argument.
+    let path = file("list", "z80\n");
+    assert!(answers(&["check", &path])
+        .1
+        .contains(&format!("`-f {path}` answers for its lines")));
+    assert_eq!(answers(&["check", "-f", &path]), ("".into(), "".into(), 0));
+    let (out, errors, status) = answers(&["settle", "-f", &path, "-f", "nowhere"]);
+    assert_eq!((out.as_str(), status), ("z80-unknown-unknown-elf\n", 3));
+    assert!(errors.starts_with("target-lexicon: nowhere: "));
+
+    // The lines before one that isn't UTF-8 are answered.
+    let output = run_on(&["settle"], b"z80\nx\xc3\nz80\n");
+    assert_eq!(
+        texts(&output),
+        (
+            "z80-unknown-unknown-elf\n".into(),
+            "target-lexicon: <stdin>:2:2: not UTF-8\n".into(),
+            3
+        )
+    );
+}
+
+#[test]
+fn answers_come_line_by_line() {
+    let mut child = target_lexicon(&["settle"])
+        .stdin(Stdio::piped())
+        .stdout(Stdio::piped())
+        .spawn()
+        .unwrap();
+    let mut input = child.stdin.take().unwrap();
+    let (sender, answers) = mpsc::channel();
+    let lines = BufReader::new(child.stdout.take().unwrap()).lines();
+    thread::spawn(move || lines.for_each(|line| sender.send(line.unwrap()).unwrap()));
+    let next = || answers.recv_timeout(Duration::from_secs(60));
+    for _ in 0..3 {
+        input.write_all(b"z80\nx86_64-li").unwrap();
+        assert_eq!(next(), Ok("z80-unknown-unknown-elf".into()));
+        input.write_all(b"nux\n").unwrap();
+        assert_eq!(next(), Ok("x86_64-unknown-linux".into()));
+    }
+    drop(input);
+    assert!(child.wait().unwrap().success());
+}
+
+#[test]
+fn many_lines_are_answered() {
+    let lines = 300_000;
+    let output = run_on(&["settle"], "z80\n".repeat(lines).as_bytes());
+    assert_eq!(
+        output.stdout,
+        "z80-unknown-unknown-elf\n".repeat(lines).into_bytes()
+    );
+}
+
+#[cfg(unix)]
+#[test]
+fn outputs_that_fail_end_the_run() {
+    // A closed pipe ends it silently, with the status that the shell gives for other tools.
+    let mut child = target_lexicon(&["settle"])
+        .stdin(Stdio::piped())
+        .stdout(Stdio::piped())
+        .stderr(Stdio::piped())
+        .spawn()
+        .unwrap();
+    drop(child.stdout.take());
+    // More than a pipe holds: another test that starts a program may have the other end for a moment.
+    let _ = child
+        .stdin
+        .take()
+        .unwrap()
+        .write_all(&b"z80\n".repeat(100_000));
+    assert_eq!(
+        texts(&child.wait_with_output().unwrap()),
+        ("".into(), "".into(), 141)
+    );
+    if cfg!(target_os = "linux") {
+        let full = || File::options().write(true).open("/dev/full").unwrap();
+        for words in [
+            &["settle", "z80"] as &[&str],
+            &["names"],
+            &["--help"],
+            &["manual"],
+            &["completions", "bash"],
+        ] {
+            let output = target_lexicon(words).stdout(full()).output().unwrap();
+            let (_, errors, status) = texts(&output);
+            assert!(errors.starts_with("target-lexicon: standard output: "), "{errors}");
+            assert_eq!(status, 3);
+        }
+        assert_eq!(
+            target_lexicon(&["check", "x"])
+                .stderr(full())
+                .status()
+                .unwrap()
+                .code(),
+            Some(3)
+        );
+        assert_eq!(
+            target_lexicon(&["check", "z80"])
+                .stdout(full())
+                .status()
+                .unwrap()
+                .code(),
+            Some(0)
+        );
+    }
+}
+
+/// The options and possible values that a help text names.
+fn words_of(help: &str) -> Vec<String> {
+    let help = help.split("\n\nExample").next().unwrap();
+    let mut words: Vec<String> = help
+        .split(|c: char| !c.is_ascii_alphanumeric() && c != '-' && c != '_')
+        .filter(|word| word.starts_with('-') && word.len() > 1 && *word != "--")
+        .map(String::from)
+        .collect();
+    for list in help.split("[possible values: ").skip(1) {
+        words.extend(
+            list.split(']')
+                .next()
+                .unwrap()
+                .split(", ")
+                .map(String::from),
+        );
+    }
+    words
+}
+
+#[test]
+fn the_manual_and_the_completions_have_all_of_the_help() {
+    let (page, _, _) = answers(&["manual"]);
+    let page = page.replace("\\-", "-");
+    assert!(page.contains(&format!("\"target-lexicon {}\"", env!("CARGO_PKG_VERSION"))));
+    let shells = ["bash", "zsh", "fish"].map(|shell| answers(&["completions", shell]).0);
+    let (help, _, _) = answers(&["--help"]);
+    let calls: Vec<&str> = help
+        .split("Commands:\n")
+        .nth(1)
+        .unwrap()
+        .lines()
+        .map_while(|line| line.strip_prefix("  ")?.split(' ').next())
+        .filter(|call| *call != "help")
+        .collect();
+    assert_eq!(calls.len(), 11);
+    for call in calls {
+        assert!(
+            page.contains(&format!(".B target-lexicon {call}\n")),
+            "no {call} in the manual's synopsis"
+        );
+        assert!(
+            page.contains(&format!(".TP\n.B {call}\n")),
+            "no {call} in the manual's description"
+        );
+        let (help, _, _) = answers(&[call, "--help"]);
+        assert!(help.contains(":\n  $ target-lexicon "), "no example of {call}");
+        for word in words_of(&help) {
+            assert!(page.contains(&word), "no {word} in the manual");
+            for script in shells.iter().filter(|_| word.starts_with('-')) {
+                assert!(
+                    script.contains(word.trim_start_matches('-')),
+                    "no {word} in a completion"
+                );
+            }
+        }
+    }
+}

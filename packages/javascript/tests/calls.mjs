@@ -1,0 +1,291 @@
+// Tests each call of target-lexicon.js: node calls.mjs LEXICON_JS MODULE. Its last line is `N passed, M failed`.
+import assert from "node:assert/strict";
+import { readFileSync } from "node:fs";
+import { pathToFileURL } from "node:url";
+
+const [script, file] = process.argv.slice(2);
+const all = await import(pathToFileURL(script));
+const { DIALECTS, FAMILIES, FIELDS, ParseError, Triple, host, load, namesOf, numberOf, version } = all;
+const fields = (it) => FIELDS.map((field) => it[field]).join(" ");
+const refusal = (text, call = Triple.parse) => {
+  try {
+    call(text);
+  } catch (error) {
+    assert(error instanceof ParseError && error instanceof Error, `${error}`);
+    assert.equal(error.text.slice(error.start, error.end), error.part);
+    return error;
+  }
+  assert.fail(`${text} was not refused`);
+};
+
+const elsewhere = readFileSync(new URL("../../../tools/names/elsewhere.tsv", import.meta.url), "utf8").split("\n")
+  // Stars are numbers: 13 and 2 here.
+  .map((row) => row.split("\t")).map(([dialect, name = "", means = "", ...others]) =>
+    [dialect, name.replace("*", "13").replace("*", "2"), means.replace("*", name.split("*").length > 2 ? "13.2.0" : "13.0.0"), ...others]);
+
+const tests = {
+  "nothing works before the module is loaded": async () => {
+    assert.throws(() => Triple.parse("x86_64"), /load/);
+    await load(readFileSync(file));
+    assert.match(version(), /^\d+\.\d+\.\d+( \([0-9a-f]{12}\))?$/);
+  },
+  "a triple never changes": () => {
+    const it = Triple.parse("x86_64-unknown-linux-gnu");
+    assert.equal(fields(it), "x86_64 unknown linux gnu elf");
+    assert.deepEqual(it.numbers, { architecture: 91, vendor: 0, operatingSystem: 20, environment: 6, binaryFormat: 1 });
+    assert.throws(() => (it.vendor = "pc"), TypeError);
+    assert.throws(() => new Triple(), TypeError);
+    assert.equal(JSON.stringify([Triple.parse("wasm32-unknown-wasi")]), '["wasm32-wasi"]');
+  },
+  "each export and each member has a type": () => {
+    const types = readFileSync(script.replace(/js$/, "d.ts"), "utf8");
+    assert.deepEqual([...types.matchAll(/^export (?:class|const|function) (\w+)/gm)].map((it) => it[1]).sort(), Object.keys(all).sort());
+    for (const [name, list] of Object.entries({ FIELDS, DIALECTS })) {
+      assert.equal(types.match(new RegExp(`const ${name}: readonly \\[(.*)\\];`))[1], list.map((it) => `"${it}"`).join(", "));
+    }
+    const members = [...Object.getOwnPropertyNames(Triple.prototype), ...Object.keys(Triple.parse("x86_64")), "parse", "read", "explain", "of"];
+    const declared = types.match(/export class Triple \{(.*?)^\}/ms)[1];
+    for (const it of members) assert.match(declared, new RegExp(`^  (?:private |static |readonly |get )*${it}[(:]`, "m"));
+    for (const it of Object.keys(Triple.parse("x86_64-linux").facts())) assert.match(types, new RegExp(`^  ${it}: `, "m"));
+    for (const it of [...Object.keys(refusal("")), "report"].filter((it) => it !== "name")) {
+      assert.match(types, new RegExp(`^  readonly ${it}: `, "m"));
+    }
+  },
+  "a version and a custom vendor": () => {
+    const it = Triple.parse("aarch64-acme_1.0-ios65535.255.255");
+    assert.deepEqual([it.operatingSystem, it.version], ["ios", { major: 65535, minor: 255, patch: 255 }]);
+    assert.deepEqual([it.vendor, it.hasCustomVendor, it.numbers.vendor], ["acme_1.0", true, 255]);
+    assert.equal(`${it.settle()}`, "aarch64-acme_1.0-ios65535.255.255");
+    assert(it.equals(Triple.parse(`${it}`)) && !it.sameTarget(Triple.parse("aarch64-acme_1.1-ios65535.255.255")));
+  },
+  "a refusal has its field, its range and a suggestion": () => {
+    for (const [text, field, part, start, suggestion] of [
+      ["", "architecture", "", 0, null], ["arm64e-linux", "architecture", "arm64e", 0, "arm64"], ["x86_64--linux", "vendor", "", 7, null],
+      ["x86_64-foo-bar", "operatingSystem", "bar", 11, null], ["x86_64-linux-gnuu", "environment", "gnuu", 13, "gnu"],
+      ["x86_64-gnu-linux", "binaryFormat", "linux", 11, null], ["x86_64-elf-linux", null, "linux", 11, null],
+      ["x86_64-\u{1f600}-b", "vendor", "\u{1f600}", 7, null], ["\ufeffx86_64", "architecture", "\ufeffx86_64", 0, null],
+      ["x86_64-linux-gnu-中文-中", "binaryFormat", "中文", 17, null], ["x86_64-linux-\0", "environment", "\0", 13, null],
+      ["x86_64-\udc00-linux", "vendor", "\udc00", 7, null], [`${"x".repeat(99)}\ude00`, "architecture", `${"x".repeat(99)}\ude00`, 0, null],
+    ]) {
+      const error = refusal(text), wanted = [field, part, start, start + part.length, suggestion];
+      assert.deepEqual([error.field, error.part, error.start, error.end, error.suggestion], wanted, JSON.stringify(text));
+    }
+    assert.equal(`${refusal("x86_64-foo-bar")}`, "ParseError: Unrecognized operating system: bar");
+    assert.equal(numberOf("vendor", "\ud800"), null);
+  },
+  "a report has carets below the part": () => {
+    const report = "Unrecognized operating system: linx\n  x86_64-pc-linx\n            ^^^^ did you mean `linux`?";
+    assert.equal(refusal("x86_64-pc-linx").report, report);
+    assert.equal(refusal("x86_64-\u{1f600}\n-x").report, "Unrecognized vendor: \u{1f600}\ufffd\n  x86_64-\u{1f600}\ufffd-x\n         ^^");
+  },
+  "a report of a long string": () => {
+    const lines = refusal(`x86_64-${"Z".repeat(999)}`).report.split("\n");
+    assert.deepEqual(lines.map((it) => it.length), [21 + 999, 2 + 7 + 999, 2 + 7 + 999]);
+  },
+  "names in dialects are those of the table": () => {
+    const counts = { read: 0, written: 0, withoutTriple: 0 };
+    for (const line of elsewhere) {
+      const [dialect, name, means, ways, note] = line;
+      if (!DIALECTS.includes(dialect)) continue;
+      if (ways.includes("r")) assert.equal(`${Triple.read(name, dialect)}`, means, line), counts.read++;
+      if (ways.includes("w")) assert.equal(Triple.parse(means).nameIn(dialect), name, line), counts.written++;
+      if (ways === "-") assert.equal(refusal(name, (it) => Triple.read(it, dialect)).reason, note, line), counts.withoutTriple++;
+    }
+    assert(counts.read > 200 && counts.written > 200 && counts.withoutTriple > 30, JSON.stringify(counts));
+  },
+  "a name that is refused": () => {
+    for (const [dialect, name, message, reason, suggestion = null] of [
+      ["go", "linux", "Unknown name: linux", null], ["go", "linux/amd46", "Unknown name: linux/amd46", null, "linux/amd64"],
+      ["debian", "", "Unknown name: ", null], ["oci", "linux/\u{1f600}", "Unknown name: linux/\u{1f600}", null],
+      ["node", "sunos-x64", "No triple has this name: sunos-x64: two systems: Solaris and illumos", "two systems: Solaris and illumos"],
+      ["gnu", "avr", "Unknown name: avr", null],
+    ]) {
+      const error = refusal(name, (it) => Triple.read(it, dialect));
+      assert.deepEqual([error.message, error.reason, error.field, error.suggestion], [message, reason, null, suggestion]);
+      assert.deepEqual([error.part, error.start, error.end], [name, 0, name.length]);
+    }
+    const prefix = refusal("x86_64-linux-gnu", (it) => Triple.read(it, "gnu"));
+    assert.equal(prefix.reason, "names of cross compilers are only written");
+    assert.equal(refusal("sunos-x64", (it) => Triple.read(it, "node")).report,
+      "No triple has this name: sunos-x64\n  sunos-x64\n  ^^^^^^^^^ two systems: Solaris and illumos");
+    assert.equal(refusal("linux/amd46", (it) => Triple.read(it, "oci")).report,
+      "Unknown name: linux/amd46\n  linux/amd46\n  ^^^^^^^^^^^ did you mean `linux/amd64`?");
+    assert.equal(refusal("linux", (it) => Triple.read(it, "go")).report, "Unknown name: linux\n  linux\n  ^^^^^");
+    assert.equal(refusal("x86_64-pc-linx").reason, null);
+    for (const it of ["Debian", "", 1, undefined, null]) assert.throws(() => Triple.parse("x86_64").nameIn(it), TypeError);
+    for (const it of ["Debian", "", 1]) assert.throws(() => Triple.read("amd64", it), TypeError);
+  },
+  "what is spelled like a triple is read": () => {
+    for (const [text, means] of [
+      ["x86_64-w64-mingw32", "x86_64-pc-windows-gnu"], ["amd64-unknown-freebsd13.2", "x86_64-unknown-freebsd"],
+      ["armv7l-unknown-linux-gnueabihf", "armv7-unknown-linux-gnueabihf"], ["arm64-apple-macos13", "aarch64-apple-macosx13.0.0"],
+      ["x86_64-acme-linux-gnu", "x86_64-acme-linux-gnu"],
+    ]) assert.equal(`${Triple.read(text)}`, means);
+    const error = refusal("amd64-pc-\u{1f600}", Triple.read);
+    assert.deepEqual([error.field, error.part, error.start, error.end], ["operatingSystem", "\u{1f600}", 9, 11]);
+    assert.equal(refusal("linux/amd64", Triple.read).field, "architecture");
+  },
+  "a triple without a name in a dialect": () => {
+    const named = (text) => DIALECTS.map((dialect) => Triple.parse(text).nameIn(dialect));
+    assert.deepEqual(named("x86_64-pc-windows-msvc").slice(0, 6), [null, "windows/amd64", "windows/amd64", "win32-x64", null, "win_amd64"]);
+    assert(named("avr-unknown-unknown").every((it) => it === null));
+    assert.deepEqual(named(`aarch64-${"a".repeat(300)}-linux-musl`).slice(0, 6),
+      ["musl-linux-arm64", "linux/arm64", "linux/arm64", "linux-arm64-musl", "aarch64-linux-musl", "linux_aarch64"]);
+    assert.equal(Triple.read("linux/arm64", "docker").nameIn("npm"), "linux-arm64");
+    assert.equal(Triple.parse("x86_64-apple-ios65535.255-sim").nameIn("python"), "ios_65535_255_x86_64_iphonesimulator");
+  },
+  "only strings are parsed": () => {
+    for (const it of [undefined, null, 7, ["x86_64"], new String("x86_64")]) {
+      assert.throws(() => Triple.parse(it), TypeError);
+      assert.throws(() => Triple.read(it, "go"), TypeError);
+      assert.throws(() => Triple.explain(it), TypeError);
+    }
+  },
+  "explain says where each field comes from": () => {
+    const { triple, error, fields, suggestion } = Triple.explain("arm64-windws-ios17");
+    assert.deepEqual([`${triple}`, error, suggestion], ["aarch64-windws-ios17.0.0", null, "windows"]);
+    assert.deepEqual(fields, {
+      architecture: { value: "aarch64", origin: "alias", part: "arm64", start: 0, end: 5 },
+      vendor: { value: "windws", origin: "given", part: "windws", start: 6, end: 12 },
+      operatingSystem: { value: "ios", origin: "alias", part: "ios17", start: 13, end: 18 },
+      environment: { value: "unknown", origin: "not given", part: null },
+      binaryFormat: { value: "macho", origin: "implied", part: null },
+    });
+    const refused = Triple.explain("arm64-acme-\u{1f600}-x");
+    assert.deepEqual([refused.triple, refused.error.start, refused.error.end, refused.suggestion], [null, 11, 13, null]);
+    assert.deepEqual(refused.fields.architecture, { value: "aarch64", origin: "alias", part: "arm64", start: 0, end: 5 });
+    assert.deepEqual(refused.fields.vendor, { value: "acme", origin: "given", part: "acme", start: 6, end: 10 });
+    assert.deepEqual(refused.fields.operatingSystem, { value: null, origin: "not given", part: null });
+    for (const it of Object.values(Triple.explain("armv6k-nintendo-3ds").fields)) assert.deepEqual([it.start, it.end], [0, 19]);
+  },
+  "settle, comesBack, sameTarget": () => {
+    const it = Triple.parse("clever-unknown-unknown-none");
+    assert.deepEqual([it.comesBack(), `${it.settle()}`, it.settle().comesBack()], [false, "clever-unknown-none-elf", true]);
+    assert.deepEqual([it.equals(it.settle()), it.sameTarget(it.settle())], [false, true]);
+    assert.throws(() => it.equals("clever"), TypeError);
+    const other = Triple.parse("armv7-nintendo-horizon-newlib-unknown");
+    assert.deepEqual([`${other}`, other.canonical], ["armv7-nintendo-horizon-unknown", "armv7-nintendo-horizon"]);
+    assert.throws(() => { it.canonical = "x"; }, TypeError);
+  },
+  facts: () => {
+    assert.deepEqual(Triple.parse("x86_64-acme-windows-msvc").facts(), {
+      endianness: "little", pointerWidth: 64, defaultCallingConvention: "WindowsFastcall", dataModel: "LLP64",
+      shortSize: 2, intSize: 4, longSize: 4, longLongSize: 8, floatSize: 4, doubleSize: 8, impliedFormat: "coff", objectFormat: "coff",
+      family: "x86_64", isThumb: false, isLikeDarwin: false, hasCustomVendor: true,
+    });
+    const thumb = Triple.parse("thumbv7em-none-eabihf").facts(), uefi = Triple.parse("x86_64-unknown-uefi").facts();
+    assert.deepEqual([thumb.family, thumb.isThumb, thumb.pointerWidth], ["arm", true, 32]);
+    assert.deepEqual([uefi.impliedFormat, uefi.objectFormat], ["elf", "coff"]);
+    assert.deepEqual(Object.values(Triple.parse("unknown").facts()).slice(0, 10), Array(10).fill(null));
+  },
+  "names and numbers": () => {
+    for (const field of FIELDS) namesOf(field).forEach((name, number) => assert.equal(numberOf(field, name), number, name));
+    assert.deepEqual([namesOf("architecture")[91], numberOf("architecture", "arm64")], ["x86_64", 44]);
+    assert.deepEqual([numberOf("vendor", "acme"), numberOf("vendor", "ACME"), numberOf("environment", "bar")], [255, null, null]);
+    assert.equal(numberOf("operatingSystem", "macosx10.7"), namesOf("operatingSystem").indexOf("macosx"));
+    assert.throws(() => numberOf("os", "linux"), TypeError);
+    assert.throws(() => namesOf("os"), TypeError);
+    assert.deepEqual([...new Set(namesOf("architecture").map((name) => Triple.of({ architecture: name }).facts().family))], FAMILIES);
+  },
+  "a triple of names": () => {
+    assert(Triple.of({ architecture: "x86_64", operatingSystem: "linux", environment: "gnu" }).equals(Triple.parse("x86_64-linux-gnu")));
+    const ios = Triple.of({ architecture: "arm64", vendor: "apple", operatingSystem: "ios", version: { major: 17 } });
+    assert(ios.equals(Triple.parse("aarch64-apple-ios17.0.0")));
+    assert.equal(Triple.of({ operatingSystem: "linux", binaryFormat: "unknown" }).binaryFormat, "unknown");
+    assert.equal(fields(Triple.of({})), "unknown unknown unknown unknown unknown");
+    for (const it of [{ vendor: "ACME" }, { architecture: "linux" }, { operatingSystem: "linux", version: { major: 1 } },
+      { operatingSystem: "ios17" }, { operatingSystem: "ios", version: { major: 65536 } },
+      { operatingSystem: "ios", version: { major: 1, minor: -1 } }]) assert.throws(() => Triple.of(it), RangeError, JSON.stringify(it));
+    assert.throws(() => Triple.of({ os: "linux" }), TypeError);
+  },
+  "a triple that was spread, cloned or sent": async () => {
+    for (const text of ["x86_64-acme-linux-gnu", "arm64-apple-ios17.1", "x86_64-linux-macho", "unknown"]) {
+      const it = Triple.parse(text), { port1, port2 } = new MessageChannel();
+      const sent = new Promise((resolve) => { port2.onmessage = ({ data }) => resolve(data); });
+      port1.postMessage(it);
+      for (const copy of [{ ...it }, structuredClone(it), await sent, it]) {
+        assert(Triple.of(copy).equals(it) && it.with(copy).equals(it), text);
+        assert.equal(Triple.of({ ...copy, environment: "musl" }).environment, "musl");
+      }
+      port1.close();
+    }
+    const pc = Triple.of({ ...Triple.parse("x86_64-acme-linux"), vendor: "pc" });
+    assert.deepEqual([pc.hasCustomVendor, pc.numbers.vendor, `${pc}`], [false, 10, "x86_64-pc-linux"]);
+  },
+  "with other values": () => {
+    const ios = Triple.parse("aarch64-apple-ios17"), linux = Triple.parse("x86_64-unknown-linux-gnu");
+    assert.equal(`${linux.with({ operatingSystem: "windows" })}`, "x86_64-unknown-windows-gnu");
+    assert.equal(`${Triple.parse("x86_64-linux-macho").with({ operatingSystem: "windows" })}`, "x86_64-unknown-windows-macho");
+    assert.deepEqual([`${ios.with({ vendor: "acme" })}`, ios.with({ operatingSystem: "tvos" }).version], ["aarch64-acme-ios17.0.0", null]);
+    assert.deepEqual([ios.with({ version: null }).version, ios.with({}).equals(ios)], [null, true]);
+    assert.throws(() => linux.with({ version: { major: 1 } }), RangeError);
+  },
+  "the host": () => {
+    const process = Object.getOwnPropertyDescriptor(globalThis, "process");
+    const hostOf = (arch, platform, variables = {}, header = {}) => {
+      const report = header && { getReport: () => ({ header }) };
+      Object.defineProperty(globalThis, "process", { value: { arch, platform, config: { variables }, report }, configurable: true });
+      try {
+        return `${host()}`;
+      } finally {
+        Object.defineProperty(globalThis, "process", process);
+      }
+    };
+    const glibc = { glibcVersionRuntime: "2.36" };
+    for (const [wanted, ...given] of [
+      ["x86_64-unknown-linux-gnu", "x64", "linux", {}, glibc], ["x86_64-unknown-linux-musl", "x64", "linux"],
+      ["armv6-unknown-linux-gnueabihf", "arm", "linux", { arm_version: "6" }, glibc], ["armv7-linux-androideabi", "arm", "android"],
+      ["powerpc64le-unknown-linux-gnu", "ppc64", "linux", { node_byteorder: "little" }, glibc], ["powerpc64-ibm-aix", "ppc64", "aix"],
+      ["powerpc64-unknown-linux-gnu", "ppc64", "linux", { node_byteorder: "big" }, glibc], ["x86_64-unknown-linux", "x64", "linux", {}, null],
+      ["aarch64-apple-darwin", "arm64", "darwin"], ["i686-pc-windows-msvc", "ia32", "win32"], ["x86_64-unknown-unknown-elf", "x64", "beos"],
+      ["x86_64-unknown-unknown-elf", "x64", "sunos"], ["riscv64gc-unknown-freebsd", "riscv64", "freebsd"], ["unknown-unknown-linux", "vax", "linux"],
+    ]) assert.equal(hostOf(...given), wanted);
+    for (const [, name] of elsewhere.filter(([dialect, , , ways]) => dialect === "node" && ways === "rw")) {
+      const [platform, arch, library] = name.split("-"), named = Triple.read(name, "node");
+      const found = Triple.parse(hostOf(arch, platform, {}, { glibc, musl: {} }[library] ?? null));
+      assert.deepEqual([found.facts().family, found.vendor, found.operatingSystem, found.environment],
+        [named.facts().family, named.vendor, named.operatingSystem, platform === "win32" ? "msvc" : named.environment], name);
+    }
+    assert.throws(() => hostOf(undefined, undefined), /Node/);
+    assert.equal(host().facts().endianness, "little");
+  },
+  "strings of any length": () => {
+    for (const size of [60, 64, 65, 128, 65535, 65536, 300000, 30000000]) {
+      const vendor = "a".repeat(size), it = Triple.parse(`x86_64-${vendor}-linux`);
+      assert(it.vendor === vendor && `${it}` === `x86_64-${vendor}-linux`, `${size}`);
+      assert(it.equals(it) && it.settle().vendor === vendor && it.comesBack());
+      const error = refusal(`x86_64-${"\u{1f600}".repeat(size / 60)}`);
+      assert(error.start === 7 && error.message === `Unrecognized vendor: ${error.part}`);
+      assert.equal(`${Triple.parse("wasm32-unknown-wasi")}`, "wasm32-wasi");
+    }
+    assert.equal(refusal("-".repeat(1000000)).end, 0);
+  },
+  "a full stack spoils nothing": () => {
+    let depth = 0;
+    const deeper = () => {
+      depth++;
+      Triple.parse("x86_64-unknown-linux-gnu").facts();
+      deeper();
+    };
+    assert.throws(deeper, RangeError);
+    assert(depth > 100);
+    for (let i = 0; i < 3; i++) assert.equal(`${Triple.parse("wasm32-unknown-wasi")}`, "wasm32-wasi");
+  },
+  "the module can be loaded again": async () => {
+    const before = Triple.parse("x86_64-acme-linux");
+    load(new WebAssembly.Module(readFileSync(file)));
+    assert(before.equals(Triple.parse("x86_64-acme-linux")));
+  },
+};
+
+let failed = 0;
+for (const [name, test] of Object.entries(tests)) {
+  try {
+    await test();
+  } catch (error) {
+    failed++;
+    console.log(`FAILED ${name}: ${error.stack}`);
+  }
+}
+console.log(`${Object.keys(tests).length - failed} passed, ${failed} failed`);
+process.exit(failed ? 1 : 0);

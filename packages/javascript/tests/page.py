@@ -1,0 +1,414 @@
+"""The tests of the page: each opens it in Chromium, and types, presses and reads as a user does."""
+import functools
+import json
+import subprocess
+import time
+import urllib.parse
+import urllib.request
+
+from browser import Keys, Page
+
+ROWS = "[...document.querySelectorAll('tbody tr')]"
+STATUS = "document.getElementById('status').textContent"
+# The text of each cell. The rows that are out of sight have none for `innerText`.
+CELLS = ROWS + """.map((row) => [...row.cells].map((cell) => {
+  const texts = [], walker = document.createTreeWalker(cell, NodeFilter.SHOW_TEXT);
+  while (walker.nextNode()) texts.push(walker.currentNode.data);
+  return texts.join(row.classList.contains("refused") ? "" : " ").replace(/\\s+/g, " ").replace(/ ,/g, ",");
+}))"""
+
+# Of 10,000 lines.
+LEAST_CHANCES = 10
+# Counts the chances for input while rows are made.
+WATCH = """(() => {
+  window.chances = 0;
+  const look = () => {
+    if (document.querySelector("table[aria-busy]")) chances++;
+    setTimeout(look);
+  };
+  look();
+})()"""
+
+
+class WrongAnswer(Exception):
+    pass
+
+
+def same(found, wanted):
+    if found != wanted:
+        raise WrongAnswer(f"{found}, and not {wanted}")
+
+
+def holds(fact, said):
+    if not fact:
+        raise WrongAnswer(said)
+
+
+def loaded(page):
+    page.until(f"{STATUS}.includes('parsed')")
+
+
+def typed(page, text):
+    """Replaces what is in the text field, by the keyboard. Lines are pasted: how many of typed lines are shown at once depends on the machine."""
+    page.run("document.getElementById('targets').focus()")
+    page.control("a")
+    page.keys(Keys.DELETE)
+    page.until(f"{STATUS}.startsWith('No targets. Paste')")
+    if "\n" in text:
+        page.paste(text)
+    else:
+        page.keys(text)
+    if text:
+        page.until(f"{STATUS}.startsWith('{len(text.split()):,} target')")
+
+
+def opened(url, before, test):
+    with Page(url, before) as page:
+        loaded(page)
+        said = test(page)
+        same(page.errors(), [])
+        return said
+
+
+def asks_for_two_files(page):
+    page.size(1280, 900)
+    holds(page.run(ROWS + ".length") > 3, "there are no rows at the beginning")
+    same([it.rsplit("/", 1)[1] for it in page.requests() if not it.startswith("data:")], ["", "page.js", "target-lexicon.wasm"])
+
+
+CHIPS = "[...document.querySelectorAll('#chips button')].map((it) => [it.textContent, it.getAttribute('aria-pressed')])"
+IN_SIGHT = ROWS + ".filter((row) => row.getClientRects().length > 0).map((row) => row.target)"
+FOCUSED = "document.activeElement.querySelector('.target').textContent"
+
+# What a page may do that `default-src` says nothing about: each must be a violation of its own directive.
+VIOLATIONS = """new Promise((resolve) => {
+  const found = [];
+  document.addEventListener("securitypolicyviolation", (event) => {
+    found.push(event.effectiveDirective);
+    if (found.length === 3) resolve(found.sort());
+  });
+  setTimeout(() => resolve(found.sort()), 5000);
+  const base = document.createElement("base"), form = document.createElement("form");
+  base.href = "https://example.invalid/";
+  form.action = "https://example.invalid/";
+  document.head.append(base);
+  document.body.append(form);
+  form.submit();
+  fetch("https://example.invalid/").catch(() => {});
+})"""
+
+
+def forbids_what_it_does_not_need(page):
+    same(page.run(VIOLATIONS), ["base-uri", "connect-src", "form-action"])
+    same(page.run("document.baseURI === location.href"), True)
+    holds(len(page.errors()) >= 3, "no error was reported")
+
+
+def shows_fields(page):
+    page.size(1280, 900)
+    typed(page, "arm64-linux-gnu\n\n  armv7a-nuttx-eabi \nclever-unknown-unknown-none\naarch64-apple-ios17.1\naarch64-unknown-linux-gnu-elf")
+    same(page.run(STATUS), "5 targets: 5 parsed, 0 refused, 1 duplicate.")
+    rows = page.run(CELLS)
+    same(rows[0], ["arm64-linux-gnu is aarch64-unknown-linux-gnu", "aarch64 alias arm64", "unknown", "linux", "gnu", "elf implied",
+                   "little", "64 bits", "SystemV", "LP64", "names", ""])
+    same(rows[1][2:4], ["nuttx custom", "unknown"])
+    same(rows[1][8:10], ["none", "none"])
+    same(rows[2][0], "clever-unknown-unknown-none is clever-unknown-none-elf")
+    same([rows[3][0], rows[3][3]], ["aarch64-apple-ios17.1 is aarch64-apple-ios17.1.0", "ios17.1.0 alias ios17.1"])
+    same([rows[4][0], rows[4][5]], ["aarch64-unknown-linux-gnu-elf is aarch64-unknown-linux-gnu the same target as arm64-linux-gnu", "elf"])
+    page.run("document.getElementById('targets').setSelectionRange(0, 16)")
+    page.keys(Keys.DELETE)
+    page.until(f"{STATUS} === '4 targets: 4 parsed, 0 refused.'")
+    same(page.run(CELLS)[3][0], "aarch64-unknown-linux-gnu-elf is aarch64-unknown-linux-gnu")
+
+
+def shows_special_strings_and_formats(page):
+    page.size(1280, 900)
+    typed(page, "armv6k-nintendo-3ds\nx86_64-unknown-uefi\narm64")
+    same(page.run(CELLS)[0][1:6], [f"{it} from the whole" for it in ("armv6k", "nintendo", "horizon", "newlib", "elf")])
+    same(page.run(CELLS)[1][5], "elf implied objects coff")
+    same(page.run(CELLS)[2][1], "aarch64 alias arm64")
+
+
+def refuses_and_suggests(page):
+    page.size(1280, 900)
+    typed(page, "x86_64-pc-windws-msvc\nx86_64--linux\nx86_64-<b>-linux\nx86_64-pc-\u4e2d\u6587\namd64-linux\nx86_64-linx-gnu")
+    same(page.run(STATUS), "6 targets: 1 parsed, 5 refused, 1 suspicious.")
+    rows = page.run(CELLS)
+    same(rows[0], ["x86_64-pc-windws-msvc", "Unrecognized operating system: windwsDid you mean windows?Before it: architecture x86_64, vendor pc"])
+    same([it.strip() for it in page.run(ROWS + ".map((row) => row.querySelector('strong')?.textContent ?? '')")],
+         ["windws", "(empty)", "<b>", "\u4e2d\u6587", "amd64", ""])
+    same(page.run("document.querySelector('tbody b')"), None)
+    same(page.run("[...document.querySelectorAll('.offer')].map((it) => it.textContent)"),
+         ["windows", "x86_64-unknown-linux", "x86_64-unknown-linux", "linux"])
+    same(rows[5][0], "x86_64- linx -gnu is x86_64-linx-unknown-gnu-elf Did you mean linux ?")
+    same(page.run("[...document.querySelectorAll('tbody .odd')].map((it) => it.textContent)"), ["linx", "linx"])
+    page.run("document.querySelector('tbody .offer').focus()")
+    page.keys(Keys.ENTER)
+    page.until(f"{STATUS} === '6 targets: 2 parsed, 4 refused, 1 suspicious.'")
+    same(page.run("document.getElementById('targets').value.split('\\n')[0]"), "x86_64-pc-windows-msvc")
+    same(page.run(FOCUSED), "x86_64-(empty)-linux")
+    page.run("document.querySelector('.suspicious .offer').focus()")
+    page.keys(Keys.ENTER)
+    page.until(f"{STATUS} === '6 targets: 2 parsed, 4 refused.'")
+    same(page.run(FOCUSED), "x86_64-linux-gnu")
+
+
+def mistakes_come_first(page):
+    """In the order of the targets, also when one is mended; each kind can be shown only."""
+    page.size(1280, 900)
+    lines = [f"x86_64-vendor{it}-linux" for it in range(250)]
+    for place, line in (3, "x86_64-aple-darwin"), (120, "x86_64-pc-linx"), (121, "x86_64-vendor3-linux"), (240, "amd65"), (241, "x86_64-linx-gnu"):
+        lines.insert(place, line)
+    typed(page, "\n".join(lines))
+    same(page.run(STATUS), "255 targets: 253 parsed, 2 refused, 2 suspicious, 1 duplicate.")
+    first = ["x86_64-pc-linx", "amd65", "x86_64-aple-darwin", "x86_64-linx-gnu"]
+    rest = [it for it in lines if it not in first]
+    same(page.run(f"{ROWS}.map((row) => row.target)"), first + rest)
+    same(page.run(CHIPS), [["255 targets", "true"], ["2 refused", "false"], ["2 suspicious", "false"], ["1 duplicate", "false"]])
+    for number, wanted in (1, first[:2]), (2, first[2:]), (3, ["x86_64-vendor3-linux"]), (0, first + rest):
+        page.run(f"document.querySelectorAll('#chips button')[{number}].focus()")
+        page.keys(Keys.ENTER)
+        same(page.run(IN_SIGHT), wanted)
+        same([it[1] for it in page.run(CHIPS)], [str(it == number).lower() for it in range(4)])
+    page.run("document.querySelectorAll('#chips button')[1].click()")
+    page.run("document.querySelector('.refused .offer').focus()")
+    page.keys(Keys.ENTER)
+    page.until(f"{STATUS}.includes('254 parsed, 1 refused')")
+    same([page.run(FOCUSED), page.run(IN_SIGHT)], ["amd65", ["amd65"]])
+    typed(page, "arm64\narm64\navr")
+    same(page.run(CHIPS), [["3 targets", "true"], ["0 refused", "false"], ["0 suspicious", "false"], ["1 duplicate", "false"]])
+    same(page.run(IN_SIGHT), ["arm64", "arm64", "avr"])
+    same(page.run("[...document.querySelectorAll('#chips button')].map((it) => it.disabled)"), [False, True, True, False])
+
+
+def has_a_head_that_stays(page):
+    typed(page, "\n".join(f"x86_64-vendor{it}-linux" for it in range(300)))
+    tops = "['.bar', 'thead'].map((it) => document.querySelector(it).getBoundingClientRect()).map((it) => [it.top, it.bottom].map(Math.round))"
+    page.size(1280, 900)
+    page.run("scrollTo(0, 3000)")
+    bar, head = page.run(tops)
+    same([bar[0], head[0]], [0, bar[1]])
+    page.size(390, 844)
+    page.run("scrollTo(0, 3000)")
+    same(page.run(tops)[0][0], 0)
+    page.run("scrollTo(0, 0)")
+
+
+def is_typed_in_a_column_of_60(page):
+    page.size(1280, 900)
+    typed(page, "x" * 60)
+    same(page.run("document.getElementById('targets').scrollWidth - document.getElementById('targets').clientWidth"), 0)
+    typed(page, "x" * 63)  # the padding has room for one or two
+    holds(page.run("document.getElementById('targets').scrollWidth - document.getElementById('targets').clientWidth") > 0, "it is wider")
+
+
+def is_cleared(page):
+    typed(page, "arm64")
+    page.run("document.getElementById('clear').focus()")
+    page.keys(Keys.ENTER)
+    page.until(f"{STATUS}.startsWith('No targets.')")
+    same(page.run("[document.getElementById('targets').value, document.activeElement.id, document.getElementById('chips').hidden]"), ["", "targets", True])
+
+
+def links_to_pages(page):
+    links = page.run("[...document.querySelectorAll('.do p a')].map((it) => it.href)")
+    same([it.rsplit("/", 1)[1] for it in links], ["TOOL_NAMES.txt", "DIFFERENCES.txt", "SPEC.txt", "JAVASCRIPT.txt"])
+    for link in links:
+        with urllib.request.urlopen(link) as answer:
+            holds(answer.read(2) == b"# ", f"{link} isn't a page")
+
+
+def names_other_tools(page):
+    """The names of more than three targets are folded, until each is opened. At any width they are in sight, and no wider than the page."""
+    shown = ("[...document.querySelectorAll('td.names')].map((cell) => [...cell.querySelectorAll('dl > div')]"
+             ".filter((it) => it.checkVisibility({ contentVisibilityAuto: true })).map((it) => it.textContent).join('; '))")
+    typed(page, "arm64-linux-musl\navr-unknown")
+    for width in 400, 1280:
+        page.size(width, 900)
+        same(page.run(shown), ["Debianmusl-linux-arm64; Golinux/arm64; Container imageslinux/arm64; Nodelinux-arm64-musl; GNU prefixaarch64-linux-musl; "
+                               "Pythonlinux_aarch64", "Debiannone; Gonone; Container imagesnone; Nodenone; GNU prefixnone; Pythonnone"])
+        holds(page.run("document.documentElement.scrollWidth") <= width, f"at {width} pixels the page scrolls sideways")
+    typed(page, "arm64\nx86_64-pc-windows-msvc\nx86_64-linx\nwasm32-wasi")
+    same(page.run(shown), [""] * 4)
+    page.run("document.querySelectorAll('.elsewhere button')[2].focus()")
+    page.keys(Keys.ENTER)
+    page.until("document.querySelectorAll('.names dl > div').length === 6")
+    same(page.run("[...document.querySelectorAll('.elsewhere button')].map((it) => it.getAttribute('aria-expanded'))"), ["false", "false", "true", "false"])
+    same(page.run(shown), ["", "", "Debiannone; Gowindows/amd64; Container imageswindows/amd64; Nodewin32-x64; GNU prefixnone; Pythonwin_amd64", ""])
+    # The button is on the line of the target.
+    same(page.run(ROWS + "[3].getClientRects().length && [...new Set([" + ROWS + "[3].cells[1], " + ROWS + "[3].cells[10]].map((it) =>"
+                         " Math.round(it.getBoundingClientRect().top)))].length"), 1)
+
+
+def says_what_other_tools_mean(page):
+    page.size(1280, 900)
+    typed(page, "x86_64-w64-mingw32\namd64-unknown-freebsd13.2\ni686-w64-windows-gnu\nlinux/amd64")
+    rows = page.run(CELLS)
+    same(rows[0][1].split("mingw32")[1], "Other tools mean x86_64-pc-windows-gnu.Before it: architecture x86_64, vendor w64")
+    same(rows[1][1].split("Other")[1], " tools mean x86_64-unknown-freebsd.")
+    same(rows[2][1], "Unrecognized architecture: linux/amd64A name of Go and container images, which is x86_64-unknown-linux.")
+    holds(rows[3][0].endswith("Other tools mean i686-pc-windows-gnu ."), rows[3][0])
+    page.run("document.querySelector('tbody .offer').focus()")
+    page.keys(Keys.ENTER)
+    page.until(f"{STATUS} === '4 targets: 2 parsed, 2 refused, 1 suspicious.'")
+    same(page.run("document.getElementById('targets').value.split('\\n')[0]"), "x86_64-pc-windows-gnu")
+    same(page.run(FOCUSED), "amd64-unknown-freebsd13.2")
+    typed(page, "js/wasm\nlinux-x64-musl\nmusllinux_1_2_x86_64")
+    same([it[1] for it in page.run(CELLS)], [
+        "Unrecognized architecture: js/wasmA name of Go. No triple means it: Go's pointers have 64 bits there, those of wasm32 32.",
+        "Unrecognized architecture: linuxA name of Node, which is x86_64-unknown-linux-musl.",
+        "Unrecognized architecture: musllinux_1_2_x86_64A name of Python, which is x86_64-unknown-linux-musl."])
+
+
+def is_a_card(page):
+    typed(page, "x86_64-unknown-linux-gnu\nx86_64-" + "z" * 300 + "-linux\nx86_64-pc-windws-msvc\n" + "y" * 300)
+    for width in 320, 390, 800, 1100, 1262, 1263, 1280, 1600:
+        page.size(width, 900)
+        holds(page.run("document.documentElement.scrollWidth") <= width, f"at {width} pixels the page scrolls sideways")
+        wide = page.run("[...document.querySelectorAll('main *')].filter((it) => it.getBoundingClientRect().right > innerWidth + 1"
+                        " && !it.closest('thead, textarea')).length")
+        same(wide, 0)
+    page.size(400, 900)
+    same(page.run("getComputedStyle(document.querySelector('tbody tr')).display"), "block")
+    same(page.run("getComputedStyle(document.querySelector('td[data-label]'), '::before').content"), '"Architecture" / ""')
+
+
+LINES = """((element) => {
+  const range = document.createRange();
+  range.selectNodeContents(element);
+  return new Set([...range.getClientRects()].map((it) => Math.round(it.bottom))).size;
+})"""
+
+
+def breaks_no_name(page):
+    """Where the table has its least width, the longest targets, systems and conventions are on one line."""
+    typed(page, "loongarch64-unknown-none-softfloat\nx86_64-pc-windows-msvc\nwasm32-wasi\narm64-apple-macosx14.10.1")
+    page.size(1263, 900)
+    same(page.run("getComputedStyle(document.querySelector('tbody tr')).display"), "grid")
+    same(page.run(f"[...document.querySelectorAll('.target, small code')].map({LINES})"), [1] * 7)
+    same(page.run(ROWS + f".flatMap((row) => [...row.cells].slice(1, 10).map((it) => {LINES}(it.querySelector('code, span') ?? it.firstChild)))"), [1] * 36)
+    same(page.run("[...document.querySelectorAll('thead th')].filter((it) => it.scrollWidth > it.clientWidth).length"), 0)
+    page.size(400, 900)
+    same(page.run(f"[...document.querySelectorAll('.target')].map({LINES})"), [1] * 4)
+
+
+def folds_on_a_phone(page):
+    """Cards of more than three targets are folded, until each is opened."""
+    shown = ROWS + ".map((row) => [...row.cells].filter((it) => it.getClientRects().length > 0).length)"
+    page.size(400, 900)
+    typed(page, "wasm32-wasi\narm64\nx86_64-foo-bar")
+    same(page.run(shown), [2, 12, 12])
+    typed(page, "wasm32-wasi\narm64\nx86_64-linux\nx86_64-foo-bar")
+    same(page.run(shown), [2, 1, 1, 1])
+    page.run("document.querySelector('.fold').focus()")
+    page.keys(Keys.ENTER)
+    same(page.run(shown), [2, 11, 1, 1])
+    same(page.run("[...document.querySelectorAll('.fold')].map((it) => it.getAttribute('aria-expanded'))"), ["true", "false", "false"])
+    page.size(1280, 900)
+    same(page.run(shown), [2, 11, 11, 11])
+
+
+def says_what_to_paste(page):
+    typed(page, "")
+    same(page.run("document.getElementById('table').hidden"), True)
+    same(page.run(STATUS), "No targets. Paste some above, one a line, such as what `rustc --print target-list` writes.")
+
+
+def complete_roles(page):
+    """The accessibility tree, which Chromium completes a little after the page."""
+    for _ in range(100):
+        roles = page.roles()
+        if [role for role, _ in roles].count("cell") == 12 and ("StaticText", "?") in roles:
+            return roles
+        time.sleep(0.1)
+    raise WrongAnswer(f"the accessibility tree is not complete: {roles}")
+
+
+def is_accessible(page):
+    for width in 400, 1280:
+        page.size(width, 900)
+        typed(page, "x86_64-unknown-linux-gnu\nx86_64-pc-windws-msvc")
+        roles = complete_roles(page)
+        for wanted in [("heading", "Target triples"), ("textbox", "Targets"), ("button", "Copy as JSON"), ("button", "Clear"), ("link", "Link to these targets"),
+                       ("group", "Which targets are shown"), ("button", "2 targets"), ("button", "1 refused"),
+                       ("table", "What each target is"), ("columnheader", "Byte order"),
+                       ("button", "windows: replace x86_64-pc-windws-msvc by x86_64-pc-windows-msvc")]:
+            holds(wanted in roles, f"at {width} pixels there is no {wanted}")
+        holds([name.split()[0] for role, name in roles if role == "rowheader"] == ["x86_64-pc-windws-msvc", "x86_64-unknown-linux-gnu"],
+              f"at {width} pixels the rows have other headers: {roles}")
+        same([role for role, _ in roles].count("columnheader"), 11)
+        holds("status" in [role for role, _ in roles], "there is no status")
+    page.run("document.getElementById('targets').focus()")
+    reached = []
+    for _ in range(11):
+        page.keys(Keys.TAB)
+        reached.append(page.run("document.activeElement.textContent"))
+    same(reached[:3] + reached[7:], ["Copy as JSON", "Clear", "Link to these targets", "2 targets", "1 refused", "windows", "names"])
+
+
+def has_a_link(page):
+    lines = ["x86_64-unknown-linux-gnu", "arm64-apple,ios", "x86_64-\u4e2d&#%-b"]
+    typed(page, "\n".join(lines))
+    link = page.run("document.getElementById('link').href")
+    same(urllib.parse.unquote(link.split("#")[1].split(",")[1]), lines[1])
+    page.run("document.getElementById('targets').value = ''")
+    page.run(f"location.href = {json.dumps(link)}")
+    page.until(f"{STATUS}.startsWith('3 targets')")
+    same(page.run("document.getElementById('targets').value"), "\n".join(lines))
+    typed(page, "\n".join(f"x86_64-v{it}-linux" for it in range(3000)))
+    same(page.run("[document.getElementById('link').hidden, document.getElementById('link_status').hidden]"), [True, False])
+
+
+def opens_a_link(url):
+    with Page(f"{url}/#wasm32-wasi,x86_64-pc%2Clinux") as page:
+        loaded(page)
+        same(page.run("document.getElementById('targets').value"), "wasm32-wasi\nx86_64-pc,linux")
+        same(page.run(STATUS), "2 targets: 1 parsed, 1 refused.")
+
+
+def copies_the_matrix(program, page):
+    """What is copied is what `target-lexicon facts --json` writes."""
+    targets = ["arm64-apple-ios17.1", "avr-unknown", "x86_64-pc-linx", "x86_64-\u4e2d\u6587-linux", "x86_64-elf-linux"]
+    typed(page, "\n".join(targets))
+    page.run("document.getElementById('copy').focus()")
+    page.keys(Keys.ENTER)
+    page.until(f"{STATUS}.startsWith('Copied')")
+    same(page.run(STATUS), "Copied 5 targets as JSON.")
+    copied = json.loads(page.run("navigator.clipboard.readText()"))
+    same([it["target"] for it in copied], targets)
+    wanted = subprocess.run([program, "facts", "--json", *targets], capture_output=True, check=False).stdout
+    same([list(it.items()) for it in copied], [list(it.items()) for it in json.loads(wanted)])
+    return "the same as the command's"
+
+
+def stays_responsive(page):
+    """It makes rows in slices, with a chance for input after each. How long that takes depends on what else the machine does."""
+    lines = [f"x86_64-vendor{it}-linux-gnu" if it % 4 else f"x86_64-vendor{it}-linx" for it in range(10000)]
+    chances = []
+    for width in 1280, 400:
+        page.size(width, 900)
+        typed(page, "arm64")
+        page.run(WATCH)
+        typed(page, "\n".join(lines))
+        same(page.run(STATUS), "10,000 targets: 7,500 parsed, 2,500 refused.")
+        same(page.run(ROWS + ".length"), 10000)
+        chances.append(page.run("chances"))
+        page.run("document.getElementById('targets').setSelectionRange(0, 0)")
+        page.keys("arm64\n")
+        page.until(f"{STATUS}.startsWith('10,001 targets')")
+        same(page.run(f"[0, 2500, 2501].map((it) => {ROWS}[it].target)"), [lines[0], "arm64", lines[1]])
+    holds(min(chances) >= LEAST_CHANCES, f"{chances} chances for input")
+    return f"10,000 lines, with {chances[0]} and {chances[1]} chances for input"
+
+
+def page_tests(url, program):
+    """The name of each test of the page at a URL, and the test; `program` is the command `target-lexicon`."""
+    tests = [asks_for_two_files, forbids_what_it_does_not_need, shows_fields, shows_special_strings_and_formats, refuses_and_suggests,
+             mistakes_come_first, has_a_head_that_stays, is_typed_in_a_column_of_60, is_cleared, links_to_pages,
+             names_other_tools, says_what_other_tools_mean, is_a_card, breaks_no_name, folds_on_a_phone,
+             says_what_to_paste, is_accessible, has_a_link, functools.partial(copies_the_matrix, program), stays_responsive]
+    for test in tests:
+        name = getattr(test, "func", test).__name__
+        yield name.replace("_", " "), functools.partial(opened, f"{url}/", "", test)
+    yield "opens a link", functools.partial(opens_a_link, url)

@@ -1,0 +1,181 @@
+"""A small command, with answers of the command `target-lexicon` of the same repository: `python -m target_lexicon COMMAND TARGET..`.
+
+A target `-` stands for the lines of standard input, which is also read if there is no target. The command `target_lexicon` does
+more, in less time: `cargo install --path packages/command --locked`.
+"""
+from __future__ import annotations
+
+import argparse
+import io
+import json
+import sys
+from contextlib import suppress
+from typing import Any, Dict, Iterator, List, Optional, Tuple
+
+from . import LIBRARY_VERSION, Dialect, ParseError, Triple, explain
+from ._dialects import OTHER_NAMES, READ, WRITTEN
+from ._triple import _version_text
+
+# What is answered for a target, with the keys of JSON. Of one that is refused there is an `error`.
+Answer = Dict[str, Any]
+
+_COMMANDS = {
+    "explain": "each field, and where its value comes from",
+    "facts": "the fields, and what a compiler asks",
+    "settle": "the canonical form",
+    "read": "the canonical form of the target that another tool's name means",
+    "write": "the name that another tool has for it",
+    "elsewhere": "the names that other tools have for it",
+}
+# As the command orders them: those that are only written are the last.
+_DIALECTS = [*READ, *(it for it in WRITTEN if it not in READ)]
+
+
+def _places(targets: List[str]) -> Iterator[Answer]:
+    """Each target and its place, with which each object begins."""
+    for target in targets or ["-"]:
+        if target != "-":
+            yield {"target": target, "file": None, "line": None}
+            continue
+        lines = io.TextIOWrapper(sys.stdin.buffer, "utf-8", "surrogateescape", newline="\n")
+        for number, line in enumerate(lines, 1):
+            yield {"target": line.removesuffix("\n").removesuffix("\r"), "file": "<stdin>", "line": number}
+
+
+def _explained(target: str) -> Answer:
+    explanation = explain(target)
+    answer: Answer = {}
+    for name, source in explanation.sources:
+        answer[name] = {"value": source.value, "origin": str(source.origin), "part": source.part}
+        if name == "operating_system":
+            answer["version"] = _version_text(explanation.triple.version)
+    return {**answer, "has_custom_vendor": explanation.triple.has_custom_vendor, "suggestion": explanation.suggestion}
+
+
+def _answer(command: str, dialect: Optional[Dialect], target: str) -> Answer:
+    if command == "explain":
+        return _explained(target)
+    if command == "read":
+        return {"canonical": Triple.read(target, dialect).canonical}
+    triple = Triple(target)
+    if command == "facts":
+        return dict(triple.to_dict())
+    if command == "elsewhere":
+        return {str(dialect): triple.name_in(dialect) for dialect in WRITTEN}
+    if dialect is None:
+        return {"canonical": triple.canonical}
+    name = triple.name_in(dialect)
+    return _refused(f"no name of {dialect} for", target) if name is None else {"name": name}
+
+
+def _refused(error: str, part: str, start: int = 0, field: Optional[str] = None, suggestion: Optional[str] = None) -> Answer:
+    end = start + len(part.encode("utf-8", "replace"))
+    return {"error": error, "part": part, "start": start, "end": end, "field": field, "suggestion": suggestion}
+
+
+def _refusal(error: ParseError, dialect: Optional[Dialect]) -> Answer:
+    """What is wrong with a target, or with a name in a dialect."""
+    if error.reason is not None:
+        word = f"no triple means the same ({error.reason}):"
+    elif dialect is not None:
+        word = f"unknown name of {dialect}"
+    else:
+        word = f"unrecognized {(error.field or 'field').replace('_', ' ')}"
+    start = len(error.text[: error.start].encode("utf-8", "replace"))
+    return _refused(word, error.part, start, error.field, error.suggestion)
+
+
+def _explanation(target: str) -> str:
+    """The explanation, and what other tools mean by a target whose vendor isn't known here."""
+    explanation = explain(target)
+    lines = [str(explanation)]
+    if explanation.triple.has_custom_vendor:
+        with suppress(ParseError):
+            meant = Triple.read(target)
+            if not meant.has_custom_vendor:
+                lines.append(f"  {'note':16}  other tools mean `{meant.canonical}`, which `target-lexicon read` gives")
+    return "\n".join(lines)
+
+
+def _lines(command: str, target: str, answer: Answer) -> str:
+    if command == "explain":
+        return _explanation(target)
+    if "error" in answer:
+        return f"{answer['error']} {target}"
+    if command not in ("facts", "elsewhere"):
+        return "".join(answer.values())
+    width = max(map(len, answer))
+    words = {True: "yes", False: "no", None: "-"}
+    lines = [f"  {name:{width}}  {words[it] if it is None or isinstance(it, bool) else it}" for name, it in answer.items()]
+    return "\n".join([target, *lines])
+
+
+def _is_name(dialect: Dialect, name: str) -> bool:
+    try:
+        Triple.read(name, dialect)
+    except ParseError as error:
+        return error.reason is not None
+    return True
+
+
+def _answered(options: argparse.Namespace, target: str) -> Tuple[Answer, str]:
+    """The answer for a target, and how it is shown."""
+    dialect = None if options.dialect is None else Dialect(OTHER_NAMES.get(options.dialect, options.dialect))
+    try:
+        answer = _answer(options.command, dialect, target)
+        return answer, "" if options.json else _lines(options.command, target, answer)
+    except ParseError as error:
+        lines = [str(error)]
+        if options.command != "read":
+            return _refusal(error, None), lines[0]
+        if dialect is None:
+            known = " or ".join(f"`--from {it}`" for it in _DIALECTS if _is_name(it, target))
+            lines += [f"  note: it is a name of another tool: use {known}"] if known else []
+        return _refusal(error, dialect), "\n".join(lines)
+
+
+def _words(dialects: List[Dialect]) -> List[str]:
+    """The names of dialects, and their other names."""
+    return [*map(str, dialects), *(name for name, it in OTHER_NAMES.items() if Dialect(it) in dialects)]
+
+
+def _parser() -> argparse.ArgumentParser:
+    parser = argparse.ArgumentParser("python -m target_lexicon", description=__doc__, formatter_class=argparse.RawDescriptionHelpFormatter)
+    parser.add_argument("--version", action="version", version=f"target_lexicon {LIBRARY_VERSION}")
+    commands = parser.add_subparsers(dest="command", required=True, metavar="COMMAND")
+    for name, about in _COMMANDS.items():
+        command = commands.add_parser(name, help=about, description=f"Writes for each target {about}.")
+        command.add_argument("targets", nargs="*", metavar="TARGET", help="`-` is standard input, one target a line")
+        command.add_argument("--json", action="store_true", help="write one JSON array on one line")
+        command.set_defaults(dialect=None)
+        if name == "read":
+            command.add_argument("--from", dest="dialect", choices=_words(READ))
+        elif name == "write":
+            command.add_argument("--to", dest="dialect", choices=_words(WRITTEN), required=True)
+    return parser
+
+
+def main(arguments: Optional[List[str]] = None) -> int:
+    """Runs the command. Returns 1 if a target is refused."""
+    options = _parser().parse_args(arguments)
+    objects: List[Answer] = []
+    status = 0
+    for place in _places(options.targets):
+        answer, lines = _answered(options, place["target"])
+        if "error" in answer:
+            status = 1
+        if options.json:
+            objects.append({**place, **answer})
+        else:
+            print(lines, file=sys.stderr if "error" in answer else sys.stdout)
+    if options.json:
+        print(json.dumps(objects, separators=(",", ":")))
+    return status
+
+
+if __name__ == "__main__":
+    try:
+        sys.exit(main())
+    except BrokenPipeError:
+        sys.stderr.close()
+        sys.exit(141)

@@ -1,0 +1,171 @@
+"""Answers for many targets at once, as plain values."""
+
+import ctypes
+import struct
+from ctypes import byref, c_size_t, c_void_p
+from itertools import islice
+from typing import Any, Callable, Dict, Iterable, List, NamedTuple, Optional, Sequence, Tuple, TypeVar
+
+from . import _library
+from ._facts import CallingConvention, DataModel, Endianness
+from ._named import members
+from ._triple import Triple
+from ._values import Architecture, BinaryFormat, Environment, Family, OperatingSystem, Vendor
+
+Answer = TypeVar("Answer")
+
+# How many targets are answered at once, and how many different ones are remembered within a call.
+_AT_ONCE, _REMEMBERED = 1 << 12, 1 << 16
+
+# The names of values by number; those of facts begin with None, for no answer.
+_ARCHITECTURES, _VENDORS, _SYSTEMS, _ENVIRONMENTS, _FORMATS, _FAMILIES = (
+    [it.value for it in members(of)] for of in (Architecture, Vendor, OperatingSystem, Environment, BinaryFormat, Family))
+_ORDERS, _CONVENTIONS, _MODELS = ([None, *(it.value for it in members(of))] for of in (Endianness, CallingConvention, DataModel))
+
+
+class Facts(NamedTuple):
+    """All answers about a target, in the order and with the names of `target-lexicon facts --json`.
+
+    Names are `str`, a width is in bits, and a size in bytes. None is no answer; a refused target has no answer at all.
+    """
+
+    architecture: Optional[str] = None
+    vendor: Optional[str] = None
+    operating_system: Optional[str] = None
+    version: Optional[str] = None
+    environment: Optional[str] = None
+    binary_format: Optional[str] = None
+    endianness: Optional[str] = None
+    pointer_width: Optional[int] = None
+    default_calling_convention: Optional[str] = None
+    data_model: Optional[str] = None
+    short_size: Optional[int] = None
+    int_size: Optional[int] = None
+    long_size: Optional[int] = None
+    long_long_size: Optional[int] = None
+    float_size: Optional[int] = None
+    double_size: Optional[int] = None
+    implied_format: Optional[str] = None
+    object_format: Optional[str] = None
+    family: Optional[str] = None
+    is_thumb: Optional[bool] = None
+    is_like_darwin: Optional[bool] = None
+    has_custom_vendor: Optional[bool] = None
+    printed: Optional[str] = None
+    canonical: Optional[str] = None
+
+
+def settle_all(targets: Iterable[str]) -> List[Optional[str]]:
+    """The canonical string of each target, or None for one that is refused. Much faster than a loop over `Triple`.
+
+    >>> settle_all(["arm64-linux-gnu", "aarch64-unknown-linux-gnu", "x86_64-pc-linx"])
+    ['aarch64-unknown-linux-gnu', 'aarch64-unknown-linux-gnu', None]
+
+    A single `str` raises a TypeError, and so does anything but a `str` among the targets.
+    """
+    return _each(targets, _canonical_texts)
+
+
+def facts_all(targets: Iterable[str]) -> List[Facts]:
+    """All answers about each target. Of one that is refused every answer is None.
+
+    >>> [it.pointer_width for it in facts_all(["arm64-linux-gnu", "avr", "x86_64-pc-linx"])]
+    [64, 16, None]
+
+    A single `str` raises a TypeError, and so does anything but a `str` among the targets.
+    """
+    return _each(targets, _facts_of_texts)
+
+
+def _each(targets: Iterable[str], answers_of: Callable[[Sequence[str]], List[Answer]]) -> List[Answer]:
+    """The answer for each target, by a function that answers for many. It isn't asked again for what is remembered."""
+    if isinstance(targets, str):
+        raise TypeError("the targets must be an iterable of str, not one str")
+    answers: List[Answer] = []
+    remembered: Dict[str, Answer] = {}
+    rest = iter(targets)
+    while some := list(islice(rest, _AT_ONCE)):
+        if not {str}.issuperset(map(type, some)):
+            some = list(map(_plain, some))
+        if len(remembered) > _REMEMBERED:
+            remembered.clear()
+        new = tuple(set(some).difference(remembered))
+        remembered.update(zip(new, answers_of(new)))
+        answers += map(remembered.__getitem__, some)
+    return answers
+
+
+def _plain(target: str) -> str:
+    """The target as a `str`, so that no subclass says how it is compared, hashed or searched. Anything but a `str` is a TypeError."""
+    if not isinstance(target, str):
+        raise TypeError(f"a target must be a str, not {type(target).__name__}")
+    return str.__str__(target)
+
+
+def _canonical_texts(targets: Sequence[str]) -> List[Optional[str]]:
+    """The canonical string of each target, by one call for all of them."""
+    lines = "\n".join(targets)
+    if lines.count("\n") >= len(targets) > 0:
+        # A target that has a line feed is refused, as an empty one is.
+        lines = "\n".join("" if "\n" in it else it for it in targets)
+    # A lone surrogate isn't UTF-8, so its line is refused.
+    utf8 = f"{lines}\n".encode("utf-8", "surrogatepass")
+    out = ctypes.create_string_buffer(len(utf8) + _library.MAX_GROWTH * len(targets) + 1)
+    _library.check(_library.settle_lines(utf8, len(utf8), out, len(out), None))
+    return [line or None for line in out.value.decode().split("\n")[:-1]]
+
+
+class _Answered(ctypes.Structure):
+    """A triple and its facts, in one piece of memory."""
+
+    triple: _library.TripleStruct
+    facts: _library.FactsStruct
+    _fields_ = [("triple", _library.TripleStruct), ("facts", _library.FactsStruct)]
+
+
+# The numbers that are in it: those of the triple, its custom vendor's pointer and size, and those of the facts.
+_NUMBERS = struct.Struct("@HBBBBBBBHPN10B3?3B")
+
+# Calls whose arguments are values of `ctypes`, which takes half the time.
+_parse, _facts, _print = map(_library.undeclared, ("lexicon_parse", "lexicon_facts", "lexicon_print"))
+
+
+def _facts_of_texts(targets: Sequence[str]) -> List[Facts]:
+    """All answers about each target. All calls write into the same memory."""
+    answered, error, out, size = _Answered(), _library.ErrorStruct(), _library.TextBuffer(), c_size_t()
+    triple, to_facts, to_error = answered.triple, byref(answered.facts), byref(error)
+    to_triple, to_out, room = byref(triple), c_void_p(ctypes.addressof(out)), c_size_t(_library.FIRST_SIZE)
+    facts_size = c_size_t(ctypes.sizeof(_library.FactsStruct))
+    answers: List[Facts] = []
+    for text, canonical in zip(targets, _canonical_texts(targets)):
+        if canonical is None:
+            answers.append(Facts())
+            continue
+        utf8 = str.encode(text)
+        size.value = len(utf8)
+        status = _parse(utf8, size, to_triple, to_error) or _facts(to_triple, to_facts, facts_size) or _print(to_triple, to_out, room, None)
+        if triple.custom_vendor is not None:
+            answers.append(facts_of(Triple(text)))
+            continue
+        _library.check(status)
+        answers.append(_facts_from(_NUMBERS.unpack_from(answered), None, out.value.decode(), canonical))
+    return answers
+
+
+def facts_of(it: Triple) -> Facts:
+    """All answers about a triple."""
+    numbers = _NUMBERS.unpack(bytes(it._struct) + bytes(it._facts or it._ask()))
+    return _facts_from(numbers, str(it.vendor), str(it), it.canonical)
+
+
+def _facts_from(numbers: Tuple[Any, ...], vendor: Optional[str], printed: str, canonical: str) -> Facts:
+    """All answers, from the numbers and the strings. Only a custom vendor must be given."""
+    (architecture, known, system, environment, form, has_version, minor, patch, major, _, _, order, width, convention, model, short,
+     int_, long, long_long, float_, double, is_thumb, is_like_darwin, is_custom, implied, written, family) = numbers
+    return Facts._make((
+        _ARCHITECTURES[architecture], vendor or _VENDORS[known], _SYSTEMS[system],
+        f"{major}.{minor}.{patch}" if has_version else None, _ENVIRONMENTS[environment], _FORMATS[form], _ORDERS[order],
+        width or None, _CONVENTIONS[convention], _MODELS[model], short or None, int_ or None, long or None, long_long or None,
+        float_ or None, double or None, _FORMATS[implied], _FORMATS[written], _FAMILIES[family], is_thumb, is_like_darwin,
+        is_custom, printed, canonical,
+    ))

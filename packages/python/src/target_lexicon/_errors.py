@@ -1,0 +1,151 @@
+"""Why a string is refused."""
+from __future__ import annotations
+
+from typing import Optional, Tuple, Union
+
+from . import _library
+from ._dialects import Dialect, DialectName, dialect_number
+
+#: The names of the fields, in their order.
+FIELDS = ("architecture", "vendor", "operating_system", "environment", "binary_format")
+
+# How many characters of a string, and of the refused part, a message shows.
+_SHOWN_BEFORE, _SHOWN_PART, _SHOWN_AFTER = 40, 60, 20
+
+# The status in Python for a string that UTF-8 can't encode.
+_LONE_SURROGATE = 7
+
+# The statuses that the library gives for a refused string in UTF-8, and those for a name in a dialect.
+_NAMES = (_library.UNKNOWN_NAME, _library.NAME_WITHOUT_TRIPLE)
+_REFUSALS = (*range(1, _library.UNRECOGNIZED_FIELD + 1), *_NAMES)
+
+
+class ParseError(ValueError):
+    """A string is refused. The message shows where:
+
+    >>> Triple("x86_64-pc-linx")
+    Traceback (most recent call last):
+    target_lexicon.ParseError: Unrecognized operating system: linx
+      x86_64-pc-linx
+                ^^^^ did you mean `linux`?
+
+    `part` is the refused part, from `start` to `end` of the whole `text`. `field` is what was expected there, such as
+    `operating_system`. It is None for a part after the binary format, where no field is left, for a lone surrogate, and
+    for a name in a dialect. `dialect` is the name of that dialect; otherwise it is None. `suggestion` is the name that may
+    have been meant, in a dialect the nearest of its names, or None. `reason` says why no triple means the same as a name
+    that a dialect has; otherwise it is None. `line` is the first line of the message with the whole part, and nothing
+    escaped.
+
+    One that is made, such as for a test, is like one that is caught. The part goes to the end, unless it is given:
+
+    >>> ParseError("x86_64-pc-linx", "operating_system", 10).suggestion, ParseError("js/wasm", dialect="go").reason
+    ('linux', "Go's pointers have 64 bits there, those of wasm32 32")
+    """
+
+    # The name by which tracebacks and callers know it.
+    __module__ = "target_lexicon"
+
+    def __init__(
+        self, text: str, field: Optional[str] = None, start: int = 0, part: Optional[str] = None,
+        dialect: Union[Dialect, DialectName, None] = None,
+    ) -> None:
+        if not isinstance(text, str):
+            raise TypeError(f"the text must be a str, not {type(text).__name__}")
+        text = str.__str__(text)
+        part = text[start:] if part is None else part
+        if field is not None and field not in FIELDS:
+            raise ValueError(f"the field must be one of {', '.join(FIELDS)}, or None, not {field}")
+        if start < 0 or not text.startswith(part, start):
+            raise ValueError(f"the text doesn't have the part {part!r} at {start}")
+        self._number = 0 if dialect is None else dialect_number(dialect)
+        super().__init__(text, field, start, part, dialect and str(dialect))
+        #: The whole string that is refused.
+        self.text = text
+        #: The name of the field that was expected, as a triple has it. None if no field was.
+        self.field = field
+        #: Where the refused part begins in the string, as an index of the `str`.
+        self.start = start
+        #: The refused part.
+        self.part = part
+        #: The name of the dialect in which the string isn't read; None if it isn't read as a name in one.
+        self.dialect: Optional[str] = self.args[4]
+
+    @property
+    def end(self) -> int:
+        """Where the refused part ends in the string."""
+        return self.start + len(self.part)
+
+    @property
+    def reason(self) -> Optional[str]:
+        """Why no triple means the same as a name that the dialect has; None for any other refusal."""
+        return _library.reason(self._number, self.text.encode()) if self._number else None
+
+    @property
+    def suggestion(self) -> Optional[str]:
+        """The name that may have been meant by the part, or None if there is none."""
+        if self._number:
+            return _library.name_suggestion(self._number, self.text.encode())
+        status = self._status
+        return None if status == _LONE_SURROGATE else _library.suggestion(status, self.part.encode())
+
+    @property
+    def _status(self) -> int:
+        """The status of the library, or that of a lone surrogate."""
+        try:
+            self.part.encode()
+        except UnicodeEncodeError:
+            return _LONE_SURROGATE
+        if self._number:
+            return _library.UNKNOWN_NAME if self.reason is None else _library.NAME_WITHOUT_TRIPLE
+        return _library.UNRECOGNIZED_FIELD if self.field is None else FIELDS.index(self.field) + 1
+
+    @property
+    def line(self) -> str:
+        """The line that the library writes of the error, with the whole part and nothing escaped."""
+        return self._line(self.part)
+
+    def _line(self, part: str) -> str:
+        status = self._status
+        return f"Lone surrogate: {part}" if status == _LONE_SURROGATE else _library.error_line(status, part.encode())
+
+    def __str__(self) -> str:
+        part = _shown(_cut(self.part))
+        before, after = self.text[: self.start], self.text[self.end:]
+        begin = _shown(before if len(before) <= _SHOWN_BEFORE else "..." + before[-_SHOWN_BEFORE:])
+        end = _shown(after if len(after) <= _SHOWN_AFTER else after[:_SHOWN_AFTER] + "...")
+        name, reason = self.suggestion, self.reason
+        hint = f" did you mean `{name}`?" if name else f" {reason}" if reason else ""
+        return f"{self._line(part)}\n  {begin}{part}{end}\n  {' ' * len(begin)}{'^' * max(1, len(part))}{hint}"
+
+
+def _cut(part: str) -> str:
+    return part if len(part) <= _SHOWN_PART else part[:_SHOWN_PART] + "..."
+
+
+def _shown(text: str) -> str:
+    """The string with every character that isn't printable ASCII escaped, so that columns are characters."""
+    return "".join(it if " " <= it <= "~" else it.encode("unicode_escape").decode() for it in text)
+
+
+def encoded(text: object, what: str) -> bytes:
+    """The string in UTF-8. Anything but a `str` is a TypeError, and a lone surrogate is a ParseError."""
+    if not isinstance(text, str):
+        raise TypeError(f"{what} must be a str, not {type(text).__name__}")
+    try:
+        return str.encode(text)
+    except UnicodeEncodeError as error:
+        raise ParseError(text, None, error.start, text[error.start]) from None
+
+
+def range_in(utf8: bytes, start: int, end: int) -> Tuple[int, str]:
+    """Where the bytes begin in the decoded string, and their string."""
+    return len(utf8[:start].decode()), utf8[start:end].decode()
+
+
+def refusal(text: str, utf8: bytes, error: _library.ErrorStruct, dialect: Union[Dialect, DialectName, None] = None) -> ParseError:
+    """The error that the library wrote of a string, which is a name in the dialect, if there is one."""
+    status = error.status
+    if status not in _REFUSALS or (status in _NAMES) != (dialect is not None):
+        raise _library.LibraryError(f"a refusal with the status {status}")
+    field = FIELDS[status - 1] if status <= len(FIELDS) else None
+    return ParseError(text, field, *range_in(utf8, error.start, error.end), dialect)

@@ -1,0 +1,285 @@
+"""The calls of the library for C, and its structs.
+
+A struct is memory that its Python object owns. Each call gets structs and buffers of its own, so that threads may call at
+once, also where no lock of the interpreter keeps them apart. The calls are made without releasing that lock, where that can
+be said: each of them takes less time than that would.
+"""
+from __future__ import annotations
+
+import ctypes
+import ctypes.util
+import os
+from ctypes import POINTER, Structure, c_bool, c_char, c_char_p, c_size_t, c_uint8, c_uint16, c_uint32, c_void_p
+from typing import Any, Callable, Iterator, List, Optional, Sequence, Tuple
+
+#: The version of this package.
+VERSION = "0.5.0"
+
+# The part of the version that the library must have too, and the name of its file, which Python takes for no module.
+_CALLS_VERSION = VERSION.rpartition(".")[0]
+_NAME = f"libtarget_lexicon.so.{_CALLS_VERSION}"
+_PACKAGE_FILE = os.path.join(os.path.dirname(os.path.abspath(__file__)), _NAME)
+
+CUSTOM_VENDOR = 255
+
+# The statuses of `enum lexicon_status` that are looked at. From 1 to 5, a field was expected where a string is refused.
+OK = 0
+UNRECOGNIZED_FIELD = 6
+TOO_SMALL = 8
+UNKNOWN_NAME = 12
+NAME_WITHOUT_TRIPLE = 13
+TRIPLE_WITHOUT_NAME = 14
+
+
+class TripleStruct(Structure):
+    """`struct lexicon_triple`. That of a `Triple` isn't changed."""
+
+    architecture: int
+    vendor: int
+    operating_system: int
+    environment: int
+    binary_format: int
+    has_version: int
+    minor: int
+    patch: int
+    major: int
+    custom_vendor: Optional[int]
+    custom_vendor_size: int
+    _fields_ = [
+        ("architecture", c_uint16), ("vendor", c_uint8), ("operating_system", c_uint8), ("environment", c_uint8),
+        ("binary_format", c_uint8), ("has_version", c_uint8), ("minor", c_uint8), ("patch", c_uint8), ("major", c_uint16),
+        ("custom_vendor", c_void_p), ("custom_vendor_size", c_size_t),
+    ]
+
+
+class ErrorStruct(Structure):
+    """`struct lexicon_error`."""
+
+    status: int
+    start: int
+    end: int
+    _fields_ = [("status", c_uint32), ("start", c_size_t), ("end", c_size_t)]
+
+
+class SourceStruct(Structure):
+    """`struct lexicon_source`."""
+
+    origin: int
+    start: int
+    end: int
+    _fields_ = [("origin", c_uint32), ("start", c_size_t), ("end", c_size_t)]
+
+
+class SourcesStruct(Structure):
+    """`struct lexicon_sources`."""
+
+    _fields_ = [(name, SourceStruct) for name in ("architecture", "vendor", "operating_system", "environment", "binary_format")]
+
+
+class FactsStruct(Structure):
+    """`struct lexicon_triple_facts`."""
+
+    endianness: int
+    pointer_width: int
+    default_calling_convention: int
+    data_model: int
+    short_size: int
+    int_size: int
+    long_size: int
+    long_long_size: int
+    float_size: int
+    double_size: int
+    is_thumb: bool
+    is_like_darwin: bool
+    has_custom_vendor: bool
+    implied_format: int
+    object_format: int
+    family: int
+    _fields_ = [(name, c_uint8) for name in (
+        "endianness", "pointer_width", "default_calling_convention", "data_model", "short_size", "int_size", "long_size",
+        "long_long_size", "float_size", "double_size",
+    )] + [(name, c_bool) for name in ("is_thumb", "is_like_darwin", "has_custom_vendor")] + [
+        (name, c_uint8) for name in ("implied_format", "object_format", "family")]
+
+
+# What loads a library, whose calls don't release the interpreter lock. PyPy has only the other one.
+_load_file = getattr(ctypes, "PyDLL", ctypes.CDLL)
+
+
+def _candidates() -> Iterator[str]:
+    """The files and names to load the library by: the first one that is there is taken."""
+    if os.path.exists(_PACKAGE_FILE):
+        yield _PACKAGE_FILE
+    elif os.environ.get("TARGET_LEXICON_LIBRARY"):
+        yield os.environ["TARGET_LEXICON_LIBRARY"]
+    else:
+        yield _NAME
+        found = ctypes.util.find_library("target_lexicon")
+        if found is not None:
+            yield found
+
+
+def _load() -> Tuple[str, ctypes.CDLL]:
+    failures: List[str] = []
+    for name in _candidates():
+        try:
+            return name, _load_file(name)
+        except OSError as error:
+            failures.append(str(error))
+    raise ImportError(
+        f"target_lexicon needs the shared library libtarget_lexicon {_CALLS_VERSION}: in the package as {_PACKAGE_FILE}, as the file that the "
+        f"variable TARGET_LEXICON_LIBRARY names, or where the loader finds {_NAME} ({'; '.join(failures)})"
+    )
+
+
+#: The file or the name by which the library was loaded, and the library.
+LIBRARY_PATH, _LIBRARY = _load()
+
+
+def _declare(name: str, *arguments: Any, result: Any = c_uint32) -> Callable[..., Any]:
+    try:
+        call = _LIBRARY[name]
+    except AttributeError:
+        raise ImportError(f"{LIBRARY_PATH} isn't libtarget_lexicon {_CALLS_VERSION}: it doesn't have {name}") from None
+    call.argtypes = list(arguments)
+    call.restype = result
+    return _or_memory_error(call)
+
+
+def _or_memory_error(call: Callable[..., Any]) -> Callable[..., Any]:
+    """The call. All its arguments are of its types, so that `ctypes` only fails to convert one if there is no memory."""
+    def checked(*values: Any) -> Any:
+        try:
+            return call(*values)
+        except ctypes.ArgumentError:
+            raise MemoryError from None
+    return checked
+
+
+def undeclared(name: str) -> Callable[..., int]:
+    """A call that takes its arguments as they are: each must be a value of `ctypes`."""
+    return _or_memory_error(_load_file(LIBRARY_PATH)[name])
+
+
+_TRIPLE, _ERROR, _SIZE = POINTER(TripleStruct), POINTER(ErrorStruct), POINTER(c_size_t)
+
+_version: Callable[[], bytes] = _declare("lexicon_version", result=c_char_p)
+parse = _declare("lexicon_parse", c_char_p, c_size_t, _TRIPLE, _ERROR)
+explain = _declare("lexicon_explain", c_char_p, c_size_t, _TRIPLE, POINTER(SourcesStruct), _ERROR)
+settle = _declare("lexicon_settle", _TRIPLE)
+settle_lines = _declare("lexicon_settle_lines", c_char_p, c_size_t, c_void_p, c_size_t, _SIZE)
+comes_back = _declare("lexicon_comes_back", _TRIPLE, POINTER(c_bool))
+equal = _declare("lexicon_equal", _TRIPLE, _TRIPLE, POINTER(c_bool))
+same_target = _declare("lexicon_same_target", _TRIPLE, _TRIPLE, POINTER(c_bool))
+facts = _declare("lexicon_facts", _TRIPLE, POINTER(FactsStruct), c_size_t)
+print_into = _declare("lexicon_print", _TRIPLE, c_void_p, c_size_t, _SIZE)
+read = _declare("lexicon_read", c_uint32, c_char_p, c_size_t, _TRIPLE, _ERROR)
+_write = _declare("lexicon_write", c_uint32, _TRIPLE, c_void_p, c_size_t, _SIZE)
+_reason = _declare("lexicon_reason", c_uint32, c_char_p, c_size_t, result=c_char_p)
+_name_suggestion = _declare("lexicon_name_suggestion", c_uint32, c_char_p, c_size_t, result=c_char_p)
+_number = _declare("lexicon_number", c_uint32, c_char_p, c_size_t, POINTER(c_uint32))
+_error_line = _declare("lexicon_error_line", c_char_p, c_size_t, _ERROR, c_void_p, c_size_t, _SIZE)
+_suggestion = _declare("lexicon_suggestion", c_char_p, c_size_t, _ERROR, result=c_char_p)
+_vendor_suggestion = _declare("lexicon_vendor_suggestion", _TRIPLE, result=c_char_p)
+_name = _declare("lexicon_name", c_uint32, c_uint32, result=c_char_p)
+
+#: The version of the library, and the commit that it was built from if that is known.
+LIBRARY_VERSION = _version().decode()
+if not LIBRARY_VERSION.startswith(f"{_CALLS_VERSION}."):
+    raise ImportError(f"{LIBRARY_PATH} isn't libtarget_lexicon {_CALLS_VERSION}: its version is {LIBRARY_VERSION}")
+
+#: `LEXICON_MAX_GROWTH`: no canonical string is longer by more than its target.
+MAX_GROWTH = 22
+
+#: The size of the first buffer for a string, which has room for every printed triple without a long custom vendor.
+FIRST_SIZE = 128
+TextBuffer = c_char * FIRST_SIZE
+
+
+class LibraryError(RuntimeError):
+    """The library gave a status that it shouldn't. It and this package don't go together."""
+
+    __module__ = "target_lexicon"
+
+
+def check(status: int) -> None:
+    """Raises an error if the status isn't 0."""
+    if status != OK:
+        raise LibraryError(f"{LIBRARY_PATH}: unexpected status {status}")
+
+
+def text_of(call: Callable[..., int], *arguments: object) -> bytes:
+    """The string that a call writes into a buffer, which follows its other arguments."""
+    out, length = TextBuffer(), c_size_t()
+    status = call(*arguments, out, FIRST_SIZE, length)
+    if status == TOO_SMALL:
+        large = ctypes.create_string_buffer(length.value + 1)
+        check(call(*arguments, large, length.value + 1, None))
+        return large.raw[: length.value]
+    check(status)
+    return out.raw[: length.value]
+
+
+def printed(triple: TripleStruct) -> str:
+    """The printed string of a triple, which has no zero byte."""
+    out = TextBuffer()
+    if print_into(triple, out, FIRST_SIZE, None) == OK:
+        return out.value.decode()
+    return text_of(print_into, triple).decode()
+
+
+def error_line(status: int, part: bytes) -> str:
+    """The line of an error: what was expected, and the part that was refused."""
+    return text_of(_error_line, part, len(part), ErrorStruct(status, 0, len(part))).decode()
+
+
+def suggestion(status: int, part: bytes) -> Optional[str]:
+    """The name that may have been meant by a part that is refused with this status."""
+    found: Optional[bytes] = _suggestion(part, len(part), ErrorStruct(status, 0, len(part)))
+    return None if found is None else found.decode()
+
+
+def vendor_suggestion(triple: TripleStruct) -> Optional[str]:
+    """The name that may have been meant by a custom vendor."""
+    found: Optional[bytes] = _vendor_suggestion(triple)
+    return None if found is None else found.decode()
+
+
+def name_in(dialect: int, triple: TripleStruct) -> Optional[str]:
+    """The name of a triple in a dialect, which has at most 36 bytes, or None if there is none."""
+    out = TextBuffer()
+    status = _write(dialect, triple, out, FIRST_SIZE, None)
+    if status == TRIPLE_WITHOUT_NAME:
+        return None
+    check(status)
+    return out.value.decode()
+
+
+def reason(dialect: int, text: bytes) -> Optional[str]:
+    """Why a name of a dialect has no triple, or None if it has one, or if it is no name."""
+    found: Optional[bytes] = _reason(dialect, text, len(text))
+    return None if found is None else found.decode()
+
+
+def name_suggestion(dialect: int, text: bytes) -> Optional[str]:
+    """The nearest of the names that a dialect reads, if it doesn't know this one; None if it does, or if none is near."""
+    found: Optional[bytes] = _name_suggestion(dialect, text, len(text))
+    return None if found is None else found.decode()
+
+
+def number(field: int, text: bytes) -> Tuple[int, int]:
+    """The status, and the number of the value of the field that the string is, if the status is 0."""
+    found = c_uint32()
+    return _number(field, text, len(text), found), found.value
+
+
+def name(field: int, value: int) -> Optional[str]:
+    """The name of the value with this number, or None if there is none."""
+    found: Optional[bytes] = _name(field, value)
+    return None if found is None else found.decode()
+
+
+def check_names(field: int, names: Sequence[str]) -> None:
+    """Raises an ImportError unless the library has these names in the field, and no others."""
+    if name(field, len(names) - 1) != names[-1] or name(field, len(names)) is not None:
+        raise ImportError(f"{LIBRARY_PATH} has other names than this package, so they don't go together")

@@ -1,0 +1,551 @@
+"""The triple."""
+from __future__ import annotations
+
+import ctypes
+import enum
+import operator
+from struct import Struct
+from typing import TYPE_CHECKING, Any, Callable, Dict, Iterable, Mapping, Optional, Tuple, Type, Union, final
+
+from . import _library
+from ._dialects import NO_DIALECT, Dialect, DialectName, ReadDialectName, dialect_number
+from ._errors import FIELDS, encoded, refusal
+from ._facts import CallingConvention, DataModel, Endianness
+from ._fields import CustomVendor
+from ._named import members
+from ._values import Architecture, BinaryFormat, Environment, Family, OperatingSystem, Vendor
+
+if TYPE_CHECKING:
+    from ._explain import Explanation
+
+#: Major, minor and patch.
+Version = Tuple[int, int, int]
+
+# The values by number; those of facts begin with None, for no answer.
+_ARCHITECTURES: Tuple[Architecture, ...] = members(Architecture)
+_VENDORS: Tuple[Vendor, ...] = members(Vendor)
+_SYSTEMS: Tuple[OperatingSystem, ...] = members(OperatingSystem)
+_ENVIRONMENTS: Tuple[Environment, ...] = members(Environment)
+_FORMATS: Tuple[BinaryFormat, ...] = members(BinaryFormat)
+_FAMILIES: Tuple[Family, ...] = members(Family)
+_ENDIANNESS: Tuple[Optional[Endianness], ...] = (None, *members(Endianness))
+_CONVENTIONS: Tuple[Optional[CallingConvention], ...] = (None, *members(CallingConvention))
+_MODELS: Tuple[Optional[DataModel], ...] = (None, *members(DataModel))
+
+for _field, _values in enumerate((_ARCHITECTURES, _VENDORS, _SYSTEMS, _ENVIRONMENTS, _FORMATS)):
+    _library.check_names(_field, [str(it) for it in _values])
+
+_LARGEST_VERSION = (65535, 255, 255)
+# The numbers of a struct, without its pointer and its size; and the same ones as bytes in their order, except those of the version.
+_numbers_of: Callable[[_library.TripleStruct], Tuple[int, ...]] = Struct("@H7BH").unpack_from
+_ordered_bytes: Callable[..., bytes] = Struct(">H7BH").pack
+
+
+class Keep(enum.Enum):
+    """`KEEP` is the argument of `Triple.replace` for what stays as it is."""
+
+    KEEP = "keep"
+
+    def __repr__(self) -> str:
+        return self.name
+
+
+_KEEP = Keep.KEEP
+
+
+@final
+class Triple:
+    """A target triple such as `x86_64-unknown-linux-gnu`.
+
+    >>> triple = Triple("arm64-apple-macosx13.2")
+    >>> str(triple), triple.architecture, triple.version, triple.pointer_width
+    ('aarch64-apple-macosx13.2.0', Architecture.AARCH64, (13, 2, 0), 64)
+
+    A string that is refused raises a `ParseError`, anything but a `str` a `TypeError`. A triple is immutable and
+    hashable. Triples are equal by the values of their fields, and ordered by their printed strings, then by the fields;
+    in strings, ios17 comes before ios9. No class derives from this one.
+    """
+
+    # The struct of C, and the memory that a custom vendor is in; then what is kept once somebody has asked: the facts, the printed
+    # string, the string whose order is that of triples, and the hash, which isn't set before.
+    __slots__ = ("_struct", "_owner", "_facts", "_printed", "_order_of_triple", "_hash", "__weakref__")
+    _struct: _library.TripleStruct
+    _owner: Optional[ctypes.Array[ctypes.c_char]]
+    _facts: Optional[_library.FactsStruct]
+    _printed: Optional[str]
+    _order_of_triple: Optional[str]
+    _hash: int
+    __match_args__ = ("architecture", "vendor", "operating_system", "environment", "binary_format", "version")
+
+    def __new__(cls, text: str) -> Triple:
+        utf8 = text.encode() if type(text) is str and text.isascii() else encoded(text, "the text of a triple")
+        struct, error = _library.TripleStruct(), _library.ErrorStruct()
+        if _library.parse(utf8, len(utf8), struct, error):
+            raise refusal(text, utf8, error)
+        owner = None
+        if struct.custom_vendor is not None:
+            # The struct points into the argument. Parsed again, it points into memory that the triple owns.
+            owner = ctypes.create_string_buffer(utf8, len(utf8))
+            _library.check(_library.parse(owner, len(utf8), struct, error))
+        return _triple_of(struct, owner)
+
+    def __init_subclass__(cls, **arguments: Any) -> None:
+        raise TypeError("Triple is final: no class derives from it")
+
+    @classmethod
+    def parse(cls, text: str) -> Triple:
+        """The same as `Triple(text)`."""
+        return cls(text)
+
+    @classmethod
+    def read(cls, text: str, dialect: Union[Dialect, ReadDialectName, None] = None) -> Triple:
+        """The triple that a name of another tool means. The tool is a `Dialect`, or its name; none is guessed.
+
+        >>> Triple.read("linux/arm64", Dialect.OCI), Triple.read("armhf", "debian")
+        (Triple('aarch64-unknown-linux'), Triple('arm-unknown-linux-gnueabihf'))
+
+        Without a dialect the string is spelled like a triple, as `cc -dumpmachine` and `config.guess` print it:
+
+        >>> Triple.read("x86_64-w64-mingw32"), Triple.read("amd64-unknown-freebsd13.2")
+        (Triple('x86_64-pc-windows-gnu'), Triple('x86_64-unknown-freebsd'))
+
+        What a name doesn't state is unknown. A name that the dialect doesn't have raises a `ParseError`, whose `suggestion`
+        is the nearest one. So does a name that no triple means; its `reason` says why. A dialect that there isn't raises
+        another ValueError.
+        """
+        number = NO_DIALECT if dialect is None else dialect_number(dialect)
+        utf8 = encoded(text, "the name of a target")
+        owner = ctypes.create_string_buffer(utf8, len(utf8))
+        struct, error = _library.TripleStruct(), _library.ErrorStruct()
+        if _library.read(number, owner, len(utf8), struct, error) != _library.OK:
+            raise refusal(text, utf8, error, dialect)
+        return _triple_of(struct, owner)
+
+    @classmethod
+    def from_fields(
+        cls,
+        architecture: Architecture = Architecture.UNKNOWN,
+        vendor: Union[Vendor, CustomVendor] = Vendor.UNKNOWN,
+        operating_system: OperatingSystem = OperatingSystem.UNKNOWN,
+        environment: Environment = Environment.UNKNOWN,
+        binary_format: Optional[BinaryFormat] = None,
+        version: Optional[Iterable[int]] = None,
+    ) -> Triple:
+        """The triple with these fields. The binary format None is the one that the other fields imply.
+
+        >>> Triple.from_fields(Architecture.X86_64, operating_system=OperatingSystem.DARWIN, version=[23, 6])
+        Triple('x86_64-unknown-darwin23.6.0')
+
+        A version has one to three numbers. A system that has no version raises a ValueError if there is one.
+        """
+        struct = _library.TripleStruct(
+            _number(architecture, Architecture, "architecture"),
+            _number(vendor, (Vendor, CustomVendor), "vendor"),
+            _number(operating_system, OperatingSystem, "operating_system"),
+            _number(environment, Environment, "environment"),
+        )
+        owner = None
+        if isinstance(vendor, CustomVendor):
+            text = vendor.text.encode()
+            owner = ctypes.create_string_buffer(text, len(text))
+            struct.custom_vendor, struct.custom_vendor_size = ctypes.addressof(owner), len(text)
+        facts = _facts_of(struct)
+        full = _full_version(version)
+        if full is not None:
+            if not facts.is_like_darwin:
+                raise ValueError(f"the operating system {operating_system} has no version")
+            struct.has_version = 1
+            struct.major, struct.minor, struct.patch = full
+        is_implied = binary_format is None
+        struct.binary_format = facts.implied_format if is_implied else _number(binary_format, BinaryFormat, "binary_format")
+        return _triple_of(struct, owner)
+
+    @classmethod
+    def from_dict(cls, values: Mapping[str, Any]) -> Triple:
+        """The triple of the fields in a dictionary, such as one that `to_dict` gave, or that was read from JSON.
+
+        >>> Triple.from_dict({"architecture": "x86_64", "operating_system": "ios", "version": "17.1"})
+        Triple('x86_64-unknown-ios17.1.0')
+
+        The fields are names, and the version is as it is printed; what is left out is as in `from_fields`. The other answers
+        of `to_dict` follow from the fields, and aren't looked at. Any other key raises a ValueError, as a name does that the
+        field doesn't have.
+        """
+        from ._columns import Facts
+
+        unknown = [it for it in values if it not in Facts._fields]
+        if unknown:
+            raise ValueError(f"a triple has no {', '.join(map(str, unknown))}")
+        architecture, vendor, system, environment = (values.get(it, "unknown") for it in FIELDS[:4])
+        form, version = values.get("binary_format"), values.get("version")
+        return cls.from_fields(
+            Architecture(architecture), Vendor.parse(vendor), OperatingSystem(system), Environment(environment),
+            None if form is None else BinaryFormat(form), map(int, version.split(".")) if isinstance(version, str) else version,
+        )
+
+    @classmethod
+    def host(cls) -> Triple:
+        """The triple that this Python runs as, as far as `platform` and `sysconfig` say it.
+
+        Never refused: what is not known of the machine is `unknown`. It is the target of the interpreter, so a 32-bit
+        one on a 64-bit machine has a 32-bit architecture. Sub-architectures such as `armv7` are the kernel's.
+        """
+        from . import _host
+
+        return cls.from_fields(*_host.fields_of(_host.machine()))
+
+    @property
+    def architecture(self) -> Architecture:
+        """The architecture, in some families with a sub-architecture."""
+        return _ARCHITECTURES[self._struct.architecture]
+
+    @property
+    def vendor(self) -> Union[Vendor, CustomVendor]:
+        """The vendor."""
+        if self._owner is None:
+            return _VENDORS[self._struct.vendor]
+        return CustomVendor._of(self._vendor_text().decode())
+
+    @property
+    def operating_system(self) -> OperatingSystem:
+        """The operating system, without its version."""
+        return _SYSTEMS[self._struct.operating_system]
+
+    @property
+    def environment(self) -> Environment:
+        """The environment: the ABI, or the C library."""
+        return _ENVIRONMENTS[self._struct.environment]
+
+    @property
+    def binary_format(self) -> BinaryFormat:
+        """The format of object files that the string gives, or that upstream takes as implied."""
+        return _FORMATS[self._struct.binary_format]
+
+    @property
+    def version(self) -> Optional[Version]:
+        """The version of the operating system: major, minor and patch. None if the string has none."""
+        it = self._struct
+        return (it.major, it.minor, it.patch) if it.has_version else None
+
+    @property
+    def endianness(self) -> Optional[Endianness]:
+        """The order of bytes, or None if it isn't known."""
+        return _ENDIANNESS[(self._facts or self._ask()).endianness]
+
+    @property
+    def pointer_width(self) -> Optional[int]:
+        """The bits of a pointer, 16, 32 or 64, or None if they aren't known. The environment `gnux32` counts."""
+        return (self._facts or self._ask()).pointer_width or None
+
+    @property
+    def default_calling_convention(self) -> Optional[CallingConvention]:
+        """The default calling convention of C, or None if it isn't known."""
+        return _CONVENTIONS[(self._facts or self._ask()).default_calling_convention]
+
+    @property
+    def data_model(self) -> Optional[DataModel]:
+        """The data model of C, or None if it isn't known. Then the sizes of C's types are None too."""
+        return _MODELS[(self._facts or self._ask()).data_model]
+
+    @property
+    def short_size(self) -> Optional[int]:
+        """The bytes of C's `short`, or None without a data model."""
+        return (self._facts or self._ask()).short_size or None
+
+    @property
+    def int_size(self) -> Optional[int]:
+        """The bytes of C's `int`, or None without a data model."""
+        return (self._facts or self._ask()).int_size or None
+
+    @property
+    def long_size(self) -> Optional[int]:
+        """The bytes of C's `long`, or None without a data model.
+
+        >>> Triple("x86_64-pc-windows-msvc").long_size
+        4
+        """
+        return (self._facts or self._ask()).long_size or None
+
+    @property
+    def long_long_size(self) -> Optional[int]:
+        """The bytes of C's `long long`, or None without a data model."""
+        return (self._facts or self._ask()).long_long_size or None
+
+    @property
+    def float_size(self) -> Optional[int]:
+        """The bytes of C's `float`, or None without a data model."""
+        return (self._facts or self._ask()).float_size or None
+
+    @property
+    def double_size(self) -> Optional[int]:
+        """The bytes of C's `double`, or None without a data model."""
+        return (self._facts or self._ask()).double_size or None
+
+    @property
+    def implied_format(self) -> BinaryFormat:
+        """The binary format that the other fields imply, as upstream has it: ELF for UEFI."""
+        return _FORMATS[(self._facts or self._ask()).implied_format]
+
+    @property
+    def object_format(self) -> BinaryFormat:
+        """The format that toolchains write, where the triple leaves it open: COFF for UEFI. It gives the linker."""
+        return _FORMATS[(self._facts or self._ask()).object_format]
+
+    @property
+    def family(self) -> Family:
+        """The family of the architecture: all of 32-bit Arm, Thumb too, is `Family.ARM`; AArch64 is its own."""
+        return _FAMILIES[(self._facts or self._ask()).family]
+
+    @property
+    def is_thumb(self) -> bool:
+        """Whether the architecture is Arm's with the instructions Thumb."""
+        return (self._facts or self._ask()).is_thumb
+
+    @property
+    def is_like_darwin(self) -> bool:
+        """Whether the operating system is one of Apple's. Only these have a version."""
+        return (self._facts or self._ask()).is_like_darwin
+
+    @property
+    def has_custom_vendor(self) -> bool:
+        """Whether the vendor is a `CustomVendor`."""
+        return self._owner is not None
+
+    @property
+    def canonical(self) -> str:
+        """The printed string of the canonical form, which is a key for the target."""
+        return str(self.settle())
+
+    def to_dict(self) -> Dict[str, Union[str, int, bool, None]]:
+        """All answers, with the names that `target-lexicon facts --json` has.
+
+        >>> it = Triple("arm64-apple-ios17").to_dict()
+        >>> it["version"], it["long_size"], it["canonical"]
+        ('17.0.0', 8, 'aarch64-apple-ios17.0.0')
+        """
+        from ._columns import facts_of
+
+        return facts_of(self)._asdict()
+
+    def name_in(self, dialect: Union[Dialect, DialectName]) -> Optional[str]:
+        """The name that another tool has for the target, or None if it has none. The tool is a `Dialect`, or its name.
+
+        >>> triple = Triple("aarch64-unknown-linux-gnu")
+        >>> triple.name_in(Dialect.DEBIAN), triple.name_in("oci"), Triple("avr-unknown-unknown").name_in("go")
+        ('arm64', 'linux/arm64', None)
+
+        The vendor doesn't matter, nor what the dialect doesn't name.
+        """
+        return _library.name_in(dialect_number(dialect), self._struct)
+
+    def settle(self) -> Triple:
+        """The canonical form of the triple, which comes back. So its string is a key for the target.
+
+        >>> one, other = Triple("armv7-nintendo-horizon"), Triple("armv7-nintendo-horizon-newlib")
+        >>> one == other, one.settle() == other.settle()
+        (False, True)
+        """
+        struct = _library.TripleStruct.from_buffer_copy(self._struct)
+        _library.check(_library.settle(struct))
+        return self if _numbers_of(struct) == _numbers_of(self._struct) else _triple_of(struct, self._owner)
+
+    def comes_back(self) -> bool:
+        """Whether the printed string parses as this triple.
+
+        >>> Triple("armv6k-nintendo-horizon-gnu").comes_back()
+        False
+        """
+        answer = ctypes.c_bool()
+        _library.check(_library.comes_back(self._struct, answer))
+        return answer.value
+
+    def same_target(self, other: Triple) -> bool:
+        """Whether both triples have the same canonical form.
+
+        >>> Triple("armv7-nintendo-horizon-newlib").same_target(Triple("armv7-nintendo-horizon"))
+        True
+        """
+        if not isinstance(other, Triple):
+            raise TypeError(f"the other triple must be a Triple, not {type(other).__name__}")
+        answer = ctypes.c_bool()
+        _library.check(_library.same_target(self._struct, other._struct, answer))
+        return answer.value
+
+    def replace(
+        self,
+        *,
+        architecture: Union[Architecture, Keep] = _KEEP,
+        vendor: Union[Vendor, CustomVendor, Keep] = _KEEP,
+        operating_system: Union[OperatingSystem, Keep] = _KEEP,
+        environment: Union[Environment, Keep] = _KEEP,
+        binary_format: Union[BinaryFormat, Keep, None] = _KEEP,
+        version: Union[Iterable[int], Keep, None] = _KEEP,
+    ) -> Triple:
+        """The triple with other values in the fields that are given.
+
+        A binary format that the fields imply becomes the one that the new ones imply; another one stays, unless it is
+        given. None is the implied one. A new operating system has no version, unless that is given. An environment is one
+        value, so `MUSL` instead of `GNUEABIHF` loses the hard floats; `MUSLEABIHF` keeps them.
+
+        >>> linux = Triple("x86_64-unknown-linux-gnu")
+        >>> linux.replace(environment=Environment.MUSL)
+        Triple('x86_64-unknown-linux-musl')
+        >>> linux.replace(operating_system=OperatingSystem.WINDOWS)
+        Triple('x86_64-unknown-windows-gnu')
+        """
+        if binary_format is _KEEP:
+            binary_format = None if self.binary_format is self.implied_format else self.binary_format
+        if version is _KEEP:
+            version = self.version if operating_system is _KEEP else None
+        return Triple.from_fields(
+            self.architecture if architecture is _KEEP else architecture,
+            self.vendor if vendor is _KEEP else vendor,
+            self.operating_system if operating_system is _KEEP else operating_system,
+            self.environment if environment is _KEEP else environment,
+            binary_format,
+            version,
+        )
+
+    def __replace__(self, /, **fields: Any) -> Triple:
+        """What `copy.replace` calls: the same as `replace`."""
+        return self.replace(**fields)
+
+    def explain(self) -> Explanation:
+        """From which part of the printed string each field comes. `target_lexicon.explain` explains any string."""
+        from ._explain import explain
+
+        return explain(str(self))
+
+    def _ask(self) -> _library.FactsStruct:
+        """The facts, which are kept."""
+        self._facts = facts = _facts_of(self._struct)
+        return facts
+
+    def _vendor_text(self) -> bytes:
+        """The string of the custom vendor, which is within `_owner`."""
+        owner, struct = self._owner, self._struct
+        if owner is None:
+            return b""
+        start = (struct.custom_vendor or 0) - ctypes.addressof(owner)
+        return owner.raw[start:start + struct.custom_vendor_size]
+
+    def _ordered(self) -> str:
+        """What triples are ordered by, which is kept: the printed string, which has no zero byte, then the numbers of the fields.
+
+        Where both are equal, so are versions and custom vendors, which are printed.
+        """
+        order = self._order_of_triple
+        if order is None:
+            self._order_of_triple = order = f"{str(self)}\0{_ordered_bytes(*_numbers_of(self._struct)).decode('latin-1')}"
+        return order
+
+    def __str__(self) -> str:
+        text = self._printed
+        if text is None:
+            self._printed = text = _library.printed(self._struct)
+        return text
+
+    def __format__(self, form: str) -> str:
+        return format(str(self), form)
+
+    def __repr__(self) -> str:
+        if self.comes_back():
+            return f"Triple({str(self)!r})"
+        fields = (self.architecture, self.vendor, self.operating_system, self.environment, self.binary_format, self.version)
+        return f"Triple.from_fields({', '.join(map(repr, fields))})"
+
+    def __eq__(self, other: object) -> bool:
+        if not isinstance(other, Triple):
+            return NotImplemented
+        return self is other or _numbers_of(self._struct) == _numbers_of(other._struct) and self._vendor_text() == other._vendor_text()
+
+    def __hash__(self) -> int:
+        try:
+            return self._hash
+        except AttributeError:
+            self._hash = found = hash((_numbers_of(self._struct), self._vendor_text()))
+            return found
+
+    def __lt__(self, other: Triple) -> bool:
+        # This is what `sorted` calls: the same as for the others, in less time.
+        try:
+            one, two = self._order_of_triple, other._order_of_triple
+        except AttributeError:
+            return NotImplemented
+        if one is None or two is None:
+            one, two = self._ordered(), other._ordered()
+        return one < two
+
+    def __le__(self, other: Triple) -> bool:
+        return self._ordered() <= other._ordered() if isinstance(other, Triple) else NotImplemented
+
+    def __gt__(self, other: Triple) -> bool:
+        return self._ordered() > other._ordered() if isinstance(other, Triple) else NotImplemented
+
+    def __ge__(self, other: Triple) -> bool:
+        return self._ordered() >= other._ordered() if isinstance(other, Triple) else NotImplemented
+
+    def __copy__(self) -> Triple:
+        return self
+
+    def __deepcopy__(self, memo: object) -> Triple:
+        return self
+
+    @classmethod
+    def __get_pydantic_core_schema__(cls, source: Any, handler: Any) -> Any:
+        from ._pydantic import schema_of
+
+        return schema_of(cls)
+
+    def __reduce__(self) -> Tuple[Any, ...]:
+        fields = (self.architecture, self.vendor, self.operating_system, self.environment, self.binary_format, self.version)
+        return _triple_from_fields, fields
+
+
+def _triple_of(struct: _library.TripleStruct, owner: Optional[ctypes.Array[ctypes.c_char]]) -> Triple:
+    """The triple of a struct, whose custom vendor, if it has one, is within the owner."""
+    self = object.__new__(Triple)
+    self._struct = struct
+    self._owner = owner if struct.vendor == _library.CUSTOM_VENDOR else None
+    self._facts = None
+    self._printed = self._order_of_triple = None
+    return self
+
+
+def _facts_of(struct: _library.TripleStruct) -> _library.FactsStruct:
+    facts = _library.FactsStruct()
+    _library.check(_library.facts(struct, facts, ctypes.sizeof(facts)))
+    return facts
+
+
+def _version_text(version: Optional[Version]) -> Optional[str]:
+    return None if version is None else ".".join(map(str, version))
+
+
+def _triple_from_fields(*fields: Any) -> Triple:
+    """What a pickle calls."""
+    return Triple.from_fields(*fields)
+
+
+def _number(value: Any, of: Union[Type[Any], Tuple[Type[Any], ...]], name: str) -> int:
+    """The number of a value of one of these types; anything else is a TypeError."""
+    if not isinstance(value, of):
+        names = " or ".join(it.__name__ for it in (of if isinstance(of, tuple) else (of,)))
+        raise TypeError(f"{name} must be of type {names}, not {type(value).__name__}")
+    number: int = value.number
+    return number
+
+
+def _full_version(version: Optional[Iterable[int]]) -> Optional[Version]:
+    """The version with all three numbers, of which what is missing is 0."""
+    if version is None:
+        return None
+    if isinstance(version, (str, bytes)):
+        raise TypeError("a version must be a tuple of numbers, not a text")
+    numbers = tuple(operator.index(it) for it in version)
+    if not 1 <= len(numbers) <= 3:
+        raise ValueError(f"a version has one to three numbers, not {len(numbers)}")
+    major, minor, patch = full = numbers + (0,) * (3 - len(numbers))
+    if any(not 0 <= number <= largest for number, largest in zip(full, _LARGEST_VERSION)):
+        raise ValueError(f"the numbers of a version are at most {_LARGEST_VERSION}, not {full}")
+    return major, minor, patch

@@ -1,0 +1,171 @@
+"""Names of other tools: each row of their table, strings that are spelled like triples, and refusals."""
+import copy
+import gc
+import itertools
+import pickle
+import re
+import sysconfig
+import typing
+import unittest
+
+import target_lexicon
+import lists
+from target_lexicon import CustomVendor, Dialect, ParseError, Triple, _dialects, _library
+
+UNKNOWN, WITHOUT = "Unknown name: ", "No triple has this name: "
+NAMES = [it for it in lists.elsewhere() if it.dialect not in ("first", "later")]
+ONLY_WRITTEN = "names of cross compilers are only written"
+
+
+class Names(unittest.TestCase):
+    def refusal(self, *arguments):
+        with self.assertRaises(ParseError) as caught:
+            Triple.read(*arguments)
+        return caught.exception
+
+    def test_dialects_are_those_of_the_table(self):
+        self.assertEqual({it.value for it in Dialect}, {it.dialect for it in NAMES})
+        others = set(_dialects.OTHER_NAMES)
+        self.assertEqual(set(typing.get_args(_dialects.DialectName)), {*Dialect, *others})
+        read = {it.dialect for it in NAMES if "r" in it.ways}
+        self.assertEqual(set(typing.get_args(_dialects.ReadDialectName)), {*read, *(it for it in others if _dialects.OTHER_NAMES[it] in read)})
+        self.assertEqual((Triple.read("linux/arm64", "docker").name_in("npm"), "docker" in list(Dialect)), ("linux-arm64", False))
+
+    def test_read_rows(self):
+        rows = [it for it in NAMES if "r" in it.ways]
+        for row in rows:
+            triple = Triple.read(row.name, row.dialect)
+            self.assertEqual((str(triple), triple), (row.triple, Triple(row.triple)), row)
+            self.assertEqual((triple, triple.canonical), (Triple.read(row.name, Dialect(row.dialect)), row.triple), row)
+        self.assertGreater(len(rows), 200)
+
+    def test_written_rows(self):
+        rows = [it for it in NAMES if "w" in it.ways]
+        for row in rows:
+            triple = Triple(row.triple)
+            self.assertEqual((triple.name_in(row.dialect), triple.name_in(Dialect(row.dialect))), (row.name, row.name), row)
+        self.assertGreater(len(rows), 200)
+
+    def test_rows_that_are_not_read(self):
+        """Those that no triple means, with the table's reason; and those of GNU, which are only written."""
+        rows = [it._replace(note=ONLY_WRITTEN) if it.dialect == "gnu" else it for it in NAMES]
+        rows = [it for it in rows if it.ways == "-" or it.dialect == "gnu"]
+        for row in rows:
+            error = self.refusal(row.name, row.dialect)
+            self.assertEqual((error.line, error.reason), (WITHOUT + row.name, row.note))
+            self.assertEqual((error.field, error.suggestion, error.text, error.part, error.start, error.end),
+                             (None, None, row.name, row.name, 0, len(row.name)))
+            self.assertEqual(str(error), f"{WITHOUT}{row.name}\n  {row.name}\n  {'^' * len(row.name)} {row.note}")
+        self.assertGreater(len(rows), 100)
+
+    def test_names_of_another_dialect_are_unknown(self):
+        known = {dialect: {it.name for it in NAMES if it.dialect == dialect.value} for dialect in Dialect}
+        count = 0
+        for dialect, other in itertools.permutations(Dialect, 2):
+            for name in known[other] - known[dialect]:
+                if dialect is Dialect.PYTHON and re.sub("[-.]", "_", name) in known[dialect]:
+                    continue
+                error = self.refusal(name, dialect)
+                self.assertEqual((error.line, error.reason), (UNKNOWN + name, None))
+                count += 1
+        self.assertGreater(count, 1000)
+
+    def test_platforms_of_python(self):
+        self.assertEqual(Triple.read(sysconfig.get_platform(), "python").operating_system, Triple.host().operating_system)
+        for name, tag, triple in (("macosx-11.0-arm64", "macosx_11_0_arm64", "aarch64-apple-macosx11.0.0"), ("win-amd64", "win_amd64", "x86_64-pc-windows"),
+                                  ("ios-65535.255-x86_64-iphonesimulator", "ios_65535_255_x86_64_iphonesimulator", "x86_64-apple-ios65535.255.0-sim"),
+                                  ("linux-armv7l", "linux_armv7l", "armv7-unknown-linux"), ("macosx-0.0-ppc", "macosx_0_0_ppc", "powerpc-apple-macosx0.0.0")):
+            for spelled in name, tag:
+                self.assertEqual(str(Triple.read(spelled, Dialect.PYTHON)), triple)
+            self.assertEqual(Triple(triple).name_in("python"), tag)
+        self.assertEqual(Triple("arm64-apple-macosx11.7.10").name_in("python"), "macosx_11_7_arm64")
+        for text in "arm64-apple-darwin", "arm64-apple-darwin22.5.0", "arm64-apple-macosx", "x86_64-unknown-freebsd":
+            self.assertIsNone(Triple(text).name_in("python"))
+        for name in "macosx-14-arm64", "macosx_14_arm64":
+            self.assertEqual(Triple.read(name, "python").name_in("python"), "macosx_14_0_arm64")
+        for name in "macosx_011_0_arm64", "macosx_014_arm64", "macosx_11_0_1_arm64", "macosx_65536_0_arm64", "macosx_1_256_arm64", "linux__x86_64":
+            self.assertEqual(self.refusal(name, "python").line, UNKNOWN + name)
+
+    def test_first_parts(self):
+        rows = [it for it in lists.elsewhere() if it.dialect == "first"]
+        for row in rows:
+            self.assertEqual(Triple.read(f"{row.name}-unknown-linux-gnu"), Triple(f"{row.triple}-unknown-linux-gnu"))
+            self.assertRaises(ParseError, Triple, f"{row.name}-unknown-linux-gnu")
+        self.assertGreater(len(rows), 20)
+
+    def test_spelled_like_triples(self):
+        for text, printed in {
+            "x86_64-w64-mingw32": "x86_64-pc-windows-gnu", "amd64-unknown-freebsd13.2": "x86_64-unknown-freebsd",
+            "armv7l-unknown-linux-gnueabihf": "armv7-unknown-linux-gnueabihf", "arm64-apple-macos13": "aarch64-apple-macosx13.0.0",
+            "i686-unknown-gnu0.9": "i686-unknown-hurd-gnu", "x86_64--netbsdelf9.3": "x86_64-unknown-netbsd",
+            "aarch64-none-linux-android33": "aarch64-linux-android", "x86_64-acme-freebsd14": "x86_64-acme-freebsd",
+        }.items():
+            self.assertEqual(str(Triple.read(text)), printed)
+        for text in lists.known_triples():
+            triple = Triple(text)
+            if not triple.has_custom_vendor:
+                self.assertEqual(Triple.read(text), triple)
+
+    def test_custom_vendors_stay(self):
+        vendor = "a" * 500
+        triples = [Triple.read(f"amd64-{vendor}{it}-freebsd13") for it in range(100)]
+        gc.collect()
+        for number, triple in enumerate(triples):
+            self.assertEqual((triple.vendor, str(triple)), (CustomVendor(f"{vendor}{number}"), f"x86_64-{vendor}{number}-freebsd"))
+
+    def test_refusals_of_strings(self):
+        """Without a dialect they are those of parsing, and the part is as it is in the string."""
+        for text, field, part, start in (("", "architecture", "", 0), ("amd65-linux", "architecture", "amd65", 0),
+                                         ("amd64-w64-linx", "operating_system", "linx", 10), ("linux/amd64", "architecture", "linux/amd64", 0),
+                                         ("amd64-pc-linux5-gn\u00fc", "operating_system", "linux5", 9),
+                                         ("amd64-pc-freebsd13-gn\u00fc", "environment", "gn\u00fc", 19)):
+            error = self.refusal(text)
+            self.assertEqual((error.field, error.part, error.start, error.reason), (field, part, start, None), text)
+        self.assertEqual(self.refusal("amd64-w64-linx").suggestion, "linux")
+
+    def test_nearest_names(self):
+        for dialect, name, nearest in (("go", "linux/amd46", "linux/amd64"), ("debian", "amd63", "amd64"), ("oci", "linux/arm/v9", "linux/arm/v5"),
+                                       ("node", "linux-x65-musl", "linux-x64-musl"), ("go", "plan10", None), ("python", "linux_x86_46", "linux_x86_64"),
+                                       ("python", "macosx_11_0_arm46", None), ("gnu", "x86_64-linux-gnuu", None)):
+            error = self.refusal(name, dialect)
+            self.assertEqual((error.suggestion, error.reason, str(error).endswith(f"^ did you mean `{nearest}`?")), (nearest, None, nearest is not None))
+        rows = [it for it in NAMES if "r" in it.ways and "13_2" not in it.name]
+        found = sum(self.refusal(f"{it.name}x", it.dialect).suggestion == it.name for it in rows)
+        self.assertGreater(found, len(rows) * 9 // 10)
+
+    def test_names_are_whole(self):
+        for name in "", "linux", "linux/amd64 ", "Linux/amd64", "linux/amd64\0", "\0", "linux/\u00e9", "x" * 1_000_000:
+            error = self.refusal(name, Dialect.GO)
+            self.assertEqual((error.line, error.part, error.start, error.end, error.reason), (UNKNOWN + name, name, 0, len(name), None))
+            self.assertLess(len(str(error)), 1000)
+
+    def test_triples_without_a_name(self):
+        for text in "avr-unknown-unknown", "unknown", "x86_64-unknown-linux-gnux32-coff", f"x86_64-{'a' * 500}":
+            self.assertEqual([Triple(text).name_in(it) for it in Dialect], [None] * len(Dialect), text)
+        self.assertEqual(Triple(f"x86_64-{'a' * 500}-linux-gnu").name_in(Dialect.DEBIAN), "amd64")
+
+    def test_wrong_arguments(self):
+        for value in None, 3, b"linux/amd64", Triple("x86_64"):
+            for arguments in (value,), (value, "go"):
+                self.assertRaisesRegex(TypeError, f"must be a str, not {type(value).__name__}", Triple.read, *arguments)
+        calls = [lambda it: Triple.read("linux/amd64", it), Triple("x86_64-linux").name_in]
+        for call in calls:
+            for value in "Go", "", "Docker", "none", "g\u00f6", target_lexicon.Architecture.ARM:
+                with self.assertRaisesRegex(ValueError, f"the dialect must be one of {', '.join(Dialect)}, not ") as caught:
+                    call(value)
+                self.assertNotIsInstance(caught.exception, ParseError)
+            for value in 1, b"go", Dialect:
+                self.assertRaisesRegex(TypeError, "the dialect must be of type Dialect or str", call, value)
+        self.assertRaises(TypeError, calls[1], None)
+        for number in 0, len(Dialect) + 1:
+            self.assertRaises(target_lexicon.LibraryError, _library.name_in, number, Triple("x86_64-linux")._struct)
+
+    def test_lone_surrogates(self):
+        for dialect in None, *Dialect:
+            error = self.refusal("linux/\udcff", dialect)
+            self.assertEqual((error.field, error.suggestion, error.reason, error.start, error.part), (None, None, None, 6, "\udcff"))
+
+    def test_refusals_are_values(self):
+        for error in self.refusal("js/wasm", "go"), self.refusal("amd63", "debian"):
+            for again in pickle.loads(pickle.dumps(error)), copy.deepcopy(error), eval(repr(error), vars(target_lexicon)):
+                self.assertEqual((again.text, again.line, again.reason, str(again)), (error.text, error.line, error.reason, str(error)))

@@ -1,0 +1,69 @@
+//! Conversions. Those into a [`Triple`] or a [`Vendor`] copy the string of a custom vendor, and so allocate. No other one does.
+use crate::{KnownVendor, ParseTripleError, Triple, TripleRef, Vendor, VendorRef};
+
+impl<'a> From<&'a Triple> for TripleRef<'a> {
+    /// The same as [`Triple::as_triple_ref`], which allocates nothing.
+    #[inline]
+    fn from(triple: &'a Triple) -> Self {
+        triple.as_triple_ref()
+    }
+}
+
+impl From<TripleRef<'_>> for Triple {
+    /// The same as [`TripleRef::to_triple`], which copies the string of a custom vendor.
+    #[inline]
+    fn from(triple: TripleRef<'_>) -> Self {
+        triple.to_triple()
+    }
+}
+
+impl<'a> From<&'a Vendor> for VendorRef<'a> {
+    /// The same as [`Vendor::as_vendor_ref`], which allocates nothing.
+    #[inline]
+    fn from(vendor: &'a Vendor) -> Self {
+        vendor.as_vendor_ref()
+    }
+}
+
+impl From<VendorRef<'_>> for Vendor {
+    /// The same as [`VendorRef::to_vendor`], which copies the string of a custom vendor.
+    #[inline]
+    fn from(vendor: VendorRef<'_>) -> Self {
+        vendor.to_vendor()
+    }
+}
+
+impl From<KnownVendor> for Vendor {
+    /// The same as [`KnownVendor::to_vendor`].
+    #[inline]
+    fn from(known: KnownVendor) -> Self {
+        known.to_vendor()
+    }
+}
+
+impl From<KnownVendor> for VendorRef<'_> {
+    #[inline]
+    fn from(known: KnownVendor) -> Self {
+        VendorRef::Known(known)
+    }
+}
+
+impl TryFrom<&str> for Triple {
+    type Error = ParseTripleError;
+
+    /// The same as [`Triple::parse`].
+    #[inline]
+    fn try_from(text: &str) -> Result<Self, ParseTripleError> {
+        Triple::parse(text)
+    }
+}
+
+impl<'a> TryFrom<&'a str> for TripleRef<'a> {
+    type Error = ParseTripleError;
+
+    /// The same as [`TripleRef::parse`].
+    #[inline]
+    fn try_from(text: &'a str) -> Result<Self, ParseTripleError> {
+        TripleRef::parse(text)
+    }
+}

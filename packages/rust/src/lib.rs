@@ -1,0 +1,92 @@
+//! LLVM target triples: the crate `target-lexicon` 0.13.5, with the Rust source of a verified port.
+//!
+//! The types and their methods are the proved source, without the parts that only proofs need. What needs another form in
+//! Rust is written by hand: calls that allocate, the host, the macro and serde.
+//!
+//! ```
+//! use target_lexicon::{Architecture, Endianness, OperatingSystem, Triple};
+//!
+//! let triple: Triple = "aarch64-apple-ios".parse()?;
+//! match triple.architecture {
+//!     Architecture::Aarch64(_) => assert_eq!(triple.endianness(), Ok(Endianness::Little)),
+//!     other => panic!("{other}"),
+//! }
+//! assert_eq!(triple.operating_system, OperatingSystem::IOS(None));
+//! assert_eq!(triple.to_string(), "aarch64-apple-ios");
+//! # Ok::<(), target_lexicon::ParseError>(())
+//! ```
+//!
+//! The crate needs Rust 1.65, is `no_std` with `alloc`, and has no dependency except `serde`, with the feature
+//! `serde_support`. [`TripleRef`] is a triple that borrows from the string, [`TripleRef::explain`] says where a string is
+//! refused and what was perhaps meant, and [`Triple::settle`] gives a key.
+//!
+//! The feature `upstream_printing` prints each triple as upstream does, and `tool_names` has the names of targets in other
+//! tools. Before Rust 1.81 the errors implement `Error` with the feature `std` only. `arch_zkasm` and `arch_z80` change
+//! nothing. The page `README.md` says what differs from upstream, and what is proved.
+#![no_std]
+#![forbid(unsafe_code)]
+#![cfg_attr(not(feature = "internals"), warn(missing_docs))]
+
+extern crate alloc;
+#[cfg(all(feature = "std", not(core_error)))]
+extern crate std;
+
+mod canonical;
+mod compat;
+mod conversions;
+mod display;
+mod errors;
+mod host;
+mod order;
+mod owned;
+mod parse_error;
+mod parse_triple_error;
+#[allow(dead_code, unused_imports, unused_variables)]
+// callers in crates/ need more of it, and so do clauses
+#[cfg(not(feature = "internals"))]
+mod proved;
+/// The proved crates, for the packages of the same repository.
+#[allow(dead_code, unused_imports, unused_variables)]
+#[cfg(feature = "internals")]
+#[doc(hidden)]
+pub mod proved;
+#[cfg(feature = "serde_support")]
+mod serde;
+mod suggestion;
+
+pub use canonical::NotPlain;
+pub use host::HOST;
+pub use parse_error::ParseError;
+pub use parse_triple_error::ParseTripleError;
+pub use proved::{
+    default_binary_format, Aarch64Architecture, Architecture, ArmArchitecture, BinaryFormat,
+    CDataModel, CallingConvention, CleverArchitecture, CustomVendor, DefaultToHost,
+    DefaultToUnknown, DeploymentTarget, Endianness, Environment, Explanation, Field, KnownVendor,
+    Mips32Architecture, Mips64Architecture, OperatingSystem, PointerWidth, Refusal,
+    Riscv32Architecture, Riscv64Architecture, Size, Source, Sources, TextPart, Triple, TripleRef,
+    Vendor, VendorRef, X86_32Architecture, Z80Architecture,
+};
+
+#[cfg(feature = "tool_names")]
+pub use proved::tool_names;
+
+/// The samples of the page are tested.
+#[cfg(doctest)]
+#[doc = include_str!("../README.md")]
+struct Readme;
+
+/// The triple of a string. Panics if the string is refused.
+///
+/// # Examples
+///
+/// ```
+/// use target_lexicon::{Vendor, triple};
+///
+/// assert_eq!(triple!("x86_64-pc-windows-msvc").vendor, Vendor::Pc);
+/// ```
+#[macro_export]
+macro_rules! triple {
+    ($text:tt) => {
+        <$crate::Triple as ::core::str::FromStr>::from_str($text).expect("invalid triple literal")
+    };
+}

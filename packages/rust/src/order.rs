@@ -1,0 +1,51 @@
+//! Orders. Fields are in the order of their names, and triples in that of their fields, the first one first. So a list of
+//! triples is in the order of what a reader sees, except that a version is a number: `ios9` comes before `ios17`. Only
+//! equal values have the same place: a custom vendor comes after the known one of its name.
+use crate::{
+    Architecture, BinaryFormat, CustomVendor, Environment, Field, KnownVendor, OperatingSystem,
+    PointerWidth, Triple, TripleRef, Vendor, VendorRef,
+};
+use core::cmp::Ordering;
+use core::hash::{Hash, Hasher};
+
+/// `Ord` as that of a key.
+macro_rules! order {
+    ($($name:ty, $value:ident => $key:expr;)*) => {$(
+        impl Ord for $name {
+            #[inline]
+            fn cmp(&self, other: &Self) -> Ordering {
+                let key = { let $value = self; $key };
+                key.cmp(&{ let $value = other; $key })
+            }
+        }
+
+        impl PartialOrd for $name {
+            #[inline]
+            fn partial_cmp(&self, other: &Self) -> Option<Ordering> {
+                Some(self.cmp(other))
+            }
+        }
+    )*};
+}
+
+order! {
+    Architecture, it => it.name();
+    KnownVendor, it => it.as_str();
+    CustomVendor, it => it.as_str();
+    VendorRef<'_>, it => (it.as_str(), it.is_custom());
+    Vendor, it => it.as_vendor_ref();
+    OperatingSystem, it => (it.prefix(), it.version());
+    Environment, it => it.name();
+    BinaryFormat, it => it.name();
+    TripleRef<'_>, it => (it.architecture, it.vendor, it.operating_system, it.environment, it.binary_format);
+    Triple, it => it.as_triple_ref();
+    PointerWidth, it => it.bits();
+    Field, it => *it as u8;
+}
+
+impl Hash for Field {
+    #[inline]
+    fn hash<H: Hasher>(&self, state: &mut H) {
+        (*self as u8).hash(state);
+    }
+}

@@ -1,0 +1,48 @@
+// Erased from crates/target_lexicon/src/calling_convention.rt by tools/erase. Don't edit it here.
+//! Calling conventions.
+
+/// A calling convention: which registers have the arguments of a call, which ones a call preserves, and so on.
+///
+/// # Examples
+///
+/// ```
+/// use target_lexicon::{CallingConvention, triple};
+///
+/// let convention = triple!("x86_64-pc-windows-msvc").default_calling_convention();
+/// assert_eq!(convention, Ok(CallingConvention::WindowsFastcall));
+/// ```
+#[non_exhaustive]
+#[derive(Clone, Copy, Debug, PartialEq, Eq, Hash)]
+pub enum CallingConvention {
+    /// "System V", on most systems like Unix. It differs by architecture: that of 32-bit x86 has nothing in common with
+    /// that of 64-bit x86.
+    SystemV,
+    /// The C ABI of WebAssembly:
+    /// <https://github.com/WebAssembly/tool-conventions/blob/master/BasicCABI.md>
+    WasmBasicCAbi,
+    /// "Windows Fastcall", on Windows. It differs by architecture too: on 32-bit x86 it is the convention that Windows
+    /// calls "fastcall", on 64-bit x86 the Windows x64 calling convention.
+    WindowsFastcall,
+    /// Apple's variant of the common convention of 64-bit Arm:
+    /// <https://developer.apple.com/documentation/xcode/writing_arm64_code_for_apple_platforms>
+    AppleAarch64,
+}
+
+impl CallingConvention {
+    /// The name of the convention.
+    ///
+    /// # Examples
+    ///
+    /// ```
+    /// assert_eq!(target_lexicon::CallingConvention::SystemV.name(), "SystemV");
+    /// ```
+    #[must_use]
+    pub const fn name(self) -> &'static str {
+        match self {
+            CallingConvention::SystemV => "SystemV",
+            CallingConvention::WasmBasicCAbi => "WasmBasicCAbi",
+            CallingConvention::WindowsFastcall => "WindowsFastcall",
+            CallingConvention::AppleAarch64 => "AppleAarch64",
+        }
+    }
+}

@@ -1,0 +1,88 @@
+// Erased from crates/target_lexicon/src/default_format.rt by tools/erase. Don't edit it here.
+//! The binary format that the other fields imply.
+
+use crate::proved::triple::Triple;
+use crate::proved::triple_ref::TripleRef;
+use crate::proved::{Architecture, BinaryFormat, Environment, OperatingSystem};
+
+/// The binary format that the architecture, the operating system and the environment imply. The triple's own format
+/// doesn't matter.
+///
+/// # Examples
+///
+/// ```
+/// use target_lexicon::{BinaryFormat, default_binary_format, triple};
+///
+/// let triple = triple!("x86_64-unknown-linux-gnu-coff");
+/// assert_eq!(triple.binary_format, BinaryFormat::Coff);
+/// assert_eq!(default_binary_format(&triple), BinaryFormat::Elf);
+/// ```
+#[must_use]
+pub fn default_binary_format(triple: &Triple) -> BinaryFormat {
+    triple.as_triple_ref().default_binary_format()
+}
+
+impl TripleRef<'_> {
+    /// The implied binary format, as [`default_binary_format`] says.
+    ///
+    /// # Examples
+    ///
+    /// ```
+    /// use target_lexicon::{BinaryFormat, TripleRef};
+    ///
+    /// let triple = TripleRef::from_str("x86_64-unknown-linux-gnu-coff").unwrap();
+    /// assert_eq!(triple.default_binary_format(), BinaryFormat::Elf);
+    /// ```
+    #[must_use]
+    pub const fn default_binary_format(&self) -> BinaryFormat {
+        match self.operating_system {
+            OperatingSystem::None_ => match self.environment {
+                Environment::Eabi | Environment::Eabihf => BinaryFormat::Elf,
+                _ => BinaryFormat::Unknown,
+            },
+            OperatingSystem::Aix => BinaryFormat::Xcoff,
+            OperatingSystem::Darwin(_)
+            | OperatingSystem::IOS(_)
+            | OperatingSystem::MacOSX(_)
+            | OperatingSystem::TvOS(_)
+            | OperatingSystem::VisionOS(_)
+            | OperatingSystem::WatchOS(_)
+            | OperatingSystem::XROS(_) => BinaryFormat::Macho,
+            OperatingSystem::Windows => BinaryFormat::Coff,
+            OperatingSystem::Nebulet
+            | OperatingSystem::Emscripten
+            | OperatingSystem::VxWorks
+            | OperatingSystem::Wasi
+            | OperatingSystem::Unknown => match self.architecture {
+                Architecture::Wasm32 | Architecture::Wasm64 => BinaryFormat::Wasm,
+                Architecture::Unknown => BinaryFormat::Unknown,
+                _ => BinaryFormat::Elf,
+            },
+            OperatingSystem::AmdHsa
+            | OperatingSystem::Bitrig
+            | OperatingSystem::Cloudabi
+            | OperatingSystem::Cuda
+            | OperatingSystem::Cygwin
+            | OperatingSystem::Dragonfly
+            | OperatingSystem::Espidf
+            | OperatingSystem::Freebsd
+            | OperatingSystem::Fuchsia
+            | OperatingSystem::Haiku
+            | OperatingSystem::Hermit
+            | OperatingSystem::Horizon
+            | OperatingSystem::Hurd
+            | OperatingSystem::Illumos
+            | OperatingSystem::L4re
+            | OperatingSystem::Linux
+            | OperatingSystem::Netbsd
+            | OperatingSystem::Openbsd
+            | OperatingSystem::Psp
+            | OperatingSystem::Redox
+            | OperatingSystem::Solaris
+            | OperatingSystem::SolidAsp3
+            | OperatingSystem::Uefi
+            | OperatingSystem::WasiP1
+            | OperatingSystem::WasiP2 => BinaryFormat::Elf,
+        }
+    }
+}

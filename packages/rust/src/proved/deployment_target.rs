@@ -1,0 +1,104 @@
+// Erased from crates/lexicon_fields/src/deployment_target.rt by tools/erase. Don't edit it here.
+//! The versions of deployment targets.
+
+use crate::proved::decimal::{put_byte, put_decimal};
+use core::str::from_utf8;
+
+/// The length of the longest version in decimal.
+pub const MAX_VERSION_LENGTH: usize = 13;
+
+/// The oldest version of a system like Darwin on which a target runs, within the limits of a Mach-O file.
+///
+/// # Examples
+///
+/// ```
+/// use target_lexicon::{DeploymentTarget, OperatingSystem};
+///
+/// let version = DeploymentTarget { major: 14, minor: 1, patch: 0 };
+/// assert_eq!(OperatingSystem::MacOSX(Some(version)).to_string(), "macosx14.1.0");
+/// assert!(version < DeploymentTarget { major: 14, minor: 2, patch: 0 });
+/// ```
+#[derive(Clone, Copy, Debug, PartialEq, Eq, PartialOrd, Ord, Hash)]
+pub struct DeploymentTarget {
+    /// The `10` of `10.15.7`.
+    pub major: u16,
+    /// The `15` of `10.15.7`.
+    pub minor: u8,
+    /// The `7` of `10.15.7`.
+    pub patch: u8,
+}
+
+impl DeploymentTarget {
+    /// The version that the string parses as, if any: one to three pieces between dots, each an optional plus and
+    /// digits.
+    #[doc(hidden)]
+    #[must_use]
+    pub fn from_text(text: &str) -> Option<DeploymentTarget> {
+        let (major, rest) = first_piece(text);
+        let Ok(major) = major.parse::<u16>() else {
+            return None;
+        };
+        let Some(rest) = rest else {
+            return Some(DeploymentTarget {
+                major,
+                minor: 0,
+                patch: 0,
+            });
+        };
+        let (minor, rest) = first_piece(rest);
+        let Ok(minor) = minor.parse::<u8>() else {
+            return None;
+        };
+        let Some(rest) = rest else {
+            return Some(DeploymentTarget {
+                major,
+                minor,
+                patch: 0,
+            });
+        };
+        let (patch, rest) = first_piece(rest);
+        let Ok(patch) = patch.parse::<u8>() else {
+            return None;
+        };
+        match rest {
+            Some(_) => None,
+            None => Some(DeploymentTarget {
+                major,
+                minor,
+                patch,
+            }),
+        }
+    }
+}
+
+/// The string up to the first dot, and the string after it.
+fn first_piece(text: &str) -> (&str, Option<&str>) {
+    match text.split_once('.') {
+        Some((piece, rest)) => (piece, Some(rest)),
+        None => (text, None),
+    }
+}
+
+/// A version in decimal, `major.minor.patch`, written into a buffer that has room for the longest.
+pub fn version_text(version: DeploymentTarget, buffer: &mut [u8; MAX_VERSION_LENGTH]) -> &str {
+    let end = put_version(buffer, 0, version);
+    let text = &buffer[..end];
+    match from_utf8(text) {
+        Ok(text) => text,
+        // Digits and dots are UTF-8.
+        Err(_) => "",
+    }
+}
+
+/// Writes a version, as [`put_byte`] writes a byte.
+fn put_version(out: &mut [u8], at: usize, version: DeploymentTarget) -> usize {
+    let at = put_decimal(out, at, usize::from(version.major));
+    let at = put_dotted(out, at, version.minor);
+    put_dotted(out, at, version.patch)
+}
+
+/// Writes a dot and a number, as [`put_byte`] writes a byte.
+fn put_dotted(out: &mut [u8], at: usize, n: u8) -> usize {
+    let at = put_byte(out, at, b'.');
+    put_decimal(out, at, usize::from(n))
+}

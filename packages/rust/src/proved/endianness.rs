@@ -1,0 +1,37 @@
+// Erased from crates/lexicon_fields/src/endianness.rt by tools/erase. Don't edit it here.
+//! Byte orders.
+
+/// The order of the bytes of a number in memory.
+///
+/// # Examples
+///
+/// ```
+/// use target_lexicon::{Endianness, HOST};
+///
+/// let ours = if cfg!(target_endian = "big") { Endianness::Big } else { Endianness::Little };
+/// assert_eq!(HOST.endianness(), Ok(ours));
+/// ```
+#[derive(Clone, Copy, Debug, PartialEq, Eq, Hash)]
+pub enum Endianness {
+    /// The least significant byte comes first.
+    Little,
+    /// The most significant byte comes first.
+    Big,
+}
+
+impl Endianness {
+    /// The name of the byte order.
+    ///
+    /// # Examples
+    ///
+    /// ```
+    /// assert_eq!(target_lexicon::Endianness::Little.name(), "little");
+    /// ```
+    #[must_use]
+    pub const fn name(self) -> &'static str {
+        match self {
+            Endianness::Little => "little",
+            Endianness::Big => "big",
+        }
+    }
+}

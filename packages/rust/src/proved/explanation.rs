@@ -1,0 +1,120 @@
+// Erased from crates/target_lexicon/src/explanation.rt by tools/erase. Don't edit it here.
+//! Where the value of each field comes from.
+
+use crate::proved::refusal::Refusal;
+use crate::proved::triple_ref::TripleRef;
+use core::ops::Range;
+
+/// A part of a string, and where it begins there.
+///
+/// # Examples
+///
+/// ```
+/// use target_lexicon::TripleRef;
+///
+/// let text = "x86_64-linux-foo";
+/// let part = TripleRef::from_str(text).unwrap_err().part;
+/// assert_eq!(&text[part.range()], part.text);
+/// ```
+#[derive(Clone, Copy, Debug, PartialEq, Eq)]
+pub struct TextPart<'a> {
+    /// The bytes of the part.
+    pub text: &'a str,
+    /// The index of its first byte in the string.
+    pub start: usize,
+}
+
+impl<'a> TextPart<'a> {
+    /// The range of the part in the string, in bytes.
+    ///
+    /// # Examples
+    ///
+    /// ```
+    /// use target_lexicon::TextPart;
+    ///
+    /// assert_eq!(TextPart { text: "foo", start: 13 }.range(), 13..16);
+    /// ```
+    #[must_use]
+    pub const fn range(&self) -> Range<usize> {
+        self.start..self.start.saturating_add(self.text.len())
+    }
+}
+
+/// Where the value of a field comes from.
+///
+/// # Examples
+///
+/// ```
+/// use target_lexicon::{Source, TripleRef};
+///
+/// let explanation = TripleRef::explain("x86_64-linux");
+/// assert_eq!(explanation.sources.environment, Source::NotGiven);
+/// ```
+#[derive(Clone, Copy, Debug, PartialEq, Eq)]
+pub enum Source<'a> {
+    /// From this part of the string. A special string is one part, which gives all five fields.
+    Part(TextPart<'a>),
+    /// No part of the string is of this field, which is `Unknown` if the string parses.
+    NotGiven,
+    /// No part of the string is of this field, the binary format. It is the one that the other fields imply.
+    Implied,
+}
+
+/// Where the value of each field comes from.
+///
+/// # Examples
+///
+/// ```
+/// use target_lexicon::{Source, TripleRef};
+///
+/// match TripleRef::explain("x86_64-linux").sources.architecture {
+///     Source::Part(part) => assert_eq!(part.text, "x86_64"),
+///     other => panic!("{other:?}"),
+/// }
+/// ```
+#[derive(Clone, Copy, Debug, PartialEq, Eq)]
+pub struct Sources<'a> {
+    /// Never `NotGiven` if the string parses: each string has an architecture.
+    pub architecture: Source<'a>,
+    /// A part, or `NotGiven`.
+    pub vendor: Source<'a>,
+    /// A part, or `NotGiven`.
+    pub operating_system: Source<'a>,
+    /// A part, or `NotGiven`.
+    pub environment: Source<'a>,
+    /// A part, or else `Implied`, and `NotGiven` if the string is refused.
+    pub binary_format: Source<'a>,
+}
+
+/// What a string parses as, or why it is refused; and where each field comes from.
+///
+/// # Examples
+///
+/// ```
+/// use target_lexicon::{BinaryFormat, Source, TripleRef};
+///
+/// let explanation = TripleRef::explain("x86_64-linux");
+/// assert_eq!(explanation.triple.unwrap().binary_format, BinaryFormat::Elf);
+/// assert_eq!(explanation.sources.binary_format, Source::Implied);
+/// ```
+#[derive(Clone, Copy, Debug, PartialEq, Eq)]
+pub struct Explanation<'a> {
+    /// The triple that the string parses as, or why it is refused.
+    pub triple: Result<TripleRef<'a>, Refusal<'a>>,
+    /// The source of each field. If the string is refused, it says which parts before the refused one are of which
+    /// field, and every other field is `NotGiven`.
+    pub sources: Sources<'a>,
+}
+
+impl<'a> Sources<'a> {
+    /// The same source for each field.
+    pub(crate) fn all(source: Source<'a>) -> Sources<'a> {
+        Sources {
+            architecture: source,
+            vendor: source,
+            operating_system: source,
+            environment: source,
+            binary_format: source,
+        }
+    }
+}

@@ -1,0 +1,212 @@
+// Erased from crates/target_lexicon/src/queries.rt by tools/erase. Don't edit it here.
+//! Queries for code generators.
+
+use crate::proved::calling_convention::CallingConvention;
+use crate::proved::data_model::CDataModel;
+use crate::proved::triple::Triple;
+use crate::proved::triple_ref::TripleRef;
+use crate::proved::{Architecture, Endianness, Environment, OperatingSystem, PointerWidth};
+
+impl TripleRef<'_> {
+    /// The byte order, as [`Triple::endianness`] says.
+    ///
+    /// # Examples
+    ///
+    /// ```
+    /// use target_lexicon::{Endianness, TripleRef};
+    ///
+    /// let triple = TripleRef::from_str("s390x-unknown-linux-gnu").unwrap();
+    /// assert_eq!(triple.endianness(), Ok(Endianness::Big));
+    /// ```
+    pub const fn endianness(&self) -> Result<Endianness, ()> {
+        self.architecture.endianness()
+    }
+
+    /// The width of a pointer, as [`Triple::pointer_width`] says.
+    ///
+    /// # Examples
+    ///
+    /// ```
+    /// use target_lexicon::{PointerWidth, TripleRef};
+    ///
+    /// let triple = TripleRef::from_str("avr-unknown-none").unwrap();
+    /// assert_eq!(triple.pointer_width(), Ok(PointerWidth::U16));
+    /// ```
+    pub const fn pointer_width(&self) -> Result<PointerWidth, ()> {
+        match self.environment {
+            Environment::Gnux32 | Environment::GnuIlp32 => Ok(PointerWidth::U32),
+            _ => self.architecture.pointer_width(),
+        }
+    }
+
+    /// The calling convention, as [`Triple::default_calling_convention`] says.
+    ///
+    /// # Examples
+    ///
+    /// ```
+    /// use target_lexicon::{CallingConvention, TripleRef};
+    ///
+    /// let triple = TripleRef::from_str("x86_64-unknown-linux-gnu").unwrap();
+    /// assert_eq!(triple.default_calling_convention(), Ok(CallingConvention::SystemV));
+    /// ```
+    pub const fn default_calling_convention(&self) -> Result<CallingConvention, ()> {
+        match self.operating_system {
+            OperatingSystem::Darwin(_)
+            | OperatingSystem::IOS(_)
+            | OperatingSystem::MacOSX(_)
+            | OperatingSystem::TvOS(_)
+            | OperatingSystem::VisionOS(_)
+            | OperatingSystem::WatchOS(_)
+            | OperatingSystem::XROS(_) => match self.architecture {
+                Architecture::Aarch64(_) => Ok(CallingConvention::AppleAarch64),
+                _ => Ok(CallingConvention::SystemV),
+            },
+            OperatingSystem::Aix
+            | OperatingSystem::Bitrig
+            | OperatingSystem::Cloudabi
+            | OperatingSystem::Dragonfly
+            | OperatingSystem::Freebsd
+            | OperatingSystem::Fuchsia
+            | OperatingSystem::Haiku
+            | OperatingSystem::Hermit
+            | OperatingSystem::Hurd
+            | OperatingSystem::L4re
+            | OperatingSystem::Linux
+            | OperatingSystem::Netbsd
+            | OperatingSystem::Openbsd
+            | OperatingSystem::Redox
+            | OperatingSystem::Solaris => Ok(CallingConvention::SystemV),
+            OperatingSystem::Windows => Ok(CallingConvention::WindowsFastcall),
+            OperatingSystem::Nebulet
+            | OperatingSystem::Emscripten
+            | OperatingSystem::Wasi
+            | OperatingSystem::Unknown => match self.architecture {
+                Architecture::Wasm32 => Ok(CallingConvention::WasmBasicCAbi),
+                _ => Err(()),
+            },
+            OperatingSystem::AmdHsa
+            | OperatingSystem::Cuda
+            | OperatingSystem::Cygwin
+            | OperatingSystem::Espidf
+            | OperatingSystem::Horizon
+            | OperatingSystem::Illumos
+            | OperatingSystem::None_
+            | OperatingSystem::Psp
+            | OperatingSystem::SolidAsp3
+            | OperatingSystem::Uefi
+            | OperatingSystem::VxWorks
+            | OperatingSystem::WasiP1
+            | OperatingSystem::WasiP2 => Err(()),
+        }
+    }
+
+    /// The data model of C, as [`Triple::data_model`] says.
+    ///
+    /// # Examples
+    ///
+    /// ```
+    /// use target_lexicon::{CDataModel, TripleRef};
+    ///
+    /// let triple = TripleRef::from_str("x86_64-pc-windows-msvc").unwrap();
+    /// assert_eq!(triple.data_model(), Ok(CDataModel::LLP64));
+    /// ```
+    pub fn data_model(&self) -> Result<CDataModel, ()> {
+        match self.pointer_width()? {
+            PointerWidth::U64 => self.data_model_64(),
+            PointerWidth::U32 => self.data_model_32(),
+            PointerWidth::U16 => Err(()),
+        }
+    }
+
+    /// The data model for pointers of 64 bits.
+    fn data_model_64(&self) -> Result<CDataModel, ()> {
+        match self.operating_system {
+            OperatingSystem::Windows => Ok(CDataModel::LLP64),
+            _ => match self.architecture {
+                Architecture::Wasm64 => Ok(CDataModel::LP64),
+                _ => match self.default_calling_convention()? {
+                    CallingConvention::SystemV | CallingConvention::AppleAarch64 => {
+                        Ok(CDataModel::LP64)
+                    }
+                    _ => Err(()),
+                },
+            },
+        }
+    }
+
+    /// The data model for pointers of 32 bits.
+    fn data_model_32(&self) -> Result<CDataModel, ()> {
+        match self.operating_system {
+            OperatingSystem::Windows => Ok(CDataModel::ILP32),
+            _ => match self.architecture {
+                Architecture::Wasm32 => Ok(CDataModel::ILP32),
+                _ => match self.default_calling_convention()? {
+                    CallingConvention::SystemV => Ok(CDataModel::ILP32),
+                    _ => Err(()),
+                },
+            },
+        }
+    }
+}
+
+impl Triple {
+    /// The byte order of the architecture. `Err` for the architecture `Unknown`.
+    ///
+    /// # Examples
+    ///
+    /// ```
+    /// use target_lexicon::{Endianness, triple};
+    ///
+    /// assert_eq!(triple!("s390x-unknown-linux-gnu").endianness(), Ok(Endianness::Big));
+    /// ```
+    pub fn endianness(&self) -> Result<Endianness, ()> {
+        self.as_triple_ref().endianness()
+    }
+
+    /// The width of a pointer: 32 bits in the environments `Gnux32` and `GnuIlp32`, in every other environment the
+    /// width of the architecture. `Err` for the architecture `Unknown` in these other environments.
+    ///
+    /// # Examples
+    ///
+    /// ```
+    /// use target_lexicon::{PointerWidth, triple};
+    ///
+    /// assert_eq!(triple!("x86_64-unknown-linux-gnu").pointer_width(), Ok(PointerWidth::U64));
+    /// assert_eq!(triple!("x86_64-unknown-linux-gnux32").pointer_width(), Ok(PointerWidth::U32));
+    /// ```
+    pub fn pointer_width(&self) -> Result<PointerWidth, ()> {
+        self.as_triple_ref().pointer_width()
+    }
+
+    /// The calling convention. It depends on the operating system, and on systems like Darwin and those that run
+    /// WebAssembly also on the architecture. `Err` if no convention is known, for instance on `WasiP1`, `WasiP2`,
+    /// `Illumos` and `Cygwin`.
+    ///
+    /// # Examples
+    ///
+    /// ```
+    /// use target_lexicon::{CallingConvention, triple};
+    ///
+    /// let convention = triple!("aarch64-apple-darwin").default_calling_convention();
+    /// assert_eq!(convention, Ok(CallingConvention::AppleAarch64));
+    /// assert_eq!(triple!("wasm32-wasip1").default_calling_convention(), Err(()));
+    /// ```
+    pub fn default_calling_convention(&self) -> Result<CallingConvention, ()> {
+        self.as_triple_ref().default_calling_convention()
+    }
+
+    /// The data model of C. It depends on the pointer width, the operating system, the calling convention and the
+    /// architecture. `Err` if no model is known, for instance for pointers of 16 bits.
+    ///
+    /// # Examples
+    ///
+    /// ```
+    /// use target_lexicon::{CDataModel, triple};
+    ///
+    /// assert_eq!(triple!("x86_64-pc-windows-msvc").data_model(), Ok(CDataModel::LLP64));
+    /// assert_eq!(triple!("avr-unknown-none").data_model(), Err(()));
+    /// ```
+    pub fn data_model(&self) -> Result<CDataModel, ()> {
+        self.as_triple_ref().data_model()
+    }
+}

@@ -1,0 +1,44 @@
+// Erased from crates/target_lexicon/src/settles_as.rt by tools/erase. Don't edit it here.
+//! Whether two borrowed triples have the same canonical form.
+
+use crate::proved::triple::Triple;
+use crate::proved::triple_ref::TripleRef;
+
+impl Triple {
+    /// Whether both triples have the same canonical form. Nothing is moved, copied or allocated. The cases that
+    /// [`Triple::comes_back`] lists give one to a triple whose vendor isn't plain too, but its string is no key.
+    ///
+    /// # Examples
+    ///
+    /// ```
+    /// use target_lexicon::triple;
+    ///
+    /// let (one, other) = (triple!("riscv32imc-esp-espidf"), triple!("riscv32imc-esp-espidf-elf"));
+    /// assert_ne!(one, other);
+    /// assert!(one.settles_as(&other));
+    /// ```
+    #[must_use]
+    #[inline]
+    pub fn settles_as(&self, other: &Triple) -> bool {
+        self.as_triple_ref().settles_as(&other.as_triple_ref())
+    }
+}
+
+impl TripleRef<'_> {
+    /// Whether both triples have the same canonical form, as [`Triple::settles_as`] says.
+    ///
+    /// # Examples
+    ///
+    /// ```
+    /// use target_lexicon::TripleRef;
+    ///
+    /// let one = TripleRef::from_str("riscv32imc-esp-espidf").unwrap();
+    /// let other = TripleRef::from_str("riscv32imc-esp-espidf-elf").unwrap();
+    /// assert!(one != other && one.settles_as(&other));
+    /// ```
+    #[must_use]
+    #[inline]
+    pub fn settles_as(&self, other: &TripleRef<'_>) -> bool {
+        self.step() == other.step()
+    }
+}

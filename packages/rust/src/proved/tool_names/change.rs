@@ -1,0 +1,106 @@
+// Erased from crates/tool_names/src/change.rt by tools/erase. Don't edit it here.
+//! What is changed in a string that is spelled like a triple.
+
+use crate::proved::tool_names::spelling::{first_at_end, first_spelling, Spelling};
+use crate::proved::{first_part, TextPart};
+
+/// A part of a string that is another spelling of known names, or a second part that states no vendor.
+///
+/// # Examples
+///
+/// ```
+/// use target_lexicon::tool_names::changes;
+///
+/// let change = changes("x86_64-w64-mingw32").last().unwrap();
+/// assert_eq!((change.part.text, change.part.range()), ("mingw32", 11..18));
+/// assert_eq!(change.names.to_string(), "windows-gnu");
+/// ```
+#[derive(Clone, Copy, Debug, PartialEq, Eq)]
+pub struct Change<'a> {
+    /// The part, as it is in the string.
+    pub part: TextPart<'a>,
+    /// The names that are read instead.
+    pub names: Spelling<'a>,
+}
+
+/// Where a part is in a string.
+#[derive(Clone, Copy, Debug)]
+enum Position {
+    First,
+    Second,
+    Later,
+}
+
+impl Position {
+    /// The names that a part at this position spells, with this after its dash.
+    fn spelling<'a>(self, part: &'a str, rest: Option<&str>) -> Spelling<'a> {
+        match self {
+            Position::First => Spelling::of(first_spelling(part)),
+            Position::Second => Spelling::of_second(part, rest),
+            Position::Later => Spelling::of_later(part),
+        }
+    }
+
+    /// The position of the part after one at this position.
+    fn next(self) -> Position {
+        match self {
+            Position::First => Position::Second,
+            Position::Second | Position::Later => Position::Later,
+        }
+    }
+}
+
+/// The changes of a string, from its start to its end. [`changes`] returns them.
+#[derive(Debug, Clone)]
+pub struct ChangedParts<'a> {
+    text: &'a str,
+    /// The string from the next part on, if one is left.
+    rest: Option<&'a str>,
+    position: Position,
+}
+
+/// What [`read`](crate::proved::tool_names::read) changes in a string: the parts that are other spellings of known names, and these names.
+/// Nothing is allocated.
+///
+/// A string that parses without a custom vendor has no changes. A string that is refused has its changes too, since
+/// what a part spells doesn't depend on that.
+///
+/// # Examples
+///
+/// ```
+/// use target_lexicon::tool_names::changes;
+///
+/// let shown = |text| {
+///     changes(text).map(|it| format!("{} -> {}", it.part.text, it.names)).collect::<Vec<_>>()
+/// };
+/// assert_eq!(shown("amd64-unknown-freebsd13.2"), ["amd64 -> x86_64", "freebsd13.2 -> freebsd"]);
+/// assert!(shown("x86_64-unknown-freebsd").is_empty());
+/// ```
+#[must_use]
+pub fn changes(text: &str) -> ChangedParts<'_> {
+    ChangedParts {
+        text,
+        rest: Some(text),
+        position: Position::First,
+    }
+}
+
+impl<'a> Iterator for ChangedParts<'a> {
+    type Item = Change<'a>;
+
+    fn next(&mut self) -> Option<Change<'a>> {
+        while let Some(end) = self.rest {
+            let (part, rest) = first_part(end);
+            let names = self.position.spelling(part, rest);
+            self.rest = rest;
+            self.position = self.position.next();
+            if !names.is_only(part) {
+                return Some(Change {
+                    part: first_at_end(self.text, end),
+                    names,
+                });
+            }
+        }
+        None
+    }
+}

@@ -1,0 +1,220 @@
+// Erased from crates/tool_names/src/names.rt by tools/erase. Don't edit it here.
+//! Reading and writing the names of a dialect.
+
+use crate::proved::names::misspelling::{misspelling, TOO_MANY_EDITS};
+use crate::proved::names::nearest::nearer;
+use crate::proved::tool_names::dialect::Dialect;
+use crate::proved::tool_names::name::Name;
+use crate::proved::tool_names::pattern::{matched, star_count, Numbers};
+use crate::proved::tool_names::tables::{Row, Way, ONLY_WRITTEN};
+use crate::proved::{DeploymentTarget, OperatingSystem, TripleRef};
+
+/// Why a name isn't read.
+///
+/// # Examples
+///
+/// ```
+/// use target_lexicon::tool_names::Dialect;
+///
+/// let error = Dialect::Debian.read("foo").unwrap_err();
+/// assert_eq!(error.to_string(), "Unknown name");
+/// ```
+#[derive(Clone, Copy, Debug, PartialEq, Eq)]
+pub enum NameError {
+    /// The dialect has no such name.
+    Unknown,
+    /// The dialect has the name, but no triple means the same, for this reason.
+    WithoutTriple(&'static str),
+}
+
+/// The most bytes of a triple's text that a row has, and more.
+const MAX_LENGTH: usize = 64;
+
+impl Dialect {
+    /// The triple that a name of this dialect means. It is canonical, and has a known vendor. What the name doesn't
+    /// state is unknown: `linux/arm64` of Go is `aarch64-unknown-linux`, without a C library. Nothing is allocated.
+    ///
+    /// A name of Python is read by its tag: `macosx-11.0-arm64` and `macosx_11_0_arm64` mean the same. Prefixes of GNU's
+    /// cross compilers are spelled like triples: [`read`](crate::proved::tool_names::read) reads them.
+    ///
+    /// # Errors
+    ///
+    /// The name is unknown, or it has no triple, and why. No other dialect is tried.
+    ///
+    /// # Examples
+    ///
+    /// ```
+    /// use target_lexicon::tool_names::{Dialect, NameError};
+    ///
+    /// let triple = Dialect::Go.read("linux/arm64").unwrap();
+    /// assert_eq!(triple.to_string(), "aarch64-unknown-linux");
+    /// assert_eq!(Dialect::Go.read("linux/foo"), Err(NameError::Unknown));
+    /// ```
+    pub fn read(self, name: &str) -> Result<TripleRef<'static>, NameError> {
+        match row_named(self.rows(), name, self.rules().tags) {
+            Some((row, numbers)) => row_meaning(row, numbers),
+            None => Err(NameError::Unknown),
+        }
+    }
+
+    /// The name of a triple in this dialect: that of its [shape](Dialect::shape). `None` if it has none. Nothing is
+    /// allocated.
+    ///
+    /// # Examples
+    ///
+    /// ```
+    /// use target_lexicon::{tool_names::Dialect, TripleRef};
+    ///
+    /// let triple = TripleRef::from_str("aarch64-apple-darwin").unwrap();
+    /// assert_eq!(Dialect::Node.write(&triple).unwrap().to_string(), "darwin-arm64");
+    /// ```
+    #[must_use]
+    pub fn write(self, triple: &TripleRef<'_>) -> Option<Name> {
+        let shape = self.shape(triple);
+        let numbers = Numbers::of_system(shape.operating_system);
+        let pattern = self.pattern_for(
+            numbers.count(),
+            &TripleRef {
+                operating_system: without_numbers(shape.operating_system),
+                ..shape
+            },
+        )?;
+        Some(Name::filled(pattern, numbers))
+    }
+
+    /// The name that is suggested for an unknown one: the nearest of the names without a version that
+    /// [`read`](Dialect::read) knows, if the name may be a misspelling of it. Nothing is allocated.
+    #[must_use]
+    pub fn suggestion(self, name: &str) -> Option<&'static str> {
+        nearer(
+            name,
+            nearest_name(name, self.rows(), true),
+            nearest_name(name, self.rows(), false),
+        )
+    }
+
+    /// The pattern of the name of a triple without a version, with this many numbers.
+    fn pattern_for(self, numbers: usize, triple: &TripleRef<'_>) -> Option<&'static str> {
+        let mut buffer = [0; MAX_LENGTH];
+        let length = triple.write_to(&mut buffer);
+        if MAX_LENGTH < length {
+            return None;
+        }
+        pattern_for(self.rows(), numbers, &buffer[..length])
+    }
+}
+
+/// The first row that has a name, or its tag, and the numbers of the name.
+fn row_named(rows: &[Row], name: &str, tags: bool) -> Option<(Row, Numbers)> {
+    for row in rows {
+        if let Some(numbers) = matched(row.0.as_bytes(), name.as_bytes(), tags) {
+            return Some((*row, numbers));
+        }
+    }
+    None
+}
+
+/// The name of the first row that is written for a triple's string and this many numbers.
+fn pattern_for(rows: &[Row], numbers: usize, text: &[u8]) -> Option<&'static str> {
+    for row in rows {
+        if is_written(row.2) && text == row.1.as_bytes() && star_count(row.0.as_bytes()) == numbers
+        {
+            return Some(row.0);
+        }
+    }
+    None
+}
+
+fn is_written(way: Way) -> bool {
+    matches!(way, Way::Both | Way::Written)
+}
+
+/// What a row means, with the numbers of a name.
+fn row_meaning(row: Row, numbers: Numbers) -> Result<TripleRef<'static>, NameError> {
+    match row.2 {
+        Way::Both | Way::Read => {
+            let triple = triple_of(row.1)?;
+            Ok(TripleRef {
+                operating_system: numbers.in_system(triple.operating_system),
+                ..triple
+            })
+        }
+        Way::Written => Err(NameError::WithoutTriple(ONLY_WRITTEN)),
+        Way::NoTriple => Err(NameError::WithoutTriple(row.1)),
+    }
+}
+
+/// The triple of a row's string.
+fn triple_of(text: &'static str) -> Result<TripleRef<'static>, NameError> {
+    match TripleRef::from_str(text) {
+        Ok(triple) => Ok(triple),
+        Err(_) => Err(NameError::Unknown),
+    }
+}
+
+impl Numbers {
+    /// The numbers of a system's version, which names may have: those of macOS and iOS.
+    fn of_system(system: OperatingSystem) -> Numbers {
+        match system {
+            OperatingSystem::MacOSX(Some(version)) | OperatingSystem::IOS(Some(version)) => {
+                Numbers::Two(version.major, version.minor)
+            }
+            _ => Numbers::NoNumber,
+        }
+    }
+
+    /// The system with these numbers as its version, if it is macOS or iOS.
+    fn in_system(self, system: OperatingSystem) -> OperatingSystem {
+        let (major, minor) = match self {
+            Numbers::NoNumber => return system,
+            Numbers::One(major) => (major, 0),
+            Numbers::Two(major, minor) => (major, minor),
+        };
+        let version = Some(DeploymentTarget {
+            major,
+            minor,
+            patch: 0,
+        });
+        match system {
+            OperatingSystem::MacOSX(_) => OperatingSystem::MacOSX(version),
+            OperatingSystem::IOS(_) => OperatingSystem::IOS(version),
+            other => other,
+        }
+    }
+}
+
+/// The system without the numbers that a name has.
+fn without_numbers(system: OperatingSystem) -> OperatingSystem {
+    match system {
+        OperatingSystem::MacOSX(_) => OperatingSystem::MacOSX(None),
+        OperatingSystem::IOS(_) => OperatingSystem::IOS(None),
+        other => other,
+    }
+}
+
+/// The nearest of the names without a number that are read, and are written or aren't, if a name may be a misspelling of
+/// it.
+fn nearest_name(name: &str, rows: &'static [Row], written: bool) -> Option<&'static str> {
+    let mut nearest = None;
+    let mut limit = TOO_MANY_EDITS;
+    for row in rows {
+        if has_plain_name(written, *row) {
+            let edits = misspelling(name, row.0);
+            if edits < limit {
+                nearest = Some(row.0);
+                limit = edits;
+            }
+        }
+    }
+    nearest
+}
+
+/// Whether a row has a name without a number that is read, and is written or isn't.
+fn has_plain_name(written: bool, row: Row) -> bool {
+    let fits = match row.2 {
+        Way::Both => written,
+        Way::Read => !written,
+        Way::Written | Way::NoTriple => false,
+    };
+    fits && star_count(row.0.as_bytes()) == 0
+}

@@ -1,0 +1,216 @@
+// Erased from crates/tool_names/src/shape.rt by tools/erase. Don't edit it here.
+//! The shape of a triple in a dialect.
+
+use crate::proved::tool_names::dialect::Dialect;
+use crate::proved::{
+    Architecture, ArmArchitecture, DeploymentTarget, Environment, KnownVendor, OperatingSystem,
+    Riscv32Architecture, Riscv64Architecture, TripleRef, VendorRef, X86_32Architecture,
+};
+
+/// How a dialect states the ABI.
+#[derive(Clone, Copy, Debug, PartialEq, Eq)]
+pub(crate) enum AbiRule {
+    /// Every environment is kept.
+    Kept,
+    /// C libraries and floating-point ABIs aren't stated.
+    Dropped,
+    /// C libraries are stated on Linux only.
+    KeptOnLinux,
+}
+
+/// What names state in a dialect.
+#[derive(Clone, Copy, Debug, PartialEq, Eq)]
+pub(crate) struct Rules {
+    /// The versions 5 to 8 of Arm.
+    pub arm_version: bool,
+    pub abi: AbiRule,
+    /// The version of macOS and iOS, in two numbers.
+    pub versions: bool,
+    /// `-` and `.` of a name are `_` in the names of the rows.
+    pub tags: bool,
+}
+
+impl Dialect {
+    /// The triple without what the dialect doesn't name: the vendor, which is the usual one of the system; the version
+    /// of the system, and how much of that of the architecture isn't stated; where names don't state them, also the C
+    /// library and the floating-point ABI, as in Go, OCI and Python, and in Node except on Linux. Python keeps versions of
+    /// macOS and iOS, with two numbers. The binary format stays.
+    ///
+    /// # Examples
+    ///
+    /// ```
+    /// use target_lexicon::{tool_names::Dialect, TripleRef};
+    ///
+    /// let triple = TripleRef::from_str("x86_64-acme-linux-musl").unwrap();
+    /// assert_eq!(Dialect::Go.shape(&triple).to_string(), "x86_64-unknown-linux");
+    /// ```
+    #[must_use]
+    pub fn shape(self, triple: &TripleRef<'_>) -> TripleRef<'static> {
+        let rules = self.rules();
+        TripleRef {
+            architecture: machine_by(rules.arm_version, triple.architecture),
+            vendor: VendorRef::Known(usual_vendor(triple.operating_system)),
+            operating_system: system_by(rules.versions, triple.operating_system),
+            environment: rules
+                .abi
+                .environment(triple.operating_system, triple.environment),
+            binary_format: triple.binary_format,
+        }
+    }
+}
+
+impl AbiRule {
+    /// The environment without an ABI that isn't stated.
+    fn environment(
+        self,
+        operating_system: OperatingSystem,
+        environment: Environment,
+    ) -> Environment {
+        let forgotten = match self {
+            AbiRule::Kept => false,
+            AbiRule::Dropped => is_dropped_abi(environment),
+            AbiRule::KeptOnLinux => match operating_system {
+                OperatingSystem::Linux => is_bare_abi(environment),
+                _ => is_dropped_abi(environment),
+            },
+        };
+        if forgotten {
+            Environment::Unknown
+        } else {
+            environment
+        }
+    }
+}
+
+/// The architecture without what isn't stated: of Arm the version, or all but the byte order.
+fn machine_by(arm_version: bool, architecture: Architecture) -> Architecture {
+    match architecture {
+        Architecture::Arm(arm) => Architecture::Arm(if arm_version {
+            arm_of_version(arm)
+        } else {
+            arm_of_order(arm)
+        }),
+        Architecture::X86_32(_) => Architecture::X86_32(X86_32Architecture::I686),
+        Architecture::Riscv32(_) => Architecture::Riscv32(Riscv32Architecture::Riscv32),
+        Architecture::Riscv64(_) => Architecture::Riscv64(Riscv64Architecture::Riscv64),
+        Architecture::X86_64h => Architecture::X86_64,
+        Architecture::Sparcv9 => Architecture::Sparc64,
+        other => other,
+    }
+}
+
+fn system_by(versions: bool, operating_system: OperatingSystem) -> OperatingSystem {
+    if versions {
+        with_two_numbers(operating_system)
+    } else {
+        unversioned(operating_system)
+    }
+}
+
+/// One Arm for each byte order.
+fn arm_of_order(arm: ArmArchitecture) -> ArmArchitecture {
+    match arm {
+        ArmArchitecture::Armeb | ArmArchitecture::Armebv7r | ArmArchitecture::Thumbeb => {
+            ArmArchitecture::Armeb
+        }
+        _ => ArmArchitecture::Arm,
+    }
+}
+
+/// The versions 5, 6, 7 and 8 of Arm for applications; every other Arm is itself.
+fn arm_of_version(arm: ArmArchitecture) -> ArmArchitecture {
+    match arm {
+        ArmArchitecture::Armv5t | ArmArchitecture::Armv5tej => ArmArchitecture::Armv5te,
+        ArmArchitecture::Armv6j
+        | ArmArchitecture::Armv6k
+        | ArmArchitecture::Armv6z
+        | ArmArchitecture::Armv6kz
+        | ArmArchitecture::Armv6t2 => ArmArchitecture::Armv6,
+        ArmArchitecture::Armv7a
+        | ArmArchitecture::Armv7ve
+        | ArmArchitecture::Thumbv7a
+        | ArmArchitecture::Thumbv7neon => ArmArchitecture::Armv7,
+        ArmArchitecture::Armv8a => ArmArchitecture::Armv8,
+        other => other,
+    }
+}
+
+/// The system without a version; macOS has one name.
+fn unversioned(operating_system: OperatingSystem) -> OperatingSystem {
+    match operating_system {
+        OperatingSystem::Darwin(_) | OperatingSystem::MacOSX(_) => OperatingSystem::Darwin(None),
+        OperatingSystem::IOS(_) => OperatingSystem::IOS(None),
+        OperatingSystem::TvOS(_) => OperatingSystem::TvOS(None),
+        OperatingSystem::VisionOS(_) => OperatingSystem::VisionOS(None),
+        OperatingSystem::WatchOS(_) => OperatingSystem::WatchOS(None),
+        OperatingSystem::XROS(_) => OperatingSystem::XROS(None),
+        other => other,
+    }
+}
+
+/// The system without a version, except that macOS and iOS have two numbers of it.
+fn with_two_numbers(operating_system: OperatingSystem) -> OperatingSystem {
+    match operating_system {
+        OperatingSystem::MacOSX(version) => OperatingSystem::MacOSX(two_numbers_of(version)),
+        OperatingSystem::IOS(version) => OperatingSystem::IOS(two_numbers_of(version)),
+        other => unversioned(other),
+    }
+}
+
+/// A version without its third number.
+fn two_numbers_of(version: Option<DeploymentTarget>) -> Option<DeploymentTarget> {
+    match version {
+        Some(version) => Some(DeploymentTarget {
+            patch: 0,
+            ..version
+        }),
+        None => None,
+    }
+}
+
+/// The vendor that triples on a system usually have.
+fn usual_vendor(operating_system: OperatingSystem) -> KnownVendor {
+    match operating_system {
+        OperatingSystem::Darwin(_)
+        | OperatingSystem::MacOSX(_)
+        | OperatingSystem::IOS(_)
+        | OperatingSystem::TvOS(_)
+        | OperatingSystem::VisionOS(_)
+        | OperatingSystem::WatchOS(_)
+        | OperatingSystem::XROS(_) => KnownVendor::Apple,
+        OperatingSystem::Windows | OperatingSystem::Cygwin | OperatingSystem::Solaris => {
+            KnownVendor::Pc
+        }
+        OperatingSystem::Aix => KnownVendor::Ibm,
+        _ => KnownVendor::Unknown,
+    }
+}
+
+/// Whether an environment states only an embedded ABI, or none.
+fn is_bare_abi(environment: Environment) -> bool {
+    matches!(
+        environment,
+        Environment::Eabi | Environment::Eabihf | Environment::None
+    )
+}
+
+/// Whether an environment states a C library, or how floating-point numbers are passed.
+fn is_dropped_abi(environment: Environment) -> bool {
+    match environment {
+        Environment::Gnu
+        | Environment::Gnueabi
+        | Environment::Gnueabihf
+        | Environment::Gnuabi64
+        | Environment::Gnuspe
+        | Environment::GnuLlvm
+        | Environment::Musl
+        | Environment::Musleabi
+        | Environment::Musleabihf
+        | Environment::Muslabi64
+        | Environment::Uclibc
+        | Environment::Uclibceabi
+        | Environment::Uclibceabihf
+        | Environment::Msvc => true,
+        _ => is_bare_abi(environment),
+    }
+}

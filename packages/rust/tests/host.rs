@@ -1,0 +1,44 @@
+//! `HOST` in constants and statics, as upstream's users write them.
+use target_lexicon::{Architecture, Environment, Triple, HOST};
+
+const ARCHITECTURE: Architecture = HOST.architecture;
+const ON_MUSL: Triple = Triple {
+    environment: Environment::Musl,
+    ..HOST
+};
+static BORROWED: &Triple = &HOST;
+
+#[test]
+fn the_host_is_a_literal() {
+    let lasting: &'static Triple = &HOST;
+    assert_eq!(*lasting, Triple::host());
+    assert_eq!(*BORROWED, HOST);
+    assert_eq!(ARCHITECTURE, Architecture::host());
+    assert_eq!(ON_MUSL.vendor, HOST.vendor);
+}
+
+#[test]
+fn the_host_is_what_rustc_says() {
+    assert_eq!(
+        HOST.pointer_width().map(|it| it.bytes().into()),
+        Ok(std::mem::size_of::<usize>())
+    );
+    assert_eq!(
+        HOST.operating_system.is_like_darwin(),
+        cfg!(target_vendor = "apple")
+    );
+    assert_eq!(HOST.to_string().parse(), Ok(HOST));
+}
+
+/// Names and queries are constants too.
+const WIDTH: usize = match HOST.architecture.pointer_width() {
+    Ok(width) => width.bytes() as usize,
+    Err(()) => 0,
+};
+const SYSTEM: &str = HOST.operating_system.prefix();
+
+#[test]
+fn queries_are_constants() {
+    assert_eq!([0; WIDTH].len(), std::mem::size_of::<usize>());
+    assert!(HOST.operating_system.to_string().starts_with(SYSTEM));
+}
