@@ -8,7 +8,8 @@ DIALECT, ONLY_WRITTEN = "# dialect ", "# only written: "
 # The rules of a dialect: for each word of its line the field of `Rules`, and its value for each choice. After them it may have other names.
 RULES = {"arm": ("arm_version", {"order": "false", "version": "true"}),
          "abi": ("abi", {"kept": "AbiRule::Kept", "dropped": "AbiRule::Dropped", "linux": "AbiRule::KeptOnLinux"}),
-         "versions": ("versions", {"no": "false", "yes": "true"}), "tags": ("tags", {"no": "false", "yes": "true"})}
+         "versions": ("versions", {"no": "false", "yes": "true"}), "tags": ("tags", {"no": "false", "yes": "true"}),
+         "platforms": ("platforms", {"no": "false", "yes": "true"})}
 
 
 @dataclass
@@ -54,8 +55,8 @@ def tables_of(text, wrong):
         if line.startswith(DIALECT):
             name, *rules = line.removeprefix(DIALECT).split()
             rules = dict(rule.partition("=")[::2] for rule in rules)
-            others = rules.pop("names", "").split(",")
-            others = [it for it in others if it]
+            others = [it for it in rules.pop("names", "").split(",") if it]
+            rules["platforms"] = rules.pop("platforms", "no")
             if {name, *others} & {*found.dialects, *(it[0] for it in other_names(found))} or list(rules) != list(RULES) or any(rules[it] not in RULES[it][1] for it in rules):
                 mistake("a new dialect is wanted, and a choice for each of " + ", ".join(RULES))
             described = found.dialects.setdefault(name, Dialect(name, rules, others))
@@ -148,6 +149,10 @@ def lists_of_languages(dialects, others):
                                                for name, of in (("READ", "is_read"), ("WRITTEN", "is_written")))],
         "the dialects for JavaScript": [f"export const DIALECTS = Object.freeze([{names}]);"],
         "the other names of dialects for JavaScript": [f"const OTHER_NAMES = {{ {', '.join(f'{name}: {chr(34)}{it.name}{chr(34)}' for name, it in others)} }};"],
+        "the dialects for the documentation": ["", "| Dialect | Its names | Read | Written |", "|---|---|---|---|",
+                                               *(f"| {', '.join(f'`{name}`' for name in [it.name, *it.other_names])} | {it.about} | "
+                                                 f"{'yes' if it.is_read else 'no'} | {'yes' if it.is_written else 'no'} |" for it in dialects), ""],
+        "the dialects for the page": [f"const {name} = [{', '.join(chr(34) + it.name + chr(34) for it in of)}];" for name, of in (("READ", read), ("WRITTEN", written))],
         "the type of dialects": ["export type Dialect = " + " | ".join(f'"{it}"' for it in [*words, *(name for name, _ in others)]) + ";"],
         "the dialects for TypeScript": [f"export const DIALECTS: readonly [{names}];"],
     }

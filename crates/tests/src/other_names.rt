@@ -143,26 +143,51 @@ manylinux_2_x86_64==
 manylinux_2_17_sparc==
 ==";
 
+/// The same for platforms of container images.
+const PLATFORMS: &str = "\
+linux/arm=armv7-unknown-linux=linux/arm/v7
+linux/arm/7=armv7-unknown-linux=linux/arm/v7
+linux/arm/5=armv5te-unknown-linux=linux/arm/v5
+linux/arm/V8=armv8-unknown-linux=linux/arm/v8
+linux/armhf/v5=armv7-unknown-linux=linux/arm/v7
+linux/armel=armv6-unknown-linux=linux/arm/v6
+LINUX/ARM64=aarch64-unknown-linux=linux/arm64
+linux/aarch64/8=aarch64-unknown-linux=linux/arm64
+macOS/aarch64/v8=aarch64-apple-darwin=darwin/arm64
+windows/x86_64=x86_64-pc-windows=windows/amd64
+Windows/X86-64/V1=x86_64-pc-windows=windows/amd64
+android/i386/v5=i686-linux-android=android/386
+windows(10.0.17763)/amd64=x86_64-pc-windows=windows/amd64
+wasip1/wasm=wasm32-wasip1=
+linux/arm/9==
+linux/arm64/==
+linux/arm64/v8/==
+linux/amd64/v1/v1==
+linux//amd64==
+linux/i386x==
+linuxx/amd64==
+macos==
+x86_64==
+//==
+/==
+==";
+
 #[test]
-fn names_of_python(rt: HostRuntime) {
-    for row in PYTHON.lines() {
-        let (name, rest) = row.split_once('=').unwrap_or((row, ""));
-        let (meaning, written) = rest.split_once('=').unwrap_or((rest, ""));
-        match TripleRef::from_str(meaning) {
-            Ok(triple) => {
-                assert!(rt;
-                    name.is_empty() || Dialect::Python.read(name) == Ok(triple),
-                    "{row}"
-                );
-                match Dialect::Python.write(&triple) {
-                    Some(found) => assert!(rt; prints(&found, written), "{row}"),
-                    None => assert!(rt; written.is_empty(), "{row}"),
+fn names_with_numbers_and_platforms(rt: HostRuntime) {
+    for (dialect, rows) in [(Dialect::Python, PYTHON), (Dialect::Oci, PLATFORMS)] {
+        for row in rows.lines() {
+            let (name, rest) = row.split_once('=').unwrap_or((row, ""));
+            let (meaning, written) = rest.split_once('=').unwrap_or((rest, ""));
+            match TripleRef::from_str(meaning) {
+                Ok(triple) => {
+                    assert!(rt; name.is_empty() || dialect.read(name) == Ok(triple), "{row}");
+                    match dialect.write(&triple) {
+                        Some(found) => assert!(rt; prints(&found, written), "{row}"),
+                        None => assert!(rt; written.is_empty(), "{row}"),
+                    }
                 }
+                Err(_) => assert!(rt; dialect.read(name) == Err(NameError::Unknown), "{row}"),
             }
-            Err(_) => assert!(rt;
-                Dialect::Python.read(name) == Err(NameError::Unknown),
-                "{row}"
-            ),
         }
     }
     let several = NameError::WithoutTriple("several machines");

@@ -16,13 +16,16 @@ use Rattle.tool_names.specs.declared.tables.Way.TheVariants.{Both, Read, Written
 use Rattle.tool_names.specs.{Dialects.rows_of, Dialects.rules_of, Private.is_short_pattern}
 use Rattle.tool_names.specs.{Laws.IsCanonical, Laws.IsNamed, Laws.NamesAreCanonical, Laws.NamesKeepAnswers, Laws.NamesMeanTheShape, Laws.NamesMeanTheirRows, Laws.MeansTheShape, Laws.ReadsBack, Laws.NamesReadBack, Laws.NamesWithoutTripleAreRefused, Laws.OneNumberIsEnough, Laws.TagsMeanTheSame, Laws.may_be_long, Laws.may_be_short}
 use Rattle.tool_names.specs.{ObjectFormat.object_format, Shape.machine_by, Shape.shape, Shape.system_by, Shape.unversioned, Shape.with_two_numbers}
+use Rattle.std.specs.Option.{option_or}
+use Rattle.tool_names.specs.declared.dialect.Dialect.TheVariants.{Debian}
+use Rattle.tool_names.specs.Platforms.{Words, normal_words, row_with_words, words_of}
 use Rattle.tool_names.specs.Patterns.{all_limits, are_within, filled, fits, star_count, with_star, without_star}
 use Rattle.tool_names.specs.Tables.{Row, is_read_and, is_written, row_named}
-use Rattle.tool_names.specs.ToolNames.{HasNoTriple, Unread, found_meaning, name_meaning, numbers_in, read_or_unknown, row_meaning, shape_row, system_with, text_without_numbers, triple_name, version_of_numbers, with_numbers, without_numbers}
+use Rattle.tool_names.specs.ToolNames.{HasNoTriple, Unread, found_meaning, name_meaning, numbers_in, platform_row, read_or_unknown, row_meaning, shape_row, system_with, text_without_numbers, triple_name, version_of_numbers, with_numbers, without_numbers}
 use Rattle.tool_names.proofs.Filling.{counted_fits, filled_matches, fits_are_within, fits_counted, is_own_tag, is_spaced, match_fits}
 use Rattle.tool_names.proofs.ObjectFormats.{given_kept}
 use Rattle.tool_names.proofs.RowChecks.{IsWrittenFor, both_rows, gives_no_special_text, has_canonical, has_form, has_numbers, has_ordinary, has_pair, has_triple, is_both, is_canonical, is_canonical_as, is_known_format, is_ordinary, is_ordinary_if_read, is_ordinary_architecture, is_ordinary_system, is_long_of, is_pair, is_short_of, name_of, plain-back, row-written, rows-apart, rows-canonical, rows-formed, rows-ordinary, rows-paired, versioned-back, written_back}
-use Rattle.tool_names.proofs.RowLemmas.{all-at, any-at, is_only_written, is_refused, named-at, row-found}
+use Rattle.tool_names.proofs.RowLemmas.{all-at, any-at, is_only_written, is_refused, named-at, row-found, words-at}
 use Rattle.tool_names.proofs.Tags.{named_tag}
 use Rattle.tool_names.proofs.ShapeLemmas.{has_no_special_text, numbers-within, shape-endianness, shape-no_special, shape-width, with-again, without-range}
 
@@ -135,9 +138,18 @@ without_triple_refused = record {
   only_written = λ d row name numbers named is. written-refused d row name numbers named (rw is refl);
 }
 
+-- where names are tags they are no platforms
+
+not-both : (d : Dialect) → ((rules_of d).tags && (rules_of d).platforms) ≡ false
+not-both Debian = refl
+not-both _ = refl
+
+no-platforms : (d : Dialect) → (rules_of d).tags ≡ true → (rules_of d).platforms ≡ false
+no-platforms d tags = let both = not-both d in let none = rw tags at both in none
+
 pub tags_mean_same : TagsMeanTheSame
 unfolding name_meaning
-tags_mean_same d name tags = rw (tags, named_tag (rows_of d) name) refl
+tags_mean_same d name tags = rw (tags, no-platforms d tags, named_tag (rows_of d) name) refl
 
 -- the form of a row, and its name with numbers
 
@@ -326,6 +338,22 @@ found-canonical round_trip read_plain d name found t is triple means =
     let same : Ok (record row.0 { operating_system = system_with found.1 row.0.operating_system }) ≡ Ok t = sym (ap (λ r. with_numbers found.1 (read_or_unknown r)) row.1.reads) ∙ means in
     numbered-canonical round_trip read_plain found.0.meaning found.1 t row.0 row.1 special (fits_are_within found.0.pattern found.1 fit) cc
 
+words-canonical : RoundIsNormalStep → ReadTriplesArePlain → (d : Dialect) (words : Words) (row : Row) (t : Values) → row_with_words (rows_of d) words ≡ Some row → row_meaning row.way row.meaning [] ≡ Ok t → IsCanonical t
+words-canonical round_trip read_plain d words row t is means = by_way row.way refl means
+  where
+    by_triple : has_triple row.way ≡ true → with_numbers [] (read_or_unknown (reading row.meaning)) ≡ Ok t → IsCanonical t
+    by_triple triple h =
+        let at = words-at (rows_of d) words row is in
+        let it = canonical-row row.meaning (canonical-at d at.0 row at.1 triple).0 in
+        let same : Ok it.0 ≡ Ok t = sym (ap (λ r. with_numbers [] (read_or_unknown r)) it.1.reads) ∙ h in
+        numbered-canonical round_trip read_plain row.meaning [] t it.0 it.1 (λ some. absurd (some refl)) refl cc
+
+    by_way : (way : Way) → row.way ≡ way → row_meaning way row.meaning [] ≡ Ok t → IsCanonical t
+    by_way Both way h = by_triple (rw way refl) h
+    by_way Read way h = by_triple (rw way refl) h
+    by_way Written way h = absurd cc
+    by_way NoTriple way h = absurd cc
+
 pub names_canonical : RoundIsNormalStep → ReadTriplesArePlain → NamesAreCanonical
 unfolding name_meaning
 names_canonical round_trip read_plain d name t means = by_found (row_named (rules_of d).tags (rows_of d) name) refl means
@@ -336,8 +364,16 @@ names_canonical round_trip read_plain d name t means = by_found (row_named (rule
     by_way found is Written way h = absurd cc
     by_way found is NoTriple way h = absurd cc
 
-    by_found : (o : Option (Row × List ℕ)) → row_named (rules_of d).tags (rows_of d) name ≡ o → found_meaning o ≡ Ok t → IsCanonical t
-    by_found None is h = absurd cc
+    by_words : (o : Option Row) → row_with_words (rows_of d) (normal_words (words_of name)) ≡ o → found_meaning (option_map (λ (row : Row). (row, [])) o) ≡ Ok t → IsCanonical t
+    by_words None is h = absurd cc
+    by_words (Some row) is h = words-canonical round_trip read_plain d (normal_words (words_of name)) row t is h
+
+    by_platform : (b : Bool) → found_meaning (platform_row b (rows_of d) name) ≡ Ok t → IsCanonical t
+    by_platform true h = by_words (row_with_words (rows_of d) (normal_words (words_of name))) refl h
+    by_platform false h = absurd cc
+
+    by_found : (o : Option (Row × List ℕ)) → row_named (rules_of d).tags (rows_of d) name ≡ o → found_meaning (option_or o (platform_row (rules_of d).platforms (rows_of d) name)) ≡ Ok t → IsCanonical t
+    by_found None is h = by_platform (rules_of d).platforms h
     by_found (Some found) is h = by_way found is found.0.way refl h
 
 -- the row that is written for a shape

@@ -48,20 +48,20 @@ dialect_of name = value_named (named_values dialect_name dialects ++ other_diale
 -- what names state in a dialect
 abbrev pub rules_of : Dialect → Rules
 -- written by tools/names/write: rules_of
-rules_of dialect.Debian = record { arm_version = false; abi = abi.Kept; versions = false; tags = false }
-rules_of dialect.Go = record { arm_version = false; abi = abi.Dropped; versions = false; tags = false }
-rules_of dialect.Oci = record { arm_version = true; abi = abi.Dropped; versions = false; tags = false }
-rules_of dialect.Node = record { arm_version = false; abi = abi.KeptOnLinux; versions = false; tags = false }
-rules_of dialect.Gnu = record { arm_version = false; abi = abi.Kept; versions = false; tags = false }
-rules_of dialect.Python = record { arm_version = true; abi = abi.Dropped; versions = true; tags = true }
-rules_of dialect.Uname = record { arm_version = true; abi = abi.Dropped; versions = false; tags = false }
-rules_of dialect.Rpm = record { arm_version = true; abi = abi.Kept; versions = false; tags = false }
-rules_of dialect.Apk = record { arm_version = true; abi = abi.Kept; versions = false; tags = false }
-rules_of dialect.Pacman = record { arm_version = true; abi = abi.Kept; versions = false; tags = false }
-rules_of dialect.Dotnet = record { arm_version = true; abi = abi.KeptOnLinux; versions = false; tags = false }
-rules_of dialect.Conda = record { arm_version = true; abi = abi.KeptOnLinux; versions = false; tags = false }
-rules_of dialect.Zig = record { arm_version = false; abi = abi.Kept; versions = false; tags = false }
-rules_of dialect.Nix = record { arm_version = true; abi = abi.Dropped; versions = false; tags = false }
+rules_of dialect.Debian = record { arm_version = false; abi = abi.Kept; versions = false; tags = false; platforms = false }
+rules_of dialect.Go = record { arm_version = false; abi = abi.Dropped; versions = false; tags = false; platforms = false }
+rules_of dialect.Oci = record { arm_version = true; abi = abi.Dropped; versions = false; tags = false; platforms = true }
+rules_of dialect.Node = record { arm_version = false; abi = abi.KeptOnLinux; versions = false; tags = false; platforms = false }
+rules_of dialect.Gnu = record { arm_version = false; abi = abi.Kept; versions = false; tags = false; platforms = false }
+rules_of dialect.Python = record { arm_version = true; abi = abi.Dropped; versions = true; tags = true; platforms = false }
+rules_of dialect.Uname = record { arm_version = true; abi = abi.Dropped; versions = false; tags = false; platforms = false }
+rules_of dialect.Rpm = record { arm_version = true; abi = abi.Kept; versions = false; tags = false; platforms = false }
+rules_of dialect.Apk = record { arm_version = true; abi = abi.Kept; versions = false; tags = false; platforms = false }
+rules_of dialect.Pacman = record { arm_version = true; abi = abi.Kept; versions = false; tags = false; platforms = false }
+rules_of dialect.Dotnet = record { arm_version = true; abi = abi.KeptOnLinux; versions = false; tags = false; platforms = false }
+rules_of dialect.Conda = record { arm_version = true; abi = abi.KeptOnLinux; versions = false; tags = false; platforms = false }
+rules_of dialect.Zig = record { arm_version = false; abi = abi.Kept; versions = false; tags = false; platforms = false }
+rules_of dialect.Nix = record { arm_version = true; abi = abi.Dropped; versions = false; tags = false; platforms = false }
 
 -- end of what is written
 

@@ -3,6 +3,7 @@ pub mod Dialects
 pub mod ObjectFormat
 pub mod Laws
 pub mod Patterns
+pub mod Platforms
 pub mod Private
 pub mod Shape
 pub mod Spelling

@@ -11,6 +11,7 @@ mod name;
 mod names;
 mod names_left;
 mod pattern;
+mod platform;
 mod reading;
 mod shape;
 mod spelling;

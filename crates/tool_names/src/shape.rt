@@ -30,6 +30,8 @@ pub(crate) struct Rules {
     pub versions: bool,
     /// `-` and `.` of a name are `_` in the names of the rows.
     pub tags: bool,
+    /// Names are platforms of container images, with containerd's other names.
+    pub platforms: bool,
 }
 
 impl Dialect {

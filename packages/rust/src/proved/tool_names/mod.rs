@@ -18,6 +18,8 @@ pub(crate) mod names_left;
 #[cfg(feature = "tool_names")]
 pub(crate) mod pattern;
 #[cfg(feature = "tool_names")]
+pub(crate) mod platform;
+#[cfg(feature = "tool_names")]
 pub(crate) mod reading;
 #[cfg(feature = "tool_names")]
 pub(crate) mod shape;

@@ -6,6 +6,7 @@ use crate::proved::names::nearest::nearer;
 use crate::proved::tool_names::dialect::Dialect;
 use crate::proved::tool_names::name::Name;
 use crate::proved::tool_names::pattern::{matched, star_count, Numbers};
+use crate::proved::tool_names::platform::row_of_platform;
 use crate::proved::tool_names::tables::{Row, Way, ONLY_WRITTEN};
 use crate::proved::{DeploymentTarget, OperatingSystem, TripleRef};
 
@@ -51,10 +52,16 @@ impl Dialect {
     /// assert_eq!(Dialect::Go.read("linux/foo"), Err(NameError::Unknown));
     /// ```
     pub fn read(self, name: &str) -> Result<TripleRef<'static>, NameError> {
-        match row_named(self.rows(), name, self.rules().tags) {
-            Some((row, numbers)) => row_meaning(row, numbers),
-            None => Err(NameError::Unknown),
+        let rules = self.rules();
+        if let Some((row, numbers)) = row_named(self.rows(), name, rules.tags) {
+            return row_meaning(row, numbers);
         }
+        if rules.platforms {
+            if let Some(row) = row_of_platform(self.rows(), name) {
+                return row_meaning(row, Numbers::NoNumber);
+            }
+        }
+        Err(NameError::Unknown)
     }
 
     /// The name of a triple in this dialect: that of its [shape](Dialect::shape). `None` if it has none. Nothing is
