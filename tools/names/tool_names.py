@@ -151,7 +151,7 @@ def lists_of_languages(dialects, others):
         "the other names of dialects for JavaScript": [f"const OTHER_NAMES = {{ {', '.join(f'{name}: {chr(34)}{it.name}{chr(34)}' for name, it in others)} }};"],
         "the dialects for the documentation": ["", "| Dialect | Its names | Read | Written |", "|---|---|---|---|",
                                                *(f"| {', '.join(f'`{name}`' for name in [it.name, *it.other_names])} | {it.about} | "
-                                                 f"{'yes' if it.is_read else 'no'} | {'yes' if it.is_written else 'no'} |" for it in dialects), ""],
+                                                 f"{'yes' if it.is_read else 'no'} | {'yes' if it.is_written else 'no'} |" for it in dialects)],
         "the dialects for the page": [f"const {name} = [{', '.join(chr(34) + it.name + chr(34) for it in of)}];" for name, of in (("READ", read), ("WRITTEN", written))],
         "the type of dialects": ["export type Dialect = " + " | ".join(f'"{it}"' for it in [*words, *(name for name, _ in others)]) + ";"],
         "the dialects for TypeScript": [f"export const DIALECTS: readonly [{names}];"],
