@@ -6,13 +6,12 @@ PACKAGES = {
     "packages/rust": {
         "lexicon_fields": "",
         "target_lexicon": "",
-        "lexicon_names": "names",
         "tool_names": "tool_names",
     },
     "packages/c": {"lexicon_c": ""},
 }
 # The modules that are compiled only with a feature of their name, and what of each is always compiled: suggestions need it.
-FEATURES = {"tool_names": {"macos", "spelling", "suggestions"}}
+FEATURES = {"tool_names": {"distance", "known_names", "macos", "misspelling", "nearest", "spelling", "suggestions"}}
 # The module of the layer that proved files name: what older versions of Rust lack.
 LAYER = {"compat"}
 # Where one package finds the crates of another.
@@ -25,7 +24,8 @@ ITEMS = {
     "host", "VendorError", "Triple::normal", "Triple::settle", "TripleRef::normal", "TripleRef::settle",
 }
 
-# The enums to which upstream, or a later version, may add variants.
+# The enums to which upstream, or a later version, may add variants. The packages of the same repository match on each.
+GROWS = 'cfg_attr(not(feature = "__internals"), non_exhaustive)'
 NON_EXHAUSTIVE = set(
     """Architecture ArmArchitecture Aarch64Architecture CleverArchitecture Riscv32Architecture Riscv64Architecture
     X86_32Architecture Mips32Architecture Mips64Architecture Z80Architecture Vendor KnownVendor OperatingSystem Environment BinaryFormat
@@ -39,7 +39,7 @@ HIDDEN = {"DeploymentTarget::from_text", "Refusal::write_to", "TripleRef::step",
 INLINE = {
     "TripleRef::from_str", "Triple::write_to", "TripleRef::write_to", "TripleRef::write_upstream_to", "Pieces::write_to",
     "Pieces::text_length", "Pieces::version_length", "Pieces::put_version", "Pieces::put", "Piece::text_length", "Piece::put",
-    "put", "Refusal::write_to",
+    "put", "Refusal::write_to", "nearest_known_name",
 }
 INLINE_MODULES = {
     "distance", "macos", "misspelling", "nearest", "settle", "settles_as", "spelling", "suggestions",

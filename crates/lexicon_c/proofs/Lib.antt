@@ -1,4 +1,7 @@
 -- Names: numbers past the end of a field. SpelledNames: names of two pieces. Triples: triples as numbers.
+-- Indices: lists that have each value at one index. Systems: the version of a system, and the system without it.
+pub mod Indices
 pub mod Names
 pub mod SpelledNames
+pub mod Systems
 pub mod Triples

@@ -4,7 +4,7 @@ use Rattle.std.specs.Prelude.{option_and_then}
 use Rattle.std.proofs.lemmas.Option.{slice_get_past}
 use Rattle.lexicon_fields.specs.{Architecture.architecture_name, Architecture.architecture_values, BinaryFormat.binary_format_name, BinaryFormat.binary_format_values}
 use Rattle.lexicon_fields.specs.{Environment.environment_name, Environment.environment_values, OperatingSystem.operating_system_name, Vendor.known_vendor_name, Vendor.known_vendors}
-use Rattle.lexicon_names.specs.Numbers.{operating_system_values, system_with}
+use Rattle.lexicon_c.specs.Values.{operating_system_values, system_with}
 use Rattle.target_lexicon.specs.Field as field
 use Rattle.lexicon_c.specs.Numbers.{name_at}
 

@@ -6,7 +6,7 @@ use Rattle.std.proofs.{lemmas.Bool.and_parts, lemmas.Str.IsUtf8-from_ascii, lemm
 use Rattle.lexicon_fields.specs.{Architecture.architecture_values, BinaryFormat.binary_format_values, Environment.environment_values, OperatingSystem.system_version}
 use Rattle.lexicon_fields.specs.Vendor.{has_vendor_form, is_admitted, is_free, is_vendor_character}
 use Rattle.lexicon_fields.specs.declared.deployment_target.DeploymentTarget.{DeploymentTarget}
-use Rattle.lexicon_names.specs.Numbers.{operating_system_at}
+use Rattle.lexicon_c.specs.Values.{operating_system_at}
 use Rattle.target_lexicon.specs.Values.{Architecture, BinaryFormat, Environment, OperatingSystem, Values, VendorValue, values}
 use Rattle.lexicon_c.specs.declared.triple.Fault.{Fault}
 use Rattle.lexicon_c.specs.declared.triple.Fault.TheVariants.{NoSuchValue}

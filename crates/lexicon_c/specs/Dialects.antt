@@ -1,6 +1,6 @@
 -- Names of targets in other tools, where a dialect is a number.
 use Rattle.std.specs.Prelude.{◌≡◌, ℕ, List, [], ◌∷◌, length, Option, Some, None, Result, Ok, Err}
-use Rattle.lexicon_names.specs.Nearest.{IsNearestOf}
+use Rattle.tool_names.specs.Nearest.{IsNearestOf}
 use Rattle.target_lexicon.specs.Values.{Values}
 use Rattle.tool_names.specs.{Spelling.spelled_reading, ToolNames.Unread, ToolNames.IsUnknown, ToolNames.HasNoTriple, ToolNames.name_meaning, ToolNames.names_that_are_read}
 use Rattle.tool_names.specs.declared.dialect.Dialect.{Dialect}

@@ -9,7 +9,7 @@ use Rattle.target_lexicon.specs.Values.{Architecture}
 use Rattle.target_lexicon.specs.Values.architecture
 use Rattle.lexicon_fields.specs.{ArchitectureQueries.is_thumb, BinaryFormat.binary_format_values, PointerWidth.width_bits, Vendor.is_custom}
 use Rattle.lexicon_fields.specs.{declared.endianness.Endianness.Endianness, declared.endianness.Endianness.TheVariants.Little, declared.endianness.Endianness.TheVariants.Big}
-use Rattle.lexicon_names.specs.Numbers.{family_number}
+use Rattle.lexicon_c.specs.Values.{family_number}
 use Rattle.tool_names.specs.ObjectFormat.{object_format}
 use Rattle.lexicon_c.specs.{declared.triple_facts.TripleFacts.TripleFacts, declared.triple_facts.TypeSizes.TypeSizes}
 use Rattle.lexicon_fields.specs.OperatingSystem as system

@@ -3,3 +3,4 @@ pub mod Facts
 pub mod Numbers
 pub mod Parsing
 pub mod Triple
+pub mod Values

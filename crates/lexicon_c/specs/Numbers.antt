@@ -4,7 +4,7 @@ use Rattle.std.specs.{Option.option_map_or, Str.bytes_eq}
 use Rattle.lexicon_fields.specs.{Architecture.architecture_name, Architecture.architecture_of, Architecture.architecture_values, BinaryFormat.binary_format_name, BinaryFormat.binary_format_of, BinaryFormat.binary_format_values}
 use Rattle.lexicon_fields.specs.{Environment.environment_name, Environment.environment_of, Environment.environment_values, OperatingSystem.operating_system_name, OperatingSystem.operating_system_of, OperatingSystem.system_version}
 use Rattle.lexicon_fields.specs.{Vendor.known_vendor_name, Vendor.known_vendors, Vendor.vendor_name, Vendor.vendor_of}
-use Rattle.lexicon_names.specs.Numbers.{operating_system_at}
+use Rattle.lexicon_c.specs.Values.{operating_system_at}
 use Rattle.target_lexicon.specs.{Field.Field, Field.parses_as}
 use Rattle.lexicon_c.specs.Triple.{vendor_text, vendor_with}
 use Rattle.target_lexicon.specs.Field as field

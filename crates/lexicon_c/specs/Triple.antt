@@ -2,7 +2,7 @@
 use Rattle.std.specs.Prelude.{◌≡◌, ℕ, ◌==◌, List, [], Option, Some, None, Result, Ok, Err, if◌then◌else◌, option_and_then, slice_get, MatchResult}
 use Rattle.lexicon_fields.specs.{Architecture.architecture_values, BinaryFormat.binary_format_values, Environment.environment_values, Vendor.is_admitted, Vendor.known_vendors}
 use Rattle.lexicon_fields.specs.{declared.deployment_target.DeploymentTarget.DeploymentTarget, declared.known_vendor.KnownVendor.KnownVendor}
-use Rattle.lexicon_names.specs.Numbers.{operating_system_at}
+use Rattle.lexicon_c.specs.Values.{operating_system_at}
 use Rattle.target_lexicon.specs.Values.{Architecture, VendorValue, Known, Custom, OperatingSystem, Environment, BinaryFormat, Values, values}
 use Rattle.lexicon_c.specs.{declared.triple.Fault.Fault, declared.triple.Fault.TheVariants.NoSuchValue, declared.triple.Fault.TheVariants.NoSuchVendor, declared.triple.NumberedTriple.NumberedTriple, declared.triple.TripleNumbers.TripleNumbers}
 

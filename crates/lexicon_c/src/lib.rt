@@ -4,10 +4,12 @@
 mod calls;
 mod dialects;
 mod error;
+pub mod laws;
 mod numbers;
 mod sources;
 mod triple;
 mod triple_facts;
+mod values;
 
 pub use calls::{comes_back, equal, explain, facts, parse, print, same_target, settle};
 pub use dialects::{dialect_at, name_in, name_suggestion, read, reason};
@@ -16,3 +18,4 @@ pub use numbers::{name_at, number_in};
 pub use sources::{FieldSource, FieldSources};
 pub use triple::{Fault, NumberedTriple, TripleNumbers};
 pub use triple_facts::{TripleFacts, TypeSizes};
+pub use values::field_at;

@@ -6,7 +6,7 @@ ghost use Rattle.target_lexicon.specs.Field.{parses_as};
 ghost use Rattle.lexicon_c.specs.Numbers.{IsNumberIn, is_name_in, name_at};
 
 use crate::triple::vendor_number;
-use lexicon_names::{
+use crate::values::{
     architecture_at, architecture_number, binary_format_at, binary_format_number, environment_at,
     environment_number, known_vendor_at, operating_system_at, operating_system_number,
 };

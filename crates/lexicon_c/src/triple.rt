@@ -9,7 +9,7 @@ ghost use Rattle.target_lexicon.specs.Values.{Custom};
 ghost use Rattle.lexicon_c.specs.declared.triple.Fault.TheVariants.{NoSuchVendor};
 ghost use Rattle.lexicon_c.specs.Triple.{AreNumbersOf, no_version, triple_in, operating_system_in, vendor_text, vendor_with, version_in};
 
-use lexicon_names::{
+use crate::values::{
     architecture_at, architecture_number, binary_format_at, binary_format_number, environment_at,
     environment_number, known_vendor_at, known_vendor_number, operating_system_at,
     operating_system_number,

@@ -7,7 +7,7 @@ ghost use Rattle.target_lexicon.specs.Queries.{endianness, pointer_width, callin
 ghost use Rattle.target_lexicon.specs.ValuesRef.{values_of_ref};
 ghost use Rattle.lexicon_c.specs.Facts.{AreFactsOf, convention_number, endianness_number, is_thumb_architecture, model_number, type_sizes};
 
-use lexicon_names::{binary_format_number, family_number};
+use crate::values::{binary_format_number, family_number};
 use target_lexicon::{Architecture, CDataModel, CallingConvention, Endianness, TripleRef};
 use tool_names::object_format;
 

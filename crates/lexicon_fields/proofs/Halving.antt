@@ -8,12 +8,6 @@ pub record IsHalved (old new left : ℕ) : Type 0 where
   pub some : old < new + left
   pub halved : left < 2 ^ (old + 8 - new)
 
--- before the first step
-pub halved-first : (old left : ℕ) → 0 < left → left < 256 → IsHalved old old left
-halved-first old left some few =
-    let eight : old + 8 - old ≡ 8 = omega arith in
-    record { counted = omega arith; few = omega arith; some = omega (arith, some); halved = rw eight (omega (arith, few)) }
-
 -- while rows are left, so is a step
 halves : (old new left : ℕ) → IsHalved old new left → 0 < left → (new < old + 8) × (left < 2 ^ (old + 8 - (new + 1)) * 2)
 halves old new left h some = elim (cases_lt new (old + 8)) [

@@ -1,4 +1,4 @@
--- What a look-up says about the text, and how to show that names parse back.
+-- What a look-up says about the string, and how to show that names parse back.
 use Rattle.std.proofs.Common.{◌≡◌, ℕ, List, [], ◌∷◌, Bool, true, false, Option, Some, None, IfSome, is_none, option_map, option_and_then, refl, ap, sym, cond, not, nat_eq, All}
 use Rattle.std.specs.{Option.option_or, Str.bytes_eq, List.list_all}
 use Rattle.std.proofs.{lemmas.Bool.and_parts, lemmas.Bool.ne_eqb, lemmas.List.Folds.list_any_none, lemmas.List.Sums.AllPass-from_list_all}
@@ -6,7 +6,7 @@ use Rattle.std.proofs.lemmas.Slice.Eq.{bytes_eq-Decides}
 use Rattle.lexicon_fields.specs.Names.{dash}
 use Rattle.lexicon_fields.specs.{Names.Pair, Names.value_named, Names.named_values, Names.is_dash_free, Laws.NamesReadBackOn}
 
--- a test that every pair passes holds for each text and the value that it parses as
+-- a test that every pair passes holds for each string and the value that it parses as
 pub value_named-all : {V : Type 0} (test : Pair V → Bool) (pairs : List (Pair V)) (text : List ℕ) (v : V) → list_all test pairs ≡ true → value_named pairs text ≡ Some v → test (text, v) ≡ true
 value_named-all test [] text v all found = cc
 value_named-all {V} test (pair ∷ pairs) text v all found =
@@ -20,11 +20,11 @@ value_named-all {V} test (pair ∷ pairs) text v all found =
       | false ↦ λ _ is. value_named-all test pairs text v parts.1 is
     ]) refl found
 
--- a text in a table passes each test that all texts of the table pass
+-- a string in a table passes each test that all strings of the table pass
 pub value_named-passes : {V : Type 0} (test : List ℕ → Bool) (pairs : List (Pair V)) (text : List ℕ) (v : V) → list_all (λ pair. test pair.0) pairs ≡ true → value_named pairs text ≡ Some v → test text ≡ true
 value_named-passes test pairs text v all found = value_named-all (λ pair. test pair.0) pairs text v all found
 
--- a text in a table of names is the name of the value that it parses as
+-- a string in a table of names is the name of the value that it parses as
 pub value_named-named_values : {V : Type 0} (name : V → List ℕ) (values : List V) (text : List ℕ) (v : V)
     → list_all (λ pair. bytes_eq pair.0 (name pair.1)) (named_values name values) ≡ true → value_named (named_values name values) text ≡ Some v → name v ≡ text
 value_named-named_values name values text v all found =
@@ -57,7 +57,7 @@ pub none_is : {V : Type 0} (o : Option V) → is_none o ≡ true → o ≡ None
 none_is None none = refl
 none_is (Some v) none = absurd cc
 
--- if every byte of a text passes a test, none of them is a byte that fails it, such as a dash
+-- if every byte of a string passes a test, none of them is a byte that fails it, such as a dash
 
 pub test_apart : (test : ℕ → Bool) (c x : ℕ) → test x ≡ false → test c ≡ true → nat_eq c x ≡ false
 test_apart test c x other passes = ne_eqb c x (λ same. let bad = rw same at passes in cc)
@@ -68,7 +68,7 @@ all_apart test x other text all = λ k d within. test_apart test _ x other (AllP
 pub all-dash_free : (test : ℕ → Bool) → test dash ≡ false → (text : List ℕ) → list_all test text ≡ true → is_dash_free text ≡ true
 all-dash_free test other text all = ap not (list_any_none _ text (all_apart test dash other text all))
 
--- names that parse back have no dash if no text that parses has one
+-- names that parse back have no dash if no string that parses has one
 pub of_kind-read_back : {V : Type 0} (IsOfKind : V → Type 0) (name : V → List ℕ) (find : List ℕ → Option V)
     → ((v : V) → IsOfKind v → find (name v) ≡ Some v) → ((text : List ℕ) (v : V) → find text ≡ Some v → is_dash_free text ≡ true)
     → NamesReadBackOn IsOfKind name find

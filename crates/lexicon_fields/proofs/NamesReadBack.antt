@@ -1,4 +1,4 @@
--- Names of the types whose values are listed: each parses back, and each text that parses is that of a row.
+-- Names of the types whose values are listed: each parses back, and each string that parses is that of a row.
 use Rattle.std.proofs.Common.{◌≡◌, ◌∙◌, ℕ, List, true, Option, Some, None, refl, ap, option_and_then}
 use Rattle.lexicon_fields.specs.{declared.architecture.Architecture.Architecture, declared.environment.Environment.Environment, declared.binary_format.BinaryFormat.BinaryFormat, Names.named_values}
 use Rattle.lexicon_fields.specs.{Laws.NamesReadBack, Architecture.architecture_name, Architecture.architecture_texts, Architecture.architecture_of, FixedRow.row_texts}
@@ -18,7 +18,7 @@ use Rattle.lexicon_fields.specs.declared.architecture.z80.Z80Architecture.TheVar
 use Rattle.lexicon_fields.specs.declared.environment.Environment.TheVariants as environment
 use Rattle.lexicon_fields.specs.declared.binary_format.BinaryFormat.TheVariants as binary_format
 
--- names parse back if each parses as its value and each text that parses is that of a row
+-- names parse back if each parses as its value and each string that parses is that of a row
 pub each-read_back : {V : Type 0} (name : V → List ℕ) (find : List ℕ → Option V) → ((v : V) → find (name v) ≡ Some v)
     → ((text : List ℕ) (v : V) → find text ≡ Some v → is_row_text text ≡ true) → NamesReadBack name find
 each-read_back {V} name find reads row = of_kind-read_back (λ (v : V). Unit {0}) name find (λ v _. reads v) (λ text v found. row_text-dash_free text (row text v found))

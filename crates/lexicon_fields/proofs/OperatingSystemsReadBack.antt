@@ -9,7 +9,7 @@ use Rattle.lexicon_fields.specs.Private.{version_after, first_system}
 use Rattle.lexicon_fields.proofs.VersionsReadBack.{version_of-name}
 use Rattle.lexicon_fields.specs.declared.operating_system.OperatingSystem.TheVariants as operating_system
 
--- a text that begins with a prefix has the rest after it, and every other text has none
+-- a string that begins with a prefix has the rest after it, and every other string has none
 pub has_prefix : (prefix text rest : List ℕ) → text ≡ prefix ++ rest → text_after_prefix prefix text ≡ Some rest
 has_prefix prefix text rest is =
     let begins = (bytes_eq-Decides prefix (take (length prefix) text)).1 (sym (take-append_seam prefix rest) ∙ ap (take (length prefix)) (sym is)) in
@@ -34,7 +34,7 @@ first_system-is (row ∷ rows) text = rw (system_after row.1 (text_after_prefix 
 
 -- every system parses back from its name
 
--- the text of a version after a prefix isn't empty
+-- the string of a version after a prefix isn't empty
 some_version : (text : List ℕ) (v : DeploymentTarget) → version_of text ≡ Some v → optional_version_of text ≡ Some (Some v)
 unfolding version_of
 some_version [] v is = absurd cc

@@ -1,4 +1,4 @@
--- Texts that parse as a system: they have no dash, the system's version is in range, and its name is at most 4 bytes
+-- Strings that parse as a system: they have no dash, the system's version is in range, and its name is at most 4 bytes
 -- longer.
 use Rattle.std.proofs.Common.{◌≡◌, ◌∙◌, ℕ, ◌+◌, ◌^◌, ◌<◌, ◌≤◌, List, [], ◌∷◌, ◌++◌, length, take, drop, Bool, true, false, cond, nat_eq, nat_le, ◌&&◌, Option, Some, None, IfSome, is_none, option_and_then, refl, sym, ap, subst, arith}
 use Rattle.std.specs.{Char.is_ascii_digit, List.list_all, List.join_with_byte, List.starts_with, Fmt.decimal}
@@ -98,12 +98,12 @@ version-read : (text : List ℕ) → IfSome (version_of text) (IsVersionRead tex
 unfolding version_of
 version-read text = holds-if_read _ (version_of text) (λ v is. subst (λ (t : List ℕ). IsVersionRead t v) (join_with_byte-slice_split dot text) (pieces-read (pieces_of text) v is))
 
--- the text after a prefix
+-- the string after a prefix
 suffix-read : (text : List ℕ) → IfSome (optional_version_of text) (λ version. (is_dash_free text ≡ true) × IfSome version IsVersionInRange × (length (version_suffix version) ≤ length text + 4))
 suffix-read [] = (refl, tt, omega arith)
 suffix-read (c ∷ cs) = option_map-holds _ _ Some (version_of (c ∷ cs)) (version-read (c ∷ cs)) (λ v read. read)
 
--- a text is its prefix and the text after it
+-- a string is its prefix and the string after it
 text_after_prefix-read : (prefix text : List ℕ) → IfSome (text_after_prefix prefix text) (λ rest. text ≡ prefix ++ rest)
 text_after_prefix-read prefix text = holds-if_read _ (text_after_prefix prefix text) (λ rest is.
     let begins = cond_some (starts_with nat_eq text prefix) (drop (length prefix) text) rest is in

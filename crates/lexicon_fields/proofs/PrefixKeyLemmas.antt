@@ -1,4 +1,4 @@
--- Prefix keys are ordered as their texts are.
+-- Prefix keys are ordered as their strings are.
 use Rattle.std.proofs.Common.{◌≡◌, ℕ, zero, suc, ◌+◌, ◌*◌, ◌^◌, ◌<◌, ◌≤◌, List, [], ◌∷◌, arith, refl, sym, ap, ◌∙◌, Less, Equal, Greater, nat_cmp, inl, inr, get_or, length, take, drop, ◌-◌, ◌%◌, w32}
 use Rattle.std.specs.{Cmp.Lexicographic.slice_cmp, Cmp.nat_cmp_is, Int.from_be_bytes, Ordering.ordering_reverse}
 use Rattle.std.proofs.{lemmas.Bool.cases_order, lemmas.Cmp.nat_list_cmp_total, Math.Nat.mul-le-mul_right, Math.Nat.pow-suc}
@@ -19,7 +19,7 @@ is_less x y h = sym (nat_cmp_is x y Less h)
 is_equal : (x y : ℕ) → x ≡ y → nat_cmp x y ≡ Equal
 is_equal x y h = sym (nat_cmp_is x y Equal h)
 
--- the text with the smaller key comes first
+-- the string with the smaller key comes first
 pub less_by_key : (k : ℕ) (a b : List ℕ) → AreBytes a → AreBytes b → prefix_key_of k a < prefix_key_of k b → slice_cmp nat_cmp a b ≡ Less
 less_by_key zero a b _ _ h = absurd (omega (arith, h))
 less_by_key (suc k) [] [] _ _ h = absurd (omega (arith, h))
@@ -45,7 +45,7 @@ suc_cmp m n = elim (cases_order m n) [
   ]
 ]
 
--- texts with the same key begin with the same byte, and what follows it has the same key
+-- strings with the same key begin with the same byte, and what follows it has the same key
 same_heads : (k : ℕ) (x y : ℕ) (xs ys : List ℕ) → AreBytes (x ∷ xs) → AreBytes (y ∷ ys) → prefix_key_of (suc k) (x ∷ xs) ≡ prefix_key_of (suc k) (y ∷ ys)
     → (x ≡ y) × (prefix_key_of k xs ≡ prefix_key_of k ys)
 same_heads k x y xs ys p q h = elim (cases_order x y) [
@@ -56,7 +56,7 @@ same_heads k x y xs ys p q h = elim (cases_order x y) [
   ]
 ]
 
--- of two texts with the same key, not both of more than that many bytes, the shorter comes first
+-- of two strings with the same key, not both of more than that many bytes, the shorter comes first
 pub order_of_same_key : (k : ℕ) (a b : List ℕ) → AreBytes a → AreBytes b → (k < length a → k < length b → ⊥) → prefix_key_of k a ≡ prefix_key_of k b
     → slice_cmp nat_cmp a b ≡ nat_cmp (length a) (length b)
 order_of_same_key k [] [] _ _ _ h = sym (is_equal 0 0 refl)
@@ -67,7 +67,7 @@ order_of_same_key (suc k) (x ∷ xs) (y ∷ ys) p q n h = let heads = same_heads
     rw (is_equal x y heads.0) (order_of_same_key k xs ys (λ i. p (suc i)) (λ i. q (suc i)) (λ m l. n (omega (arith, m)) (omega (arith, l))) heads.1)
     ∙ suc_cmp (length xs) (length ys)
 
--- two texts with the same key, of at least that many bytes, are ordered as what follows these
+-- two strings with the same key, of at least that many bytes, are ordered as what follows these
 pub order_of_rests : (k : ℕ) (a b : List ℕ) → AreBytes a → AreBytes b → k ≤ length a → k ≤ length b → prefix_key_of k a ≡ prefix_key_of k b
     → slice_cmp nat_cmp a b ≡ slice_cmp nat_cmp (drop k a) (drop k b)
 order_of_rests zero a b _ _ _ _ h = refl

@@ -1,9 +1,9 @@
--- Texts put one after the other into a buffer.
+-- Strings put one after the other into a buffer.
 use Rattle.std.proofs.Common.{◌≡◌, ℕ, List, [], ◌++◌, take, refl, subst, ◌∙◌, append_assoc, arith}
 use Rattle.std.proofs.{lemmas.List.length-append, Math.Seq.take-append_seam}
 use Rattle.lexicon_fields.specs.Put.{IsPut, Puts}
 
--- a second text goes after the first
+-- a second string goes after the first
 pub puts_then : {x y old mid now : List ℕ} {i j k : ℕ} → Puts x old i mid j → Puts y mid j now k → Puts (x ++ y) old i now k
 puts_then {x} {y} {old} {mid} {now} {i} {j} {k} p q = record {
   end_is = omega (arith, p.end_is, q.end_is, length-append x y);
@@ -11,10 +11,10 @@ puts_then {x} {y} {old} {mid} {now} {i} {j} {k} p q = record {
   after = λ before first was. subst (λ (text : List ℕ). IsPut text first now k) (append_assoc before x y) (q.after (before ++ x) first (p.after before first was));
 }
 
--- a text that goes to the start of the buffer is all that is there
+-- a string that goes to the start of the buffer is all that is there
 pub puts_first : {x old now : List ℕ} {k : ℕ} → Puts x old 0 now k → IsPut x old now k
 puts_first {x} {old} p = p.after [] old (record { counted = refl; bytes = refl })
 
--- the bytes up to its end are the text
+-- the bytes up to its end are the string
 pub put_taken : {x old now : List ℕ} {k : ℕ} → Puts x old 0 now k → take k now ≡ x
 put_taken {x} {old} p = let first = puts_first p in rw (first.counted, first.bytes) (take-append_seam x _)

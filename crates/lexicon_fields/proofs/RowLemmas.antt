@@ -1,4 +1,4 @@
--- The rows are exactly those of the texts that are a fixed name of some field.
+-- The rows are exactly those of the strings that are a fixed name of some field.
 use Rattle.std.proofs.Common.{◌≡◌, ◌≢◌, ◌↔◌, ◌∙◌, ℕ, ◌+◌, ◌<◌, ◌≤◌, List, [], true, false, Option, Some, None, is_some, refl, ap, sym, arith, Ordering, Less, Greater, nat_cmp, inl, inr, Contains}
 use Rattle.std.specs.{Cmp.Lexicographic.slice_cmp, Cmp.Lexicographic.nat_list_eq_equiv, Str.bytes_eq, Option.option_or, Prelude.is_none, Ordering.is_eq}
 use Rattle.std.proofs.{lemmas.Bool.or_parts, lemmas.Bool.cases_lt, lemmas.Bool.cases_Bool, lemmas.Bool.false_from_ne_true, lemmas.List.Folds.list_any_at}
@@ -18,7 +18,7 @@ pub fixed_operating_system_of-row : (text : List ℕ) (v : OperatingSystem) → 
 unfolding fixed_operating_system_of is_row_text row_texts
 fixed_operating_system_of-row text v found = value_named-passes is_row_text (named_values operating_system_name fixed_operating_systems) text v refl found
 
--- a text that is in no row parses as no fixed name
+-- a string that is in no row parses as no fixed name
 none_without_row : {V : Type 0} (find : List ℕ → Option V) → ((text : List ℕ) (v : V) → find text ≡ Some v → is_row_text text ≡ true)
     → (s : List ℕ) → is_row_text s ≡ false → find s ≡ None
 none_without_row {V} find row s none = by_reading (find s) refl
@@ -37,7 +37,7 @@ no_row s none =
       none_without_row binary_format_of binary_format_of-row s none,
     ) refl
 
--- each row's text is a name of some field
+-- each row's string is a name of some field
 row_text-exists : (s : List ℕ) → is_row_text s ≡ true → has_row s ≡ true
 unfolding row_texts architecture_of known_vendor_of fixed_operating_system_of environment_of binary_format_of
 row_text-exists s found = row_text-passes has_row s refl found
@@ -49,7 +49,7 @@ row_text-found i below = list_any_at (bytes_eq (row_text i)) row_texts i [] (ome
 pub row-exists : (i : ℕ) → i < row_count → has_row (row_text i) ≡ true
 row-exists i below = row_text-exists (row_text i) (row_text-found i below)
 
--- the row with a text
+-- the row with a string
 row_text-at : (s : List ℕ) → is_row_text s ≡ true → (i : ℕ) × (i < row_count) × (row_text i ≡ s)
 unfolding is_row_text
 row_text-at s found =
@@ -60,15 +60,15 @@ row_text-at s found =
 slice_cmp-differ : (x y : List ℕ) (o : Ordering) → is_eq o ≡ false → slice_cmp nat_cmp x y ≡ o → x ≢ y
 slice_cmp-differ x y o other is same = let bad : true ≡ false = sym (is_eq-slice_cmp x y ∙ (bytes_eq-Decides x y).1 same) ∙ ap is_eq is ∙ other in cc
 
--- a row that precedes a text is not the text's, nor is any earlier row
+-- a row that precedes a string is not the string's, nor is any earlier row
 pub no_row-below : (middle : ℕ) (s : List ℕ) → middle < row_count → slice_cmp nat_cmp (row_text middle) s ≡ Less → (k : ℕ) → k < middle + 1 → row_text k ≢ s
 no_row-below middle s below is k lt = slice_cmp-differ (row_text k) s Less refl (rows_below middle s below is k lt)
 
--- a row that follows a text is not the text's, nor is any later row
+-- a row that follows a string is not the string's, nor is any later row
 pub no_row-above : (middle : ℕ) (s : List ℕ) → slice_cmp nat_cmp (row_text middle) s ≡ Greater → (k : ℕ) → middle ≤ k → k < row_count → row_text k ≢ s
 no_row-above middle s is k ge below = slice_cmp-differ (row_text k) s Greater refl (rows_above middle s is k ge below)
 
--- a text that is in no row before an index, nor from it on, has no row
+-- a string that is in no row before an index, nor from it on, has no row
 pub no_row-outside : (s : List ℕ) (place : ℕ) → ((k : ℕ) → k < place → row_text k ≢ s)
     → ((k : ℕ) → place ≤ k → k < row_count → row_text k ≢ s) → has_row s ≡ false
 no_row-outside s place below above = no_row s (false_from_ne_true (is_row_text s) (λ found.
@@ -78,7 +78,7 @@ no_row-outside s place below above = no_row s (false_from_ne_true (is_row_text s
       | inr ge ↦ above at.0 ge at.1 at.2
     ]))
 
--- the texts of the rows are all texts that have a row
+-- the strings of the rows are all strings that have a row
 pub rows-complete : (s : List ℕ) → Contains row_texts s ↔ (has_row s ≡ true)
 unfolding is_row_text
 rows-complete s = (
@@ -93,7 +93,7 @@ is_some-none : {V : Type 0} (o : Option V) → is_some o ≡ false → o ≡ Non
 is_some-none None h = refl
 is_some-none (Some v) h = cc
 
--- a text that has no row is a name of no field
+-- a string that has no row is a name of no field
 pub no_name_without_row : (s : List ℕ) → has_row s ≡ false → (architecture_of s ≡ None) × (known_vendor_of s ≡ None) × (fixed_operating_system_of s ≡ None) × (environment_of s ≡ None) × (binary_format_of s ≡ None)
 no_name_without_row s none =
     let format = or_parts _ (is_some (binary_format_of s)) none in
@@ -102,12 +102,12 @@ no_name_without_row s none =
     let vendor = or_parts (is_some (architecture_of s)) (is_some (known_vendor_of s)) system.0 in
     (is_some-none _ vendor.0, is_some-none _ vendor.1, is_some-none _ system.1, is_some-none _ environment.1, is_some-none _ format.1)
 
--- no text of a row parses as a system like Darwin
+-- no string of a row parses as a system like Darwin
 row_text-unlike_darwin : (s : List ℕ) → is_row_text s ≡ true → is_none (darwin_like_system darwin_prefixes s) ≡ true
 unfolding row_texts
 row_text-unlike_darwin s found = row_text-passes (λ text. is_none (darwin_like_system darwin_prefixes text)) s refl found
 
--- so a text with a row parses as a system only by its fixed name
+-- so a string with a row parses as a system only by its fixed name
 pub row-parses_by_name : (s : List ℕ) → has_row s ≡ true → operating_system_of s ≡ fixed_operating_system_of s
 unfolding operating_system_of
 row-parses_by_name s exists = elim (cases_Bool (is_row_text s)) [
@@ -115,7 +115,7 @@ row-parses_by_name s exists = elim (cases_Bool (is_row_text s)) [
   | inr none ↦ absurd (let bad : true ≡ false = sym exists ∙ no_row s none in cc)
 ]
 
--- and a text without a row only as a system like Darwin
+-- and a string without a row only as a system like Darwin
 pub without_row_is_darwin_like : (s : List ℕ) (like : Option OperatingSystem) → like ≡ darwin_like_system darwin_prefixes s → has_row s ≡ false → like ≡ operating_system_of s
 unfolding operating_system_of
 without_row_is_darwin_like s like is none = rw (no_name_without_row s none).2 is

@@ -1,4 +1,4 @@
--- The texts of the rows: they are in strictly increasing order, and which texts are among them.
+-- The strings of the rows: they are in strictly increasing order, and which strings are among them.
 use Rattle.std.proofs.Common.{◌≡◌, ◌∙◌, ℕ, ◌+◌, ◌-◌, ◌<◌, ◌≤◌, List, [], ◌∷◌, Bool, true, refl, ap, sym, subst, length, get_or, arith, Ordering, Less, Equal, Greater, inl, inr, nat_cmp}
 use Rattle.std.specs.{Cmp.Lexicographic.slice_cmp, Str.bytes_eq, List.list_all, List.list_any, List.Sorted.IsStrictlySortedBy}
 use Rattle.std.specs.Ordering.{is_lt, is_eq, ordering_reverse}
@@ -16,7 +16,7 @@ length-row_texts = refl
 pub row_text-default : (i : ℕ) (d : List ℕ) → i < row_count → get_or row_texts i d ≡ row_text i
 row_text-default i d below = get_or_from_slice_get row_texts i (row_text i) d (slice_get-get_or row_texts i [] (omega (arith, length-row_texts)))
 
--- each text precedes the next one, shown for 48 rows at a time
+-- each string precedes the next one, shown for 48 rows at a time
 
 abbrev rises_at : ℕ → Bool
 rises_at k = is_lt (slice_cmp nat_cmp (row_text k) (row_text (k + 1)))
@@ -60,7 +60,7 @@ row_texts_sorted = sorted_from_all_adjacent nat_list_cmp_total row_texts [] (λ 
 row_less : (i j : ℕ) → i < j → j < row_count → slice_cmp nat_cmp (row_text i) (row_text j) ≡ Less
 row_less i j lt below = Less-from_sorted (slice_cmp nat_cmp) row_texts i j [] row_texts_sorted lt (omega (arith, length-row_texts))
 
--- if a row precedes a text, so do all earlier rows
+-- if a row precedes a string, so do all earlier rows
 pub rows_below : (middle : ℕ) (s : List ℕ) → middle < row_count → slice_cmp nat_cmp (row_text middle) s ≡ Less → (k : ℕ) → k < middle + 1 → slice_cmp nat_cmp (row_text k) s ≡ Less
 rows_below middle s below is k lt = elim (cases_order k middle) [
   | inl same ↦ rw same is
@@ -73,7 +73,7 @@ rows_below middle s below is k lt = elim (cases_order k middle) [
 slice_cmp-reverse : (x y : List ℕ) (o : Ordering) → slice_cmp nat_cmp x y ≡ o → slice_cmp nat_cmp y x ≡ ordering_reverse o
 slice_cmp-reverse x y o h = nat_list_cmp_total.antisymm y x ∙ ap ordering_reverse h
 
--- if a row follows a text, so do all later rows
+-- if a row follows a string, so do all later rows
 pub rows_above : (middle : ℕ) (s : List ℕ) → slice_cmp nat_cmp (row_text middle) s ≡ Greater → (k : ℕ) → middle ≤ k → k < row_count → slice_cmp nat_cmp (row_text k) s ≡ Greater
 rows_above middle s is k le below = elim (cases_order k middle) [
   | inl same ↦ rw same is
@@ -83,11 +83,11 @@ rows_above middle s is k le below = elim (cases_order k middle) [
   ]
 ]
 
--- whether a text is that of a row
+-- whether a string is that of a row
 unfoldable pub is_row_text : List ℕ → Bool
 is_row_text s = list_any (bytes_eq s) row_texts
 
--- a test that all texts of rows pass holds for each text that is one of them
+-- a test that all strings of rows pass holds for each string that is one of them
 pub row_text-passes : (test : List ℕ → Bool) (s : List ℕ) → list_all test row_texts ≡ true → is_row_text s ≡ true → test s ≡ true
 unfolding is_row_text
 row_text-passes test s all found = passes row_texts all found
@@ -105,6 +105,6 @@ pub row_text-dash_free : (s : List ℕ) → is_row_text s ≡ true → is_dash_f
 unfolding row_texts
 row_text-dash_free s found = row_text-passes is_dash_free s refl found
 
--- a row that compares equal to a text has that text
+-- a row that compares equal to a string has that string
 pub row_text-is : (i : ℕ) (s : List ℕ) → slice_cmp nat_cmp (row_text i) s ≡ Equal → row_text i ≡ s
 row_text-is i s same = (bytes_eq-Decides (row_text i) s).0 (sym (is_eq-slice_cmp (row_text i) s) ∙ ap is_eq same)

@@ -1,4 +1,4 @@
--- How vendors are parsed: every plain one parses back from its name, and no text that parses as one has a dash.
+-- How vendors are parsed: every plain one parses back from its name, and no string that parses as one has a dash.
 use Rattle.std.proofs.Common.{arith, Bool, if◌then◌else◌, [], ◌∷◌, not, ◌&&◌, ◌||◌, ap, ◌≡◌, ◌∙◌, ℕ, List, true, false, Option, Some, None, is_some, is_none, option_map, refl, sym}
 use Rattle.std.specs.{Char.is_ascii_lowercase, List.list_all, Option.option_or}
 use Rattle.std.proofs.{Math.Bool.and-false, lemmas.Bool.and_parts, lemmas.Option.MatchOption-at_some, lemmas.Option.cond_some}
@@ -11,7 +11,7 @@ use Rattle.lexicon_fields.proofs.LookUpLemmas.{value_named-passes, holds-if_read
 use Rattle.lexicon_fields.proofs.{RowTexts.row_text-dash_free, RowLemmas.known_vendor_of-row, RowLemmas.no_name_without_row, RowLemmas.without_row_is_darwin_like}
 use Rattle.lexicon_fields.specs.declared.vendor.Vendor.TheVariants as vendor
 
--- a text is admitted if it has no row, is no system like Darwin, and has the form of a vendor
+-- a string is admitted if it has no row, is no system like Darwin, and has the form of a vendor
 
 free_is : {K A O E B : Type 0} (known : Option K) (architecture : Option A) (fixed like : Option O) (environment : Option E) (format : Option B)
     → (is_none known && is_none architecture && is_none (option_or fixed like) && is_none environment && is_none format)
@@ -27,7 +27,7 @@ admitted_is text =
 row_not_admitted : (text : List ℕ) → has_row text ≡ true → is_admitted text ≡ false
 row_not_admitted text exists = rw (admitted_is text, exists) refl
 
--- how a text parses as a vendor
+-- how a string parses as a vendor
 
 -- one with a row: only as the known vendor of that name
 pub row_read : (text : List ℕ) → has_row text ≡ true → option_map Known (known_vendor_of text) ≡ vendor_of text
@@ -51,7 +51,7 @@ known_form text (Some v) is formless = absurd (let bad : true ≡ false = sym (v
 pub formless_read : (text : List ℕ) → has_vendor_form text ≡ false → vendor_of text ≡ None
 formless_read text formless = unknown_text-refused text (known_form text (known_vendor_of text) refl formless) (formless_not_admitted text formless)
 
--- a text without a row: as a custom vendor, if it parses as no system and has the form of a vendor
+-- a string without a row: as a custom vendor, if it parses as no system and has the form of a vendor
 pub without_row_read : (text : List ℕ) → has_row text ≡ false
     → vendor_of text ≡ (if is_none (operating_system_of text) && has_vendor_form text then Some (Custom text) else None)
 unfolding vendor_of
@@ -59,14 +59,14 @@ without_row_read text none = rw ((no_name_without_row text none).1, admitted_is 
 
 -- every plain vendor parses back from its name
 
--- an admitted text is not the name of a known vendor, and has the form of a vendor
+-- an admitted string is not the name of a known vendor, and has the form of a vendor
 admitted_parts : (text : List ℕ) → is_admitted text ≡ true → (is_none (known_vendor_of text) ≡ true) × (has_vendor_form text ≡ true)
 unfolding is_admitted
 admitted_parts text admitted =
     let whole = and_parts (is_free text) (has_vendor_form text) admitted in
     ((and_parts _ _ (and_parts _ _ (and_parts _ _ (and_parts _ _ whole.0).0).0).0).0, whole.1)
 
--- a text is admitted exactly if it parses as a custom vendor
+-- a string is admitted exactly if it parses as a custom vendor
 
 abbrev pub is_read_custom : Option VendorValue → Bool
 is_read_custom (Some (Custom text)) = true

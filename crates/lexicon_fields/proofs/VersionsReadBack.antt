@@ -1,4 +1,4 @@
--- How version texts are parsed.
+-- How version strings are parsed.
 use Rattle.std.proofs.Common.{◌≡◌, ◌≢◌, ◌∙◌, ℕ, ◌+◌, ◌^◌, ◌<◌, ◌≤◌, nat_eq, nat_lt, nat_le, List, [], ◌∷◌, ◌++◌, length, Bool, true, false, ◌&&◌, cond, Option, Some, None, Result, Ok, Err, Bor, refl, sym, ap, rules, arith}
 use Rattle.std.specs.{Char.is_ascii_digit, List.list_all, List.before_first, List.after_first, List.position_or_len, Result.OkIff, Result.result_ok}
 use Rattle.std.specs.{Fmt.decimal, Str.Parse.IsNumeral, Str.Parse.ParsesUnsigned, Str.Parse.digits_value, Str.Parse.without_leading_plus}
@@ -37,7 +37,7 @@ parse_piece k limit piece r fits parses =
 pub number_read : {E : Type 0} (k limit : ℕ) (piece : List ℕ) (r is : Result ℕ E) → limit + 1 ≡ 2 ^ k → ParsesUnsigned k 10 piece r → r ≡ is → piece_number_within limit piece ≡ result_ok is
 number_read k limit piece r is fits parses same = sym (parse_piece k limit piece r fits parses) ∙ ap result_ok same
 
--- the pieces of a text after its first dot, and those of a text without a dot
+-- the pieces of a string after its first dot, and those of a string without a dot
 pub pieces_of-first : (text piece rest : List ℕ) → piece ≡ before_first (λ c. nat_eq c dot) text → rest ≡ after_first (λ c. nat_eq c dot) text → position_or_len (λ c. nat_eq c dot) text < length text → pieces_of text ≡ piece ∷ pieces_of rest
 pieces_of-first text piece rest prefix_key back found = slice_split_first (λ c. nat_eq c dot) text 0 found ∙ cc
 
@@ -51,7 +51,7 @@ pieces-last pieces p rest is none = is ∙ ap (λ x. p ∷ remaining_pieces x) n
 pub pieces-more : (pieces : List (List ℕ)) (p : List ℕ) (rest : Option (Bor (List ℕ))) (others : Bor (List ℕ)) (ps : List (List ℕ)) → pieces ≡ p ∷ remaining_pieces rest → rest ≡ Some others → pieces_of others.now ≡ ps → pieces ≡ p ∷ ps
 pieces-more pieces p rest others ps is some more = is ∙ ap (λ x. p ∷ remaining_pieces x) some ∙ ap (λ x. p ∷ x) more
 
--- a text has a piece
+-- a string has a piece
 pub pieces_of-some : (text : List ℕ) → pieces_of text ≢ []
 pieces_of-some text none = let e = length-slice_split (λ c. nat_eq c dot) text in let k = ap length none in omega arith
 
@@ -65,7 +65,7 @@ no_third None minor = refl
 no_third (Some major) None = refl
 no_third (Some major) (Some minor) = refl
 
--- the version of a text by its pieces
+-- the version of a string by its pieces
 
 pub no_major : (text p : List ℕ) (ps : List (List ℕ)) → pieces_of text ≡ p ∷ ps → piece_number_within 65535 p ≡ None → version_of text ≡ None
 unfolding version_of

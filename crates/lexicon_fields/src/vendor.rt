@@ -1,5 +1,5 @@
 //! The vendors.
-ghost use Rattle.std.specs.Prelude.{◌≡◌, true, false, nat_eq, None, Some, IfOk, IfErr, IsOk, option_map};
+ghost use Rattle.std.specs.Prelude.{◌≡◌, true, false, nat_eq, Some, IfOk, IfErr, IsOk};
 ghost use Rattle.std.specs.Cmp;
 ghost use Rattle.std.specs.Cmp.{on_per, on_equiv};
 ghost use Rattle.std.specs.Cmp.Lexicographic.{pointwise, nat_list_eq_equiv, bytes_decides};

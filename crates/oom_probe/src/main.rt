@@ -81,7 +81,7 @@ fn report_borrowed(
     check_source(rt, TripleRef::from_str(text) == Ok(triple));
 }
 
-/// Calls on a triple that owns the text of its vendor, or has a known vendor.
+/// Calls on a triple that owns the string of its vendor, or has a known vendor.
 fn report_owned(rt: &impl Print, alloc: Global, text: &str, memory: &str) -> Option<()> {
     begin(rt, memory, "Triple::from_str", text);
     let triple = end(rt, Triple::from_str(alloc, text))?;

@@ -1,9 +1,9 @@
 //! Suggestions, object formats, names of Python's platforms, and how the values of `tool_names` are compared and displayed.
 
 use crate::values::{hash_alike, prints, writes};
-use lexicon_names::names;
 use std::process::Abort;
 use target_lexicon::{Field, Refusal, TextPart, TripleRef};
+use tool_names::known_names::names;
 use tool_names::{Change, Dialect, NameError, changes, object_format, read, suggestion};
 
 /// For each field strings, and after `=` the name that should be suggested, or nothing.
@@ -16,14 +16,39 @@ w64=
 solar=
 solart=solaris
 darwxyz=
-lniux=linux";
+lniux=linux
+psx=
+kfreebsd=
+uclinux=
+wasip3=
+Linux=linux
+iso17=ios
+iso17.2=ios
+iso=ios
+darwim20.1=darwin
+macosc14=macosx
+iOS17=ios
+macOS=macosx
+LINUX=linux
+macos14=macosx
+iso17x=
+aux7=";
 
 const ARCHITECTURES: &str = "\
 x86-64=x86_64
 =
-arm64e=arm64
-riscv64im=riscv64
-mips32el=mipsel
+arm64e=
+arm64ec=
+riscv64im=
+riscv32em=
+riscv32mi=riscv32im
+thumbv8r=
+thumbv8m.bas=thumbv8m.base
+aarch64be=aarch64_be
+X86_64=x86_64
+ARM64=arm64
+mips32el=
+iso17=
 arm6j=armv6j
 i368=i386
 amd64=x86_64
@@ -48,6 +73,7 @@ aple=apple
 freebsd13.2=freebsd
 mingw32=windows-gnu
 macos13=macosx
+iso17=ios
 w64=pc";
 
 const ENVIRONMENTS: &str = "\
@@ -58,10 +84,13 @@ musl=musl
 msul=musl
 glibc=
 gnuabi32=
-ela=elf";
+iso17=
+ela=
+efl=elf";
 
 const BINARY_FORMATS: &str = "\
-mach0=macho
+mach0=
+mahco=macho
 nothing of the kind=";
 
 #[test]

@@ -3,8 +3,10 @@
 -- read of what was read is the same. ChangeLemmas, PlacedParts, RefusedNames: the changes of a string, the ranges of parts, and
 -- where a string is refused. ObjectFormats: the object format of a triple. ShapeLemmas: what a shape keeps. NumberLemmas,
 -- Matches, Tags, Filling: names with numbers, and how they are matched. RowChecks, RowLemmas, NameLaws: what the rows pass,
--- what follows of the row of a name, and the laws.
+-- what follows of the row of a name, and the laws. DistanceLemmas: the edit distance is the least number of edits.
+-- NearestLemmas, NearerLemmas: the nearest of a growing list of names, and of two lists. Words: the word that a string begins with.
 pub mod ChangeLemmas
+pub mod DistanceLemmas
 pub mod Filling
 pub mod JoinedNames
 pub mod LookUps
@@ -12,6 +14,8 @@ pub mod MacosNames
 pub mod Matches
 pub mod NameLaws
 pub mod NamesRead
+pub mod NearerLemmas
+pub mod NearestLemmas
 pub mod NearestNames
 pub mod NumberLemmas
 pub mod ObjectFormats
@@ -25,3 +29,4 @@ pub mod SpelledNames
 pub mod SpelledOnce
 pub mod SpelledReading
 pub mod Tags
+pub mod Words

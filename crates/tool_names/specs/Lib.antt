@@ -1,7 +1,10 @@
 pub mod Changes
 pub mod Dialects
-pub mod ObjectFormat
+pub mod Distance
+pub mod KnownNames
 pub mod Laws
+pub mod Nearest
+pub mod ObjectFormat
 pub mod Patterns
 pub mod Platforms
 pub mod Private

@@ -1,7 +1,8 @@
 //! Laws of the definitions, and of equality. Each function's contract is a law; a call does nothing.
-ghost use Rattle.std.specs.Prelude.{◌≡◌, ◌↔◌, IsTrue};
+ghost use Rattle.std.specs.Prelude.{◌≡◌, ◌↔◌, ℕ, List, IsTrue};
 ghost use Rattle.lexicon_fields.specs.Laws.{ComparesByValue, CopiesEqualTheirSources};
 ghost use Rattle.tool_names.specs.Changes.{change_value, spelling_names, ChangedPartsAreInTheString, KnownNamesStay, UnchangedStringsAreReadAsTheyParse};
+ghost use Rattle.tool_names.specs.Distance.{edit_distance, IsLeastEdits};
 ghost use Rattle.tool_names.specs.Laws.{NamesAreCanonical, NamesKeepAnswers, NamesMeanTheShape, NamesMeanTheirRows, NamesReadBack, NamesWithoutTripleAreRefused, OneNumberIsEnough, ShapesAreFixed, TagsMeanTheSame};
 ghost use Rattle.tool_names.specs.ObjectFormat.{GivenFormatsAreKept};
 ghost use Rattle.tool_names.specs.Spelling.{KnownNamesAreReadAsBefore, ListedPartsAreUnknown, OnceIsEnough, ReadingAgainIsTheSame, RefusalsAreAtTheRefusedName, RefusedPartsAreInTheString};
@@ -168,4 +169,9 @@ pub fn copies_equal_their_sources()
         ⟦<Spelling<'static> as Clone>⟧.is_infallible }
     ensures change { CopiesEqualTheirSources ⟦<Change<'static> as Clone>⟧.is_clone
         ⟦<Change<'static> as Clone>⟧.is_infallible }
+{}
+
+/// The edit distance of two strings is the least number of edits that turn the one into the other.
+pub fn edit_distance_is_least()
+    ensures { (old new : List ℕ) → IsLeastEdits old new (edit_distance old new) }
 {}

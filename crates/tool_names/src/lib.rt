@@ -4,12 +4,16 @@
 
 mod change;
 mod dialect;
+mod distance;
 mod formats;
+pub mod known_names;
 pub mod laws;
 mod macos;
+mod misspelling;
 mod name;
 mod names;
 mod names_left;
+mod nearest;
 mod pattern;
 mod platform;
 mod reading;

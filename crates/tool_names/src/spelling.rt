@@ -304,16 +304,16 @@ fn has_dropped_version(prefix: &str, part: &str) -> bool
     ensures { result ≡ has_dropped_version prefix.now part.now }
 {
     match part.strip_prefix(prefix) {
-        Some(version) => is_dropped_version(version),
+        Some(version) => is_dropped_version(version.as_bytes()),
         None => false,
     }
 }
 
 /// Whether a string is digits and dots, at least one.
-fn is_dropped_version(text: &str) -> bool
+pub(crate) fn is_dropped_version(text: &[u8]) -> bool
     ensures { result ≡ is_dropped_version text.now }
 {
-    !text.is_empty() && are_digits_or_dots(text.as_bytes())
+    !text.is_empty() && are_digits_or_dots(text)
 }
 
 fn are_digits_or_dots(bytes: &[u8]) -> bool

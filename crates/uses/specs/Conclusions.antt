@@ -4,7 +4,8 @@ use Rattle.std.specs.Hash.{HashWrites}
 use Rattle.lexicon_fields.specs.Names.{is_dash_free}
 use Rattle.lexicon_fields.specs.declared.deployment_target.DeploymentTarget.{DeploymentTarget}
 
--- values that are equal can stand for one another: each text that is made of what the one represents is made of the other
+-- values that are equal can stand for one another: each string that is made of what the one represents is made of the
+-- other
 pub record CanReplace {V W : Type 0} (value : V → W) (eq : V → V → Bool) : Type 0 where
   pub reflexive : (x : V) → IsTrue (eq x x)
   pub found : (x y : V) → value x ≡ value y → IsTrue (eq y x)
@@ -29,8 +30,8 @@ abbrev pub AreCopiesTheSame : {V : Type 0} → (V → V → Type 0) → (V → T
 AreCopiesTheSame {V} IsCopy NeedsNoMemory =
     (source one other : V) → NeedsNoMemory source × (IsCopy source one → IsCopy source other → one ≡ other)
 
--- two values of this kind have different names, and neither a name nor a text that is found has a dash: so a name that is put
--- between dashes is cut out of them again, and found
+-- two values of this kind have different names, and neither a name nor a string that is found has a dash: so a name
+-- that is put between dashes is cut out of them again, and found
 pub record AreNamesKeys {V : Type 0} (IsOfKind : V → Type 0) (name : V → List ℕ) (find : List ℕ → Option V) : Type 0 where
   pub different : (v w : V) → IsOfKind v → IsOfKind w → name v ≡ name w → v ≡ w
   pub dash_free : (v : V) → IsOfKind v → is_dash_free (name v) ≡ true

@@ -4,8 +4,8 @@ ghost use Rattle.lexicon_fields.specs.Architecture.{architecture_values};
 ghost use Rattle.lexicon_fields.specs.BinaryFormat.{binary_format_values};
 ghost use Rattle.lexicon_fields.specs.Environment.{environment_values};
 ghost use Rattle.lexicon_fields.specs.Vendor.{known_vendors};
-ghost use Rattle.lexicon_names.specs.Distance.{TakesEdits};
-ghost use Rattle.lexicon_names.specs.Numbers.{operating_system_at};
+ghost use Rattle.tool_names.specs.Distance.{TakesEdits};
+ghost use Rattle.lexicon_c.specs.Values.{operating_system_at};
 
 use target_lexicon::{
     Architecture, BinaryFormat, DeploymentTarget, Environment, KnownVendor, OperatingSystem,
@@ -27,7 +27,7 @@ pub fn unknown_is_zero()
         operating_system_at n version ≡ Some (OperatingSystem.Darwin None) →
         version ≡ None }
 {
-    lexicon_names::laws::numbers_are_unique();
+    lexicon_c::laws::numbers_are_unique();
 }
 
 /// One edit makes `linx` the name `linux`, and none doesn't.
@@ -35,5 +35,5 @@ pub fn linx_is_one_edit_from_linux()
     ensures enough { TakesEdits 1 (codes "linx") (codes "linux") }
     ensures least { (n : ℕ) → TakesEdits n (codes "linx") (codes "linux") → 1 ≤ n }
 {
-    lexicon_names::laws::edit_distance_is_least();
+    tool_names::laws::edit_distance_is_least();
 }

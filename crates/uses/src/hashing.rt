@@ -6,7 +6,6 @@ ghost use Rattle.lexicon_fields.specs.VendorRef.{ref_value};
 ghost use Rattle.lexicon_fields.specs.declared.vendor.CustomVendor.{CustomVendor};
 ghost use Rattle.lexicon_fields.specs.declared.vendor.Vendor.{Vendor};
 ghost use Rattle.lexicon_fields.specs.declared.vendor_ref.VendorRef.{VendorRef};
-ghost use Rattle.target_lexicon.specs.Refusal.{refusal_of};
 ghost use Rattle.target_lexicon.specs.Values.{values_of};
 ghost use Rattle.target_lexicon.specs.ValuesRef.{values_of_ref};
 ghost use Rattle.uses.specs.Conclusions.{AreAllPairsOfKeys, ArePairsOfKeys};

@@ -63,7 +63,7 @@ pub fn names_of_strings_are_short()
     laws::names_grow_at_most();
 }
 
-/// A dash that is put after a text at the start of a buffer follows it there.
+/// A dash that is put after a string at the start of a buffer follows it there.
 pub fn dashes_follow_texts()
     ensures { (text old mid now : List ℕ) (end last : ℕ) →
         Puts text old 0 mid end →

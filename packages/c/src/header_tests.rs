@@ -1,7 +1,7 @@
 //! The numbers of target_lexicon.h and target_lexicon.hpp are the library's.
-use crate::proved::{dialect_at, expected_at, facts, name_at, NumberedTriple, TripleNumbers};
+use crate::proved::values::{architecture_at, operating_system_at};
+use crate::proved::{dialect_at, expected_at, facts, field_at, name_at, NumberedTriple, TripleNumbers};
 use std::collections::BTreeMap;
-use target_lexicon::proved::names::{architecture_at, field_at, operating_system_at};
 use target_lexicon::TripleRef;
 
 const HEADER: &str = include_str!("../include/target_lexicon.h");

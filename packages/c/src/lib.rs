@@ -30,10 +30,9 @@ use lines::settle_lines;
 use names::{c_name, c_reason};
 use proved::triple::CUSTOM_VENDOR;
 use proved::{
-    dialect_at, explain, name_at, name_in, name_suggestion, number_in, parse, print, read, reason, same_target, settle, Fault,
+    dialect_at, explain, field_at, name_at, name_in, name_suggestion, number_in, parse, print, read, reason, same_target, settle, Fault,
     FieldSource, FieldSources, NumberedTriple, TextError, TripleFacts, TripleNumbers, TypeSizes,
 };
-use target_lexicon::proved::names::field_at;
 use target_lexicon::{tool_names, Field};
 use text::{write_text, Text};
 

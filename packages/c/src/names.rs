@@ -172,9 +172,8 @@ fn c_text(texts: &[&'static str], text: &str) -> *const u8 {
 #[cfg(test)]
 mod tests {
     use super::*;
-    use crate::proved::{name_at, reason};
+    use crate::proved::{field_at, name_at, reason};
     use std::ffi::CStr;
-    use target_lexicon::proved::names::{field_at, names};
     use target_lexicon::tool_names::{suggestion, Dialect};
     use target_lexicon::Field;
 
@@ -182,7 +181,7 @@ mod tests {
     fn every_name_has_a_zero_byte_after_it() {
         for field in (0..5).filter_map(field_at) {
             let numbered = (0..).map_while(|number| name_at(field, number));
-            let known: Vec<&str> = numbered.chain(names(field).iter().copied()).collect();
+            let known: Vec<&str> = numbered.chain(field.names().iter().copied()).collect();
             assert!(!known.is_empty());
             for name in known {
                 let found = c_name(name);

@@ -480,7 +480,7 @@ static const struct { uint32_t dialect; const char *name; enum lexicon_status st
     {LEXICON_DIALECT_GO, "linux", LEXICON_UNKNOWN_NAME, 0, 5, "Unknown name: linux", NULL, NULL},
     {LEXICON_DIALECT_GO, "linux/amd46", LEXICON_UNKNOWN_NAME, 0, 11, "Unknown name: linux/amd46", NULL, "linux/amd64"},
     {LEXICON_DIALECT_DEBIAN, "amd46", LEXICON_UNKNOWN_NAME, 0, 5, "Unknown name: amd46", NULL, "amd64"},
-    {LEXICON_DIALECT_OCI, "linux/arm/v77", LEXICON_UNKNOWN_NAME, 0, 13, "Unknown name: linux/arm/v77", NULL, "linux/arm/v7"},
+    {LEXICON_DIALECT_OCI, "linux/arm/v77", LEXICON_UNKNOWN_NAME, 0, 13, "Unknown name: linux/arm/v77", NULL, NULL},
     {LEXICON_DIALECT_GNU, "x86_64-linux-gnuu", LEXICON_UNKNOWN_NAME, 0, 17, "Unknown name: x86_64-linux-gnuu", NULL, NULL},
     {LEXICON_DIALECT_GO, "js/wasm", LEXICON_NAME_WITHOUT_TRIPLE, 0, 7, "No triple has this name: js/wasm",
      "Go's pointers have 64 bits there, those of wasm32 32", NULL},

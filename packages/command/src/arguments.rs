@@ -87,6 +87,11 @@ fn of_targets(name: &'static str, about: &'static str, example: &'static str) ->
         flag("quiet", "Write nothing, and end at the first target that is refused: the status says it")
             .short('q')
             .conflicts_with_all(["json", "json-lines"]),
+        Arg::new("max-errors")
+            .long("max-errors")
+            .value_name("N")
+            .value_parser(value_parser!(usize))
+            .help("End after N targets were refused"),
         flag("strict", "Refuse custom vendors, which may be any lower-case word").hide(name == "read"),
         flag("json", "Write one JSON array on one line").conflicts_with("json-lines"),
         flag("json-lines", "Write one JSON object per line"),
@@ -104,7 +109,11 @@ pub fn command() -> Command {
         .version(env!("CARGO_PKG_VERSION"))
         .about("Answers questions about target triples such as x86_64-unknown-linux-gnu")
         .after_help(
-            "Status: 0 if all targets were parsed, 1 if one was refused, 2 for wrong arguments,\n\
+            "Examples:\n  \
+             $ target-lexicon explain x86_64-pc-linux-gnuu\n  \
+             $ target-lexicon check --comments -f targets.txt\n  \
+             $ target-lexicon read --from oci linux/arm64\n\n\
+             Status: 0 if all targets were parsed, 1 if one was refused, 2 for wrong arguments,\n\
              3 if something couldn't be read or written. `target-lexicon manual` writes the manual page.",
         )
         .args_override_self(true)
@@ -134,11 +143,13 @@ pub fn command() -> Command {
             of_targets(
                 "matrix",
                 "Write each canonical target once, with the places that it came from",
-                "Without --json, a line has the canonical form, the first spelling and the places, between tabs.\n\
+                "Without --json, a line has between tabs the canonical form, the first spelling, how many targets have it, and\n\
+                 the place of the first.\n\
                  If a target is refused, there is no matrix.\n\n\
                  Example:\n  $ target-lexicon matrix --json -f targets.txt | jq -c 'map(.canonical)'",
             )
-            .arg(flag("ignore-vendor", "Merge targets that differ only in their vendors")),
+            .arg(flag("ignore-vendor", "Merge targets that differ only in their vendors"))
+            .arg(flag("places", "Write all places, instead of the first")),
             of_targets(
                 "read",
                 "Write the canonical form of the target that another tool's name means",

@@ -7,8 +7,9 @@ use std::str;
 pub enum Stop<E> {
     /// A read failed.
     Read(io::Error),
-    /// A line isn't UTF-8. `column` is that of the first wrong byte, in characters from 1.
-    NotUtf8 { column: usize },
+    /// A line isn't UTF-8. `column` is that of the first wrong byte, in characters from 1. `is_utf16` says whether the input
+    /// begins with the byte order mark of UTF-16.
+    NotUtf8 { column: usize, is_utf16: bool },
     /// `answer` failed.
     Answer(E),
 }
@@ -21,6 +22,7 @@ pub fn each_block<E>(
     mut answer: impl FnMut(&str) -> Result<(), E>,
 ) -> Result<(), Stop<E>> {
     let (mut bytes, mut filled) = (vec![0; 1 << 16], 0);
+    let mut is_first = true;
     loop {
         if filled == bytes.len() {
             bytes
@@ -56,9 +58,11 @@ pub fn each_block<E>(
             answer(&valid[..line]).map_err(Stop::Answer)?;
             return Err(Stop::NotUtf8 {
                 column: valid[line..].chars().count() + 1,
+                is_utf16: is_first && matches!(block[..], [0xff, 0xfe, ..] | [0xfe, 0xff, ..]),
             });
         }
         answer(valid).map_err(Stop::Answer)?;
+        is_first = false;
         if count == 0 {
             return Ok(());
         }

@@ -137,8 +137,9 @@ fn each_line(path: &Path, lines: Lines, answers: &mut impl Answers) -> Result<()
         Ok(()) => Ok(()),
         Err(Stop::Answer(fault)) => Err(fault),
         Err(Stop::Read(why)) => Err(Fault::Stream { name, why }),
-        Err(Stop::NotUtf8 { column }) => Err(Fault::NotUtf8 {
+        Err(Stop::NotUtf8 { column, is_utf16 }) => Err(Fault::NotUtf8 {
             place: format!("{name}:{}:{column}", number + 1),
+            is_utf16,
         }),
     }
 }

@@ -19,8 +19,9 @@ use clap_complete::Shell;
 use input::{each_target, end_of_line, Answers, Place, Target};
 use json::{Json, Object};
 use matrix::Matrix;
-use output::Outputs;
-use refusal::{visible, Refusal};
+use output::{with_commas, Outputs, Progress};
+use refusal::{visible, Help, Refusal};
+use std::collections::HashMap;
 use std::env;
 use std::io::{self, Write};
 use std::path::Path;
@@ -31,12 +32,11 @@ use target_lexicon::TripleRef;
 /// What ends a run early.
 pub enum Fault {
     /// A stream can't be read or written.
-    Stream {
-        name: String,
-        why: io::Error,
-    },
+    Stream { name: String, why: io::Error },
     NotUtf8 {
         place: String,
+        /// Whether the file begins as one in UTF-16 does.
+        is_utf16: bool,
     },
     /// Nobody reads the output any more.
     Closed,
@@ -73,22 +73,29 @@ struct Run {
     is_quiet: bool,
     skips_comments: bool,
     end_of_line: u8,
-    ignores_vendor: bool,
     shows_changes: bool,
     has_json: bool,
     matrix: Matrix,
     outputs: Outputs,
-    is_refused: bool,
+    progress: Progress,
+    /// How many targets are refused at most, before the run ends.
+    max_errors: Option<usize>,
+    /// What is said of lines that were refused before: lists repeat their mistakes.
+    helps: HashMap<String, Help>,
 }
+
+/// How many refused lines are remembered, and how long these may be.
+const REMEMBERED: usize = 10_000;
+const REMEMBERED_LENGTH: usize = 100;
 
 impl Answers for Run {
     fn answer(&mut self, target: Target<'_>) -> Result<(), Fault> {
+        self.progress.targets += 1;
         match self.find(target.text) {
             Ok(_) if self.is_quiet => Ok(()),
             Err(_) if self.is_quiet => Err(Fault::Refused),
             Ok(Found::Parsed(explanation)) if self.call == Call::Matrix => {
-                self.matrix
-                    .add(target, explanation.triple, self.ignores_vendor);
+                self.matrix.add(target, explanation.triple);
                 Ok(())
             }
             Ok(_) if self.call == Call::Check => Ok(()),
@@ -125,25 +132,48 @@ impl Answers for Run {
                 })
             }
             Err(refusal) => {
-                self.is_refused = true;
+                self.progress.refused += 1;
+                let help = self.help(target, &refusal);
                 if self.has_json && self.call != Call::Matrix {
-                    return self
-                        .outputs
-                        .object([answers::head(target), refusal.members()].concat());
+                    self.outputs
+                        .object([answers::head(target), refusal.members(&help)].concat())?;
+                } else {
+                    self.outputs
+                        .refuse(|out, has_color| refusal.write(out, target, has_color, &help))?;
                 }
-                let note = self.note(target);
-                self.outputs
-                    .refuse(|out, has_color| refusal.write(out, target, has_color, note.as_deref()))
+                match self.max_errors {
+                    Some(count) if self.progress.refused >= count => Err(Fault::Refused),
+                    _ => Ok(()),
+                }
             }
         }
     }
 
     fn pause(&mut self) -> Result<(), Fault> {
-        self.outputs.flush()
+        self.outputs.flush()?;
+        self.progress.show()
     }
 }
 
 impl Run {
+    /// What the user may have meant. It is remembered for a line that isn't long.
+    fn help(&mut self, target: Target<'_>, refusal: &Refusal<'_>) -> Help {
+        if let Some(help) = self.helps.get(target.text) {
+            return help.clone();
+        }
+        let help = Help {
+            suggestion: refusal.suggestion(),
+            note: self.note(target),
+        };
+        if self.helps.len() < REMEMBERED
+            && target.text.len() <= REMEMBERED_LENGTH
+            && matches!(target.place, Place::Line { .. })
+        {
+            self.helps.insert(target.text.to_string(), help.clone());
+        }
+        help
+    }
+
     fn find<'a>(&self, text: &'a str) -> Result<Found<'a>, Refusal<'a>> {
         if let Call::Read(dialect) = self.call {
             return refusal::read(text, dialect).map(Found::Read);
@@ -185,12 +215,16 @@ impl Run {
             is_quiet: arguments.get_flag("quiet"),
             skips_comments: arguments.get_flag("comments"),
             end_of_line: end_of_line(arguments),
-            ignores_vendor: call == Call::Matrix && arguments.get_flag("ignore-vendor"),
             shows_changes: matches!(call, Call::Read(_)) && arguments.get_flag("changes"),
             has_json: arguments.get_flag("json") || arguments.get_flag("json-lines"),
-            matrix: Matrix::default(),
+            matrix: Matrix::new(
+                call == Call::Matrix && arguments.get_flag("ignore-vendor"),
+                call == Call::Matrix && arguments.get_flag("places"),
+            ),
             outputs: Outputs::new(arguments),
-            is_refused: false,
+            progress: Progress::new(),
+            max_errors: arguments.get_one("max-errors").copied(),
+            helps: HashMap::new(),
         }
     }
 
@@ -205,19 +239,34 @@ impl Run {
                 "other tools mean `{meant}`, which `target-lexicon read` gives"
             ));
         }
-        if let (Call::Read(None), Some(note)) = (self.call, refusal::dialects_note(text)) {
+        let command = match self.call {
+            Call::Read(None) => Some(""),
+            Call::Read(_) => None,
+            _ => Some("target-lexicon read "),
+        };
+        if let Some(note) = command.and_then(|command| refusal::dialects_note(command, text)) {
             return Some(note);
         }
+        if text.contains('\0') && self.end_of_line != 0 {
+            return Some(
+                "it has zero bytes: a file in UTF-16 has them, which must be UTF-8 here"
+                    .to_string(),
+            );
+        }
+        let is_file = || !text.is_empty() && Path::new(text).is_file();
         match target.place {
-            Place::Argument(_) => (!text.is_empty() && Path::new(text).is_file()).then(|| {
-                format!(
-                    "there is a file of that name: `-f {}` answers for its lines",
-                    visible(text)
-                )
-            }),
+            Place::Argument(_) if is_file() => Some(format!(
+                "there is a file of that name: `-f {}` answers for its lines",
+                visible(text)
+            )),
+            _ if self.call == Call::Read(None) && text.contains('/') => {
+                Some("a name of another tool needs `--from`".to_string())
+            }
             Place::Line { .. } if self.end_of_line == 0 => None,
-            Place::Line { .. } => (!self.skips_comments && (text.is_empty() || text.contains('#')))
-                .then(|| "with `--comments` blank lines and comments are skipped".to_string()),
+            Place::Line { .. } if !self.skips_comments && (text.is_empty() || text.contains('#')) => {
+                Some("with `--comments` blank lines and comments are skipped".to_string())
+            }
+            _ => None,
         }
     }
 
@@ -226,10 +275,12 @@ impl Run {
         if let Err(fault) = each_target(arguments, &mut self) {
             // What was answered is whole; if it can't be written either, the first fault is the one to show.
             let _ = self.outputs.end(self.call != Call::Matrix);
+            let _ = self.summarize();
             return Err(fault);
         }
-        if self.call == Call::Matrix && !self.is_refused {
-            let matrix = std::mem::take(&mut self.matrix);
+        let is_refused = self.progress.refused > 0;
+        if self.call == Call::Matrix && !is_refused {
+            let matrix = std::mem::replace(&mut self.matrix, Matrix::new(false, false));
             if self.has_json {
                 matrix
                     .into_objects()
@@ -240,9 +291,28 @@ impl Run {
             }
         }
         // A matrix that isn't whole is none, so that nobody takes it for one.
+        self.outputs.end(self.call != Call::Matrix || !is_refused)?;
+        self.summarize()?;
+        Ok(i32::from(is_refused))
+    }
+
+    /// Of many targets, how many were refused, as the last line of the messages.
+    fn summarize(&mut self) -> Result<(), Fault> {
+        let Progress {
+            targets, refused, ..
+        } = self.progress;
+        self.progress.end()?;
+        if refused == 0
+            || targets < 2
+            || self.is_quiet
+            || self.has_json && self.call != Call::Matrix
+        {
+            return Ok(());
+        }
+        let (refused, targets) = (with_commas(refused), with_commas(targets));
         self.outputs
-            .end(self.call != Call::Matrix || !self.is_refused)?;
-        Ok(i32::from(self.is_refused))
+            .refuse(|out, _| writeln!(out, "{refused} of {targets} targets refused"))?;
+        self.outputs.flush()
     }
 }
 
@@ -271,7 +341,12 @@ fn completion_script(arguments: &ArgMatches) -> String {
         .get_one::<Shell>("shell")
         .expect("a shell is required");
     let mut script = Vec::new();
-    clap_complete::generate(shell, &mut arguments::command(), "target-lexicon", &mut script);
+    clap_complete::generate(
+        shell,
+        &mut arguments::command(),
+        "target-lexicon",
+        &mut script,
+    );
     // For bash the names of arguments are among the words that it offers.
     String::from_utf8_lossy(&script).replace(" [TARGET]...", "")
 }
@@ -351,7 +426,15 @@ fn main() {
             Fault::Closed => process::exit(CLOSED),
             Fault::Refused => return 1,
             Fault::Stream { name, why } => format!("{}: {why}", visible(&name)),
-            Fault::NotUtf8 { place } => format!("{}: not UTF-8", visible(&place)),
+            Fault::NotUtf8 { place, is_utf16 } => format!(
+                "{}: {}",
+                visible(&place),
+                if is_utf16 {
+                    "UTF-16, not UTF-8"
+                } else {
+                    "not UTF-8"
+                }
+            ),
         };
         let _ = io::stderr().write_all(format!("target-lexicon: {why}\n").as_bytes());
         3

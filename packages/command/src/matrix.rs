@@ -9,22 +9,33 @@ use target_lexicon::{KnownVendor, TripleRef, VendorRef};
 struct Row {
     canonical: String,
     target: String,
-    /// Each target that came to this, and its place as a text.
+    count: usize,
+    /// The targets that came to this, and their places: the first one, or all.
     from: Vec<(Object, String)>,
 }
 
-#[derive(Default)]
 pub struct Matrix {
     rows: Vec<Row>,
     /// The row of a key.
     index: HashMap<String, usize>,
+    ignores_vendor: bool,
+    keeps_places: bool,
 }
 
 impl Matrix {
-    pub fn add(&mut self, target: Target<'_>, triple: TripleRef<'_>, ignores_vendor: bool) {
+    pub fn new(ignores_vendor: bool, keeps_places: bool) -> Self {
+        Matrix {
+            rows: Vec::new(),
+            index: HashMap::new(),
+            ignores_vendor,
+            keeps_places,
+        }
+    }
+
+    pub fn add(&mut self, target: Target<'_>, triple: TripleRef<'_>) {
         let canonical_form = canonical(triple);
         let mut key = canonical_form;
-        if ignores_vendor {
+        if self.ignores_vendor {
             key = canonical(TripleRef {
                 vendor: VendorRef::Known(KnownVendor::Unknown),
                 ..key
@@ -37,23 +48,27 @@ impl Matrix {
             self.rows.push(Row {
                 canonical,
                 target,
+                count: 0,
                 from: Vec::new(),
             });
         }
-        self.rows[row]
-            .from
-            .push((head(target), target.place.to_string()));
+        let row = &mut self.rows[row];
+        row.count += 1;
+        if self.keeps_places || row.count == 1 {
+            row.from.push((head(target), target.place.to_string()));
+        }
     }
 
-    /// The canonical form, the first spelling and the places, between tabs; and what ends a line.
+    /// The canonical form, the first spelling, how many targets came to it and the places, between tabs; and what ends a line.
     pub fn write(&self, out: &mut dyn Write, end: u8) -> io::Result<()> {
         for row in &self.rows {
             let places: Vec<&str> = row.from.iter().map(|(_, place)| place.as_str()).collect();
             write!(
                 out,
-                "{}\t{}\t{}{}",
+                "{}\t{}\t{}\t{}{}",
                 row.canonical,
                 row.target,
+                row.count,
                 places.join(" "),
                 char::from(end)
             )?;
@@ -71,6 +86,7 @@ impl Matrix {
             vec![
                 ("canonical", row.canonical.into()),
                 ("target", row.target.into()),
+                ("count", row.count.into()),
                 ("from", Json::List(from)),
             ]
         })

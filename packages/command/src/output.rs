@@ -4,6 +4,7 @@ use crate::{streams, Fault};
 use clap::ArgMatches;
 use std::env;
 use std::io::{self, BufWriter, ErrorKind, Write};
+use std::time::{Duration, Instant};
 
 impl Fault {
     pub fn of_output(name: &str, why: io::Error) -> Self {
@@ -32,14 +33,18 @@ pub struct Outputs {
     has_color: bool,
 }
 
-/// Whether a terminal would show what goes to standard error, and wants colours.
-fn is_colorful_terminal() -> bool {
+/// Whether a terminal shows what goes to standard error.
+fn is_terminal() -> bool {
     #[cfg(is_terminal)]
-    let is_terminal = io::IsTerminal::is_terminal(&io::stderr());
+    return io::IsTerminal::is_terminal(&io::stderr());
     #[cfg(not(is_terminal))]
-    let is_terminal = false;
+    return false;
+}
+
+/// Whether that terminal wants colours.
+fn is_colorful_terminal() -> bool {
     let is_unset = |name| env::var_os(name).map_or(true, |it| it.is_empty());
-    is_terminal
+    is_terminal()
         && is_unset("NO_COLOR")
         && env::var_os("TERM").map_or(cfg!(windows), |it| it != "dumb")
 }
@@ -148,4 +153,59 @@ impl Outputs {
         }
         self.flush()
     }
+}
+
+/// How far a long run is. On a terminal it is shown each second, in a line that the next one covers.
+pub struct Progress {
+    pub targets: usize,
+    pub refused: usize,
+    is_shown: bool,
+    next: Option<Instant>,
+}
+
+impl Progress {
+    pub fn new() -> Self {
+        Progress {
+            targets: 0,
+            refused: 0,
+            is_shown: false,
+            next: is_terminal().then(|| Instant::now() + Duration::from_secs(2)),
+        }
+    }
+
+    pub fn show(&mut self) -> Result<(), Fault> {
+        if self.next.map_or(true, |next| Instant::now() < next) {
+            return Ok(());
+        }
+        self.next = Some(Instant::now() + Duration::from_secs(1));
+        self.is_shown = true;
+        let (targets, refused) = (with_commas(self.targets), with_commas(self.refused));
+        self.line(&format!("{targets} targets, {refused} refused"))
+    }
+
+    /// Clears the line.
+    pub fn end(&mut self) -> Result<(), Fault> {
+        match std::mem::take(&mut self.is_shown) {
+            true => self.line(""),
+            false => Ok(()),
+        }
+    }
+
+    fn line(&self, text: &str) -> Result<(), Fault> {
+        io::stderr()
+            .write_all(format!("\r\x1b[K{text}").as_bytes())
+            .map_err(|why| Fault::of_output("standard error", why))
+    }
+}
+
+/// A number with commas between thousands.
+pub fn with_commas(number: usize) -> String {
+    let digits = number.to_string();
+    let groups: Vec<&str> = digits
+        .as_bytes()
+        .rchunks(3)
+        .rev()
+        .map(|group| std::str::from_utf8(group).expect("digits are ASCII"))
+        .collect();
+    groups.join(",")
 }

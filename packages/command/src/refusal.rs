@@ -11,7 +11,24 @@ pub struct Refusal<'a> {
     /// The field that the part isn't a name of.
     field: Option<Field>,
     part: TextPart<'a>,
-    suggestion: Option<&'static str>,
+    names: Names<'a>,
+    /// Why the name of a tool has no triple.
+    reason: Option<&'static str>,
+}
+
+/// Among which names one is suggested. To find it takes longer than all else, so it is found only where it is shown.
+enum Names<'a> {
+    OfParts(target_lexicon::Refusal<'a>),
+    OfVendors(&'a str),
+    OfDialect(Dialect, &'a str),
+    No,
+}
+
+/// What the user may have meant by a target that is refused.
+#[derive(Clone)]
+pub struct Help {
+    pub suggestion: Option<&'static str>,
+    pub note: Option<String>,
 }
 
 /// What a target parses as, and from where.
@@ -32,7 +49,8 @@ pub fn explanation(text: &str, is_strict: bool) -> Result<Parsed<'_>, Refusal<'_
             error: "custom vendor".into(),
             field: Some(Field::Vendor),
             part,
-            suggestion: tool_names::suggestion(Field::Vendor, vendor),
+            names: Names::OfVendors(vendor),
+            reason: None,
         }),
         _ => Ok(Parsed { triple, sources }),
     }
@@ -44,31 +62,33 @@ pub fn read(text: &str, dialect: Option<Dialect>) -> Result<TripleRef<'_>, Refus
         None => tool_names::read(text).map_err(Refusal::of_part),
         Some(dialect) => dialect.read(text).map_err(|refusal| match refusal {
             NameError::Unknown => Refusal {
-                suggestion: dialect.suggestion(text),
+                names: Names::OfDialect(dialect, text),
                 ..Refusal::of_all(format!("unknown name of {dialect}"), text)
             },
-            NameError::WithoutTriple(why) => {
-                Refusal::of_all(format!("no triple means the same ({why}):"), text)
-            }
+            NameError::WithoutTriple(why) => Refusal {
+                reason: Some(why),
+                ..Refusal::of_all(
+                    format!("no triple means the same as the name of {dialect}"),
+                    text,
+                )
+            },
         }),
     }
 }
 
-/// How a name is read that isn't spelled like a triple, if it is one of another tool.
-pub fn dialects_note(name: &str) -> Option<String> {
+/// How a name is read that isn't spelled like a triple, if it is one of another tool. `command` comes before the option.
+pub fn dialects_note(command: &str, name: &str) -> Option<String> {
     let options: Vec<_> = DIALECTS
         .into_iter()
         .filter(|dialect| !matches!(dialect.read(name), Err(NameError::Unknown)))
-        .map(|dialect| format!("`--from {dialect}`"))
+        .map(|dialect| format!("`{command}--from {dialect}`"))
         .collect();
-    match (options.is_empty(), name.contains('/')) {
-        (false, _) => Some(format!(
+    (!options.is_empty()).then(|| {
+        format!(
             "it is a name of another tool: use {}",
             options.join(" or ")
-        )),
-        (true, true) => Some("a name of another tool needs `--from`".into()),
-        (true, false) => None,
-    }
+        )
+    })
 }
 
 /// The name that another tool has for the triple of a target.
@@ -89,7 +109,8 @@ impl<'a> Refusal<'a> {
             error: format!("unrecognized {}", name.replace('_', " ")),
             field: refusal.expected,
             part: refusal.part,
-            suggestion: refusal.suggestion(),
+            names: Names::OfParts(refusal),
+            reason: None,
         }
     }
 
@@ -98,7 +119,8 @@ impl<'a> Refusal<'a> {
             error,
             field: None,
             part: TextPart { text, start: 0 },
-            suggestion: None,
+            names: Names::No,
+            reason: None,
         }
     }
 }
@@ -111,13 +133,23 @@ fn key_of(field: Field) -> Option<&'static str> {
 }
 
 impl Refusal<'_> {
+    /// The name that is suggested.
+    pub fn suggestion(&self) -> Option<&'static str> {
+        match &self.names {
+            Names::OfParts(refusal) => refusal.suggestion(),
+            Names::OfVendors(vendor) => tool_names::suggestion(Field::Vendor, vendor),
+            Names::OfDialect(dialect, name) => dialect.suggestion(name),
+            Names::No => None,
+        }
+    }
+
     /// The place, what is wrong, the target, and carets below the part.
     pub fn write(
         &self,
         out: &mut dyn Write,
         target: Target<'_>,
         has_color: bool,
-        note: Option<&str>,
+        help: &Help,
     ) -> io::Result<()> {
         let color = |code: &str, text: &str| match has_color {
             true => format!("\x1b[{code}m{text}\x1b[0m"),
@@ -154,25 +186,31 @@ impl Refusal<'_> {
             " ".repeat(before.chars().count()),
             color("1;31", &carets)
         )?;
-        if let Some(name) = self.suggestion {
-            write!(out, " did you mean `{}`?", color("1;32", name))?;
+        match (help.suggestion, self.reason) {
+            (Some(name), _) => write!(out, " did you mean `{}`?", color("1;32", name))?,
+            (None, Some(reason)) => write!(out, " {reason}")?,
+            (None, None) => {}
         }
         writeln!(out)?;
-        match note {
+        match &help.note {
             Some(note) => writeln!(out, "  {} {note}", color("1", "note:")),
             None => Ok(()),
         }
     }
 
     /// What is wrong, as the members of an object.
-    pub fn members(&self) -> Object {
+    pub fn members(&self, help: &Help) -> Object {
+        let error = match self.reason {
+            Some(reason) => format!("no triple means the same: {reason}"),
+            None => self.error.clone(),
+        };
         vec![
-            ("error", self.error.as_str().into()),
+            ("error", error.into()),
             ("part", self.part.text.into()),
             ("start", self.part.start.into()),
             ("end", self.part.range().end.into()),
             ("field", Json::from(self.field.and_then(key_of))),
-            ("suggestion", self.suggestion.into()),
+            ("suggestion", help.suggestion.into()),
         ]
     }
 }

@@ -70,7 +70,7 @@ fn a_refused_line_is_shown_with_its_place() {
     assert_eq!(
         errors,
         "<stdin>:2:11: error: unrecognized operating system `linx`\n  x86_64-pc-linx\n            ^^^^ did you mean `linux`?\n\
-         <stdin>:3:8: error: unrecognized vendor `éé`\n  x86_64-éé-a\n         ^^\n"
+         <stdin>:3:8: error: unrecognized vendor `éé`\n  x86_64-éé-a\n         ^^\n2 of 3 targets refused\n"
     );
     assert_eq!(status, 1);
     // Arguments have no place, and follow each other and the lines of files in the order given.
@@ -81,7 +81,7 @@ fn a_refused_line_is_shown_with_its_place() {
         errors,
         format!(
             "error: unrecognized architecture `nowhere`\n  nowhere\n  ^^^^^^^\n\
-             {path}:1:1: error: unrecognized architecture `foo`\n  foo\n  ^^^\n"
+             {path}:1:1: error: unrecognized architecture `foo`\n  foo\n  ^^^\n2 of 3 targets refused\n"
         )
     );
     assert_eq!(status, 1);
@@ -94,7 +94,7 @@ fn comments_are_skipped_if_asked() {
     assert_eq!(out, "x86_64-unknown-linux\n");
     assert_eq!(
         errors,
-        "<stdin>:5:2: error: unrecognized architecture `foo`\n  foo\n  ^^^\n"
+        "<stdin>:5:2: error: unrecognized architecture `foo`\n  foo\n  ^^^\n1 of 2 targets refused\n"
     );
     assert_eq!(status, 1);
     // Without the option each line is a target, and a note says that there is one.
@@ -133,7 +133,7 @@ fn targets_and_answers_end_with_a_zero_byte_if_asked() {
     let (out, _, _) = answers(&["matrix", "-0"], b"z80\0avr");
     assert_eq!(
         out,
-        "z80-unknown-unknown-elf\tz80\t<stdin>:1\0avr-unknown-unknown\tavr\t<stdin>:2\0"
+        "z80-unknown-unknown-elf\tz80\t1\t<stdin>:1\0avr-unknown-unknown\tavr\t1\t<stdin>:2\0"
     );
     let json = |words: &[&str], input: &[u8]| answers(words, input).0;
     assert_eq!(
@@ -364,12 +364,26 @@ fn the_matrix_has_each_target_once() {
     assert_eq!(
         out,
         format!(
-            "x86_64-unknown-linux\tx86_64-linux\t{path}:1 {path}:3\nz80-unknown-unknown-elf\tz80\t{path}:2\n\
-             x86_64-pc-linux\tx86_64-pc-linux\t{path}:4\n"
+            "x86_64-unknown-linux\tx86_64-linux\t2\t{path}:1\nz80-unknown-unknown-elf\tz80\t1\t{path}:2\n\
+             x86_64-pc-linux\tx86_64-pc-linux\t1\t{path}:4\n"
         )
     );
     assert_eq!(status, 0);
+    let (out, _, _) = answers(&["matrix", "--places", "-f", &path]);
+    assert!(out.starts_with(&format!(
+        "x86_64-unknown-linux\tx86_64-linux\t2\t{path}:1 {path}:3\n"
+    )));
     let merged = json_of(&["matrix", "--json", "--ignore-vendor", "-f", &path]);
+    assert_eq!(merged[0]["count"], 3);
+    assert_eq!(merged[0]["from"].as_array().unwrap().len(), 1);
+    let merged = json_of(&[
+        "matrix",
+        "--json",
+        "--places",
+        "--ignore-vendor",
+        "-f",
+        &path,
+    ]);
     assert_eq!(merged[0]["canonical"], "x86_64-unknown-linux");
     let lines: Vec<_> = merged[0]["from"]
         .as_array()
@@ -401,7 +415,7 @@ fn names_of_other_tools_are_read_and_written() {
     assert_eq!((out.as_str(), status), ("aarch64-unknown-linux\n", 1));
     assert_eq!(
         errors,
-        "error: unknown name of go `linux/foo`\n  linux/foo\n  ^^^^^^^^^\n"
+        "error: unknown name of go `linux/foo`\n  linux/foo\n  ^^^^^^^^^\n1 of 2 targets refused\n"
     );
     let (_, errors, _) = read(&["--from", "go", "linux/amd46"]);
     assert_eq!(
@@ -646,7 +660,10 @@ fn outputs_that_fail_end_the_run() {
         ] {
             let output = target_lexicon(words).stdout(full()).output().unwrap();
             let (_, errors, status) = texts(&output);
-            assert!(errors.starts_with("target-lexicon: standard output: "), "{errors}");
+            assert!(
+                errors.starts_with("target-lexicon: standard output: "),
+                "{errors}"
+            );
             assert_eq!(status, 3);
         }
         assert_eq!(
@@ -714,7 +731,10 @@ fn the_manual_and_the_completions_have_all_of_the_help() {
             "no {call} in the manual's description"
         );
         let (help, _, _) = answers(&[call, "--help"]);
-        assert!(help.contains(":\n  $ target-lexicon "), "no example of {call}");
+        assert!(
+            help.contains(":\n  $ target-lexicon "),
+            "no example of {call}"
+        );
         for word in words_of(&help) {
             assert!(page.contains(&word), "no {word} in the manual");
             for script in shells.iter().filter(|_| word.starts_with('-')) {
@@ -725,4 +745,55 @@ fn the_manual_and_the_completions_have_all_of_the_help() {
             }
         }
     }
+}
+
+#[test]
+fn mistakes_are_counted_and_limited() {
+    let lines = "z80\nx86_64-unknown-linux-gnuu\nfoo\nx86_64-unknown-linux-gnuu\n";
+    let (_, errors, status) = answers_on(&["check"], lines);
+    assert_eq!(
+        (errors.matches("did you mean `gnu`?").count(), status),
+        (2, 1)
+    );
+    assert!(errors.ends_with("\n3 of 4 targets refused\n"), "{errors}");
+    let (_, errors, status) = answers_on(&["check", "--max-errors", "1"], lines);
+    assert!(errors.ends_with("\n1 of 2 targets refused\n"), "{errors}");
+    assert_eq!((errors.contains("foo"), status), (false, 1));
+    let (out, errors, status) = answers_on(&["check", "--json", "--max-errors", "2"], lines);
+    let refused: serde_json::Value = serde_json::from_str(&out).unwrap();
+    assert_eq!(
+        (refused.as_array().unwrap().len(), errors.as_str(), status),
+        (2, "", 1)
+    );
+    // One target isn't counted.
+    assert!(!answers(&["check", "foo"]).1.contains("refused"));
+}
+
+#[test]
+fn a_name_of_another_tool_is_recognised() {
+    for call in ["check", "settle", "matrix", "facts"] {
+        let (_, errors, status) = answers(&[call, "linux/arm/v7"]);
+        assert!(
+            errors.contains(
+                "note: it is a name of another tool: use `target-lexicon read --from oci`\n"
+            ),
+            "{errors}"
+        );
+        assert_eq!(status, 1);
+    }
+    let (_, errors, _) = answers(&["read", "--from", "oci", "linux/amd64/v3"]);
+    assert_eq!(
+        errors,
+        "error: no triple means the same as the name of oci `linux/amd64/v3`\n  linux/amd64/v3\n  \
+         ^^^^^^^^^^^^^^ a triple can't state a level of x86-64\n"
+    );
+}
+
+#[test]
+fn utf_16_is_named() {
+    let (_, errors, status) = texts(&run_on(&["check"], b"\xff\xfez\x008\x000\0\n\0"));
+    assert_eq!(errors, "target-lexicon: <stdin>:1:1: UTF-16, not UTF-8\n");
+    assert_eq!(status, 3);
+    let (_, errors, _) = texts(&run_on(&["check"], b"z\x008\x000\0"));
+    assert!(errors.contains("a file in UTF-16 has them"), "{errors}");
 }

@@ -60,7 +60,7 @@ const tests = {
   },
   "a refusal has its field, its range and a suggestion": () => {
     for (const [text, field, part, start, suggestion] of [
-      ["", "architecture", "", 0, null], ["arm64e-linux", "architecture", "arm64e", 0, "arm64"], ["x86_64--linux", "vendor", "", 7, null],
+      ["", "architecture", "", 0, null], ["arm64e-linux", "architecture", "arm64e", 0, null], ["amr64-linux", "architecture", "amr64", 0, "arm64"], ["x86_64--linux", "vendor", "", 7, null],
       ["x86_64-foo-bar", "operatingSystem", "bar", 11, null], ["x86_64-linux-gnuu", "environment", "gnuu", 13, "gnu"],
       ["x86_64-gnu-linux", "binaryFormat", "linux", 11, null], ["x86_64-elf-linux", null, "linux", 11, null],
       ["x86_64-\u{1f600}-b", "vendor", "\u{1f600}", 7, null], ["\ufeffx86_64", "architecture", "\ufeffx86_64", 0, null],

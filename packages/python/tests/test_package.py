@@ -325,7 +325,7 @@ class Samples(Folder):
                          [0, 0, 0])
         self.assertEqual(answer("write", "--to", "go", "arm64-linux", "avr-none"), ("linux/arm64\n", "no name of go for avr-none\n", 1))
         self.assertIn("\n  go      linux/arm64\n", answer("elsewhere", "arm64-linux-gnu")[0])
-        self.assertEqual(answer("read", "--from", "go", "js/wasm", "--json")[0].count('"error":"no triple means the same (Go'), 1)
+        self.assertEqual(answer("read", "--from", "go", "js/wasm", "--json")[0].count('"error":"no triple means the same: Go'), 1)
         objects, _, status = answer("facts", "--json", "avr", "-", given="arm64-apple-ios17\r\n")
         places = {"avr": (None, None), "arm64-apple-ios17": ("<stdin>", 1)}
         expected = [{"target": it, "file": file, "line": line, **target_lexicon.Triple(it).to_dict()} for it, (file, line) in places.items()]

@@ -25,7 +25,13 @@
 //! nothing. The page `README.md` says what differs from upstream, and what is proved.
 #![no_std]
 #![forbid(unsafe_code)]
-#![cfg_attr(not(feature = "internals"), warn(missing_docs))]
+// docs.rs marks what needs a feature.
+#![cfg_attr(docsrs, feature(doc_cfg))]
+#![cfg_attr(
+    docsrs,
+    doc(auto_cfg(hide(core_error, feature = "std", feature = "__internals")))
+)]
+#![cfg_attr(not(feature = "__internals"), warn(missing_docs))]
 
 extern crate alloc;
 #[cfg(all(feature = "std", not(core_error)))]
@@ -43,11 +49,11 @@ mod parse_error;
 mod parse_triple_error;
 #[allow(dead_code, unused_imports, unused_variables)]
 // callers in crates/ need more of it, and so do clauses
-#[cfg(not(feature = "internals"))]
+#[cfg(not(feature = "__internals"))]
 mod proved;
 /// The proved crates, for the packages of the same repository.
 #[allow(dead_code, unused_imports, unused_variables)]
-#[cfg(feature = "internals")]
+#[cfg(feature = "__internals")]
 #[doc(hidden)]
 pub mod proved;
 #[cfg(feature = "serde_support")]

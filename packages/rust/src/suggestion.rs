@@ -1,5 +1,5 @@
 //! The known names of a field, and the one that was perhaps meant.
-use crate::proved::{names, tool_names};
+use crate::proved::tool_names;
 use crate::{Field, ParseError, Refusal};
 
 impl Field {
@@ -15,14 +15,14 @@ impl Field {
     /// ```
     #[must_use]
     pub fn names(self) -> &'static [&'static str] {
-        names::names(self)
+        tool_names::known_names::names(self)
     }
 }
 
 impl Refusal<'_> {
     /// The name that was perhaps meant. If other tools spell a known name as the refused part, it is that name. Otherwise it
     /// is the nearest one of the expected field or of a later one, if the part may be a misspelling of it. It never changes
-    /// the family of the architecture or the number of bits.
+    /// the family of the architecture or a digit.
     ///
     /// # Examples
     ///

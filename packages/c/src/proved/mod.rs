@@ -8,6 +8,7 @@ pub(crate) mod numbers;
 pub(crate) mod sources;
 pub(crate) mod triple;
 pub(crate) mod triple_facts;
+pub(crate) mod values;
 
 pub use calls::{comes_back, equal, explain, facts, parse, print, same_target, settle};
 pub use dialects::{dialect_at, name_in, name_suggestion, read, reason};
@@ -16,3 +17,4 @@ pub use numbers::{name_at, number_in};
 pub use sources::{FieldSource, FieldSources};
 pub use triple::{Fault, NumberedTriple, TripleNumbers};
 pub use triple_facts::{TripleFacts, TypeSizes};
+pub use values::field_at;

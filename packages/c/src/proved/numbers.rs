@@ -2,11 +2,11 @@
 //! The number of a string in one field, the name of a number, and whether a string is a name.
 
 use crate::proved::triple::vendor_number;
-use core::str::FromStr as _;
-use target_lexicon::proved::names::{
+use crate::proved::values::{
     architecture_at, architecture_number, binary_format_at, binary_format_number, environment_at,
     environment_number, known_vendor_at, operating_system_at, operating_system_number,
 };
+use core::str::FromStr as _;
 use target_lexicon::proved::{
     version_text, Architecture, BinaryFormat, Environment, Field, OperatingSystem, VendorRef,
     MAX_VERSION_LENGTH,

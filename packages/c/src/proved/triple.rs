@@ -2,12 +2,12 @@
 //! Triples as numbers. Functions that return a wide value are inlined where that saves a hundredth of parsing and
 //! printing.
 
-use core::str;
-use target_lexicon::proved::names::{
+use crate::proved::values::{
     architecture_at, architecture_number, binary_format_at, binary_format_number, environment_at,
     environment_number, known_vendor_at, known_vendor_number, operating_system_at,
     operating_system_number,
 };
+use core::str;
 use target_lexicon::proved::{DeploymentTarget, OperatingSystem, TripleRef, VendorRef};
 
 /// The number that says that a vendor is a custom one.

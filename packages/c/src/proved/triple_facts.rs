@@ -2,7 +2,7 @@
 //! The facts of a triple, as numbers.
 // Hint of inlining: `facts_of` returns a wide value.
 
-use target_lexicon::proved::names::{binary_format_number, family_number};
+use crate::proved::values::{binary_format_number, family_number};
 use target_lexicon::proved::tool_names::object_format;
 use target_lexicon::proved::{Architecture, CDataModel, CallingConvention, Endianness, TripleRef};
 

@@ -1,6 +1,6 @@
 """A small command, with answers of the command `target-lexicon` of the same repository: `python -m target_lexicon COMMAND TARGET..`.
 
-A target `-` stands for the lines of standard input, which is also read if there is no target. The command `target_lexicon` does
+A target `-` stands for the lines of standard input, which is also read if there is no target. The command `target-lexicon` does
 more, in less time: `cargo install --path packages/command --locked`.
 """
 from __future__ import annotations
@@ -76,7 +76,7 @@ def _refused(error: str, part: str, start: int = 0, field: Optional[str] = None,
 def _refusal(error: ParseError, dialect: Optional[Dialect]) -> Answer:
     """What is wrong with a target, or with a name in a dialect."""
     if error.reason is not None:
-        word = f"no triple means the same ({error.reason}):"
+        word = f"no triple means the same: {error.reason}"
     elif dialect is not None:
         word = f"unknown name of {dialect}"
     else:

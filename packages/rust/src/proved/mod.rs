@@ -14,7 +14,6 @@ pub(crate) mod environment;
 pub(crate) mod explanation;
 pub(crate) mod field;
 pub(crate) mod known_vendor;
-pub mod names;
 pub(crate) mod operating_system;
 pub(crate) mod pointer_width;
 pub(crate) mod queries;

@@ -7,7 +7,7 @@ use Rattle.tool_names.proofs.spelling.has_dropped_version.Goals as goal
 pub returns-in-Some : goal.returns-in-Some
 returns-in-Some c =
     let found = c.in-Some.ensures.cases in
-    c.is_dropped_version.ensures ∙ sym (ap (λ version. option_map_or is_dropped_version version false) (has_prefix c.args.prefix.now c.args.part.now c.in-Some.version.now cc))
+    c.is_dropped_version.ensures ∙ ap is_dropped_version c.as_bytes.ensures.value ∙ sym (ap (λ version. option_map_or is_dropped_version version false) (has_prefix c.args.prefix.now c.args.part.now c.in-Some.version.now cc))
 
 pub returns-in-None : goal.returns-in-None
 returns-in-None c = sym (ap (λ version. option_map_or is_dropped_version version false) (has_no_prefix c.args.prefix.now c.args.part.now c.in-None.ensures.cases))

@@ -1,10 +1,10 @@
 // Erased from crates/tool_names/src/names.rt by tools/erase. Don't edit it here.
 //! Reading and writing the names of a dialect.
 
-use crate::proved::names::misspelling::{misspelling, TOO_MANY_EDITS};
-use crate::proved::names::nearest::nearer;
 use crate::proved::tool_names::dialect::Dialect;
+use crate::proved::tool_names::misspelling::{misspelling, TOO_MANY_EDITS};
 use crate::proved::tool_names::name::Name;
+use crate::proved::tool_names::nearest::nearer;
 use crate::proved::tool_names::pattern::{matched, star_count, Numbers};
 use crate::proved::tool_names::platform::row_of_platform;
 use crate::proved::tool_names::tables::{Row, Way, ONLY_WRITTEN};
@@ -93,6 +93,7 @@ impl Dialect {
     /// [`read`](Dialect::read) knows, if the name may be a misspelling of it. Nothing is allocated.
     #[must_use]
     pub fn suggestion(self, name: &str) -> Option<&'static str> {
+        let name = name.as_bytes();
         nearer(
             name,
             nearest_name(name, self.rows(), true),
@@ -201,7 +202,7 @@ fn without_numbers(system: OperatingSystem) -> OperatingSystem {
 
 /// The nearest of the names without a number that are read, and are written or aren't, if a name may be a misspelling of
 /// it.
-fn nearest_name(name: &str, rows: &'static [Row], written: bool) -> Option<&'static str> {
+fn nearest_name(name: &[u8], rows: &'static [Row], written: bool) -> Option<&'static str> {
     let mut nearest = None;
     let mut limit = TOO_MANY_EDITS;
     for row in rows {

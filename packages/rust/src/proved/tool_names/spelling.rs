@@ -243,15 +243,15 @@ fn versioned_spelling(rows: &[(&'static str, &'static str)], part: &str) -> Opti
 #[inline]
 fn has_dropped_version(prefix: &str, part: &str) -> bool {
     match part.strip_prefix(prefix) {
-        Some(version) => is_dropped_version(version),
+        Some(version) => is_dropped_version(version.as_bytes()),
         None => false,
     }
 }
 
 /// Whether a string is digits and dots, at least one.
 #[inline]
-fn is_dropped_version(text: &str) -> bool {
-    !text.is_empty() && are_digits_or_dots(text.as_bytes())
+pub(crate) fn is_dropped_version(text: &[u8]) -> bool {
+    !text.is_empty() && are_digits_or_dots(text)
 }
 
 #[inline]

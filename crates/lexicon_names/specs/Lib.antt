@@ -1,4 +1,0 @@
-pub mod Distance
-pub mod KnownNames
-pub mod Nearest
-pub mod Numbers
