@@ -270,7 +270,7 @@ class Comparison(Report):
         # A deployment target may be one number. The tag that is written has two.
         full = {name: re.sub(r"^(macosx|ios)_(\d+)_(?!\d+_)", r"\1_\2_0_", tag) for name, tag in tags.items()}
         self.fact("the tag of what sysconfig says is written", (
-            (name, it and it.name_in("python"), full[name]) for name, it in said.items()), "android")
+            (name, it and it.name_in("python"), full[name]) for name, it in said.items()), "android|bsd|dragonfly|haiku|cygwin|wasm32")
         made = []
         try:
             made = python_platforms.from_packaging()
@@ -304,7 +304,7 @@ def words_of(dialect, name):
         return (system if system in SYSTEM_WORDS else system.rstrip("0123456789")), machine
     if dialect == "debian":
         return (name.split("-")[0] if "-" in name else "linux"), name.split("-")[-1]
-    system, word = re.fullmatch(r"(win|linux|mingw|manylinux|musllinux|macosx|ios|android|freebsd|openbsd|netbsd|dragonfly|haiku|cygwin|emscripten|pyodide|wasi)"
+    system, word = re.fullmatch(r"(?:cp\*_)?(win|linux|mingw|manylinux|musllinux|macosx|ios|android|freebsd|openbsd|netbsd|dragonfly|haiku|cygwin|emscripten|pyodide|wasi)"
                                 r"[0-9_*]*_?(?:RELEASE_)?(\D.*?)??(?:_iphone\w+|_(?:ucrt|msvcrt)_\w+)?", name).groups()
     return system, name if name == "win32" else word
 

@@ -654,7 +654,7 @@ fn python() -> &'static [Row] {
 }
 
 #[rustfmt::skip]
-static PYTHON: [(&str, &str, Way); 109] = [
+static PYTHON: [(&str, &str, Way); 115] = [
     ("android_*_arm64_v8a", "aarch64-linux-android", Read),
     ("android_*_armeabi_v7a", "armv7-linux-androideabi", Read),
     ("android_*_x86", "i686-linux-android", Read),
@@ -764,6 +764,12 @@ static PYTHON: [(&str, &str, Way); 109] = [
     ("linux_mips64", "both byte orders", NoTriple),
     ("linux_alpha", "its architecture is no known name", NoTriple),
     ("win_ia64", "its architecture is no known name", NoTriple),
+    ("cp*_manylinux_x86_64", "x86_64-unknown-linux-gnu", Read),
+    ("cp*_manylinux_aarch64", "aarch64-unknown-linux-gnu", Read),
+    ("cp*_manylinux_i686", "i686-unknown-linux-gnu", Read),
+    ("cp*_musllinux_x86_64", "x86_64-unknown-linux-musl", Read),
+    ("cp*_musllinux_aarch64", "aarch64-unknown-linux-musl", Read),
+    ("cp*_musllinux_i686", "i686-unknown-linux-musl", Read),
 ];
 
 fn uname() -> &'static [Row] {
