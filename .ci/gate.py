@@ -29,6 +29,7 @@ FIRST = [
     ("lists of names, the Rust source, what was reviewed of it, and SPEC are what they are made from", "tools/write --check", ""),
     ("no script of bash has a warning", "checks/scripts shell", "shellcheck"),
     ("no script of Python has a warning", "checks/scripts python", "pyflakes3"),
+    ("the crate's copies of the licence are the repository's", "cmp LICENSE packages/rust/LICENSE && cmp COPYRIGHT packages/rust/COPYRIGHT", ""),
 ]
 PROOFS = ("all proofs, must-fail edits, tests and proved programs", "rt ci", "")
 WITHOUT_PROOF = [
@@ -39,7 +40,10 @@ WITHOUT_PROOF = [
     ("the library for C is built and installed for the next steps", f"packages/c/install {BUILT}", "cargo cc"),
     ("the library for C, header, packages and samples, as C and C++ users have them", "packages/c/test", "cargo cc"),
     ("the Python package: each answer, wheels, types, samples", f"packages/python/test {BUILT}/lib/libtarget_lexicon.so {COMMANDS}/lines",
-     "cargo cc pip venv ensurepip"),
+     "cargo cc pip venv ensurepip hatchling"),
+    ("Debian's packages are built, and lintian finds no error", f"packages/debian/build {WORK}/debian -d",
+     f"cargo cc dpkg-buildpackage dh dh_python3 lintian hatchling build installer {DEBIAN_CRATES}/clap-4.0.32"),
+    ("what is released is made, and works in clean folders", f"tools/release {WORK}/release", "git cargo cc pip venv ensurepip hatchling"),
     ("the module, the package and the page for JavaScript are built", f"packages/javascript/build --out {WORK}/web", "wasm32"),
     ("they answer as the program does, in Node and in a browser", f"packages/javascript/test {WORK}/web --program {COMMANDS}/lines",
      "wasm32 node tsc esbuild chromium chromedriver selenium cargo"),
@@ -59,12 +63,14 @@ PACKAGES = {
     "cmake": "cmake", "pkg-config": "pkg-config", "dpkg-deb": "dpkg", "pip": "python3-pip", "ensurepip": "python3-venv", "chromium": "chromium",
     "chromedriver": "chromium-driver", "selenium": "python3-selenium", "mypy": "mypy", "pandas": "python3-pandas",
     "distributed": "python3-distributed", "node": "nodejs", "tsc": "node-typescript", "esbuild": "esbuild", "pypy3": "pypy3",
-    "dpkg-architecture": "dpkg-dev", "/usr/share/misc/config.sub": "autotools-dev", "packaging": "python3-packaging",
+    "dpkg-architecture": "dpkg-dev", "dpkg-buildpackage": "dpkg-dev", "dh": "debhelper", "dh_python3": "dh-python", "lintian": "lintian",
+    "hatchling": "python3-hatchling", "build": "python3-build", "installer": "python3-installer", "venv": "python3-venv", "/usr/share/misc/config.sub": "autotools-dev", "packaging": "python3-packaging",
     f"{DEBIAN_CRATES}/clap-4.0.32": "librust-clap-4-dev", f"{DEBIAN_CRATES}/clap_complete-4.0.7": "librust-clap-complete-dev",
     f"{DEBIAN_CRATES}/serde_json-1.0.87": "librust-serde-json-dev", f"{DEBIAN_CRATES}/cfg-expr-0.10.3": "librust-cfg-expr-dev",
 }
-# The tools that are modules of Debian's Python, or of the python3 on the path.
-MODULES = {**dict.fromkeys(("hypothesis", "selenium", "pandas", "distributed", "packaging"), "/usr/bin/python3"), **dict.fromkeys(("pip", "venv", "ensurepip"), "python3")}
+# The tools that are modules of Debian's Python.
+MODULES = dict.fromkeys(("hypothesis", "selenium", "pandas", "distributed", "packaging", "pip", "venv", "ensurepip", "hatchling", "build", "installer"),
+                        "/usr/bin/python3")
 
 GIGABYTES_FOR_A_PROOF = 5
 

@@ -29,7 +29,7 @@ GROWS = 'cfg_attr(not(feature = "__internals"), non_exhaustive)'
 NON_EXHAUSTIVE = set(
     """Architecture ArmArchitecture Aarch64Architecture CleverArchitecture Riscv32Architecture Riscv64Architecture
     X86_32Architecture Mips32Architecture Mips64Architecture Z80Architecture Vendor KnownVendor OperatingSystem Environment BinaryFormat
-    CallingConvention CDataModel Dialect""".split())
+    CallingConvention CDataModel CLibrary Dialect""".split())
 
 # Methods that only the crates above need, of which documentation doesn't speak.
 HIDDEN = {"DeploymentTarget::from_text", "Refusal::write_to", "TripleRef::step", "TripleRef::write_upstream_to"}
@@ -53,8 +53,8 @@ CONST = set(
     CleverArchitecture::name Mips32Architecture::name Mips64Architecture::name Riscv32Architecture::name
     Riscv64Architecture::name X86_32Architecture::name Z80Architecture::name BinaryFormat::name CallingConvention::name
     CDataModel::double_size CDataModel::float_size CDataModel::int_size CDataModel::long_long_size CDataModel::long_size
-    CDataModel::name CDataModel::pointer_width CDataModel::short_size Dialect::as_str Endianness::name Environment::name
-    KnownVendor::as_str KnownVendor::to_vendor OperatingSystem::is_like_darwin OperatingSystem::prefix
+    CDataModel::name CDataModel::pointer_width CDataModel::short_size CLibrary::name Dialect::as_str Endianness::name
+    Environment::name FloatAbi::name KnownVendor::as_str KnownVendor::to_vendor OperatingSystem::is_like_darwin OperatingSystem::prefix
     OperatingSystem::version PointerWidth::bits PointerWidth::bytes PointerWidth::name Refusal::range Size::bits Size::bytes
     TextPart::range Triple::unknown TripleRef::default_binary_format TripleRef::default_calling_convention
     TripleRef::endianness TripleRef::pointer_width TripleRef::unknown VendorRef::as_str VendorRef::is_custom""".split())

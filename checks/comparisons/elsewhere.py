@@ -1,11 +1,14 @@
 """Asks the tools that the names of targets come from whether the rows of tools/names/elsewhere.tsv mean what the tools mean.
 
 dpkg says byte order, pointer width and GNU type of each name; Go and containerd, which names they have and how they write
-them; esbuild and Node's manual, the words; config.sub, which strings there are. The crate cc has a table of prefixes. Python's
-sysconfig says how it names platforms, and packaging which tags it makes. rpm says which machines have 64 bits, and how they pass
-floating-point numbers; config.guess, what a system is whose `uname` is told; Nix and makepkg, how they name the machine that they run on.
-The tools that aren't installed are named. Without any tool it checks that a machine's word means one architecture, and that each other spelling is explained by a rule or listed here. The status
-is 1 if an answer differs that docs/TOOL_NAMES.md doesn't list. The names of Android and iOS need a Python 3.13 that runs this.
+them; esbuild and Node's manual, the words; config.sub, which strings there are, and what it makes of them. The crate cc has a
+table of prefixes. rustc lists its targets, and says the architecture, byte order, pointer width and object format of each, and what its cfg options are.
+Python's sysconfig says how it names platforms, and packaging which tags it makes. rpm says which machines have 64
+bits, and how they pass floating-point numbers; config.guess, what a system is whose `uname` is told; Nix and makepkg, how they name the
+machine that they run on. The tools that aren't installed are named.
+Without any tool it checks that a machine's word means one architecture, and that each other spelling is explained by a rule or
+listed here. The status is 1 if an answer differs that docs/TOOL_NAMES.md doesn't list. The names of Android and iOS need a
+Python 3.13 that runs this.
 
 Debian's packages: dpkg-dev autotools-dev golang-go golang-github-containerd-containerd-dev esbuild nodejs-doc librust-cc-dev
 python3-packaging rpm nix-bin makepkg.
@@ -21,8 +24,8 @@ import sys
 
 import built
 import upstream
-from comparisons import python_platforms
-from comparisons.tools import Report, order_and_width, output
+from comparisons import python_platforms, rustc_cfg
+from comparisons.tools import Report, order_and_width, output, rustc_answers, rustc_specs
 
 # The word of each dialect for a system, where it isn't the library's. A word that means another system in every row of a
 # dialect is found by nothing else.
@@ -56,6 +59,11 @@ NOT_PORTS = ("386", "amd64", "arm64", "linux/s390", "zos/s390x")
 SPELLINGS = {"amd64": "x86_64", "i486": "i386", "bpf_be": "bpfeb", "bpf_le": "bpfel", "systemz": "s390x", "thumbv7": "thumbv7a", "w64": "pc",
              "mingw32": "windows-gnu", "mingw64": "windows-gnu", "win32": "windows-msvc", "macos": "macosx", "gnu*": "hurd-gnu",
              "netbsdelf": "netbsd", "netbsdelf*": "netbsd", "simulator": "sim"}
+# The machines and ends of strings that config.sub is asked for.
+MACHINES = "x86_64 i686 aarch64 arm armv7l armv6l armeb powerpc powerpc64le ppc64le mips mips64el riscv64 riscv32 s390x sparc64 loongarch64 m68k avr".split()
+ENDS = ("", "linux", "unknown-linux", "redhat-linux", "suse-linux", "poky-linux", "buildroot-linux-gnu", "linux-gnu", "alpine-linux-musl", "linux-musl",
+        "linux-uclibc", "linux-gnueabihf", "gnu", "elf", "unknown-elf", "none-elf", "none-eabi", "unknown-freebsd13.2", "unknown-netbsd", "-netbsd",
+        "pc-cygwin", "w64-mingw32", "apple-darwin20")
 PLATFORMS = """package main
 
 import ("bufio"; "fmt"; "os"; "github.com/containerd/containerd/platforms")
@@ -246,20 +254,46 @@ class Comparison(Report):
 
     def check_gnu(self):
         rows = self.rows_of("gnu")
-        self.fact("the names of GNU's compilers are read as their triple", (
-            (row.name, str(self.read(row.name)), row.triple) for row in rows), "hurd")
+        self.fact("a name of GNU's compilers without a system or a vendor is read as its triple without a dialect too", (
+            (row.name, str(self.read(row.name)), row.triple) for row in rows), "hurd|none|i486|sparcv9")
         sub = "/usr/share/misc/config.sub"
         if self.has("config.sub", os.path.exists(sub)):
             self.fact("config.sub takes the names of GNU's compilers", (
                 (row.name, output("sh", sub, row.name) != "", True) for row in rows))
+            # An i486 is an i686 by the name of NetBSD's compiler, and a sparcv9 a sparc64 by that of Solaris.
+            texts = [row.name for row in rows] + [f"{machine}-{end}" if end else machine for machine in MACHINES for end in ENDS]
+            said = {text: output("sh", sub, text).strip() for text in texts}
+            self.fact("a string means to the dialect gnu what config.sub's form of it means", (
+                (text, form, self.read(text, "gnu"), self.read(form, "gnu")) for text, form in said.items() if form), "i486|sparcv9")
+            self.fact("and Linux has the C library of that form", (
+                (text, form, it.environment.value, form.split("-")[-1]) for text, form in said.items()
+                if (it := self.read(text, "gnu")) and form.split("-")[-2:-1] == ["linux"]), "uclibcgnu")
         crate = glob.glob("/usr/share/cargo/registry/cc-1*/src/lib.rs")
         if self.has("the crate cc", crate):
             text = upstream.read(crate[0])
             pairs = dict(re.findall(r'"([\w.-]+)" => Some\("([\w.-]+)"\)', text[text.index("fn prefix_for_target"):][:9000]))
             written = {name: it.name_in("gnu") for name, it in self.parsed(list(pairs)).items()}
-            # cc takes GNU's compiler for musl and 32-bit PowerPC's for 64 bits; one name has a vendor, which the shape drops.
+            # cc takes GNU's compiler for musl, 32-bit PowerPC's for 64 bits, and little-endian Arm's for big-endian Arm, and
+            # NetBSD's has a version of Arm; two names have a vendor, which the shape drops.
             self.fact("the crate cc's prefixes are the names of GNU's compilers", (
-                (name, it, pairs[name]) for name, it in written.items() if it), "musl|powerpc64|arm-frc")
+                (name, it, pairs[name]) for name, it in written.items()), "musl|powerpc64|armebv7r|armv[67]--netbsdelf|-frc-|-rumprun-")
+
+    def check_rust(self):
+        if not self.has("rustc", shutil.which("rustc")):
+            return
+        targets = output("rustc", "--print", "target-list").split()
+        ours, meanings, theirs = [row.name for row in self.rows_of("rust", ("rw", "r", "-"))], self.meanings("rust"), rustc_answers(rustc_specs())
+        self.fact("rust's names are those of `rustc --print target-list`", (
+            (name, name in ours, name in targets) for name in {*ours, *targets}))
+        read = {name: it for name, it in meanings.items() if name in theirs}
+        self.fact("rust's names have rustc's architecture", ((name, machine_of_rustc(it), theirs[name]["machine"]) for name, it in read.items()))
+        self.fact("rust's names have rustc's byte order and width", (
+            (name, order_and_width(it), (theirs[name]["order"], int(theirs[name]["width"]))) for name, it in read.items()))
+        # rustc doesn't say that this target's objects are Wasm.
+        self.fact("rust's names have rustc's object format", (
+            (name, it.object_format.value, theirs[name]["format"]) for name, it in read.items()), "wali")
+        self.fact("a target that parses without a custom vendor has a triple, and that triple its name", (
+            (name, it.name_in("rust"), name) for name, it in self.parsed(targets).items() if not it.has_custom_vendor), "-uwp-")
 
     def check_python(self):
         self.has("Python's sysconfig", True)
@@ -286,6 +320,15 @@ class Comparison(Report):
             (tag, order_and_width(it), order_and_width_of_tag(tag)) for tag, it in named.items()))
         self.fact("a tag of Linux has the machine of `uname -m`, and the C library of its word", (
             (tag, it, self.read(gnu_type(tag))) for tag, it in named.items() if "linux" in tag))
+
+
+def machine_of_rustc(triple):
+    """The architecture of a triple as rustc names it."""
+    name, family = triple.architecture.value, str(triple.family)
+    if family in ("mips32", "mips64"):
+        return family.removesuffix("32") + ("32" * (family == "mips32") + "r6") * ("r6" in name)
+    words = {"x86_32": "x86", "powerpc64le": "powerpc64", "sparcv9": "sparc64", "bpfeb": "bpf", "bpfel": "bpf", "amdgcn": "amdgpu", "x86_64h": "x86_64"}
+    return words.get(family, words.get(name, family))
 
 
 def words_of(dialect, name):
@@ -358,5 +401,7 @@ def main(options, folder):
     comparison.check_host()
     comparison.check_node()
     comparison.check_gnu()
+    comparison.check_rust()
     comparison.check_python()
+    rustc_cfg.check(comparison)
     return comparison.conclude()

@@ -3,19 +3,19 @@
 The targets are those of the installed rustc that parse. llvm.cpp asks LLVM for the byte order, the pointer width and the object
 format of each. The macros that clang defines give the first two, and the sizes of C's integers. rustc's descriptions of targets
 have the byte order, the pointer width and the object format, and a name for LLVM, which is read as a string spelled like a triple.
+What a driver asks is compared with rustc's descriptions and with clang: C libraries, floating-point arguments, and layouts of types.
 What a tool doesn't know isn't compared.
 
 Debian's packages: llvm-14-dev g++ clang; and rustc.
 """
 import concurrent.futures
-import json
-import os
 import re
 import shutil
 import subprocess
 
 import upstream
-from comparisons.tools import Report, output
+from comparisons import driver
+from comparisons.tools import Report, output, rustc_answers, rustc_specs
 
 # Where pointers have 32 bits here, and registers 64; clang 14 compiles for ILP32 on AArch64 as for LP64.
 NARROW = "gnux32|gnu_ilp32"
@@ -44,16 +44,6 @@ def clang_answer(target):
     return {"order": order, "width": str(8 * int(macros["__SIZEOF_POINTER__"])), "sizes": sizes}
 
 
-def rustc_answers():
-    """What rustc says of each target, by the name of the target and by that for LLVM."""
-    words = ["rustc", "-Z", "unstable-options", "--print", "all-target-specs-json"]
-    specs = json.loads(output(*words, env={**os.environ, "RUSTC_BOOTSTRAP": "1"}))
-    said = {name: {"order": it.get("target-endian", "little"), "width": str(it["target-pointer-width"])} for name, it in specs.items()}
-    by_llvm_name = {it["llvm-target"]: said[name] for name, it in specs.items()}
-    formats = {name: it.get("binary-format", "elf").replace("-", "") for name, it in specs.items()}
-    return {name: {**it, "format": formats[name]} for name, it in said.items()}, by_llvm_name
-
-
 def main(options, folder):
     report = Report(options, folder)
     targets = output("rustc", "--print", "target-list").split()
@@ -74,8 +64,12 @@ def main(options, folder):
         if report.has("clang", shutil.which("clang")):
             compare("clang", parsed, dict(zip(parsed, pool.map(clang_answer, parsed))), width="gnu_ilp32", sizes="gnu_ilp32")
         report.has("rustc", True)
-        theirs, by_llvm_name = rustc_answers()
+        specs = rustc_specs()
+        theirs = rustc_answers(specs)
+        by_llvm_name = {it["llvm"]: {kind: it[kind] for kind in ("order", "width")} for it in theirs.values()}
+        theirs = {name: {kind: it[kind] for kind in ("order", "width", "format")} for name, it in theirs.items()}
         # rustc doesn't say that this target's objects are Wasm.
         compare("rustc", parsed, theirs, format="wali")
         compare("rustc, of its names for LLVM,", {name: report.read(name) for name in by_llvm_name}, by_llvm_name)
+    driver.check(report, list(parsed), specs)
     return report.conclude()

@@ -1,4 +1,5 @@
 """What the comparisons with other tools share: the answers of the Python package, and a report of what was asked and what differs."""
+import json
 import os
 import re
 import subprocess
@@ -56,6 +57,18 @@ class Report:
         print(f"asked: {', '.join(dict.fromkeys(self.asked))}", *[f"left out: {name}" for name in self.missing], sep="\n")
         print(f"{len(self.failed)} facts don't hold")
         return 2 if not self.asked else 1 if self.failed else 0
+
+
+def rustc_specs():
+    """rustc's description of each target."""
+    words = ["rustc", "-Z", "unstable-options", "--print", "all-target-specs-json"]
+    return json.loads(output(*words, env={**os.environ, "RUSTC_BOOTSTRAP": "1"}))
+
+
+def rustc_answers(specs):
+    """What rustc says of each target."""
+    return {name: {"order": it.get("target-endian", "little"), "width": str(it["target-pointer-width"]), "machine": it["arch"],
+                   "format": it.get("binary-format", "elf").replace("-", ""), "llvm": it["llvm-target"]} for name, it in specs.items()}
 
 
 def order_and_width(triple):

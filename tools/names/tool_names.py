@@ -3,13 +3,17 @@ import re
 from dataclasses import dataclass, field
 
 PATH = "tools/names/elsewhere.tsv"
+# The check of a function that lends a table grows with the square of its rows, so a dialect has several tables.
+TABLE_ROWS = 100
 WAYS = {"rw": "Both", "r": "Read", "w": "Written", "-": "NoTriple"}
 DIALECT, ONLY_WRITTEN = "# dialect ", "# only written: "
-# The rules of a dialect: for each word of its line the field of `Rules`, and its value for each choice. After them it may have other names.
-RULES = {"arm": ("arm_version", {"order": "false", "version": "true"}),
-         "abi": ("abi", {"kept": "AbiRule::Kept", "dropped": "AbiRule::Dropped", "linux": "AbiRule::KeptOnLinux"}),
+# The rules of a dialect: for each word of its line the field of `Rules`, and its value for each choice. The first choice goes
+# without saying. A dialect may have other names too.
+RULES = {"machine": ("machine", {"order": "MachineRule::Order", "version": "MachineRule::Version", "rustc": "MachineRule::Rustc"}),
+         "abi": ("abi", {"kept": "AbiRule::Kept", "dropped": "AbiRule::Dropped", "linux": "AbiRule::KeptOnLinux",
+                  "systems": "AbiRule::KeptOnSystems"}),
          "versions": ("versions", {"no": "false", "yes": "true"}), "tags": ("tags", {"no": "false", "yes": "true"}),
-         "platforms": ("platforms", {"no": "false", "yes": "true"})}
+         "spelled": ("spelled", {"no": "false", "yes": "true"}), "platforms": ("platforms", {"no": "false", "yes": "true"})}
 
 
 @dataclass
@@ -27,7 +31,7 @@ class Dialect:
         return self.name.capitalize()
 
     @property
-    def table(self):
+    def constant(self):
         return self.name.upper()
 
     @property
@@ -37,6 +41,12 @@ class Dialect:
     @property
     def is_written(self):
         return any(way in ("Both", "Written") for _, _, way in self.rows)
+
+    @property
+    def tables(self):
+        """The name of each table, and its rows."""
+        starts = range(0, len(self.rows), TABLE_ROWS)
+        return [(f"{self.name}_{number}" if number > 1 else self.name, self.rows[start:start + TABLE_ROWS]) for number, start in enumerate(starts, 1)]
 
 
 @dataclass
@@ -56,9 +66,10 @@ def tables_of(text, wrong):
             name, *rules = line.removeprefix(DIALECT).split()
             rules = dict(rule.partition("=")[::2] for rule in rules)
             others = [it for it in rules.pop("names", "").split(",") if it]
-            rules["platforms"] = rules.pop("platforms", "no")
-            if {name, *others} & {*found.dialects, *(it[0] for it in other_names(found))} or list(rules) != list(RULES) or any(rules[it] not in RULES[it][1] for it in rules):
-                mistake("a new dialect is wanted, and a choice for each of " + ", ".join(RULES))
+            if {name, *others} & {*found.dialects, *(it[0] for it in other_names(found))} or any(word not in RULES or choice not in RULES[word][1] for word, choice in rules.items()):
+                mistake("a new dialect is wanted, and choices for some of " + ", ".join(RULES))
+                continue
+            rules = {word: rules.get(word, next(iter(choices))) for word, (_, choices) in RULES.items()}
             described = found.dialects.setdefault(name, Dialect(name, rules, others))
         elif line.startswith(ONLY_WRITTEN):
             found.only_written = line.removeprefix(ONLY_WRITTEN)
@@ -117,8 +128,11 @@ def rust_lists(tables):
         "each dialect": [f"Dialect::{it.variant}," for it in dialects],
         "the rules of the dialects": [f"Dialect::{it.variant} => Rules {{ {', '.join(f'{name}: {value}' for name, value in rules(it, str))} }},"
                                       for it in dialects],
-        "the rows of the dialects": [f"Dialect::{it.variant} => {it.name}()," for it in dialects],
-        "the tables of the dialects": "\n".join(line for it in dialects for line in table(it)).strip("\n").split("\n"),
+        "the most tables of a dialect": [f"const TABLE_COUNT: usize = {table_count(dialects)};"],
+        "the tables of each dialect": [
+            f"Dialect::{it.variant} => [{', '.join([f'{name}()' for name, _ in it.tables] + ['&[]'] * (table_count(dialects) - len(it.tables)))}],"
+            for it in dialects],
+        "the tables of the dialects": "\n".join(line for it in dialects for name, rows in it.tables for line in table(name, rows)).strip("\n").split("\n"),
         **lists_of_languages(list(dialects), other_names(tables)),
         "the dialects by number": [f"{number} => Some(Some(Dialect::{it.variant}))," for number, it in enumerate(dialects, 1)],
     }
@@ -130,9 +144,9 @@ def lists_of_languages(dialects, others):
     read, written = [it for it in dialects if it.is_read], [it for it in dialects if it.is_written]
     in_order = sorted(dialects, key=lambda it: (it.is_written, not it.is_read))
     return {
-        "the dialects for C": [f"LEXICON_DIALECT_{it.table} = {number}, /* {it.about.rstrip('.').replace('`', '')} */" for number, it in enumerate(dialects, 1)],
+        "the dialects for C": [f"LEXICON_DIALECT_{it.constant} = {number}, /* {it.about.rstrip('.').replace('`', '')} */" for number, it in enumerate(dialects, 1)],
         "the last dialect": [f"enum {{ LAST_DIALECT = {len(dialects)} }};"],
-        "the dialects for C++": [f"{it.variant} = LEXICON_DIALECT_{it.table}," for it in dialects],
+        "the dialects for C++": [f"{it.variant} = LEXICON_DIALECT_{it.constant}," for it in dialects],
         "the dialects' names for C++": [f'constexpr const char* names[] = {{"", {names}}};'],
         "the dialects for the command": [f"pub const DIALECTS: [Dialect; {len(dialects)}] = [",
                                          *(f"    Dialect::{it.variant}," for it in in_order), "];",
@@ -140,19 +154,18 @@ def lists_of_languages(dialects, others):
         "the other names of dialects for the command": [f"const OTHER_NAMES: [(&str, Dialect); {len(others)}] = [",
                                                         *(f'    ("{name}", Dialect::{it.variant}),' for name, it in others), "];"],
         "the dialects for the manual": [f"the tool whose names are read or written: {', '.join(words[:-1])} or {words[-1]}.",
-                                        "Names of a tool that are only written aren't read, and those that are only read aren't written."],
-        "the dialects for Python": [line for it in dialects for line in (f"#: {it.about}", f'{it.table} = "{it.name}"')],
-        "the names of dialects for Python": [f"ReadDialectName = {literal([*(it.name for it in read), *(name for name, it in others if it.is_read)])}",
-                                             f"DialectName = {literal([*words, *(name for name, _ in others)])}",
-                                             f"OTHER_NAMES = {{{', '.join(f'{chr(34)}{name}{chr(34)}: {chr(34)}{it.name}{chr(34)}' for name, it in others)}}}",
-                                             *(f"{name} = [{', '.join(f'Dialect.{it.table}' for it in in_order if getattr(it, of))}]"
-                                               for name, of in (("READ", "is_read"), ("WRITTEN", "is_written")))],
-        "the dialects for JavaScript": [f"export const DIALECTS = Object.freeze([{names}]);"],
+                                        f"Names of {' and '.join(it.name for it in dialects if not it.is_written)} are only read."],
+        "the dialects for Python": [line for it in dialects for line in (f"#: {it.about}", f'{it.constant} = "{it.name}"')],
+        "the dialects' names for Python": [f"DialectName = {literal([*words, *(name for name, _ in others)])}",
+                                           f"OTHER_NAMES = {{{', '.join(f'{chr(34)}{name}{chr(34)}: {chr(34)}{it.name}{chr(34)}' for name, it in others)}}}",
+                                           f"ONLY_READ = [{', '.join(f'Dialect.{it.constant}' for it in dialects if not it.is_written)}]",
+                                           f"ONLY_WRITTEN: List[Dialect] = [{', '.join(f'Dialect.{it.constant}' for it in dialects if not it.is_read)}]"],
         "the other names of dialects for JavaScript": [f"const OTHER_NAMES = {{ {', '.join(f'{name}: {chr(34)}{it.name}{chr(34)}' for name, it in others)} }};"],
         "the dialects for the documentation": ["", "| Dialect | Its names | Read | Written |", "|---|---|---|---|",
                                                *(f"| {', '.join(f'`{name}`' for name in [it.name, *it.other_names])} | {it.about} | "
                                                  f"{'yes' if it.is_read else 'no'} | {'yes' if it.is_written else 'no'} |" for it in dialects)],
         "the dialects for the page": [f"const {name} = [{', '.join(chr(34) + it.name + chr(34) for it in of)}];" for name, of in (("READ", read), ("WRITTEN", written))],
+        "the dialects for JavaScript": [f"export const DIALECTS = Object.freeze([{names}]);"],
         "the type of dialects": ["export type Dialect = " + " | ".join(f'"{it}"' for it in [*words, *(name for name, _ in others)]) + ";"],
         "the dialects for TypeScript": [f"export const DIALECTS: readonly [{names}];"],
     }
@@ -162,10 +175,15 @@ def literal(names):
     return "Literal[" + ", ".join(f'"{it}"' for it in names) + "]"
 
 
-def table(it):
-    return ["", f"fn {it.name}() -> &'static [Row]", f"    ensures {{ plain_rows result.now ≡ constant_rows {it.table} }}", "{", f"    &{it.table}", "}",
-            "", "#[rattlefmt::skip]", f"static {it.table}: [(&str, &str, Way); {len(it.rows)}] = [",
-            *(f'    ("{name}", "{meaning}", {way}),' for name, meaning, way in it.rows), "];"]
+def table_count(dialects):
+    return max(len(it.tables) for it in dialects)
+
+
+def table(name, rows):
+    constant = name.upper()
+    return ["", f"fn {name}() -> &'static [Row]", f"    ensures {{ plain_rows result.now ≡ constant_rows {constant} }}", "{", f"    &{constant}", "}",
+            "", "#[rattlefmt::skip]", f"static {constant}: [(&str, &str, Way); {len(rows)}] = [",
+            *(f'    ("{name}", "{meaning}", {way}),' for name, meaning, way in rows), "];"]
 
 
 def array(name, rows):
@@ -189,7 +207,8 @@ def antt_lists(tables):
         "other_dialect_names": ["other_dialect_names = " + " ∷ ".join([*(f'(codes "{name}", dialect.{it.variant})' for name, it in other_names(tables)), "[]"])],
         "dialects_by_number": ["dialects_by_number = " + " ∷ ".join(["None", *(f"Some dialect.{it.variant}" for it in dialects), "[]"])],
         "rules_of": [f"rules_of dialect.{it.variant} = record {{ "
-                     + "; ".join(f"{name} = {value}" for name, value in rules(it, lambda value: value.replace("AbiRule::", "abi."))) + " }"
+                     + "; ".join(f"{name} = {value}" for name, value in rules(it, lambda value: value.replace("AbiRule::", "abi.").replace("MachineRule::", "machine."))) + " }"
                      for it in dialects],
-        "rows_of": [f"rows_of dialect.{it.variant} = constant_rows table.{it.table}" for it in dialects],
+        "tables_of": [f"tables_of dialect.{it.variant} = {' ∷ '.join([*(f'constant_rows table.{name.upper()}' for name, _ in it.tables), '[]'])}"
+                      for it in dialects],
     }

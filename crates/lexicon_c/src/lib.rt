@@ -11,11 +11,16 @@ mod triple;
 mod triple_facts;
 mod values;
 
-pub use calls::{comes_back, equal, explain, facts, parse, print, same_target, settle};
+pub use calls::{
+    comes_back, driver_facts, equal, explain, facts, format_facts, parse, print, query_facts,
+    same_target, settle,
+};
 pub use dialects::{dialect_at, name_in, name_suggestion, read, reason};
 pub use error::{TextError, expected_at};
 pub use numbers::{name_at, number_in};
 pub use sources::{FieldSource, FieldSources};
 pub use triple::{Fault, NumberedTriple, TripleNumbers};
-pub use triple_facts::{TripleFacts, TypeSizes};
+pub use triple_facts::{
+    DriverFacts, FormatFacts, LayoutNumbers, QueryFacts, TripleFacts, TypeSizes,
+};
 pub use values::field_at;

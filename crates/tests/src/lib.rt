@@ -7,6 +7,10 @@ mod all_names;
 #[cfg(test)]
 mod callers;
 #[cfg(test)]
+mod completion;
+#[cfg(test)]
+mod driver;
+#[cfg(test)]
 mod json;
 #[cfg(test)]
 mod names;
@@ -18,6 +22,8 @@ mod printing;
 mod queries;
 #[cfg(test)]
 mod reading;
+#[cfg(test)]
+mod rustc_cfg;
 #[cfg(test)]
 mod systems;
 #[cfg(test)]

@@ -1,14 +1,19 @@
--- LookUps, MacosNames: a table is searched, and `macosx` with a version is a system. JoinedNames: the names of a listed
+-- LookUps, TableLemmas, MacosNames: tables are searched, and `macosx` with a version is a system. JoinedNames: the names of a listed
 -- spelling. SpelledNames, SpelledReading, SpelledOnce: what parses is read as before, and once is enough. ReadAgain: what is
 -- read of what was read is the same. ChangeLemmas, PlacedParts, RefusedNames: the changes of a string, the ranges of parts, and
--- where a string is refused. ObjectFormats: the object format of a triple. ShapeLemmas: what a shape keeps. NumberLemmas,
--- Matches, Tags, Filling: names with numbers, and how they are matched. RowChecks, RowLemmas, NameLaws: what the rows pass,
+-- where a string is refused. ObjectFormats, KeptFormats: the object format of a triple. CfgLines: the lines of rustc's families.
+-- ShapeLemmas: what a shape keeps. NumberLemmas, Matches, Tags, Filling: names with numbers, and how they are matched.
+-- RowChecks, RowLemmas, NameLaws: what the rows pass,
 -- what follows of the row of a name, and the laws. DistanceLemmas: the edit distance is the least number of edits.
 -- NearestLemmas, NearerLemmas: the nearest of a growing list of names, and of two lists. Words: the word that a string begins with.
+-- Completions: what completion keeps.
+pub mod CfgLines
 pub mod ChangeLemmas
+pub mod Completions
 pub mod DistanceLemmas
 pub mod Filling
 pub mod JoinedNames
+pub mod KeptFormats
 pub mod LookUps
 pub mod MacosNames
 pub mod Matches
@@ -28,5 +33,6 @@ pub mod ShapeLemmas
 pub mod SpelledNames
 pub mod SpelledOnce
 pub mod SpelledReading
+pub mod TableLemmas
 pub mod Tags
 pub mod Words

@@ -7,27 +7,37 @@ use Rattle.std.proofs.lemmas.Slice.Eq.{bytes_eq-Decides}
 use Rattle.lexicon_fields.specs.{ArchitectureQueries.is_clever, Laws.HasVersionInRange, Laws.IsVersionInRange, Vendor.is_custom, Vendor.is_plain}
 use Rattle.target_lexicon.proofs.{ComputedReading.reading_computed, QueriesKept.kept, StepCases.step_cases, UniqueReading.values_unique}
 use Rattle.target_lexicon.specs.{FixedPoints.IsPlainTriple, FixedPoints.ReadTriplesArePlain, FixedPoints.RoundIsNormalStep, GreedyReading.reading, Laws.ComesBack, NormalStep.normal_step, Printing.text_of, Reading.ReadsAs, Refusal.Refusal, Values.Values}
-use Rattle.target_lexicon.specs.Values.{Architecture, OperatingSystem, VendorValue, Known, Custom}
+use Rattle.target_lexicon.specs.ValuesRef.{PlacedRefusal}
+use Rattle.target_lexicon.specs.Values.{Architecture, Environment, OperatingSystem, VendorValue, Known, Custom}
 use Rattle.target_lexicon.specs.Values.architecture
 use Rattle.target_lexicon.specs.Values.operating_system
+use Rattle.target_lexicon.specs.Values.environment
+use Rattle.target_lexicon.specs.Values.riscv32
+use Rattle.lexicon_fields.specs.declared.architecture.riscv.Riscv64Architecture.TheVariants as riscv64
 use Rattle.tool_names.specs.declared.dialect.Dialect.{Dialect}
+use Rattle.tool_names.specs.declared.shape.MachineRule.{MachineRule}
+use Rattle.tool_names.specs.declared.dialect.Dialect.TheVariants.{Debian}
+use Rattle.tool_names.specs.declared.shape.MachineRule.TheVariants.{Order, Version, Rustc}
 use Rattle.tool_names.specs.declared.tables.Way.{Way}
 use Rattle.tool_names.specs.declared.tables.Way.TheVariants.{Both, Read, Written, NoTriple}
 use Rattle.tool_names.specs.{Dialects.rows_of, Dialects.rules_of, Private.is_short_pattern}
 use Rattle.tool_names.specs.{Laws.IsCanonical, Laws.IsNamed, Laws.NamesAreCanonical, Laws.NamesKeepAnswers, Laws.NamesMeanTheShape, Laws.NamesMeanTheirRows, Laws.MeansTheShape, Laws.ReadsBack, Laws.NamesReadBack, Laws.NamesWithoutTripleAreRefused, Laws.OneNumberIsEnough, Laws.TagsMeanTheSame, Laws.may_be_long, Laws.may_be_short}
-use Rattle.tool_names.specs.{ObjectFormat.object_format, Shape.machine_by, Shape.shape, Shape.system_by, Shape.unversioned, Shape.with_two_numbers}
+use Rattle.tool_names.specs.Gnu.{as_gnu, gnu_meaning, gnu_reading, gnu_system}
+use Rattle.tool_names.specs.Spelling.{spelled_reading}
+use Rattle.tool_names.specs.{ObjectFormat.object_format, Shape.machine_by, Shape.shape, Shape.sparc_of_rustc, Shape.system_by, Shape.unversioned, Shape.with_two_numbers}
 use Rattle.std.specs.Option.{option_or}
-use Rattle.tool_names.specs.declared.dialect.Dialect.TheVariants.{Debian}
 use Rattle.tool_names.specs.Platforms.{Words, normal_words, row_with_words, words_of}
 use Rattle.tool_names.specs.Patterns.{all_limits, are_within, filled, fits, star_count, with_star, without_star}
 use Rattle.tool_names.specs.Tables.{Row, is_read_and, is_written, row_named}
-use Rattle.tool_names.specs.ToolNames.{HasNoTriple, Unread, found_meaning, name_meaning, numbers_in, platform_row, read_or_unknown, row_meaning, shape_row, system_with, text_without_numbers, triple_name, version_of_numbers, with_numbers, without_numbers}
+use Rattle.tool_names.specs.ToolNames.{HasNoTriple, Unread, found_meaning, name_meaning, numbers_in, platform_row, read_or_unknown, row_meaning, shape_row, spelled_meaning, system_with, text_without_numbers, triple_name, values_or_unknown, version_of_numbers, with_numbers, without_numbers}
 use Rattle.tool_names.proofs.Filling.{counted_fits, filled_matches, fits_are_within, fits_counted, is_own_tag, is_spaced, match_fits}
+use Rattle.tool_names.proofs.KeptFormats.{keeps_abi, kept-format}
 use Rattle.tool_names.proofs.ObjectFormats.{given_kept}
-use Rattle.tool_names.proofs.RowChecks.{IsWrittenFor, both_rows, gives_no_special_text, has_canonical, has_form, has_numbers, has_ordinary, has_pair, has_triple, is_both, is_canonical, is_canonical_as, is_known_format, is_ordinary, is_ordinary_if_read, is_ordinary_architecture, is_ordinary_system, is_long_of, is_pair, is_short_of, name_of, plain-back, row-written, rows-apart, rows-canonical, rows-formed, rows-ordinary, rows-paired, versioned-back, written_back}
+use Rattle.tool_names.proofs.RowChecks.{IsWrittenFor, both_rows, gives_no_special_text, has_canonical, has_form, has_numbers, has_pair, has_triple, is_both, is_canonical, is_canonical_as, is_known_format, is_ordinary, is_ordinary_architecture, is_ordinary_system, is_long_of, is_pair, is_short_of, name_of, plain-back, row-written, rows-apart, rows-canonical, rows-formed, rows-paired, tags-unspelled, versioned-back, written_back}
+use Rattle.tool_names.proofs.ReadAgain.{read-sound}
 use Rattle.tool_names.proofs.RowLemmas.{all-at, any-at, is_only_written, is_refused, named-at, row-found, words-at}
 use Rattle.tool_names.proofs.Tags.{named_tag}
-use Rattle.tool_names.proofs.ShapeLemmas.{has_no_special_text, numbers-within, shape-endianness, shape-no_special, shape-width, with-again, without-range}
+use Rattle.tool_names.proofs.ShapeLemmas.{has_no_special_text, numbers-within, shape-endianness, shape-no_special, shape-width, usual-no_special, with-again, without-range}
 
 not-false : (b : Bool) → not b ≡ true → b ≡ false
 not-false true h = absurd cc
@@ -39,24 +49,26 @@ implied false b is h = absurd cc
 
 -- a triple in canonical form
 
-record IsRow (text : List ℕ) (t : Values) : Type 0 where
+record IsRow (kept : Bool) (text : List ℕ) (t : Values) : Type 0 where
   reads : reading text ≡ Ok t
   prints : text_of t ≡ text
   known : is_custom t.vendor ≡ false
   not_clever : is_clever t.architecture ≡ false
+  ordinary : (kept || is_ordinary t) ≡ true
 
-canonical-row : (text : List ℕ) → is_canonical text ≡ true → (t : Values) × IsRow text t
-canonical-row text h = by_reading (reading text) refl h
+canonical-row : (kept : Bool) (text : List ℕ) → is_canonical kept text ≡ true → (t : Values) × IsRow kept text t
+canonical-row kept text h = by_reading (reading text) refl h
   where
-    by_reading : (r : Result Values Refusal) → reading text ≡ r → is_canonical_as text r ≡ true → (t : Values) × IsRow text t
+    by_reading : (r : Result Values Refusal) → reading text ≡ r → is_canonical_as kept text r ≡ true → (t : Values) × IsRow kept text t
     by_reading (Ok t) is test =
-        let third = and_parts _ _ test in let second = and_parts _ _ third.0 in (
+        let last = and_parts _ _ test in let third = and_parts _ _ last.0 in let second = and_parts _ _ third.0 in (
           t,
           record {
             reads = is;
             prints = (bytes_eq-Decides (text_of t) text).0 second.0;
             known = not-false _ second.1;
             not_clever = not-false _ third.1;
+            ordinary = last.1;
           },
         )
     by_reading (Err x) is test = absurd cc
@@ -84,25 +96,26 @@ no_special-canonical round_trip u plain no_special other =
     let step = step-no_special u no_special other in
     fixed-canonical u (subst (ReadsAs (text_of u)) step (round_trip u plain)) (no_special-known u.vendor no_special).1 step
 
-row-comes_back : (text : List ℕ) (t : Values) → IsRow text t → ComesBack t
-row-comes_back text t row = subst (λ x. ReadsAs x t) (sym row.prints) (((reading_computed text).read t).1 row.reads)
+row-comes_back : (kept : Bool) (text : List ℕ) (t : Values) → IsRow kept text t → ComesBack t
+row-comes_back kept text t row = subst (λ x. ReadsAs x t) (sym row.prints) (((reading_computed text).read t).1 row.reads)
 
-row-canonical : RoundIsNormalStep → ReadTriplesArePlain → (text : List ℕ) (t : Values) → IsRow text t → IsCanonical t
-row-canonical round_trip read_plain text t row =
-    let back = row-comes_back text t row in
+row-canonical : RoundIsNormalStep → ReadTriplesArePlain → (kept : Bool) (text : List ℕ) (t : Values) → IsRow kept text t → IsCanonical t
+row-canonical round_trip read_plain kept text t row =
+    let back = row-comes_back kept text t row in
     fixed-canonical t back row.known (values_unique (text_of t) (normal_step t) t (round_trip t (read_plain (text_of t) t back)) back)
 
--- a triple whose vendor has no special string, and whose text is that of a row, parses back from it
-text-row : RoundIsNormalStep → (u : Values) → IsPlainTriple u → has_no_special_text u.vendor ≡ true → is_canonical (text_of u) ≡ true → reading (text_of u) ≡ Ok u
-text-row round_trip u plain no_special canonical =
-    let row = canonical-row (text_of u) canonical in
+-- a triple whose vendor has no special string, and whose text is that of a row, parses back from it, and is ordinary
+text-row : RoundIsNormalStep → (every : Bool) (u : Values) → IsPlainTriple u → has_no_special_text u.vendor ≡ true → is_canonical every (text_of u) ≡ true
+    → (reading (text_of u) ≡ Ok u) × ((every || is_ordinary u) ≡ true)
+text-row round_trip every u plain no_special canonical =
+    let row = canonical-row every (text_of u) canonical in
     let reads : reading (text_of u) ≡ Ok (normal_step u) = ((reading_computed (text_of u)).read (normal_step u)).0 (round_trip u plain) in
     let both : Ok row.0 ≡ Ok (normal_step u) = sym row.1.reads ∙ reads in
     let same : row.0 ≡ normal_step u = cc in
     let other : is_clever u.architecture ≡ false =
     sym (ap is_clever (kept u).architecture) ∙ sym (ap (λ x. is_clever x.architecture) same) ∙ row.1.not_clever in
     let step = step-no_special u no_special other in
-    reads ∙ ap Ok step
+    (reads ∙ ap Ok step, sym (ap (λ x. every || is_ordinary x) (same ∙ step)) ∙ row.1.ordinary)
 
 -- a name means what its row says
 
@@ -149,7 +162,7 @@ no-platforms d tags = let both = not-both d in let none = rw tags at both in non
 
 pub tags_mean_same : TagsMeanTheSame
 unfolding name_meaning
-tags_mean_same d name tags = rw (tags, no-platforms d tags, named_tag (rows_of d) name) refl
+tags_mean_same d name tags = rw (tags, no-platforms d tags, not-false (rules_of d).spelled (implied (rules_of d).tags (not (rules_of d).spelled) tags (tags-unspelled d)), named_tag (rows_of d) name) refl
 
 -- the form of a row, and its name with numbers
 
@@ -290,11 +303,19 @@ one_number_enough = record {
 
 -- what a name means is canonical
 
-triple-canonical : (way : Way) (text : List ℕ) (stars : Bool) → (not (has_triple way) || (is_canonical text && stars)) ≡ true → has_triple way ≡ true → (is_canonical text ≡ true) × (stars ≡ true)
-triple-canonical way text stars h is = and_parts _ _ (rw is at h)
+triple-canonical : (way : Way) (kept : Bool) (text : List ℕ) (stars : Bool) → (not (has_triple way) || (is_canonical kept text && stars)) ≡ true → has_triple way ≡ true → (is_canonical kept text ≡ true) × (stars ≡ true)
+triple-canonical way kept text stars h is = and_parts _ _ (rw is at h)
 
-canonical-at : (d : Dialect) (i : ℕ) (row : Row) → slice_get (rows_of d) i ≡ Some row → has_triple row.way ≡ true → (is_canonical row.meaning ≡ true) × ((nat_eq (star_count row.pattern) 0 || gives_no_special_text (reading row.meaning)) ≡ true)
-canonical-at d i row at is = triple-canonical row.way row.meaning (nat_eq (star_count row.pattern) 0 || gives_no_special_text (reading row.meaning)) (all-at has_canonical (rows_of d) i row (rows-canonical d) at) is
+-- whether a dialect keeps every environment
+abbrev keeps : Dialect → Bool
+keeps d = keeps_abi (rules_of d).abi
+
+-- whether a name needn't be that of an ordinary triple
+abbrev is_free : Dialect → Row → Bool
+is_free d row = not (is_written row.way) || keeps d
+
+canonical-at : (d : Dialect) (i : ℕ) (row : Row) → slice_get (rows_of d) i ≡ Some row → has_triple row.way ≡ true → (is_canonical (is_free d row) row.meaning ≡ true) × ((nat_eq (star_count row.pattern) 0 || gives_no_special_text (reading row.meaning)) ≡ true)
+canonical-at d i row at is = triple-canonical row.way (is_free d row) row.meaning (nat_eq (star_count row.pattern) 0 || gives_no_special_text (reading row.meaning)) (all-at (has_canonical (keeps d)) (rows_of d) i row (rows-canonical d) at) is
 
 -- with numbers the version is in range
 numbers-range : (ns : List ℕ) → are_within all_limits ns ≡ true → IsVersionInRange (version_of_numbers ns)
@@ -310,11 +331,11 @@ version-plain (n ∷ ns) (operating_system.MacOSX version) within plain = number
 version-plain (n ∷ ns) (operating_system.IOS version) within plain = numbers-range (n ∷ ns) within
 version-plain (n ∷ ns) _ within plain = plain
 
-numbered-canonical : RoundIsNormalStep → ReadTriplesArePlain → (text ns : List ℕ) (t u : Values) → IsRow text u → (ns ≢ [] → has_no_special_text u.vendor ≡ true) → are_within all_limits ns ≡ true
+numbered-canonical : RoundIsNormalStep → ReadTriplesArePlain → (kept : Bool) (text ns : List ℕ) (t u : Values) → IsRow kept text u → (ns ≢ [] → has_no_special_text u.vendor ≡ true) → are_within all_limits ns ≡ true
     → record u { operating_system = system_with ns u.operating_system } ≡ t → IsCanonical t
-numbered-canonical round_trip read_plain text [] t u row no_special within is = subst IsCanonical is (row-canonical round_trip read_plain text u row)
-numbered-canonical round_trip read_plain text (n ∷ ns) t u row no_special within is =
-    let plain = read_plain (text_of u) u (row-comes_back text u row) in
+numbered-canonical round_trip read_plain kept text [] t u row no_special within is = subst IsCanonical is (row-canonical round_trip read_plain kept text u row)
+numbered-canonical round_trip read_plain kept text (n ∷ ns) t u row no_special within is =
+    let plain = read_plain (text_of u) u (row-comes_back kept text u row) in
     subst IsCanonical is
     (no_special-canonical round_trip (record u { operating_system = system_with (n ∷ ns) u.operating_system })
     (record { vendor = plain.vendor; version = version-plain (n ∷ ns) u.operating_system within plain.version }) (no_special (λ none. cc)) row.not_clever)
@@ -332,11 +353,11 @@ found-canonical : RoundIsNormalStep → ReadTriplesArePlain → (d : Dialect) (n
 found-canonical round_trip read_plain d name found t is triple means =
     let at = named-at (rules_of d).tags (rows_of d) name found is in
     let canonical = canonical-at d at.0 found.0 at.1 triple in
-    let row = canonical-row found.0.meaning canonical.0 in
+    let row = canonical-row (is_free d found.0) found.0.meaning canonical.0 in
     let fit = match_fits (rules_of d).tags found.0.pattern name found.1 at.2 in
     let special = λ (some : found.1 ≢ []). subst (λ r. gives_no_special_text r ≡ true) row.1.reads (numbers-special (star_count found.0.pattern) found.1 (gives_no_special_text (reading found.0.meaning)) (fits_counted found.0.pattern found.1 fit) canonical.1 some) in
     let same : Ok (record row.0 { operating_system = system_with found.1 row.0.operating_system }) ≡ Ok t = sym (ap (λ r. with_numbers found.1 (read_or_unknown r)) row.1.reads) ∙ means in
-    numbered-canonical round_trip read_plain found.0.meaning found.1 t row.0 row.1 special (fits_are_within found.0.pattern found.1 fit) cc
+    numbered-canonical round_trip read_plain (is_free d found.0) found.0.meaning found.1 t row.0 row.1 special (fits_are_within found.0.pattern found.1 fit) cc
 
 words-canonical : RoundIsNormalStep → ReadTriplesArePlain → (d : Dialect) (words : Words) (row : Row) (t : Values) → row_with_words (rows_of d) words ≡ Some row → row_meaning row.way row.meaning [] ≡ Ok t → IsCanonical t
 words-canonical round_trip read_plain d words row t is means = by_way row.way refl means
@@ -344,15 +365,40 @@ words-canonical round_trip read_plain d words row t is means = by_way row.way re
     by_triple : has_triple row.way ≡ true → with_numbers [] (read_or_unknown (reading row.meaning)) ≡ Ok t → IsCanonical t
     by_triple triple h =
         let at = words-at (rows_of d) words row is in
-        let it = canonical-row row.meaning (canonical-at d at.0 row at.1 triple).0 in
+        let it = canonical-row (is_free d row) row.meaning (canonical-at d at.0 row at.1 triple).0 in
         let same : Ok it.0 ≡ Ok t = sym (ap (λ r. with_numbers [] (read_or_unknown r)) it.1.reads) ∙ h in
-        numbered-canonical round_trip read_plain row.meaning [] t it.0 it.1 (λ some. absurd (some refl)) refl cc
+        numbered-canonical round_trip read_plain (is_free d row) row.meaning [] t it.0 it.1 (λ some. absurd (some refl)) refl cc
 
     by_way : (way : Way) → row.way ≡ way → row_meaning way row.meaning [] ≡ Ok t → IsCanonical t
     by_way Both way h = by_triple (rw way refl) h
     by_way Read way h = by_triple (rw way refl) h
     by_way Written way h = absurd cc
     by_way NoTriple way h = absurd cc
+
+-- what a spelling means has its usual vendor
+
+system-range : (s : OperatingSystem) (e : Environment) → HasVersionInRange s → HasVersionInRange (gnu_system s e)
+system-range operating_system.Unknown environment.Gnu range = tt
+system-range operating_system.Unknown _ range = tt
+system-range _ e range = range
+
+gnu-canonical : RoundIsNormalStep → (u : Values) → IsPlainTriple u → is_clever u.architecture ≡ false → IsCanonical (as_gnu u)
+gnu-canonical round_trip u plain other =
+    let usual = usual-no_special (gnu_system u.operating_system u.environment) in
+    no_special-canonical round_trip (as_gnu u)
+    (record { vendor = (no_special-known (as_gnu u).vendor usual).0; version = system-range u.operating_system u.environment plain.version }) usual other
+
+spelled-canonical : RoundIsNormalStep → (name : List ℕ) (t : Values) → spelled_meaning true name ≡ Ok t → IsCanonical t
+unfolding gnu_reading
+spelled-canonical round_trip name t means = by_reading (spelled_reading name) refl means
+  where
+    by_clever : (u : Values) → spelled_reading name ≡ Ok u → (b : Bool) → is_clever u.architecture ≡ b → values_or_unknown (cond b None (Some (as_gnu u))) ≡ Ok t → IsCanonical t
+    by_clever u is true clever h = absurd cc
+    by_clever u is false other h = let same : as_gnu u ≡ t = cc in subst IsCanonical same (gnu-canonical round_trip u (read-sound name u is).plain other)
+
+    by_reading : (r : Result Values PlacedRefusal) → spelled_reading name ≡ r → values_or_unknown (gnu_meaning r) ≡ Ok t → IsCanonical t
+    by_reading (Ok u) is h = by_clever u is (is_clever u.architecture) refl h
+    by_reading (Err why) is h = absurd cc
 
 pub names_canonical : RoundIsNormalStep → ReadTriplesArePlain → NamesAreCanonical
 unfolding name_meaning
@@ -364,15 +410,20 @@ names_canonical round_trip read_plain d name t means = by_found (row_named (rule
     by_way found is Written way h = absurd cc
     by_way found is NoTriple way h = absurd cc
 
-    by_words : (o : Option Row) → row_with_words (rows_of d) (normal_words (words_of name)) ≡ o → found_meaning (option_map (λ (row : Row). (row, [])) o) ≡ Ok t → IsCanonical t
-    by_words None is h = absurd cc
+    by_spelling : (b : Bool) → spelled_meaning b name ≡ Ok t → IsCanonical t
+    by_spelling true h = spelled-canonical round_trip name t h
+    by_spelling false h = absurd cc
+
+    by_words : (o : Option Row) → row_with_words (rows_of d) (normal_words (words_of name)) ≡ o → found_meaning (option_map (λ (row : Row). (row, [])) o) (spelled_meaning (rules_of d).spelled name) ≡ Ok t → IsCanonical t
+    by_words None is h = by_spelling (rules_of d).spelled h
     by_words (Some row) is h = words-canonical round_trip read_plain d (normal_words (words_of name)) row t is h
 
-    by_platform : (b : Bool) → found_meaning (platform_row b (rows_of d) name) ≡ Ok t → IsCanonical t
+    by_platform : (b : Bool) → found_meaning (platform_row b (rows_of d) name) (spelled_meaning (rules_of d).spelled name) ≡ Ok t → IsCanonical t
     by_platform true h = by_words (row_with_words (rows_of d) (normal_words (words_of name))) refl h
-    by_platform false h = absurd cc
+    by_platform false h = by_spelling (rules_of d).spelled h
 
-    by_found : (o : Option (Row × List ℕ)) → row_named (rules_of d).tags (rows_of d) name ≡ o → found_meaning (option_or o (platform_row (rules_of d).platforms (rows_of d) name)) ≡ Ok t → IsCanonical t
+    by_found : (o : Option (Row × List ℕ)) → row_named (rules_of d).tags (rows_of d) name ≡ o
+        → found_meaning (option_or o (platform_row (rules_of d).platforms (rows_of d) name)) (spelled_meaning (rules_of d).spelled name) ≡ Ok t → IsCanonical t
     by_found None is h = by_platform (rules_of d).platforms h
     by_found (Some found) is h = by_way found is found.0.way refl h
 
@@ -393,8 +444,7 @@ record IsNameOf (d : Dialect) (t : Values) (name : List ℕ) : Type 0 where
   is : shape_row d (shape d t) ≡ Some row
   written : IsWrittenFor d (length (numbers_in (shape d t).operating_system)) (text_without_numbers (shape d t)) row
   name_is : filled row.pattern (numbers_in (shape d t).operating_system) ≡ name
-  canonical : is_canonical (text_of (base d t)) ≡ true
-  ordinary : is_ordinary_if_read (reading (text_of (base d t))) ≡ true
+  canonical : is_canonical (keeps d) (text_of (base d t)) ≡ true
 
 written-triple : (way : Way) → is_written way ≡ true → has_triple way ≡ true
 written-triple NoTriple is = absurd cc
@@ -408,19 +458,12 @@ name-row d t name h = by_row (shape_row d (shape d t)) refl h
     by_row None is h = absurd cc
     by_row (Some row) is h =
         let written = row-written d (length (numbers_in (shape d t).operating_system)) (text_without_numbers (shape d t)) row is in
-        let canonical = (canonical-at d written.place row written.listed (written-triple row.way written.written)).0 in
-        let ordinary = implied _ _ written.written (all-at has_ordinary (rows_of d) written.place row (rows-ordinary d) written.listed) in
-        record {
-          row = row;
-          is = is;
-          written = written;
-          name_is = cc;
-          canonical = subst (λ x. is_canonical x ≡ true) (sym written.text_is) canonical;
-          ordinary = subst (λ x. is_ordinary_if_read (reading x) ≡ true) (sym written.text_is) ordinary;
-        }
+        let free = (canonical-at d written.place row written.listed (written-triple row.way written.written)).0 in
+        let canonical : is_canonical (keeps d) row.meaning ≡ true = rw written.written at free in
+        record { row = row; is = is; written = written; name_is = cc; canonical = subst (λ x. is_canonical (keeps d) x ≡ true) (sym written.text_is) canonical }
 
-base-row : RoundIsNormalStep → (d : Dialect) (t : Values) → is_canonical (text_of (base d t)) ≡ true → reading (text_of (base d t)) ≡ Ok (base d t)
-base-row round_trip d t canonical = text-row round_trip (base d t) (base-plain d t) (shape-no_special d t) canonical
+base-row : RoundIsNormalStep → (d : Dialect) (t : Values) → is_canonical (keeps d) (text_of (base d t)) ≡ true → (reading (text_of (base d t)) ≡ Ok (base d t)) × ((keeps d || is_ordinary (base d t)) ≡ true)
+base-row round_trip d t canonical = text-row round_trip (keeps d) (base d t) (base-plain d t) (shape-no_special d t) canonical
 
 pub names_mean_shape : RoundIsNormalStep → NamesMeanTheShape
 names_mean_shape round_trip d t name range h =
@@ -432,7 +475,7 @@ names_mean_shape round_trip d t name range h =
     numbers = numbers_in (shape d t).operating_system
 
     shape-read : IsNameOf d t name → with_numbers numbers (read_or_unknown (reading (text_of (base d t)))) ≡ Ok (shape d t)
-    shape-read it = ap (λ r. with_numbers numbers (read_or_unknown r)) (base-row round_trip d t it.canonical) ∙ ap (λ s. Ok (record (shape d t) { operating_system = s })) (with-again d t)
+    shape-read it = ap (λ r. with_numbers numbers (read_or_unknown r)) (base-row round_trip d t it.canonical).0 ∙ ap (λ s. Ok (record (shape d t) { operating_system = s })) (with-again d t)
 
     by_way : (it : IsNameOf d t name) → IsNamed d it.row (filled it.row.pattern numbers) numbers → (way : Way) → it.row.way ≡ way → MeansTheShape d t (filled it.row.pattern numbers)
     by_way it named Both way =
@@ -475,9 +518,21 @@ ordinary-format t ordinary =
       ]
     ]
 
-ordinary-machine : (b : Bool) (a : Architecture) → is_ordinary_architecture (machine_by b a) ≡ is_ordinary_architecture a
-ordinary-machine b architecture.X86_64 = refl
-ordinary-machine b _ = refl
+ordinary-sparc : (s : OperatingSystem) → is_ordinary_architecture (sparc_of_rustc s) ≡ true
+ordinary-sparc operating_system.Linux = refl
+ordinary-sparc _ = refl
+
+ordinary-machine : (rule : MachineRule) (s : OperatingSystem) (a : Architecture) → is_ordinary_architecture (machine_by rule s a) ≡ is_ordinary_architecture a
+ordinary-machine Order s architecture.X86_64 = refl
+ordinary-machine Order s _ = refl
+ordinary-machine Version s architecture.X86_64 = refl
+ordinary-machine Version s _ = refl
+ordinary-machine Rustc s (architecture.Riscv32 riscv32.Riscv32) = refl
+ordinary-machine Rustc s (architecture.Riscv32 _) = refl
+ordinary-machine Rustc s (architecture.Riscv64 riscv64.Riscv64) = refl
+ordinary-machine Rustc s (architecture.Riscv64 _) = refl
+ordinary-machine Rustc s architecture.Sparc64 = ordinary-sparc s
+ordinary-machine Rustc s _ = refl
 
 unversioned-ordinary : (s : OperatingSystem) → is_ordinary_system (without_numbers (unversioned s)) ≡ is_ordinary_system s
 unversioned-ordinary operating_system.Linux = refl
@@ -497,7 +552,7 @@ without-ordinary _ = refl
 
 base-ordinary : (d : Dialect) (t : Values) → is_ordinary (base d t) ≡ is_ordinary t
 unfolding shape
-base-ordinary d t = rw (ordinary-machine (rules_of d).arm_version t.architecture, ordinary-system (rules_of d).versions t.operating_system) refl
+base-ordinary d t = rw (ordinary-machine (rules_of d).machine t.operating_system t.architecture, ordinary-system (rules_of d).versions t.operating_system) refl
 
 shape-ordinary : (d : Dialect) (t : Values) → is_ordinary (base d t) ≡ is_ordinary (shape d t)
 shape-ordinary d t = rw (without-ordinary (shape d t).operating_system) refl
@@ -508,10 +563,12 @@ shape-format d t = refl
 
 pub names_keep_answers : RoundIsNormalStep → NamesKeepAnswers
 names_keep_answers round_trip d t name h =
-    let it = name-row d t name h in
-    let ordinary : is_ordinary (base d t) ≡ true = sym (ap is_ordinary_if_read (base-row round_trip d t it.canonical)) ∙ it.ordinary in
     record {
       endianness = shape-endianness d t;
       pointer_width = shape-width d t;
-      object_format = ordinary-format (shape d t) (sym (shape-ordinary d t) ∙ ordinary) ∙ shape-format d t ∙ sym (ordinary-format t (sym (base-ordinary d t) ∙ ordinary));
+      object_format = by_kept (keeps d) refl (base-row round_trip d t (name-row d t name h).canonical).1;
     }
+  where
+    by_kept : (kept : Bool) → keeps d ≡ kept → (kept || is_ordinary (base d t)) ≡ true → object_format (shape d t) ≡ object_format t
+    by_kept true kept test = kept-format d t kept
+    by_kept false kept ordinary = ordinary-format (shape d t) (sym (shape-ordinary d t) ∙ ordinary) ∙ shape-format d t ∙ sym (ordinary-format t (sym (base-ordinary d t) ∙ ordinary))

@@ -80,9 +80,9 @@ module _ (a : Architecture) (v : VendorValue) (t : Values) where
       by_found None is h = in_range operating_system.Unknown tt (environment-has operating_system.Unknown last (p ∷ ps) h)
 
 -- the triple is plain, and its custom vendor spells itself
-record IsSound (t : Values) : Type 0 where
-  plain : IsPlainTriple t
-  custom : CustomStays t
+pub record IsSound (t : Values) : Type 0 where
+  pub plain : IsPlainTriple t
+  pub custom : CustomStays t
 
 known-sound : (v : VendorValue) (t : Values) → is_plain v ≡ true → ((text : List ℕ) → v ≡ Custom text → later_spelling text ≡ text ∷ [])
     → (t.vendor ≡ v) × HasVersionInRange t.operating_system → IsSound t
@@ -110,7 +110,7 @@ names-sound (p ∷ ps) t h = by_found (architecture_of (first_spelling p)) h
     by_found (Some a) h = vendor-sound a t (name_texts (names_after_first ps)) h (names_after_first-stay ps)
 
 -- so is what is read from a string
-read-sound : (text : List ℕ) (t : Values) → spelled_reading text ≡ Ok t → IsSound t
+pub read-sound : (text : List ℕ) (t : Values) → spelled_reading text ≡ Ok t → IsSound t
 unfolding spelled_reading
 read-sound text t h = by_special (special_values text) (special-holds IsSound text special-sound esp-sound) h
   where

@@ -19,6 +19,7 @@ use Rattle.tool_names.specs.Patterns.{filled, star_count, with_star, without_sta
 use Rattle.tool_names.specs.Tables.{Row, is_read_and, is_written, row_for}
 use Rattle.tool_names.specs.ToolNames.{Unread, read_or_unknown, triple_name, with_numbers}
 use Rattle.tool_names.proofs.Filling.{is_own_tag, is_spaced}
+use Rattle.tool_names.proofs.KeptFormats.{keeps_abi}
 use Rattle.tool_names.proofs.RowLemmas.{all-at, all_apart, for-at, is_only_written}
 use Rattle.tool_names.proofs.ShapeLemmas.{has_no_special_text}
 
@@ -42,12 +43,13 @@ abbrev pub is_ordinary : Values → Bool
 is_ordinary t = is_ordinary_architecture t.architecture && is_ordinary_system t.operating_system && is_known_format t.binary_format
 
 -- a text parses as a triple with a known vendor that prints as the text
-abbrev pub is_canonical_as : List ℕ → Result Values Refusal → Bool
-is_canonical_as text (Ok t) = bytes_eq (text_of t) text && not (is_custom t.vendor) && not (is_clever t.architecture)
-is_canonical_as text (Err _) = false
+-- where a name is written, and the dialect doesn't keep every environment, the triple is an ordinary one
+abbrev pub is_canonical_as : Bool → List ℕ → Result Values Refusal → Bool
+is_canonical_as kept text (Ok t) = bytes_eq (text_of t) text && not (is_custom t.vendor) && not (is_clever t.architecture) && (kept || is_ordinary t)
+is_canonical_as kept text (Err _) = false
 
-abbrev pub is_canonical : List ℕ → Bool
-is_canonical text = is_canonical_as text (reading text)
+abbrev pub is_canonical : Bool → List ℕ → Bool
+is_canonical kept text = is_canonical_as kept text (reading text)
 
 -- what each row passes
 
@@ -64,16 +66,8 @@ abbrev pub gives_no_special_text : Result Values Refusal → Bool
 gives_no_special_text (Ok t) = has_no_special_text t.vendor
 gives_no_special_text (Err _) = false
 
-abbrev pub has_canonical : Row → Bool
-has_canonical row = not (has_triple row.way) || (is_canonical row.meaning && (nat_eq (star_count row.pattern) 0 || gives_no_special_text (reading row.meaning)))
-
--- a name that is written is that of an ordinary triple
-abbrev pub is_ordinary_if_read : Result Values Refusal → Bool
-is_ordinary_if_read (Ok t) = is_ordinary t
-is_ordinary_if_read (Err _) = false
-
-abbrev pub has_ordinary : Row → Bool
-has_ordinary row = not (is_written row.way) || is_ordinary_if_read (reading row.meaning)
+abbrev pub has_canonical : Bool → Row → Bool
+has_canonical kept row = not (has_triple row.way) || (is_canonical (not (is_written row.way) || kept) row.meaning && (nat_eq (star_count row.pattern) 0 || gives_no_special_text (reading row.meaning)))
 
 -- a name has its numbers apart, and is its own tag where names are tags; one that is written has none, or two and is read too,
 -- and it and its triple are short
@@ -103,20 +97,20 @@ is_long_of short long = bytes_eq long.pattern (with_star short.pattern) && is_pa
 abbrev pub has_pair : List Row → Row → Bool
 has_pair rows row = (not (may_be_short row) || list_any (is_short_of row) rows) && (not (may_be_long row) || list_any (is_long_of row) rows)
 
+-- names that are tags aren't spelled like triples
+pub tags-unspelled : (d : Dialect) → (not (rules_of d).tags || not (rules_of d).spelled) ≡ true
+tags-unspelled Debian = refl
+tags-unspelled _ = refl
+
 pub rows-apart : (d : Dialect) → all_apart (rows_of d) ≡ true
 unfolding rows_of
 rows-apart Debian = refl
 rows-apart _ = refl
 
-pub rows-canonical : (d : Dialect) → list_all has_canonical (rows_of d) ≡ true
+pub rows-canonical : (d : Dialect) → list_all (has_canonical (keeps_abi (rules_of d).abi)) (rows_of d) ≡ true
 unfolding rows_of architecture_of known_vendor_of is_admitted vendor_of version_of fixed_operating_system_of operating_system_of environment_of binary_format_of implied_format special_values special_text shows_vendor shows_operating_system shows_environment shows_binary_format shown_names text_of reading
 rows-canonical Debian = refl
 rows-canonical _ = refl
-
-pub rows-ordinary : (d : Dialect) → list_all has_ordinary (rows_of d) ≡ true
-unfolding rows_of architecture_of known_vendor_of is_admitted vendor_of version_of fixed_operating_system_of operating_system_of environment_of binary_format_of implied_format special_values special_text shows_vendor shows_operating_system shows_environment shows_binary_format shown_names text_of reading
-rows-ordinary Debian = refl
-rows-ordinary _ = refl
 
 pub rows-formed : (d : Dialect) → list_all (has_form (rules_of d).tags) (rows_of d) ≡ true
 unfolding rows_of

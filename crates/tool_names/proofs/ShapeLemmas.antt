@@ -7,15 +7,19 @@ use Rattle.target_lexicon.specs.{Queries.endianness, Queries.is_ilp32, Queries.p
 use Rattle.target_lexicon.specs.Values.{Architecture, OperatingSystem, Environment, VendorValue, Known, Custom, Values}
 use Rattle.target_lexicon.specs.Values.architecture
 use Rattle.target_lexicon.specs.Values.arm
+use Rattle.target_lexicon.specs.Values.riscv32
+use Rattle.lexicon_fields.specs.declared.architecture.riscv.Riscv64Architecture.TheVariants as riscv64
 use Rattle.target_lexicon.specs.Values.operating_system
 use Rattle.target_lexicon.specs.Values.environment
 use Rattle.tool_names.specs.declared.dialect.Dialect.{Dialect}
 use Rattle.tool_names.specs.declared.shape.AbiRule.{AbiRule}
-use Rattle.tool_names.specs.declared.shape.AbiRule.TheVariants.{Kept, Dropped, KeptOnLinux}
+use Rattle.tool_names.specs.declared.shape.AbiRule.TheVariants.{Kept, Dropped, KeptOnLinux, KeptOnSystems}
+use Rattle.tool_names.specs.declared.shape.MachineRule.{MachineRule}
+use Rattle.tool_names.specs.declared.shape.MachineRule.TheVariants.{Order, Version, Rustc}
 use Rattle.tool_names.specs.Dialects.{rules_of}
 use Rattle.tool_names.specs.Laws.{ShapesAreFixed}
 use Rattle.tool_names.specs.Patterns.{all_limits, are_within}
-use Rattle.tool_names.specs.Shape.{abi_by, abi_on, arm_of_order, arm_of_version, is_bare_abi, is_dropped_abi, machine_by, shape, system_by, unknown_if, unversioned, usual_vendor, with_two_numbers}
+use Rattle.tool_names.specs.Shape.{abi_by, abi_on, abi_on_systems, arm_of_linux, arm_of_order, arm_of_rustc, arm_of_version, arm_of_windows, is_bare_abi, is_dropped_abi, machine_by, machine_of_order, machine_of_rustc, machine_of_version, one_eabi, shape, sparc_of_rustc, system_by, unknown_if, unversioned, usual_vendor, with_two_numbers}
 use Rattle.tool_names.specs.ToolNames.{numbers_in, system_with, without_numbers}
 
 -- once is enough
@@ -28,10 +32,49 @@ version-once : (a : ArmArchitecture) → arm_of_version (arm_of_version a) ≡ a
 version-once arm.Arm = refl
 version-once _ = refl
 
-machine-once : (b : Bool) (a : Architecture) → machine_by b (machine_by b a) ≡ machine_by b a
-machine-once true (architecture.Arm a) = ap architecture.Arm (version-once a)
-machine-once false (architecture.Arm a) = ap architecture.Arm (order-once a)
-machine-once b _ = refl
+order-machine-once : (a : Architecture) → machine_of_order (machine_of_order a) ≡ machine_of_order a
+order-machine-once (architecture.Arm a) = ap architecture.Arm (order-once a)
+order-machine-once _ = refl
+
+version-machine-once : (a : Architecture) → machine_of_version (machine_of_version a) ≡ machine_of_version a
+version-machine-once (architecture.Arm a) = ap architecture.Arm (version-once a)
+version-machine-once _ = refl
+
+linux-arm-once : (a : ArmArchitecture) → arm_of_linux (arm_of_linux a) ≡ arm_of_linux a
+linux-arm-once arm.Arm = refl
+linux-arm-once _ = refl
+
+windows-arm-once : (a : ArmArchitecture) → arm_of_windows (arm_of_windows a) ≡ arm_of_windows a
+windows-arm-once arm.Arm = refl
+windows-arm-once _ = refl
+
+rustc-arm-once : (b : Bool) (s : OperatingSystem) (a : ArmArchitecture) → arm_of_rustc (system_by b s) (arm_of_rustc s a) ≡ arm_of_rustc s a
+rustc-arm-once true operating_system.Linux a = linux-arm-once a
+rustc-arm-once false operating_system.Linux a = linux-arm-once a
+rustc-arm-once true operating_system.Windows a = windows-arm-once a
+rustc-arm-once false operating_system.Windows a = windows-arm-once a
+rustc-arm-once true _ a = refl
+rustc-arm-once false _ a = refl
+
+rustc-sparc-once : (b : Bool) (s : OperatingSystem) → machine_of_rustc (system_by b s) (sparc_of_rustc s) ≡ sparc_of_rustc s
+rustc-sparc-once true operating_system.Linux = refl
+rustc-sparc-once false operating_system.Linux = refl
+rustc-sparc-once true _ = refl
+rustc-sparc-once false _ = refl
+
+rustc-machine-once : (b : Bool) (s : OperatingSystem) (a : Architecture) → machine_of_rustc (system_by b s) (machine_of_rustc s a) ≡ machine_of_rustc s a
+rustc-machine-once b s (architecture.Arm a) = ap architecture.Arm (rustc-arm-once b s a)
+rustc-machine-once b s (architecture.Riscv32 riscv32.Riscv32) = refl
+rustc-machine-once b s (architecture.Riscv32 _) = refl
+rustc-machine-once b s (architecture.Riscv64 riscv64.Riscv64) = refl
+rustc-machine-once b s (architecture.Riscv64 _) = refl
+rustc-machine-once b s architecture.Sparc64 = rustc-sparc-once b s
+rustc-machine-once b s _ = refl
+
+machine-once : (rule : MachineRule) (b : Bool) (s : OperatingSystem) (a : Architecture) → machine_by rule (system_by b s) (machine_by rule s a) ≡ machine_by rule s a
+machine-once Order b s a = order-machine-once a
+machine-once Version b s a = version-machine-once a
+machine-once Rustc b s a = rustc-machine-once b s a
 
 unversioned-once : (s : OperatingSystem) → unversioned (unversioned s) ≡ unversioned s
 unversioned-once operating_system.Linux = refl
@@ -74,16 +117,27 @@ linux-once true _ e = library-once e
 linux-once false operating_system.Linux e = bare-once e
 linux-once false _ e = library-once e
 
+one_eabi-once : (e : Environment) → one_eabi (one_eabi e) ≡ one_eabi e
+one_eabi-once environment.Eabihf = refl
+one_eabi-once _ = refl
+
+systems-once : (b : Bool) (s : OperatingSystem) (e : Environment) → abi_on_systems (system_by b s) (abi_on_systems s e) ≡ abi_on_systems s e
+systems-once true operating_system.None_ e = one_eabi-once e
+systems-once true _ e = refl
+systems-once false operating_system.None_ e = one_eabi-once e
+systems-once false _ e = refl
+
 abi-once : (rule : AbiRule) (b : Bool) (s : OperatingSystem) (e : Environment) → abi_by rule (system_by b s) (abi_by rule s e) ≡ abi_by rule s e
 abi-once Kept b s e = refl
 abi-once Dropped b s e = library-once e
 abi-once KeptOnLinux b s e = linux-once b s e
+abi-once KeptOnSystems b s e = systems-once b s e
 
 pub shapes_fixed : ShapesAreFixed
 unfolding shape
 shapes_fixed = record {
   again = λ d t. let r = rules_of d in
-      rw (machine-once r.arm_version t.architecture, vendor-once r.versions t.operating_system, system-once r.versions t.operating_system, abi-once r.abi r.versions t.operating_system t.environment) refl;
+      rw (machine-once r.machine r.versions t.operating_system t.architecture, vendor-once r.versions t.operating_system, system-once r.versions t.operating_system, abi-once r.abi r.versions t.operating_system t.environment) refl;
   vendor = λ d t v. refl;
 }
 
@@ -97,14 +151,51 @@ version-endianness : (a : ArmArchitecture) → arm_endianness (arm_of_version a)
 version-endianness arm.Arm = refl
 version-endianness _ = refl
 
-machine-endianness : (b : Bool) (a : Architecture) → architecture_endianness (machine_by b a) ≡ architecture_endianness a
-machine-endianness true (architecture.Arm a) = ap Some (version-endianness a)
-machine-endianness false (architecture.Arm a) = ap Some (order-endianness a)
-machine-endianness b _ = refl
+linux-arm-endianness : (a : ArmArchitecture) → arm_endianness (arm_of_linux a) ≡ arm_endianness a
+linux-arm-endianness arm.Arm = refl
+linux-arm-endianness _ = refl
 
-machine-width : (b : Bool) (a : Architecture) → architecture_width (machine_by b a) ≡ architecture_width a
-machine-width b architecture.X86_64 = refl
-machine-width b _ = refl
+windows-arm-endianness : (a : ArmArchitecture) → arm_endianness (arm_of_windows a) ≡ arm_endianness a
+windows-arm-endianness arm.Arm = refl
+windows-arm-endianness _ = refl
+
+rustc-arm-endianness : (s : OperatingSystem) (a : ArmArchitecture) → arm_endianness (arm_of_rustc s a) ≡ arm_endianness a
+rustc-arm-endianness operating_system.Linux a = linux-arm-endianness a
+rustc-arm-endianness operating_system.Windows a = windows-arm-endianness a
+rustc-arm-endianness _ a = refl
+
+sparc-endianness : (s : OperatingSystem) → architecture_endianness (sparc_of_rustc s) ≡ architecture_endianness architecture.Sparc64
+sparc-endianness operating_system.Linux = refl
+sparc-endianness _ = refl
+
+sparc-width : (s : OperatingSystem) → architecture_width (sparc_of_rustc s) ≡ architecture_width architecture.Sparc64
+sparc-width operating_system.Linux = refl
+sparc-width _ = refl
+
+machine-endianness : (rule : MachineRule) (s : OperatingSystem) (a : Architecture) → architecture_endianness (machine_by rule s a) ≡ architecture_endianness a
+machine-endianness Order s (architecture.Arm a) = ap Some (order-endianness a)
+machine-endianness Order s _ = refl
+machine-endianness Version s (architecture.Arm a) = ap Some (version-endianness a)
+machine-endianness Version s _ = refl
+machine-endianness Rustc s (architecture.Arm a) = ap Some (rustc-arm-endianness s a)
+machine-endianness Rustc s (architecture.Riscv32 riscv32.Riscv32) = refl
+machine-endianness Rustc s (architecture.Riscv32 _) = refl
+machine-endianness Rustc s (architecture.Riscv64 riscv64.Riscv64) = refl
+machine-endianness Rustc s (architecture.Riscv64 _) = refl
+machine-endianness Rustc s architecture.Sparc64 = sparc-endianness s
+machine-endianness Rustc s _ = refl
+
+machine-width : (rule : MachineRule) (s : OperatingSystem) (a : Architecture) → architecture_width (machine_by rule s a) ≡ architecture_width a
+machine-width Order s architecture.X86_64 = refl
+machine-width Order s _ = refl
+machine-width Version s architecture.X86_64 = refl
+machine-width Version s _ = refl
+machine-width Rustc s (architecture.Riscv32 riscv32.Riscv32) = refl
+machine-width Rustc s (architecture.Riscv32 _) = refl
+machine-width Rustc s (architecture.Riscv64 riscv64.Riscv64) = refl
+machine-width Rustc s (architecture.Riscv64 _) = refl
+machine-width Rustc s architecture.Sparc64 = sparc-width s
+machine-width Rustc s _ = refl
 
 library-ilp32 : (e : Environment) → is_ilp32 (unknown_if (is_dropped_abi e) e) ≡ is_ilp32 e
 library-ilp32 environment.Unknown = refl
@@ -118,18 +209,27 @@ linux-ilp32 : (s : OperatingSystem) (e : Environment) → is_ilp32 (abi_on s e) 
 linux-ilp32 operating_system.Linux e = bare-ilp32 e
 linux-ilp32 _ e = library-ilp32 e
 
+one_eabi-ilp32 : (e : Environment) → is_ilp32 (one_eabi e) ≡ is_ilp32 e
+one_eabi-ilp32 environment.Eabihf = refl
+one_eabi-ilp32 _ = refl
+
+systems-ilp32 : (s : OperatingSystem) (e : Environment) → is_ilp32 (abi_on_systems s e) ≡ is_ilp32 e
+systems-ilp32 operating_system.None_ e = one_eabi-ilp32 e
+systems-ilp32 _ e = refl
+
 abi-ilp32 : (rule : AbiRule) (s : OperatingSystem) (e : Environment) → is_ilp32 (abi_by rule s e) ≡ is_ilp32 e
 abi-ilp32 Kept s e = refl
 abi-ilp32 Dropped s e = library-ilp32 e
 abi-ilp32 KeptOnLinux s e = linux-ilp32 s e
+abi-ilp32 KeptOnSystems s e = systems-ilp32 s e
 
 pub shape-endianness : (d : Dialect) (t : Values) → endianness (shape d t) ≡ endianness t
 unfolding shape
-shape-endianness d t = machine-endianness (rules_of d).arm_version t.architecture
+shape-endianness d t = machine-endianness (rules_of d).machine t.operating_system t.architecture
 
 pub shape-width : (d : Dialect) (t : Values) → pointer_width (shape d t) ≡ pointer_width t
 unfolding shape pointer_width
-shape-width d t = rw (abi-ilp32 (rules_of d).abi t.operating_system t.environment, machine-width (rules_of d).arm_version t.architecture) refl
+shape-width d t = rw (abi-ilp32 (rules_of d).abi t.operating_system t.environment, machine-width (rules_of d).machine t.operating_system t.architecture) refl
 
 -- the numbers of a shape
 
@@ -171,10 +271,10 @@ has_no_special_text (Known Espressif) = false
 has_no_special_text (Known _) = true
 has_no_special_text (Custom _) = false
 
+pub usual-no_special : (s : OperatingSystem) → has_no_special_text (Known (usual_vendor s)) ≡ true
+usual-no_special operating_system.Linux = refl
+usual-no_special _ = refl
+
 pub shape-no_special : (d : Dialect) (t : Values) → has_no_special_text (shape d t).vendor ≡ true
 unfolding shape
-shape-no_special d t = by_system t.operating_system
-  where
-    by_system : (s : OperatingSystem) → has_no_special_text (Known (usual_vendor s)) ≡ true
-    by_system operating_system.Linux = refl
-    by_system _ = refl
+shape-no_special d t = usual-no_special t.operating_system

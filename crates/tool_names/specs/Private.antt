@@ -1,9 +1,9 @@
 -- Definitions for the contracts of private functions; no public contract cites them.
 use Rattle.std.specs.Prelude.{⊤, ℕ, ◌+◌, ◌^◌, ◌<◌, ◌==◌, ◌&&◌, nat_le, nat_lt, Bool, List, [], ◌∷◌, ◌++◌, Option, Some, None, map, option_map, if◌then◌else◌}
-use Rattle.std.specs.{Borrow.Bor, List.list_all}
+use Rattle.std.specs.{Borrow.Bor, List.list_all, Option.option_map_or}
 use Rattle.lexicon_fields.specs.Names.{Pair}
 use Rattle.target_lexicon.specs.Placement.{parts_after, parts_of}
-use Rattle.tool_names.specs.{declared.names_left.Left.Left, declared.pattern.Numbers.Numbers, declared.platform.Platform.Platform, declared.tables.Way.Way}
+use Rattle.tool_names.specs.{declared.names_left.Left.Left, declared.pattern.Numbers.Numbers, declared.platform.Platform.Platform, declared.rustc_cfg.Line.Line, RustcCfg.option_line, declared.tables.Way.Way}
 use Rattle.tool_names.specs.declared.pattern.Numbers.TheVariants.{NoNumber, One, Two}
 use Rattle.tool_names.specs.Changes.{name_text}
 use Rattle.tool_names.specs.Platforms.{Words}
@@ -61,3 +61,7 @@ longest widths (p ∷ ps) = if p == star then first_width widths + longest (rest
 -- whether a pattern is ASCII, and its names have at most 36 bytes
 abbrev pub is_short_pattern : List ℕ → Bool
 is_short_pattern pattern = list_all (λ (c : ℕ). nat_lt c 128) pattern && nat_le (longest (5 ∷ 3 ∷ []) pattern) 36
+
+-- what is printed of an option; nothing if it has no value
+abbrev pub line_text : Line → List ℕ
+line_text line = option_map_or (λ (value : Bor (List ℕ)). option_line line.key.now value.now) line.value []

@@ -5,7 +5,7 @@ use Rattle.std.specs.Prelude.{Bool, true, false, None, option_map, if◌then◌e
 use Rattle.lexicon_fields.specs.{declared.architecture.arm.ArmArchitecture.ArmArchitecture, declared.deployment_target.DeploymentTarget.DeploymentTarget, declared.known_vendor.KnownVendor.KnownVendor}
 use Rattle.lexicon_fields.specs.declared.known_vendor.KnownVendor.TheVariants as vendor
 use Rattle.lexicon_fields.specs.declared.architecture.x86_32.X86_32Architecture.TheVariants.{I686}
-use Rattle.lexicon_fields.specs.declared.architecture.riscv.Riscv64Architecture.TheVariants.{Riscv64}
+use Rattle.lexicon_fields.specs.declared.architecture.riscv.Riscv64Architecture.TheVariants as riscv64
 use Rattle.target_lexicon.specs.Values.{Architecture, OperatingSystem, Environment, Known, Values, values}
 use Rattle.target_lexicon.specs.Values.architecture
 use Rattle.target_lexicon.specs.Values.arm
@@ -13,8 +13,9 @@ use Rattle.target_lexicon.specs.Values.riscv32
 use Rattle.target_lexicon.specs.Values.operating_system
 use Rattle.target_lexicon.specs.Values.environment
 use Rattle.tool_names.specs.declared.dialect.Dialect.{Dialect}
-use Rattle.tool_names.specs.declared.shape.{AbiRule.AbiRule, Rules.Rules}
+use Rattle.tool_names.specs.declared.shape.{AbiRule.AbiRule, MachineRule.MachineRule, Rules.Rules}
 use Rattle.tool_names.specs.declared.shape.AbiRule.TheVariants as abi
+use Rattle.tool_names.specs.declared.shape.MachineRule.TheVariants as machine
 use Rattle.tool_names.specs.Dialects.{rules_of}
 
 -- one Arm for each byte order
@@ -41,15 +42,67 @@ arm_of_version arm.Thumbv7neon = arm.Armv7
 arm_of_version arm.Armv8a = arm.Armv8
 arm_of_version a = a
 
--- the architecture without what isn't stated: of Arm the version, or all but the byte order
-abbrev pub machine_by : Bool → Architecture → Architecture
-machine_by by_version (architecture.Arm a) = architecture.Arm (if by_version then arm_of_version a else arm_of_order a)
-machine_by by_version (architecture.X86_32 _) = architecture.X86_32 I686
-machine_by by_version (architecture.Riscv32 _) = architecture.Riscv32 riscv32.Riscv32
-machine_by by_version (architecture.Riscv64 _) = architecture.Riscv64 Riscv64
-machine_by by_version architecture.X86_64h = architecture.X86_64
-machine_by by_version architecture.Sparcv9 = architecture.Sparc64
-machine_by by_version a = a
+-- the architecture without a version; Arm stays
+abbrev pub unversioned_machine : Architecture → Architecture
+unversioned_machine (architecture.X86_32 _) = architecture.X86_32 I686
+unversioned_machine (architecture.Riscv32 _) = architecture.Riscv32 riscv32.Riscv32
+unversioned_machine (architecture.Riscv64 _) = architecture.Riscv64 riscv64.Riscv64
+unversioned_machine architecture.X86_64h = architecture.X86_64
+unversioned_machine architecture.Sparcv9 = architecture.Sparc64
+unversioned_machine a = a
+
+-- the architecture of which Arm's byte order is stated, or Arm's version
+abbrev pub machine_of_order : Architecture → Architecture
+machine_of_order (architecture.Arm a) = architecture.Arm (arm_of_order a)
+machine_of_order a = unversioned_machine a
+
+abbrev pub machine_of_version : Architecture → Architecture
+machine_of_version (architecture.Arm a) = architecture.Arm (arm_of_version a)
+machine_of_version a = unversioned_machine a
+
+-- the Arm by which rustc names a target. On Linux its `arm` is Armv6, and Armv8 in 32 bits runs programs of Armv7; on Windows
+-- each Arm is `thumbv7a`
+abbrev pub arm_of_linux : ArmArchitecture → ArmArchitecture
+arm_of_linux arm.Armv6 = arm.Arm
+arm_of_linux arm.Armv6j = arm.Arm
+arm_of_linux arm.Armv6k = arm.Arm
+arm_of_linux arm.Armv6z = arm.Arm
+arm_of_linux arm.Armv6kz = arm.Arm
+arm_of_linux arm.Armv6t2 = arm.Arm
+arm_of_linux arm.Armv7a = arm.Armv7
+arm_of_linux arm.Armv7ve = arm.Armv7
+arm_of_linux arm.Armv8 = arm.Armv7
+arm_of_linux arm.Armv8a = arm.Armv7
+arm_of_linux a = a
+
+abbrev pub arm_of_windows : ArmArchitecture → ArmArchitecture
+arm_of_windows arm.Arm = arm.Thumbv7a
+arm_of_windows arm.Armv7 = arm.Thumbv7a
+arm_of_windows arm.Armv7a = arm.Thumbv7a
+arm_of_windows a = a
+
+abbrev pub arm_of_rustc : OperatingSystem → ArmArchitecture → ArmArchitecture
+arm_of_rustc operating_system.Linux a = arm_of_linux a
+arm_of_rustc operating_system.Windows a = arm_of_windows a
+arm_of_rustc _ a = a
+
+abbrev pub sparc_of_rustc : OperatingSystem → Architecture
+sparc_of_rustc operating_system.Solaris = architecture.Sparcv9
+sparc_of_rustc _ = architecture.Sparc64
+
+-- the architecture by which rustc names a target
+abbrev pub machine_of_rustc : OperatingSystem → Architecture → Architecture
+machine_of_rustc s (architecture.Arm a) = architecture.Arm (arm_of_rustc s a)
+machine_of_rustc s (architecture.Riscv32 riscv32.Riscv32) = architecture.Riscv32 riscv32.Riscv32gc
+machine_of_rustc s (architecture.Riscv64 riscv64.Riscv64) = architecture.Riscv64 riscv64.Riscv64gc
+machine_of_rustc s architecture.Sparc64 = sparc_of_rustc s
+machine_of_rustc s a = a
+
+-- the architecture without what isn't stated
+abbrev pub machine_by : MachineRule → OperatingSystem → Architecture → Architecture
+machine_by machine.Order s a = machine_of_order a
+machine_by machine.Version s a = machine_of_version a
+machine_by machine.Rustc s a = machine_of_rustc s a
 
 -- the system without a version; macOS has one name
 abbrev pub unversioned : OperatingSystem → OperatingSystem
@@ -124,15 +177,25 @@ abbrev pub abi_on : OperatingSystem → Environment → Environment
 abi_on operating_system.Linux e = unknown_if (is_bare_abi e) e
 abi_on _ e = unknown_if (is_dropped_abi e) e
 
+-- without a system the two embedded ABIs are one
+abbrev pub one_eabi : Environment → Environment
+one_eabi environment.Eabihf = environment.Eabi
+one_eabi e = e
+
+abbrev pub abi_on_systems : OperatingSystem → Environment → Environment
+abi_on_systems operating_system.None_ e = one_eabi e
+abi_on_systems _ e = e
+
 -- the environment without an ABI that isn't stated
 abbrev pub abi_by : AbiRule → OperatingSystem → Environment → Environment
 abi_by abi.Kept s e = e
 abi_by abi.Dropped s e = unknown_if (is_dropped_abi e) e
 abi_by abi.KeptOnLinux s e = abi_on s e
+abi_by abi.KeptOnSystems s e = abi_on_systems s e
 
 abbrev pub shape_by : Rules → Values → Values
 shape_by rules t =
-    values (machine_by rules.arm_version t.architecture) (Known (usual_vendor t.operating_system)) (system_by rules.versions t.operating_system)
+    values (machine_by rules.machine t.operating_system t.architecture) (Known (usual_vendor t.operating_system)) (system_by rules.versions t.operating_system)
     (abi_by rules.abi t.operating_system t.environment) t.binary_format
 
 -- the shape of a triple

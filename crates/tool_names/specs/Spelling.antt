@@ -13,6 +13,7 @@ unfoldable pub first_spellings : List (Pair (List ℕ))
 -- written by tools/names/write: first_spellings
 first_spellings =
     (codes "amd64", codes "x86_64") ∷
+    (codes "x64", codes "x86_64") ∷
     (codes "i486", codes "i386") ∷
     (codes "i786", codes "i686") ∷
     (codes "i886", codes "i686") ∷
@@ -29,8 +30,15 @@ first_spellings =
     (codes "ppc32", codes "powerpc") ∷
     (codes "ppc64", codes "powerpc64") ∷
     (codes "ppc64le", codes "powerpc64le") ∷
+    (codes "ppc64el", codes "powerpc64le") ∷
+    (codes "rs6000", codes "powerpc") ∷
+    (codes "sun4v", codes "sparc64") ∷
     (codes "mipseb", codes "mips") ∷
     (codes "mips64eb", codes "mips64") ∷
+    (codes "mipsr6", codes "mipsisa32r6") ∷
+    (codes "mipsr6el", codes "mipsisa32r6el") ∷
+    (codes "mips64r6", codes "mipsisa64r6") ∷
+    (codes "mips64r6el", codes "mipsisa64r6el") ∷
     (codes "bpf_be", codes "bpfeb") ∷
     (codes "bpf_le", codes "bpfel") ∷
     (codes "systemz", codes "s390x") ∷
@@ -46,10 +54,13 @@ later_spellings =
     (codes "w64", codes "pc" ∷ []) ∷
     (codes "mingw32", codes "windows" ∷ codes "gnu" ∷ []) ∷
     (codes "mingw64", codes "windows" ∷ codes "gnu" ∷ []) ∷
+    (codes "mingw32ucrt", codes "windows" ∷ codes "gnu" ∷ []) ∷
     (codes "win32", codes "windows" ∷ codes "msvc" ∷ []) ∷
     (codes "macos", codes "macosx" ∷ []) ∷
     (codes "netbsdelf", codes "netbsd" ∷ []) ∷
     (codes "simulator", codes "sim" ∷ []) ∷
+    (codes "muslgnueabi", codes "musleabi" ∷ []) ∷
+    (codes "muslgnueabihf", codes "musleabihf" ∷ []) ∷
     (codes "uclibcgnueabi", codes "uclibceabi" ∷ []) ∷
     (codes "uclibcgnueabihf", codes "uclibceabihf" ∷ []) ∷
     []
@@ -68,7 +79,13 @@ versioned_spellings =
     (codes "openbsd", codes "openbsd" ∷ []) ∷
     (codes "solaris", codes "solaris" ∷ []) ∷
     (codes "netbsdelf", codes "netbsd" ∷ []) ∷
+    (codes "vxworks", codes "vxworks" ∷ []) ∷
+    (codes "gnu.", codes "gnu" ∷ []) ∷
+    (codes "gnu2.", codes "gnu" ∷ []) ∷
     (codes "gnu", codes "hurd" ∷ codes "gnu" ∷ []) ∷
+    (codes "gnueabi", codes "gnueabi" ∷ []) ∷
+    (codes "gnueabihf", codes "gnueabihf" ∷ []) ∷
+    (codes "musl", codes "musl" ∷ []) ∷
     (codes "android", codes "android" ∷ []) ∷
     (codes "androideabi", codes "androideabi" ∷ []) ∷
     (codes "msvc", codes "msvc" ∷ []) ∷

@@ -1,6 +1,6 @@
 -- The rows of the dialects, and the row of a name or a triple.
 use Rattle.std.specs.Prelude.{ℕ, ◌==◌, ◌&&◌, Bool, true, false, List, [], ◌∷◌, map, Option, Some, None, option_map, if◌then◌else◌}
-use Rattle.std.specs.{Borrow.Bor, Option.option_or, Str.bytes_eq}
+use Rattle.std.specs.{Borrow.Bor, List.flat_map, Option.option_or, Str.bytes_eq}
 use Rattle.tool_names.specs.declared.tables.Way.{Way}
 use Rattle.tool_names.specs.declared.tables.Way.TheVariants.{Both, Read, Written}
 use Rattle.tool_names.specs.Patterns.{matched, star_count}
@@ -24,6 +24,10 @@ plain_row row = record { pattern = row.0.now; meaning = row.1.now; way = row.2 }
 
 abbrev pub plain_rows : List (Bor (List ℕ) × Bor (List ℕ) × Way) → List Row
 plain_rows rows = map plain_row rows
+
+-- the rows of several tables, in their order
+abbrev pub rows_in : List (Bor (List (Bor (List ℕ) × Bor (List ℕ) × Way))) → List Row
+rows_in tables = flat_map (λ (table : Bor (List (Bor (List ℕ) × Bor (List ℕ) × Way))). plain_rows table.now) tables
 
 -- the first row that has a name, or its tag, and the numbers of the name
 abbrev pub row_named : Bool → List Row → List ℕ → Option (Row × List ℕ)

@@ -3,7 +3,7 @@ use Rattle.std.specs.Prelude.{ℕ, Bool, true, false, List, [], ◌∷◌, ◌++
 use Rattle.lexicon_fields.specs.declared.deployment_target.DeploymentTarget.{DeploymentTarget}
 use Rattle.target_lexicon.specs.{declared.triple_ref.TripleRef.TripleRef, GreedyReading.reading, Printing.text_of, Refusal.Refusal, Values.OperatingSystem, Values.Values, ValuesRef.values_of_ref}
 use Rattle.target_lexicon.specs.Values.operating_system
-use Rattle.tool_names.specs.{declared.dialect.Dialect.Dialect, declared.name.Name.Name, declared.names.NameError.NameError, declared.tables.Way.Way, Dialects.rows_of, Dialects.rules_of, Shape.shape}
+use Rattle.tool_names.specs.{declared.dialect.Dialect.Dialect, declared.name.Name.Name, declared.names.NameError.NameError, declared.tables.Way.Way, Dialects.rows_of, Dialects.rules_of, Gnu.gnu_reading, Shape.shape}
 use Rattle.tool_names.specs.declared.names.NameError.TheVariants as name_error
 use Rattle.tool_names.specs.declared.tables.TheConstants.{ONLY_WRITTEN}
 use Rattle.tool_names.specs.declared.tables.Way.TheVariants.{Both, Read, Written, NoTriple}
@@ -57,9 +57,18 @@ row_meaning Read text numbers = with_numbers numbers (read_or_unknown (reading t
 row_meaning Written text numbers = Err (HasNoTriple ONLY_WRITTEN.now)
 row_meaning NoTriple why numbers = Err (HasNoTriple why)
 
-abbrev pub found_meaning : Option (Row × List ℕ) → Result Values Unread
-found_meaning None = Err IsUnknown
-found_meaning (Some found) = row_meaning found.0.way found.0.meaning found.1
+abbrev pub values_or_unknown : Option Values → Result Values Unread
+values_or_unknown (Some t) = Ok t
+values_or_unknown None = Err IsUnknown
+
+-- what a name means that has no row: where such names are spelled like triples, what it means to GNU's config.sub
+abbrev pub spelled_meaning : Bool → List ℕ → Result Values Unread
+spelled_meaning true name = values_or_unknown (gnu_reading name)
+spelled_meaning false name = Err IsUnknown
+
+abbrev pub found_meaning : Option (Row × List ℕ) → Result Values Unread → Result Values Unread
+found_meaning None other = other
+found_meaning (Some found) other = row_meaning found.0.way found.0.meaning found.1
 
 -- the row of a platform's normal form, where names are platforms
 abbrev pub platform_row : Bool → List Row → List ℕ → Option (Row × List ℕ)
@@ -70,9 +79,9 @@ platform_row false rows name = None
 abbrev pub found_row_of : Rules → List Row → List ℕ → Option (Row × List ℕ)
 found_row_of rules rows name = option_or (row_named rules.tags rows name) (platform_row rules.platforms rows name)
 
--- what a name means: what its row means
+-- what a name means: what its row means, or its spelling if it has no row
 unfoldable pub name_meaning : Dialect → List ℕ → Result Values Unread
-name_meaning d name = found_meaning (found_row_of (rules_of d) (rows_of d) name)
+name_meaning d name = found_meaning (found_row_of (rules_of d) (rows_of d) name) (spelled_meaning (rules_of d).spelled name)
 
 -- the numbers of a system's version, which names may have, and the system without them
 abbrev pub numbers_in : OperatingSystem → List ℕ

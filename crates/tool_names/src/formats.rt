@@ -84,7 +84,7 @@ fn toolchain_format(
 }
 
 /// The format of WebAssembly on its architectures, elsewhere this one.
-fn wasm_or(format: BinaryFormat, architecture: Architecture) -> BinaryFormat
+pub(crate) fn wasm_or(format: BinaryFormat, architecture: Architecture) -> BinaryFormat
     ensures { result ≡ wasm_or format architecture }
 {
     match architecture {

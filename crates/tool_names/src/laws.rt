@@ -2,21 +2,25 @@
 ghost use Rattle.std.specs.Prelude.{◌≡◌, ◌↔◌, ℕ, List, IsTrue};
 ghost use Rattle.lexicon_fields.specs.Laws.{ComparesByValue, CopiesEqualTheirSources};
 ghost use Rattle.tool_names.specs.Changes.{change_value, spelling_names, ChangedPartsAreInTheString, KnownNamesStay, UnchangedStringsAreReadAsTheyParse};
+ghost use Rattle.tool_names.specs.Completion.{CompletedTriplesStay, CompletionFillsOnlyAGap, CompletionIsUnstated, CompletionKeepsAnswers};
 ghost use Rattle.tool_names.specs.Distance.{edit_distance, IsLeastEdits};
 ghost use Rattle.tool_names.specs.Laws.{NamesAreCanonical, NamesKeepAnswers, NamesMeanTheShape, NamesMeanTheirRows, NamesReadBack, NamesWithoutTripleAreRefused, OneNumberIsEnough, ShapesAreFixed, TagsMeanTheSame};
 ghost use Rattle.tool_names.specs.ObjectFormat.{GivenFormatsAreKept};
 ghost use Rattle.tool_names.specs.Spelling.{KnownNamesAreReadAsBefore, ListedPartsAreUnknown, OnceIsEnough, ReadingAgainIsTheSame, RefusalsAreAtTheRefusedName, RefusedPartsAreInTheString};
 ghost use Rattle.tool_names.specs.ToolNames.{name_bytes, unread_of};
+ghost use Rattle.tool_names.specs.Translation.{untranslated_of};
 ghost use Rattle.tool_names.specs.declared.change.Change.{Change};
 ghost use Rattle.tool_names.specs.declared.name.Name.{Name};
 ghost use Rattle.tool_names.specs.declared.names.NameError.{NameError};
 ghost use Rattle.tool_names.specs.declared.spelling.Spelling.{Spelling};
 
 use crate::change::Change;
+use crate::completion::LinuxLibc;
 use crate::dialect::Dialect;
 use crate::name::Name;
 use crate::names::NameError;
 use crate::spelling::Spelling;
+use crate::translation::{TranslateError, WriteError};
 use target_lexicon::laws::{read_triples_are_plain, round_is_normal_step};
 
 /// A string that parses without a custom vendor is read as it parses.
@@ -140,12 +144,40 @@ pub fn names_keep_answers()
     round_is_normal_step();
 }
 
-/// Two dialects, or two reasons why a name isn't read, are equal exactly if they are the same. Two names that are equal
-/// have the same bytes; two changes that are equal are of the same part, and name the same.
+/// Completion changes only the environment, and only an unknown one on Linux; that it makes known.
+#[tactic(auto, using(crate::proofs::Completions::fills_only_a_gap))]
+pub fn completion_fills_only_a_gap()
+    ensures { CompletionFillsOnlyAGap }
+{}
+
+/// A completed triple stays, whatever C library comes after.
+#[tactic(auto, using(crate::proofs::Completions::completed_stay))]
+pub fn completed_triples_stay()
+    ensures { CompletedTriplesStay }
+{}
+
+/// Completion keeps the byte order, the pointer width and the object format.
+#[tactic(auto, using(crate::proofs::Completions::keeps_answers))]
+pub fn completion_keeps_answers()
+    ensures { CompletionKeepsAnswers }
+{}
+
+/// A dialect that doesn't state the C library names a completed triple as before.
+#[tactic(auto, using(crate::proofs::Completions::is_unstated))]
+pub fn completion_is_unstated()
+    ensures { CompletionIsUnstated }
+{}
+
+/// Two dialects, two C libraries, or two reasons why a name isn't read, written or translated, are equal exactly if they are
+/// the same. Two names that are equal have the same bytes; two changes that are equal are of the same part, and name the same.
 pub fn values_are_equal_by_value()
     ensures dialect { ComparesByValue ⟦<Dialect as PartialEq>⟧.eq }
+    ensures c_library { ComparesByValue ⟦<LinuxLibc as PartialEq>⟧.eq }
     ensures name_error { (x y : NameError) →
         IsTrue (⟦<NameError as PartialEq>⟧.eq x y) ↔ (unread_of x ≡ unread_of y) }
+    ensures write_error { ComparesByValue ⟦<WriteError as PartialEq>⟧.eq }
+    ensures translate_error { (x y : TranslateError) →
+        IsTrue (⟦<TranslateError as PartialEq>⟧.eq x y) ↔ (untranslated_of x ≡ untranslated_of y) }
     ensures name { (x y : Name) →
         IsTrue (⟦<Name as PartialEq>⟧.eq x y) →
         name_bytes x ≡ name_bytes y }
@@ -161,8 +193,14 @@ pub fn values_are_equal_by_value()
 pub fn copies_equal_their_sources()
     ensures dialect { CopiesEqualTheirSources ⟦<Dialect as Clone>⟧.is_clone
         ⟦<Dialect as Clone>⟧.is_infallible }
+    ensures c_library { CopiesEqualTheirSources ⟦<LinuxLibc as Clone>⟧.is_clone
+        ⟦<LinuxLibc as Clone>⟧.is_infallible }
     ensures name_error { CopiesEqualTheirSources ⟦<NameError as Clone>⟧.is_clone
         ⟦<NameError as Clone>⟧.is_infallible }
+    ensures write_error { CopiesEqualTheirSources ⟦<WriteError as Clone>⟧.is_clone
+        ⟦<WriteError as Clone>⟧.is_infallible }
+    ensures translate_error { CopiesEqualTheirSources ⟦<TranslateError as Clone>⟧.is_clone
+        ⟦<TranslateError as Clone>⟧.is_infallible }
     ensures name { CopiesEqualTheirSources ⟦<Name as Clone>⟧.is_clone
         ⟦<Name as Clone>⟧.is_infallible }
     ensures spelling { CopiesEqualTheirSources ⟦<Spelling<'static> as Clone>⟧.is_clone

@@ -3,9 +3,12 @@
 #![tactic(auto)]
 
 mod change;
+mod completion;
 mod dialect;
 mod distance;
+mod driver;
 mod formats;
+mod gnu;
 pub mod known_names;
 pub mod laws;
 mod macos;
@@ -17,16 +20,22 @@ mod nearest;
 mod pattern;
 mod platform;
 mod reading;
+mod rustc_cfg;
 mod shape;
 mod spelling;
 mod suggestions;
 mod tables;
+mod translation;
 
 pub use change::{Change, ChangedParts, changes};
+pub use completion::{LinuxLibc, complete};
 pub use dialect::Dialect;
+pub use driver::{CLibrary, FloatAbi, TypeLayout};
 pub use formats::object_format;
 pub use name::Name;
 pub use names::NameError;
 pub use reading::read;
+pub use rustc_cfg::{RustcCfg, is_unix};
 pub use spelling::Spelling;
 pub use suggestions::suggestion;
+pub use translation::{TranslateError, WriteError};

@@ -3,7 +3,7 @@ ghost use Rattle.std.specs.Prelude.{◌≡◌, ◌≤◌, length, option_map};
 ghost use Rattle.std.specs.Str.{str_eq_ignore_ascii_case};
 ghost use Rattle.tool_names.specs.Platforms.{aarch64_variant, are_same_words, arm_variant, is_aarch64, is_x86_64, normal_machine, normal_system, normal_words, row_with_words, word_length, words_of, x86_64_variant};
 ghost use Rattle.tool_names.specs.Private.{platform_words};
-ghost use Rattle.tool_names.specs.Tables.{plain_row, plain_rows};
+ghost use Rattle.tool_names.specs.Tables.{plain_row, plain_rows, rows_in};
 
 use crate::pattern::star_count;
 use crate::tables::Row;
@@ -57,11 +57,31 @@ impl<'a> Platform<'a> {
 }
 
 /// The first row without a number whose name has the words of a platform's normal form.
-pub(crate) fn row_of_platform(rows: &[Row], name: &str) -> Option<Row>
+pub(crate) fn row_of_platform(tables: &[&'static [Row]], name: &str) -> Option<Row>
     ensures { option_map plain_row result
-        ≡ row_with_words (plain_rows rows.now) (normal_words (words_of name.now)) }
+        ≡ row_with_words (rows_in tables.now) (normal_words (words_of name.now)) }
 {
-    let platform = Platform::of(name.as_bytes()).normal();
+    row_in_tables(tables, Platform::of(name.as_bytes()).normal())
+}
+
+/// The first such row of several tables.
+fn row_in_tables(tables: &[&'static [Row]], platform: Platform<'_>) -> Option<Row>
+    ensures { option_map plain_row result
+        ≡ row_with_words (rows_in tables.now) (platform_words platform.entry) }
+{
+    for rows in tables {
+        if let Some(row) = row_with_words(rows, platform) {
+            return Some(row);
+        }
+    }
+    None
+}
+
+/// That row of one table.
+fn row_with_words(rows: &[Row], platform: Platform<'_>) -> Option<Row>
+    ensures { option_map plain_row result
+        ≡ row_with_words (plain_rows rows.now) (platform_words platform.entry) }
+{
     for row in rows {
         let pattern = row.0.as_bytes();
         if star_count(pattern) == 0 && Platform::of(pattern).is(platform) {

@@ -1,13 +1,24 @@
 //! The shape of a triple in a dialect.
 ghost use Rattle.std.specs.Prelude.{◌≡◌, option_map};
 ghost use Rattle.target_lexicon.specs.ValuesRef.{values_of_ref};
-ghost use Rattle.tool_names.specs.Shape.{abi_by, arm_of_order, arm_of_version, is_bare_abi, is_dropped_abi, machine_by, shape, system_by, two_numbers, unversioned, usual_vendor, with_two_numbers};
+ghost use Rattle.tool_names.specs.Shape.{abi_by, abi_on_systems, arm_of_linux, arm_of_order, arm_of_version, arm_of_windows, is_bare_abi, is_dropped_abi, machine_by, machine_of_rustc, shape, system_by, two_numbers, unversioned, unversioned_machine, usual_vendor, with_two_numbers};
 
 use crate::dialect::Dialect;
 use target_lexicon::{
     Architecture, ArmArchitecture, DeploymentTarget, Environment, KnownVendor, OperatingSystem,
     Riscv32Architecture, Riscv64Architecture, TripleRef, VendorRef, X86_32Architecture,
 };
+
+/// How much of the architecture a dialect states.
+#[derive(Clone, Copy, Debug, PartialEq, Eq)]
+pub(crate) enum MachineRule {
+    /// Of Arm the byte order.
+    Order,
+    /// Of Arm the versions 5 to 8.
+    Version,
+    /// All that rustc tells apart.
+    Rustc,
+}
 
 /// How a dialect states the ABI.
 #[derive(Clone, Copy, Debug, PartialEq, Eq)]
@@ -18,18 +29,21 @@ pub(crate) enum AbiRule {
     Dropped,
     /// C libraries are stated on Linux only.
     KeptOnLinux,
+    /// Every environment is kept, except that without a system `eabihf` is `eabi`.
+    KeptOnSystems,
 }
 
 /// What names state in a dialect.
 #[derive(Clone, Copy, Debug, PartialEq, Eq)]
 pub(crate) struct Rules {
-    /// The versions 5 to 8 of Arm.
-    pub arm_version: bool,
+    pub machine: MachineRule,
     pub abi: AbiRule,
     /// The version of macOS and iOS, in two numbers.
     pub versions: bool,
     /// `-` and `.` of a name are `_` in the names of the rows.
     pub tags: bool,
+    /// A name that has no row is read by its spelling.
+    pub spelled: bool,
     /// Names are platforms of container images, with containerd's other names.
     pub platforms: bool,
 }
@@ -54,7 +68,9 @@ impl Dialect {
     {
         let rules = self.rules();
         TripleRef {
-            architecture: machine_by(rules.arm_version, triple.architecture),
+            architecture: rules
+                .machine
+                .architecture(triple.operating_system, triple.architecture),
             vendor: VendorRef::Known(usual_vendor(triple.operating_system)),
             operating_system: system_by(rules.versions, triple.operating_system),
             environment: rules
@@ -72,6 +88,7 @@ impl AbiRule {
     {
         let forgotten = match self {
             AbiRule::Kept => false,
+            AbiRule::KeptOnSystems => return abi_on_systems(operating_system, environment),
             AbiRule::Dropped => is_dropped_abi(environment),
             AbiRule::KeptOnLinux => match operating_system {
                 OperatingSystem::Linux => is_bare_abi(environment),
@@ -86,21 +103,94 @@ impl AbiRule {
     }
 }
 
-/// The architecture without what isn't stated: of Arm the version, or all but the byte order.
-fn machine_by(arm_version: bool, architecture: Architecture) -> Architecture
-    ensures { result ≡ machine_by arm_version architecture }
+impl MachineRule {
+    /// The architecture without what isn't stated.
+    fn architecture(
+        self,
+        operating_system: OperatingSystem,
+        architecture: Architecture,
+    ) -> Architecture
+        ensures { result ≡ machine_by self operating_system architecture }
+    {
+        match self {
+            MachineRule::Order => match architecture {
+                Architecture::Arm(arm) => Architecture::Arm(arm_of_order(arm)),
+                other => unversioned_machine(other),
+            },
+            MachineRule::Version => match architecture {
+                Architecture::Arm(arm) => Architecture::Arm(arm_of_version(arm)),
+                other => unversioned_machine(other),
+            },
+            MachineRule::Rustc => machine_of_rustc(operating_system, architecture),
+        }
+    }
+}
+
+/// The architecture without a version. Arm stays.
+fn unversioned_machine(architecture: Architecture) -> Architecture
+    ensures { result ≡ unversioned_machine architecture }
 {
     match architecture {
-        Architecture::Arm(arm) => Architecture::Arm(if arm_version {
-            arm_of_version(arm)
-        } else {
-            arm_of_order(arm)
-        }),
         Architecture::X86_32(_) => Architecture::X86_32(X86_32Architecture::I686),
         Architecture::Riscv32(_) => Architecture::Riscv32(Riscv32Architecture::Riscv32),
         Architecture::Riscv64(_) => Architecture::Riscv64(Riscv64Architecture::Riscv64),
         Architecture::X86_64h => Architecture::X86_64,
         Architecture::Sparcv9 => Architecture::Sparc64,
+        other => other,
+    }
+}
+
+/// The architecture by which rustc names a target.
+fn machine_of_rustc(operating_system: OperatingSystem, architecture: Architecture) -> Architecture
+    ensures { result ≡ machine_of_rustc operating_system architecture }
+{
+    match architecture {
+        Architecture::Arm(arm) => Architecture::Arm(match operating_system {
+            OperatingSystem::Linux => arm_of_linux(arm),
+            OperatingSystem::Windows => arm_of_windows(arm),
+            _ => arm,
+        }),
+        Architecture::Riscv32(Riscv32Architecture::Riscv32) => {
+            Architecture::Riscv32(Riscv32Architecture::Riscv32gc)
+        }
+        Architecture::Riscv64(Riscv64Architecture::Riscv64) => {
+            Architecture::Riscv64(Riscv64Architecture::Riscv64gc)
+        }
+        Architecture::Sparc64 => match operating_system {
+            OperatingSystem::Solaris => Architecture::Sparcv9,
+            _ => architecture,
+        },
+        other => other,
+    }
+}
+
+/// The Arm by which rustc names a target of Linux: `arm` is Armv6, and Armv8 in 32 bits runs programs of Armv7.
+fn arm_of_linux(arm: ArmArchitecture) -> ArmArchitecture
+    ensures { result ≡ arm_of_linux arm }
+{
+    match arm {
+        ArmArchitecture::Armv6
+        | ArmArchitecture::Armv6j
+        | ArmArchitecture::Armv6k
+        | ArmArchitecture::Armv6z
+        | ArmArchitecture::Armv6kz
+        | ArmArchitecture::Armv6t2 => ArmArchitecture::Arm,
+        ArmArchitecture::Armv7a
+        | ArmArchitecture::Armv7ve
+        | ArmArchitecture::Armv8
+        | ArmArchitecture::Armv8a => ArmArchitecture::Armv7,
+        other => other,
+    }
+}
+
+/// The Arm by which rustc names a target of Windows, which has needed Armv7 from the first.
+fn arm_of_windows(arm: ArmArchitecture) -> ArmArchitecture
+    ensures { result ≡ arm_of_windows arm }
+{
+    match arm {
+        ArmArchitecture::Arm | ArmArchitecture::Armv7 | ArmArchitecture::Armv7a => {
+            ArmArchitecture::Thumbv7a
+        }
         other => other,
     }
 }
@@ -128,7 +218,7 @@ fn arm_of_order(arm: ArmArchitecture) -> ArmArchitecture
 }
 
 /// The versions 5, 6, 7 and 8 of Arm for applications; every other Arm is itself.
-fn arm_of_version(arm: ArmArchitecture) -> ArmArchitecture
+pub(crate) fn arm_of_version(arm: ArmArchitecture) -> ArmArchitecture
     ensures { result ≡ arm_of_version arm }
 {
     match arm {
@@ -144,6 +234,16 @@ fn arm_of_version(arm: ArmArchitecture) -> ArmArchitecture
         | ArmArchitecture::Thumbv7neon => ArmArchitecture::Armv7,
         ArmArchitecture::Armv8a => ArmArchitecture::Armv8,
         other => other,
+    }
+}
+
+/// The environment; without a system the two embedded ABIs are one.
+fn abi_on_systems(operating_system: OperatingSystem, environment: Environment) -> Environment
+    ensures { result ≡ abi_on_systems operating_system environment }
+{
+    match (operating_system, environment) {
+        (OperatingSystem::None_, Environment::Eabihf) => Environment::Eabi,
+        _ => environment,
     }
 }
 
@@ -187,7 +287,7 @@ fn two_numbers_of(version: Option<DeploymentTarget>) -> Option<DeploymentTarget>
 }
 
 /// The vendor that triples on a system usually have.
-fn usual_vendor(operating_system: OperatingSystem) -> KnownVendor
+pub(crate) fn usual_vendor(operating_system: OperatingSystem) -> KnownVendor
     ensures { result ≡ usual_vendor operating_system }
 {
     match operating_system {

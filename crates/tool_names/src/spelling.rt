@@ -330,8 +330,9 @@ fn is_digit_or_dot(byte: u8) -> bool
 
 #[rattlefmt::skip]
 // written by tools/names/write: the other spellings of first parts
-static FIRST_SPELLINGS: [(&str, &str); 23] = [
+static FIRST_SPELLINGS: [(&str, &str); 31] = [
     ("amd64", "x86_64"),
+    ("x64", "x86_64"),
     ("i486", "i386"),
     ("i786", "i686"),
     ("i886", "i686"),
@@ -348,8 +349,15 @@ static FIRST_SPELLINGS: [(&str, &str); 23] = [
     ("ppc32", "powerpc"),
     ("ppc64", "powerpc64"),
     ("ppc64le", "powerpc64le"),
+    ("ppc64el", "powerpc64le"),
+    ("rs6000", "powerpc"),
+    ("sun4v", "sparc64"),
     ("mipseb", "mips"),
     ("mips64eb", "mips64"),
+    ("mipsr6", "mipsisa32r6"),
+    ("mipsr6el", "mipsisa32r6el"),
+    ("mips64r6", "mipsisa64r6"),
+    ("mips64r6el", "mipsisa64r6el"),
     ("bpf_be", "bpfeb"),
     ("bpf_le", "bpfel"),
     ("systemz", "s390x"),
@@ -359,14 +367,17 @@ static FIRST_SPELLINGS: [(&str, &str); 23] = [
 
 #[rattlefmt::skip]
 // written by tools/names/write: the other spellings of later parts
-static LATER_SPELLINGS: [(&str, &str); 9] = [
+static LATER_SPELLINGS: [(&str, &str); 12] = [
     ("w64", "pc"),
     ("mingw32", "windows-gnu"),
     ("mingw64", "windows-gnu"),
+    ("mingw32ucrt", "windows-gnu"),
     ("win32", "windows-msvc"),
     ("macos", "macosx"),
     ("netbsdelf", "netbsd"),
     ("simulator", "sim"),
+    ("muslgnueabi", "musleabi"),
+    ("muslgnueabihf", "musleabihf"),
     ("uclibcgnueabi", "uclibceabi"),
     ("uclibcgnueabihf", "uclibceabihf"),
 ];
@@ -374,7 +385,7 @@ static LATER_SPELLINGS: [(&str, &str); 9] = [
 
 #[rattlefmt::skip]
 // written by tools/names/write: the other spellings of parts before a version
-static VERSIONED_SPELLINGS: [(&str, &str); 12] = [
+static VERSIONED_SPELLINGS: [(&str, &str); 18] = [
     ("aix", "aix"),
     ("bitrig", "bitrig"),
     ("dragonfly", "dragonfly"),
@@ -383,7 +394,13 @@ static VERSIONED_SPELLINGS: [(&str, &str); 12] = [
     ("openbsd", "openbsd"),
     ("solaris", "solaris"),
     ("netbsdelf", "netbsd"),
+    ("vxworks", "vxworks"),
+    ("gnu.", "gnu"),
+    ("gnu2.", "gnu"),
     ("gnu", "hurd-gnu"),
+    ("gnueabi", "gnueabi"),
+    ("gnueabihf", "gnueabihf"),
+    ("musl", "musl"),
     ("android", "android"),
     ("androideabi", "androideabi"),
     ("msvc", "msvc"),

@@ -16,6 +16,7 @@ ghost use Rattle.target_lexicon.specs.Refusal.{Refusal};
 ghost use Rattle.target_lexicon.specs.Values.{Values, host_values};
 ghost use Rattle.tool_names.specs.Changes.{PartChange, change_value, changes, spelling_names};
 ghost use Rattle.tool_names.specs.ObjectFormat.{object_format};
+ghost use Rattle.tool_names.specs.Completion.{completed};
 ghost use Rattle.tool_names.specs.Dialects.{rows_of};
 ghost use Rattle.tool_names.specs.Laws.{GoesBothWays, IsNamed, IsOnlyWritten, IsWithoutTriple, may_be_long, may_be_short};
 ghost use Rattle.tool_names.specs.Patterns.{filled, fits, with_star, without_star};
@@ -24,13 +25,16 @@ ghost use Rattle.target_lexicon.specs.ValuesRef.{PlacedRefusal};
 ghost use Rattle.tool_names.specs.Spelling.{first_spelling, first_spellings, is_known_name, later_spelling, later_spellings, name_texts, spelled_names, spelled_reading, versioned_spellings};
 ghost use Rattle.tool_names.specs.Tables.{Row};
 ghost use Rattle.tool_names.specs.ToolNames.{name_bytes, name_meaning, numbers_in, row_meaning, shape_row, triple_name, unread_of};
+ghost use Rattle.tool_names.specs.Translation.{untranslated_of};
 ghost use Rattle.tool_names.specs.declared.change.Change.{Change};
 ghost use Rattle.tool_names.specs.declared.name.Name.{Name};
 ghost use Rattle.tool_names.specs.declared.spelling.Spelling.{Spelling};
 ghost use Rattle.uses.specs.Conclusions.{AreCopiesTheSame, CanReplace, CanReplaceEqual};
 
-use target_lexicon::{Architecture, BinaryFormat, OperatingSystem};
-use tool_names::{Change, Dialect, Name, NameError, Spelling};
+use target_lexicon::{Architecture, BinaryFormat, Environment, OperatingSystem};
+use tool_names::{
+    LinuxLibc, Change, Dialect, Name, NameError, Spelling, TranslateError, WriteError,
+};
 
 /// The host's name is read as the host, and without a change.
 pub fn known_names_are_read()
@@ -243,10 +247,64 @@ pub fn named_alike_answer_alike()
     tool_names::laws::names_keep_answers();
 }
 
-/// Equal dialects and reasons can stand for one another; equal names, spellings and changes are read alike.
+/// Completion keeps all but an unknown environment on Linux, which it fills.
+pub fn completion_keeps_what_is_known()
+    ensures machine { (c : LinuxLibc) (t : Values) →
+        (completed c t).architecture ≡ t.architecture }
+    ensures system { (c : LinuxLibc) (t : Values) →
+        (completed c t).operating_system ≡ t.operating_system }
+    ensures environment { (c : LinuxLibc) (t : Values) →
+        t.environment ≡ Environment.Musl →
+        completed c t ≡ t }
+    ensures elsewhere { (c : LinuxLibc) (t : Values) →
+        t.operating_system ≡ OperatingSystem.Windows →
+        completed c t ≡ t }
+    ensures filled { (c : LinuxLibc) (t : Values) →
+        t.operating_system ≡ OperatingSystem.Linux →
+        (completed c t).environment ≡ Environment.Unknown →
+        ⊥ }
+{
+    tool_names::laws::completion_fills_only_a_gap();
+}
+
+/// The first C library that is said stays.
+pub fn first_c_library_stays()
+    ensures { (c other third : LinuxLibc) (t : Values) →
+        completed third (completed other (completed c t)) ≡ completed c t }
+{
+    tool_names::laws::completed_triples_stay();
+}
+
+/// The same machine with two C libraries answers alike.
+pub fn c_libraries_answer_alike()
+    ensures endianness { (c other : LinuxLibc) (t : Values) →
+        endianness (completed c t) ≡ endianness (completed other t) }
+    ensures width { (c other : LinuxLibc) (t : Values) →
+        pointer_width (completed c t) ≡ pointer_width (completed other t) }
+    ensures format { (c other : LinuxLibc) (t : Values) →
+        object_format (completed c t) ≡ object_format (completed other t) }
+{
+    tool_names::laws::completion_keeps_answers();
+}
+
+/// A platform of OCI is named without its C library.
+pub fn platforms_have_no_c_library()
+    ensures shape { (c other : LinuxLibc) (t : Values) →
+        shape Dialect.Oci (completed c t) ≡ shape Dialect.Oci (completed other t) }
+    ensures name { (c : LinuxLibc) (t : Values) (name : List ℕ) →
+        triple_name Dialect.Oci t ≡ Some name →
+        triple_name Dialect.Oci (completed c t) ≡ Some name }
+{
+    tool_names::laws::completion_is_unstated();
+}
+
+/// Equal dialects, C libraries and reasons can stand for one another; equal names, spellings and changes are read alike.
 pub fn equal_other_names_can_replace()
     ensures dialect { CanReplaceEqual ⟦<Dialect as PartialEq>⟧.eq }
+    ensures c_library { CanReplaceEqual ⟦<LinuxLibc as PartialEq>⟧.eq }
     ensures name_error { CanReplace unread_of ⟦<NameError as PartialEq>⟧.eq }
+    ensures write_error { CanReplaceEqual ⟦<WriteError as PartialEq>⟧.eq }
+    ensures translate_error { CanReplace untranslated_of ⟦<TranslateError as PartialEq>⟧.eq }
     ensures name { (x y : Name) →
         name_bytes x ≢ name_bytes y →
         IsTrue (⟦<Name as PartialEq>⟧.eq x y) →
@@ -267,8 +325,14 @@ pub fn equal_other_names_can_replace()
 pub fn copies_of_other_names_are_the_same()
     ensures dialect { AreCopiesTheSame ⟦<Dialect as Clone>⟧.is_clone
         ⟦<Dialect as Clone>⟧.is_infallible }
+    ensures c_library { AreCopiesTheSame ⟦<LinuxLibc as Clone>⟧.is_clone
+        ⟦<LinuxLibc as Clone>⟧.is_infallible }
     ensures name_error { AreCopiesTheSame ⟦<NameError as Clone>⟧.is_clone
         ⟦<NameError as Clone>⟧.is_infallible }
+    ensures write_error { AreCopiesTheSame ⟦<WriteError as Clone>⟧.is_clone
+        ⟦<WriteError as Clone>⟧.is_infallible }
+    ensures translate_error { AreCopiesTheSame ⟦<TranslateError as Clone>⟧.is_clone
+        ⟦<TranslateError as Clone>⟧.is_infallible }
     ensures name { AreCopiesTheSame ⟦<Name as Clone>⟧.is_clone
         ⟦<Name as Clone>⟧.is_infallible }
     ensures spelling { AreCopiesTheSame ⟦<Spelling<'static> as Clone>⟧.is_clone

@@ -106,6 +106,7 @@ enum class Dialect : std::uint8_t {
   Node = LEXICON_DIALECT_NODE,
   Gnu = LEXICON_DIALECT_GNU,
   Python = LEXICON_DIALECT_PYTHON,
+  Rust = LEXICON_DIALECT_RUST,
   Uname = LEXICON_DIALECT_UNAME,
   Rpm = LEXICON_DIALECT_RPM,
   Apk = LEXICON_DIALECT_APK,
@@ -189,7 +190,7 @@ inline std::string_view name(Field field) {
 }
 inline std::string_view name(Dialect value) {
   // written by tools/names/write: the dialects' names for C++
-  constexpr const char* names[] = {"", "debian", "go", "oci", "node", "gnu", "python", "uname", "rpm", "apk", "pacman", "dotnet", "conda", "zig", "nix"};
+  constexpr const char* names[] = {"", "debian", "go", "oci", "node", "gnu", "python", "rust", "uname", "rpm", "apk", "pacman", "dotnet", "conda", "zig", "nix"};
   // end of what is written
   return detail::name_at(names, static_cast<std::size_t>(value));
 }

@@ -16,7 +16,7 @@ mod error_text;
 mod header_tests;
 mod lines;
 mod names;
-#[allow(unused_imports)] // the proved crate exports more
+#[allow(dead_code, unused_imports)] // the proved crate exports more
 mod proved;
 #[cfg(not(test))]
 mod runtime;

@@ -17,13 +17,15 @@ pub const FIELDS: [(&str, Field); 5] = [
 /// The tools whose names are known, in the order of answers: those whose names are only read, those whose names are also
 /// written, and those whose names are only written.
 // written by tools/names/write: the dialects for the command
-pub const DIALECTS: [Dialect; 14] = [
+pub const DIALECTS: [Dialect; 15] = [
     Dialect::Uname,
     Dialect::Debian,
     Dialect::Go,
     Dialect::Oci,
     Dialect::Node,
+    Dialect::Gnu,
     Dialect::Python,
+    Dialect::Rust,
     Dialect::Rpm,
     Dialect::Apk,
     Dialect::Pacman,
@@ -31,9 +33,8 @@ pub const DIALECTS: [Dialect; 14] = [
     Dialect::Conda,
     Dialect::Zig,
     Dialect::Nix,
-    Dialect::Gnu,
 ];
-pub const READ: usize = 13;
+pub const READ: usize = 15;
 pub const ONLY_READ: usize = 1;
 // end of what is written
 
@@ -157,7 +158,7 @@ pub fn command() -> Command {
                  Examples:\n  $ target-lexicon read --from oci linux/arm/v7\n  $ target-lexicon read \"$(cc -dumpmachine)\"",
             )
             .mut_arg("target", |names| names.value_name("NAME"))
-            .arg(dialect("from", &DIALECTS[..READ], "The tool whose names are read"))
+            .arg(dialect("from", &DIALECTS, "The tool whose names are read"))
             .arg(
                 flag("changes", "Show which parts of a name are read as others, such as amd64 as x86_64")
                     .conflicts_with("from"),

@@ -5,8 +5,8 @@ const LABELS = {
   architecture: "Architecture", vendor: "Vendor", operatingSystem: "System", environment: "Environment", binaryFormat: "Format",
 };
 // written by tools/names/write: the dialects for the page
-const READ = ["debian", "go", "oci", "node", "python", "uname", "rpm", "apk", "pacman", "dotnet", "conda", "zig", "nix"];
-const WRITTEN = ["debian", "go", "oci", "node", "gnu", "python", "rpm", "apk", "pacman", "dotnet", "conda", "zig", "nix"];
+const READ = ["debian", "go", "oci", "node", "gnu", "python", "rust", "uname", "rpm", "apk", "pacman", "dotnet", "conda", "zig", "nix"];
+const WRITTEN = ["debian", "go", "oci", "node", "gnu", "python", "rust", "rpm", "apk", "pacman", "dotnet", "conda", "zig", "nix"];
 // end of what is written
 const TOOLS = { oci: "Container images", gnu: "GNU prefix" };
 const toolName = (dialect) => TOOLS[dialect] ?? dialect[0].toUpperCase() + dialect.slice(1);

@@ -86,12 +86,12 @@ export const FAMILIES: readonly Family[];
  * (`oci`), `process.platform` and `process.arch` of Node, the prefixes of GNU's cross compilers, and the platforms of Python and its wheels.
  */
 // written by tools/names/write: the type of dialects
-export type Dialect = "debian" | "go" | "oci" | "node" | "gnu" | "python" | "uname" | "rpm" | "apk" | "pacman" | "dotnet" | "conda" | "zig" | "nix" | "docker" | "npm";
+export type Dialect = "debian" | "go" | "oci" | "node" | "gnu" | "python" | "rust" | "uname" | "rpm" | "apk" | "pacman" | "dotnet" | "conda" | "zig" | "nix" | "docker" | "npm";
 // end of what is written
 
 /** The dialects, in the order of their numbers in target_lexicon.h, which begin with 1. */
 // written by tools/names/write: the dialects for TypeScript
-export const DIALECTS: readonly ["debian", "go", "oci", "node", "gnu", "python", "uname", "rpm", "apk", "pacman", "dotnet", "conda", "zig", "nix"];
+export const DIALECTS: readonly ["debian", "go", "oci", "node", "gnu", "python", "rust", "uname", "rpm", "apk", "pacman", "dotnet", "conda", "zig", "nix"];
 // end of what is written
 
 export interface Version {
@@ -203,7 +203,7 @@ export class Triple {
    * prints: `x86_64-w64-mingw32` is read as `x86_64-pc-windows-gnu`. With one, it is a name of that tool, and no other is tried; what
    * the name doesn't state is unknown. Throws a ParseError for any other string, and where a name means no triple.
    */
-  static read(text: string, dialect?: Exclude<Dialect, "gnu"> | null): Triple;
+  static read(text: string, dialect?: Dialect | null): Triple;
   /** The triple or the error of a string, and where each field comes from. */
   static explain(text: string): Explanation;
   /**

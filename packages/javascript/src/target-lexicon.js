@@ -18,7 +18,7 @@ export const FAMILIES = Object.freeze([
 
 /** The tools whose names of targets are known: Debian, Go, container images, Node, GNU's cross compilers, and Python. */
 // written by tools/names/write: the dialects for JavaScript
-export const DIALECTS = Object.freeze(["debian", "go", "oci", "node", "gnu", "python", "uname", "rpm", "apk", "pacman", "dotnet", "conda", "zig", "nix"]);
+export const DIALECTS = Object.freeze(["debian", "go", "oci", "node", "gnu", "python", "rust", "uname", "rpm", "apk", "pacman", "dotnet", "conda", "zig", "nix"]);
 // end of what is written
 
 const OK = 0, REFUSED = 6, TOO_SMALL = 8, NO_SUCH_VALUE = 10, NO_SUCH_VENDOR = 11;

@@ -98,14 +98,14 @@ const tests = {
       ["go", "linux", "Unknown name: linux", null], ["go", "linux/amd46", "Unknown name: linux/amd46", null, "linux/amd64"],
       ["debian", "", "Unknown name: ", null], ["oci", "linux/\u{1f600}", "Unknown name: linux/\u{1f600}", null],
       ["node", "sunos-x64", "No triple has this name: sunos-x64: two systems: Solaris and illumos", "two systems: Solaris and illumos"],
-      ["gnu", "avr", "Unknown name: avr", null],
+      ["gnu", "x86_64-linux-gnuu", "Unknown name: x86_64-linux-gnuu", null, "x86_64-linux-gnu"],
     ]) {
       const error = refusal(name, (it) => Triple.read(it, dialect));
       assert.deepEqual([error.message, error.reason, error.field, error.suggestion], [message, reason, null, suggestion]);
       assert.deepEqual([error.part, error.start, error.end], [name, 0, name.length]);
     }
-    const prefix = refusal("x86_64-linux-gnu", (it) => Triple.read(it, "gnu"));
-    assert.equal(prefix.reason, "names of cross compilers are only written");
+    assert.equal(refusal("arm64e-apple-ios", (it) => Triple.read(it, "rust")).reason,
+      "a target of rustc that has no triple here: its architecture is no known name");
     assert.equal(refusal("sunos-x64", (it) => Triple.read(it, "node")).report,
       "No triple has this name: sunos-x64\n  sunos-x64\n  ^^^^^^^^^ two systems: Solaris and illumos");
     assert.equal(refusal("linux/amd46", (it) => Triple.read(it, "oci")).report,

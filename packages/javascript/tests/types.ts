@@ -26,7 +26,7 @@ const widths: Each<NonNullable<Facts["pointerWidth"]>> = { 16: true, 32: true, 6
 const conventions: Each<NonNullable<Facts["defaultCallingConvention"]>> = { SystemV: true, WasmBasicCAbi: true, WindowsFastcall: true, AppleAarch64: true };
 const models: Each<NonNullable<Facts["dataModel"]>> = { LP32: true, ILP32: true, LLP64: true, LP64: true, ILP64: true };
 const origins: Each<Explained<string>["origin"]> = { given: true, alias: true, "not given": true, implied: true };
-const tools: Each<Dialect> = { debian: true, go: true, oci: true, node: true, gnu: true, python: true };
+const tools: Each<Dialect> = { debian: true, go: true, oci: true, node: true, gnu: true, python: true, rust: true };
 const parts: Each<Field> = { architecture: true, vendor: true, operatingSystem: true, environment: true, binaryFormat: true };
 
 // `Same` is true only for two types that are the same, so that no answer's type is too wide.
@@ -70,7 +70,7 @@ const sources: Same<Flat<Explained<Vendor>>, Flat<Sources<Vendor>>> = true;
 const explained: Same<Explanation["fields"], { [Name in Field]: Explained<Values[Name]> }> = true;
 const calls: [
   Same<typeof Triple.parse, (text: string) => Triple>, Same<typeof Triple.explain, (text: string) => Explanation>,
-  Same<typeof Triple.read, (text: string, dialect?: Exclude<Dialect, "gnu"> | null) => Triple>, Same<typeof Triple.of, (values: Given) => Triple>,
+  Same<typeof Triple.read, (text: string, dialect?: Dialect | null) => Triple>, Same<typeof Triple.of, (values: Given) => Triple>,
   Same<typeof host, () => Triple>, Same<typeof version, () => string>, Same<typeof numberOf, (field: Field, text: string) => number | null>,
   Same<typeof load, (module: ArrayBuffer | ArrayBufferView | WebAssembly.Module) => Promise<void>>, Same<typeof FAMILIES, readonly Family[]>,
 ] = [true, true, true, true, true, true, true, true, true];
@@ -102,8 +102,6 @@ triple.version.major;
 triple.nameIn("go").length;
 // @ts-expect-error no dialect has this name
 triple.nameIn("docker");
-// @ts-expect-error names of this dialect are only written
-Triple.read("x86_64-linux-gnu", "gnu");
 // @ts-expect-error a triple never changes
 triple.vendor = "pc";
 // @ts-expect-error a triple comes from a string or from values

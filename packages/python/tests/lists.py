@@ -4,7 +4,7 @@ import os
 import re
 import sys
 
-#: The repository, the shared library, and the folder with the wheel and the sdist; and the program `triples`, or None.
+#: The repository or what an sdist has of it, the shared library, and the folder with the wheel and the sdist; and the program `triples`, or None.
 ROOT, LIBRARY, BUILT = (os.environ[f"LEXICON_TEST_{it}"] for it in ("ROOT", "LIBRARY", "BUILT"))
 PROGRAM = os.environ.get("LEXICON_TEST_PROGRAM") or None
 
@@ -13,8 +13,15 @@ Row = collections.namedtuple("Row", "field variant name family")
 Name = collections.namedtuple("Name", "dialect name triple ways note")
 
 
+#: The folder of the package, which an sdist has at its top.
+PACKAGE = os.path.dirname(os.path.dirname(os.path.abspath(__file__)))
+
+
 def read(path):
-    with open(os.path.join(ROOT, path), encoding="utf-8") as it:
+    folder, found = ROOT, path
+    if path.startswith("packages/python/"):
+        folder, found = PACKAGE, path.partition("/python/")[2]
+    with open(os.path.join(folder, found), encoding="utf-8") as it:
         return it.read()
 
 

@@ -14,7 +14,6 @@ from target_lexicon import CustomVendor, Dialect, ParseError, Triple, _dialects,
 
 UNKNOWN, WITHOUT = "Unknown name: ", "No triple has this name: "
 NAMES = [it for it in lists.elsewhere() if it.dialect not in ("first", "later")]
-ONLY_WRITTEN = "names of cross compilers are only written"
 
 
 class Names(unittest.TestCase):
@@ -27,8 +26,8 @@ class Names(unittest.TestCase):
         self.assertEqual({it.value for it in Dialect}, {it.dialect for it in NAMES})
         others = set(_dialects.OTHER_NAMES)
         self.assertEqual(set(typing.get_args(_dialects.DialectName)), {*Dialect, *others})
-        read = {it.dialect for it in NAMES if "r" in it.ways}
-        self.assertEqual(set(typing.get_args(_dialects.ReadDialectName)), {*read, *(it for it in others if _dialects.OTHER_NAMES[it] in read)})
+        for way, of in ("r", _dialects.READ), ("w", _dialects.WRITTEN):
+            self.assertEqual(set(of), {it.dialect for it in NAMES if way in it.ways})
         self.assertEqual((Triple.read("linux/arm64", "docker").name_in("npm"), "docker" in list(Dialect)), ("linux-arm64", False))
 
     def test_read_rows(self):
@@ -47,9 +46,8 @@ class Names(unittest.TestCase):
         self.assertGreater(len(rows), 200)
 
     def test_rows_that_are_not_read(self):
-        """Those that no triple means, with the table's reason; and those of GNU, which are only written."""
-        rows = [it._replace(note=ONLY_WRITTEN) if it.dialect == "gnu" else it for it in NAMES]
-        rows = [it for it in rows if it.ways == "-" or it.dialect == "gnu"]
+        """Those that no triple means, with the table's reason."""
+        rows = [it for it in NAMES if it.ways == "-"]
         for row in rows:
             error = self.refusal(row.name, row.dialect)
             self.assertEqual((error.line, error.reason), (WITHOUT + row.name, row.note))
@@ -62,6 +60,8 @@ class Names(unittest.TestCase):
         known = {dialect: {it.name for it in NAMES if it.dialect == dialect.value} for dialect in Dialect}
         count = 0
         for dialect, other in itertools.permutations(Dialect, 2):
+            if dialect is Dialect.GNU:
+                continue  # It reads all that is spelled like a triple.
             for name in known[other] - known[dialect]:
                 if dialect is Dialect.PYTHON and re.sub("[-.]", "_", name) in known[dialect]:
                     continue
@@ -128,7 +128,7 @@ class Names(unittest.TestCase):
     def test_nearest_names(self):
         for dialect, name, nearest in (("go", "linux/amd46", "linux/amd64"), ("debian", "amd63", None), ("oci", "linux/arm/v9", None),
                                        ("node", "linux-x64-mulsl", "linux-x64-musl"), ("go", "plan10", None), ("python", "linux_x86_46", "linux_x86_64"),
-                                       ("python", "macosx_11_0_arm46", None), ("gnu", "x86_64-linux-gnuu", None)):
+                                       ("python", "macosx_11_0_arm46", None), ("gnu", "x86_64-linux-gnuu", "x86_64-linux-gnu")):
             error = self.refusal(name, dialect)
             self.assertEqual((error.suggestion, error.reason, str(error).endswith(f"^ did you mean `{nearest}`?")), (nearest, None, nearest is not None))
         rows = [it for it in NAMES if "r" in it.ways and "13_2" not in it.name]

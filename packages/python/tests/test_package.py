@@ -4,7 +4,6 @@ import doctest
 import email
 import filecmp
 import importlib
-import importlib.util
 import json
 import os
 import pkgutil
@@ -23,7 +22,7 @@ import zipfile
 import target_lexicon
 import lists
 
-SOURCE = os.path.join(lists.ROOT, "packages", "python")
+SOURCE = lists.PACKAGE
 PRINTS = "from target_lexicon import Triple; print(Triple('arm64-linux'))"
 # The version of the library's calls: the first two numbers; and the name of the library.
 CALLS = re.escape(target_lexicon.__version__.rpartition(".")[0])
@@ -32,6 +31,9 @@ NAME = f"libtarget_lexicon.so.{target_lexicon.__version__.rpartition('.')[0]}"
 PACKAGES = os.path.dirname(os.path.dirname(target_lexicon.__file__))
 COMMAND = shutil.which("target-lexicon", path=os.path.dirname(lists.PROGRAM)) if lists.PROGRAM else None
 PIP = [sys.executable, "-m", "pip", "--disable-pip-version-check"]
+# The Python that this one was made of has hatchling, which builds.
+BASE_PYTHON = getattr(sys, "_base_executable", sys.executable)
+BASE_PIP = [BASE_PYTHON, *PIP[1:]]
 # Where Rust's programs have what they need.
 HOMES = {name: value for name, value in os.environ.items() if name in ("HOME", "RUSTUP_HOME", "RUSTUP_TOOLCHAIN", "CARGO_HOME")}
 
@@ -75,19 +77,38 @@ class Built(Folder):
             info = f"target_lexicon-{target_lexicon.__version__}.dist-info"
             said = email.message_from_bytes(wheel.read(f"{info}/WHEEL"))
             metadata = email.message_from_bytes(wheel.read(f"{info}/METADATA"))
-            self.assertIn(b"LLVM Exceptions to the Apache 2.0 License", wheel.read(f"{info}/LICENSE"))
+            self.assertIn(b"LLVM Exceptions to the Apache 2.0 License", wheel.read(f"{info}/licenses/LICENSE"))
+            self.assertIn(b"Copyright", wheel.read(f"{info}/licenses/COPYRIGHT"))
+            self.assertEqual({it.compress_type for it in wheel.infolist() if it.file_size}, {zipfile.ZIP_DEFLATED})
+            self.assertEqual(metadata["License-Expression"] or metadata["License"], "Apache-2.0 WITH LLVM-exception")
         self.assertEqual((said["Root-Is-Purelib"], said["Tag"]), ("false", name[:-4].split("-", 2)[2]))
         self.assertEqual((metadata["Version"], metadata["Requires-Dist"]), (target_lexicon.__version__, None))
 
     def test_built_again_it_is_the_same(self):
-        ran = run(os.path.join(SOURCE, "build"), lists.LIBRARY, self.folder, PYTHON=sys.executable)
+        ran = run(os.path.join(SOURCE, "build"), lists.LIBRARY, self.folder, PYTHON=BASE_PYTHON)
         self.assertEqual(ran.returncode, 0, ran.stderr)
         names = sorted(os.listdir(lists.BUILT))
         self.assertEqual(sorted(os.listdir(self.folder)), names)
         self.assertEqual(filecmp.cmpfiles(self.folder, lists.BUILT, names, shallow=False), (names, [], []))
 
+    def test_what_the_project_says_is_in_it(self):
+        with tarfile.open(built(".tar.gz")) as archive:
+            names = {it.name.partition("/")[2] for it in archive.getmembers()}
+        self.assertLessEqual({"tests/run.py", "test", "native/packages/c/src/lib.rs", "native/Cargo.lock", "native/LICENSE", "native/COPYRIGHT", "PKG-INFO"}, names)
+        source = self.unpacked()
+        project = os.path.join(source, "pyproject.toml")
+        with open(project, encoding="utf-8") as it:
+            text = it.read()
+        with open(project, "w", encoding="utf-8") as it:
+            it.write(text.replace("[project]\n", '[project]\ndependencies = ["requests"]\n'))
+        ran = run(*BASE_PIP, "wheel", "--no-deps", "--no-build-isolation", "--no-index", "-w", self.folder, source, TARGET_LEXICON_LIBRARY=lists.LIBRARY)
+        self.assertEqual(ran.returncode, 0, ran.stderr)
+        with zipfile.ZipFile(os.path.join(self.folder, os.path.basename(built(".whl")))) as wheel:
+            metadata = wheel.read(f"target_lexicon-{target_lexicon.__version__}.dist-info/METADATA").decode()
+        self.assertIn("\nRequires-Dist: requests\n", metadata)
+
     def test_another_time_is_in_it(self):
-        run(os.path.join(SOURCE, "build"), lists.LIBRARY, self.folder, PYTHON=sys.executable, SOURCE_DATE_EPOCH="1700000000")
+        run(os.path.join(SOURCE, "build"), lists.LIBRARY, self.folder, PYTHON=BASE_PYTHON, SOURCE_DATE_EPOCH="1700000000")
         with zipfile.ZipFile(os.path.join(self.folder, os.path.basename(built(".whl")))) as wheel:
             self.assertEqual({it.date_time for it in wheel.infolist()}, {(2023, 11, 14, 22, 13, 20)})
 
@@ -95,14 +116,13 @@ class Built(Folder):
         """The folder of the sdist, unpacked."""
         with tarfile.open(built(".tar.gz")) as archive:
             for member in archive.getmembers():
-                self.assertTrue(member.isfile() and ".." not in member.name and not member.name.startswith("/"))
+                self.assertTrue((member.isfile() or member.isdir()) and ".." not in member.name and not member.name.startswith("/"))
             archive.extractall(self.folder)
         source, = (os.path.join(self.folder, it) for it in os.listdir(self.folder))
-        self.assertIn("Requires-External: cargo", open(os.path.join(source, "PKG-INFO"), encoding="utf-8").read())
         return source
 
     def test_sdist_gives_the_same_wheel(self):
-        command = [*PIP, "wheel", "--no-deps", "--no-build-isolation", "--no-index", "-w", self.folder, self.unpacked()]
+        command = [*BASE_PIP, "wheel", "--no-deps", "--no-build-isolation", "--no-index", "-w", self.folder, self.unpacked()]
         ran = run(*command, PATH=self.folder)
         self.assertNotEqual(ran.returncode, 0)
         self.assertRegex(ran.stdout + ran.stderr, "the shared library of this package isn't built: cargo doesn't run")
@@ -112,6 +132,9 @@ class Built(Folder):
         self.assertNotIn("Install Rust", ran.stdout + ran.stderr)
         ran = run(*command, TARGET_LEXICON_LIBRARY=os.path.join(SOURCE, "README.md"))
         self.assertIn("isn't a shared library for Linux", ran.stdout + ran.stderr)
+        ran = run(*command, TARGET_LEXICON_LIBRARY="system")
+        with zipfile.ZipFile(os.path.join(self.folder, f"target_lexicon-{target_lexicon.__version__}-py3-none-any.whl")) as wheel:
+            self.assertFalse([it for it in wheel.namelist() if NAME in it])
         ran = run(*command, TARGET_LEXICON_LIBRARY=lists.LIBRARY)
         self.assertEqual(ran.returncode, 0, ran.stderr)
         self.assertTrue(filecmp.cmp(os.path.join(self.folder, os.path.basename(built(".whl"))), built(".whl"), shallow=False))
@@ -123,23 +146,23 @@ class Built(Folder):
         ignored = shutil.ignore_patterns("target", "__pycache__", NAME)
         for part in "packages/python", "packages/c", "packages/rust":
             shutil.copytree(os.path.join(lists.ROOT, part), os.path.join(top, part), ignore=ignored)
-        for name in "Cargo.toml", "Cargo.lock", "LICENSE":
+        for name in "Cargo.toml", "Cargo.lock", "LICENSE", "COPYRIGHT":
             shutil.copy(os.path.join(lists.ROOT, name), top)
         git = ["git", "-C", top, "-c", "user.name=test", "-c", "user.email=test@example.invalid"]
         for words in ["init", "--quiet"], ["add", "."], ["commit", "--quiet", "-m", "sources"]:
             self.assertEqual(run(*git, *words).returncode, 0)
         sources = os.path.join(top, "packages", "python")
-        ran = run(*PIP, "wheel", "--no-index", "--no-cache-dir", "-w", self.folder, sources, **HOMES)
+        ran = run(*BASE_PIP, "wheel", "--no-build-isolation", "--no-index", "--no-cache-dir", "-w", self.folder, sources, **HOMES)
         self.assertEqual(ran.returncode, 0, ran.stdout + ran.stderr)
         wheel, = (os.path.join(self.folder, it) for it in os.listdir(self.folder) if it.endswith(".whl"))
         environment = os.path.join(self.folder, "environment")
-        venv.create(environment, with_pip=True)
+        venv.create(environment, system_site_packages=True, with_pip=True)
         python = os.path.join(environment, "bin", "python")
         for words, variables, home in (
             ([f"git+file://{top}#subdirectory=packages/python"], HOMES, environment), ([built(".tar.gz")], HOMES, environment),
             ([wheel], {"PATH": self.folder}, environment), (["-e", sources], HOMES, sources),
         ):
-            pip = [python, *PIP[1:], "install", "--no-index", "--no-cache-dir", "--force-reinstall"]
+            pip = [python, *PIP[1:], "install", "--no-build-isolation", "--no-index", "--no-cache-dir", "--force-reinstall"]
             ran = run(*pip, *words, **{"PATH": os.environ["PATH"], **variables})
             self.assertEqual(ran.returncode, 0, ran.stdout + ran.stderr)
             ran = run(python, "-I", "-c", f"{PRINTS}; import target_lexicon; print(target_lexicon.LIBRARY_PATH)")
@@ -157,12 +180,12 @@ class Platforms(Folder):
             it.write(source)
         ran = run("cc", "-shared", "-fPIC", f"{path}.c", "-o", path, "-Wl,--no-as-needed", *options)
         self.assertEqual(ran.returncode, 0, ran.stderr)
-        with open(path, "rb") as it:
-            content = it.read()
-        spec = importlib.util.spec_from_file_location("build_backend", os.path.join(SOURCE, "build_backend.py"))
-        backend = importlib.util.module_from_spec(spec)
-        spec.loader.exec_module(backend)
-        return backend.linux_platform(content[:18] + machine.to_bytes(2, "little") + content[20:])
+        with open(path, "r+b") as it:
+            it.seek(18)
+            it.write(machine.to_bytes(2, "little"))
+        ran = run(BASE_PYTHON, "-c", f"import hatch_build; print(hatch_build.linux_platform(hatch_build.read({path!r})))", PYTHONPATH=SOURCE)
+        self.assertEqual(ran.returncode, 0, ran.stderr)
+        return ran.stdout.strip()
 
     def versioned(self, *versions):
         """A library whose symbols are of these versions of the C library, under its name."""
@@ -182,7 +205,7 @@ class Platforms(Folder):
                               (["GLIBC_2.17", "GLIBC_PRIVATE"], "linux")):
             for machine, name in (62, "x86_64"), (183, "aarch64"):
                 self.assertEqual(self.tag(*self.versioned(*versions), machine=machine), f"{tag}_{name}", versions)
-        self.assertIsNone(self.tag(*self.versioned("GLIBC_2.17"), machine=40))
+        self.assertEqual(self.tag(*self.versioned("GLIBC_2.17"), machine=40), "None")
 
     def test_other_libraries(self):
         self.assertEqual(self.tag("int f(void) { return 1; }", "-nostdlib"), "manylinux_2_17_x86_64")
@@ -237,10 +260,10 @@ class FindsTheLibrary(Folder):
         self.assertRegex(self.prints(TARGET_LEXICON_LIBRARY=lists.LIBRARY).stderr, "ImportError: .* has other names than this package")
 
 
-# Pythons that have what samples need: Debian's with its packages for columns; the one that this one was made of for models.
-DEBIAN_PYTHON, BASE_PYTHON = "/usr/bin/python3", getattr(sys, "_base_executable", sys.executable)
+# Pythons that have what samples need: Debian's with its packages for columns; the one on the path for models.
+DEBIAN_PYTHON, PATH_PYTHON = "/usr/bin/python3", shutil.which("python3") or sys.executable
 HAS_DASK = os.path.exists(DEBIAN_PYTHON) and run(DEBIAN_PYTHON, "-c", "import pandas, dask.dataframe, distributed").returncode == 0
-HAS_PYDANTIC = run(BASE_PYTHON, "-c", "import pydantic; assert int(pydantic.VERSION.split('.')[0]) == 2").returncode == 0
+HAS_PYDANTIC = run(PATH_PYTHON, "-c", "import pydantic; assert int(pydantic.VERSION.split('.')[0]) == 2").returncode == 0
 
 
 class Samples(Folder):
@@ -282,22 +305,22 @@ class Samples(Folder):
     def test_columns_of_the_page(self):
         self.assertEqual(self.commands_run(DEBIAN_PYTHON, "pandas"), 4)
 
-    @unittest.skipUnless(run(BASE_PYTHON, "-c", "import pandas, pyarrow").returncode == 0, "no pandas and pyarrow")
+    @unittest.skipUnless(run(PATH_PYTHON, "-c", "import pandas, pyarrow").returncode == 0, "no pandas and pyarrow")
     def test_parquet(self):
         """The frame of the page's program is written to a file, and read again."""
         program = re.search(r"<!-- file: write.py -->\n```python\n(.*?)```", lists.read("packages/python/README.md"), re.S)[1]
         path = os.path.join(self.folder, "targets.parquet")
         program += f"frame.to_parquet({path!r})\nassert pandas.read_parquet({path!r}).equals(frame)\n"
-        self.assertEqual(run(BASE_PYTHON, "-c", program, PYTHONPATH=PACKAGES).stderr, "")
+        self.assertEqual(run(PATH_PYTHON, "-c", program, PYTHONPATH=PACKAGES).stderr, "")
 
     @unittest.skipUnless(HAS_PYDANTIC, "no pydantic 2")
     def test_models_of_the_page(self):
-        self.assertEqual(self.commands_run(BASE_PYTHON, "pydantic"), 1)
+        self.assertEqual(self.commands_run(PATH_PYTHON, "pydantic"), 1)
 
     @unittest.skipUnless(HAS_PYDANTIC, "no pydantic 2")
     def test_models(self):
         program = os.path.join(os.path.dirname(os.path.abspath(__file__)), "with_pydantic.py")
-        ran = run(BASE_PYTHON, program, PYTHONPATH=PACKAGES)
+        ran = run(PATH_PYTHON, program, PYTHONPATH=PACKAGES)
         self.assertEqual((ran.stdout, ran.stderr, ran.returncode), ("all well\n", "", 0))
 
     def test_pydantic_is_imported_only_by_itself(self):
@@ -333,7 +356,7 @@ class Samples(Folder):
         self.assertIn("  pointer_width               16\n  default_calling_convention  -\n", answer("facts", "avr")[0])
         self.assertEqual(answer("--version"), (f"target_lexicon {target_lexicon.LIBRARY_VERSION}\n", "", 0))
         self.assertEqual(answer("check", "x")[2], 2)
-        for words in [], ["write", "x"], ["write", "--to", "docker", "x"], ["read", "--from", "gnu", "x"], ["facts", "--yaml", "x"]:
+        for words in [], ["write", "x"], ["write", "--to", "docker", "x"], ["read", "--from", "docker", "x"], ["facts", "--yaml", "x"]:
             self.assertEqual((answer(*words)[0], answer(*words)[2]), ("", 2), words)
 
     @unittest.skipUnless(COMMAND, "no command target-lexicon beside the program")
@@ -434,7 +457,7 @@ class Types(unittest.TestCase):
                 f"reveal_type(Triple('x86_64-linux').{it}.value)" for it in values))
             self.assertEqual(ran.stdout.count('"builtins.str"'), len(values), ran.stdout)
             ran = run(*command, "-c", "from target_lexicon import Dialect, Triple\n" + "\n".join(
-                f"Triple.read('x', {it})" for it in ("'docker'", "'gnu'", "str()", "'go'", "Dialect.GO", "Dialect(str())")))
+                f"Triple.read('x', {it})" for it in ("'docker'", "'npm'", "str()", "'go'", "Dialect.GO", "Dialect(str())")))
             self.assertEqual((ran.stdout.count("error: "), ran.stdout.count("expected \"Union[Dialect, Literal[")), (3, 3), ran.stdout)
             for checked in ["-p", "target_lexicon"], [os.path.join(os.path.dirname(os.path.abspath(__file__)), "typed_sample.py")]:
                 ran = run(*command, "--python-version", "3.9", *checked)

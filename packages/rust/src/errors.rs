@@ -1,6 +1,9 @@
 //! The errors as those of Rust: `Display` where the proved source has none, and `Error`.
 #[cfg(feature = "tool_names")]
-use {crate::tool_names::NameError, core::fmt};
+use {
+    crate::tool_names::{NameError, TranslateError, WriteError},
+    core::fmt,
+};
 
 #[cfg(feature = "tool_names")]
 impl fmt::Display for NameError {
@@ -8,6 +11,26 @@ impl fmt::Display for NameError {
         match self {
             NameError::Unknown => f.write_str("Unknown name"),
             NameError::WithoutTriple(why) => write!(f, "No triple has this name: {why}"),
+        }
+    }
+}
+
+#[cfg(feature = "tool_names")]
+impl fmt::Display for WriteError {
+    fn fmt(&self, f: &mut fmt::Formatter<'_>) -> fmt::Result {
+        f.write_str(match self {
+            WriteError::NoName => "No name for the triple",
+            WriteError::NeedsCLibrary => "The C library isn't known: say glibc or musl",
+        })
+    }
+}
+
+#[cfg(feature = "tool_names")]
+impl fmt::Display for TranslateError {
+    fn fmt(&self, f: &mut fmt::Formatter<'_>) -> fmt::Result {
+        match self {
+            TranslateError::Read(error) => error.fmt(f),
+            TranslateError::Write(error) => error.fmt(f),
         }
     }
 }
@@ -26,4 +49,8 @@ mod impls {
     impl Error for crate::Refusal<'_> {}
     #[cfg(feature = "tool_names")]
     impl Error for crate::tool_names::NameError {}
+    #[cfg(feature = "tool_names")]
+    impl Error for crate::tool_names::WriteError {}
+    #[cfg(feature = "tool_names")]
+    impl Error for crate::tool_names::TranslateError {}
 }

@@ -56,6 +56,8 @@ mod proved;
 #[cfg(feature = "__internals")]
 #[doc(hidden)]
 pub mod proved;
+#[cfg(feature = "tool_names")]
+mod rustc_cfg;
 #[cfg(feature = "serde_support")]
 mod serde;
 mod suggestion;

@@ -4,7 +4,10 @@
 use crate::proved::error::{error_of, TextError};
 use crate::proved::sources::{sources_numbers, FieldSources};
 use crate::proved::triple::{are_equal, numbers_of, triple_in, Fault, NumberedTriple};
-use crate::proved::triple_facts::{facts_of, TripleFacts};
+use crate::proved::triple_facts::{
+    driver_facts_of, facts_of, format_facts_of, query_facts_of, DriverFacts, FormatFacts,
+    QueryFacts, TripleFacts,
+};
 use target_lexicon::proved::TripleRef;
 
 /// The triple that a string parses as, or why it is refused.
@@ -74,7 +77,31 @@ pub fn same_target(first: &NumberedTriple<'_>, second: &NumberedTriple<'_>) -> R
     }
 }
 
-/// What a compiler asks of a triple.
+/// What the queries of a triple answer.
+pub fn query_facts(triple: &NumberedTriple<'_>) -> Result<QueryFacts, Fault> {
+    match triple_in(triple) {
+        Ok(asked) => Ok(query_facts_of(&asked)),
+        Err(fault) => Err(fault),
+    }
+}
+
+/// The binary formats of a triple, and the family of its architecture.
+pub fn format_facts(triple: &NumberedTriple<'_>) -> Result<FormatFacts, Fault> {
+    match triple_in(triple) {
+        Ok(asked) => Ok(format_facts_of(&asked)),
+        Err(fault) => Err(fault),
+    }
+}
+
+/// What a compiler's driver asks of a triple.
+pub fn driver_facts(triple: &NumberedTriple<'_>) -> Result<DriverFacts, Fault> {
+    match triple_in(triple) {
+        Ok(asked) => Ok(driver_facts_of(&asked)),
+        Err(fault) => Err(fault),
+    }
+}
+
+/// The facts of the first two groups.
 pub fn facts(triple: &NumberedTriple<'_>) -> Result<TripleFacts, Fault> {
     match triple_in(triple) {
         Ok(asked) => Ok(facts_of(&asked)),

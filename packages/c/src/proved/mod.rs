@@ -10,11 +10,16 @@ pub(crate) mod triple;
 pub(crate) mod triple_facts;
 pub(crate) mod values;
 
-pub use calls::{comes_back, equal, explain, facts, parse, print, same_target, settle};
+pub use calls::{
+    comes_back, driver_facts, equal, explain, facts, format_facts, parse, print, query_facts,
+    same_target, settle,
+};
 pub use dialects::{dialect_at, name_in, name_suggestion, read, reason};
 pub use error::{expected_at, TextError};
 pub use numbers::{name_at, number_in};
 pub use sources::{FieldSource, FieldSources};
 pub use triple::{Fault, NumberedTriple, TripleNumbers};
-pub use triple_facts::{TripleFacts, TypeSizes};
+pub use triple_facts::{
+    DriverFacts, FormatFacts, LayoutNumbers, QueryFacts, TripleFacts, TypeSizes,
+};
 pub use values::field_at;

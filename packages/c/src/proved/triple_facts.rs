@@ -1,9 +1,9 @@
 // Erased from crates/lexicon_c/src/triple_facts.rt by tools/erase. Don't edit it here.
 //! The facts of a triple, as numbers.
-// Hint of inlining: `facts_of` returns a wide value.
+// Hints of inlining: functions with the name `.._facts_of` return wide values.
 
 use crate::proved::values::{binary_format_number, family_number};
-use target_lexicon::proved::tool_names::object_format;
+use target_lexicon::proved::tool_names::{is_unix, object_format, CLibrary, FloatAbi, TypeLayout};
 use target_lexicon::proved::{Architecture, CDataModel, CallingConvention, Endianness, TripleRef};
 
 /// The sizes of C's types in bytes, by the data model; all 0 if there is none.
@@ -18,7 +18,65 @@ pub struct TypeSizes {
     pub double: u8,
 }
 
-/// What C asks of a triple. Each number is 0 where there is no answer.
+/// What the queries of a triple answer. Each number is 0 where there is no answer.
+#[repr(C)]
+#[derive(Clone, Copy)]
+pub struct QueryFacts {
+    /// The byte order: 1 is little, 2 big.
+    pub endianness: u8,
+    /// The width of a pointer in bits: 16, 32 or 64.
+    pub pointer_width: u8,
+    /// The calling convention: 1 is System V, 2 the C ABI of WebAssembly, 3 Windows Fastcall, 4 Apple's on 64-bit Arm.
+    pub default_calling_convention: u8,
+    /// The data model of C: 1 is LP32, 2 ILP32, 3 LLP64, 4 LP64, 5 ILP64.
+    pub data_model: u8,
+    /// The sizes of C's types.
+    pub sizes: TypeSizes,
+    /// Whether the architecture is an Arm one that is Thumb.
+    pub is_thumb: bool,
+    /// Whether the operating system is like Darwin.
+    pub is_like_darwin: bool,
+    /// Whether the vendor is a custom one.
+    pub has_custom_vendor: bool,
+}
+
+/// Binary formats, and the family of the architecture.
+#[repr(C)]
+#[derive(Clone, Copy)]
+pub struct FormatFacts {
+    /// The number of the binary format that the other fields imply.
+    pub implied_format: u8,
+    /// The number of the binary format that toolchains write.
+    pub object_format: u8,
+    /// The number of the architecture's family.
+    pub family: u8,
+}
+
+/// The layout of a type of C in bytes; both numbers are 0 if there is no answer.
+#[repr(C)]
+#[derive(Clone, Copy)]
+pub struct LayoutNumbers {
+    pub size: u8,
+    pub alignment: u8,
+}
+
+/// What a compiler's driver asks. Each number is 0 where there is no answer.
+#[repr(C)]
+#[derive(Clone, Copy)]
+pub struct DriverFacts {
+    /// The C library: 1 is Bionic, 2 glibc, 3 MinGW, 4 Visual C++, 5 musl, 6 Newlib, 7 relibc, 8 the system's own, 9 uClibc.
+    pub c_library: u8,
+    /// How floating-point arguments are passed: 1 is in integer registers, 2 in floating-point registers.
+    pub float_abi: u8,
+    /// Whether rustc counts the system to the family `unix`.
+    pub is_unix: bool,
+    /// The layout of `long double`.
+    pub long_double: LayoutNumbers,
+    /// The layout of `wchar_t`.
+    pub wchar: LayoutNumbers,
+}
+
+/// The facts of the first two groups. Each number is 0 where there is no answer.
 #[repr(C)]
 #[derive(Clone, Copy)]
 pub struct TripleFacts {
@@ -46,22 +104,100 @@ pub struct TripleFacts {
     pub has_custom_vendor: bool,
 }
 
-/// The facts of a triple.
+/// What the queries of a triple answer.
 #[inline(always)]
-pub(crate) fn facts_of(triple: &TripleRef<'_>) -> TripleFacts {
+pub(crate) fn query_facts_of(triple: &TripleRef<'_>) -> QueryFacts {
     let model = model_of(triple);
-    TripleFacts {
+    QueryFacts {
         endianness: endianness_number(triple),
         pointer_width: pointer_width(triple),
         default_calling_convention: convention_number(triple),
         data_model: model_number(model),
         sizes: sizes_of(model),
-        implied_format: binary_format_number(triple.default_binary_format()),
-        object_format: binary_format_number(object_format(triple)),
-        family: family_number(triple.architecture),
         is_thumb: is_thumb(triple.architecture),
         is_like_darwin: triple.operating_system.is_like_darwin(),
         has_custom_vendor: triple.vendor.is_custom(),
+    }
+}
+
+/// The binary formats of a triple, and the family of its architecture.
+#[inline(always)]
+pub(crate) fn format_facts_of(triple: &TripleRef<'_>) -> FormatFacts {
+    FormatFacts {
+        implied_format: binary_format_number(triple.default_binary_format()),
+        object_format: binary_format_number(object_format(triple)),
+        family: family_number(triple.architecture),
+    }
+}
+
+/// What a compiler's driver asks of a triple.
+#[inline(always)]
+pub(crate) fn driver_facts_of(triple: &TripleRef<'_>) -> DriverFacts {
+    DriverFacts {
+        c_library: library_number(CLibrary::of(triple)),
+        float_abi: float_abi_number(FloatAbi::of(triple)),
+        is_unix: is_unix(triple),
+        long_double: layout_numbers(TypeLayout::of_long_double(triple)),
+        wchar: layout_numbers(TypeLayout::of_wchar(triple)),
+    }
+}
+
+/// The facts of the first two groups.
+#[inline(always)]
+pub(crate) fn facts_of(triple: &TripleRef<'_>) -> TripleFacts {
+    let queries = query_facts_of(triple);
+    let formats = format_facts_of(triple);
+    TripleFacts {
+        endianness: queries.endianness,
+        pointer_width: queries.pointer_width,
+        default_calling_convention: queries.default_calling_convention,
+        data_model: queries.data_model,
+        sizes: queries.sizes,
+        implied_format: formats.implied_format,
+        object_format: formats.object_format,
+        family: formats.family,
+        is_thumb: queries.is_thumb,
+        is_like_darwin: queries.is_like_darwin,
+        has_custom_vendor: queries.has_custom_vendor,
+    }
+}
+
+/// The number of a C library, or 0 if there is none.
+fn library_number(library: Option<CLibrary>) -> u8 {
+    match library {
+        Some(CLibrary::Bionic) => 1,
+        Some(CLibrary::Glibc) => 2,
+        Some(CLibrary::Mingw) => 3,
+        Some(CLibrary::Msvc) => 4,
+        Some(CLibrary::Musl) => 5,
+        Some(CLibrary::Newlib) => 6,
+        Some(CLibrary::Relibc) => 7,
+        Some(CLibrary::System) => 8,
+        Some(CLibrary::Uclibc) => 9,
+        None => 0,
+    }
+}
+
+/// The number of a way to pass floating-point arguments, or 0 if there is none.
+fn float_abi_number(floats: Option<FloatAbi>) -> u8 {
+    match floats {
+        Some(FloatAbi::Soft) => 1,
+        Some(FloatAbi::Hard) => 2,
+        None => 0,
+    }
+}
+
+/// The numbers of a layout; both are 0 if there is none.
+fn layout_numbers(layout: Option<TypeLayout>) -> LayoutNumbers {
+    match layout {
+        Some(layout) => LayoutNumbers {
+            size: layout.size,
+            alignment: layout.alignment,
+        },
+        None => LayoutNumbers {
+            size: 0,
+            alignment: 0,
+        },
     }
 }
 

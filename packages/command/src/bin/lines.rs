@@ -1,4 +1,5 @@
-//! The modes of the program `triples` over the Rust crate, for tests that compare with it. It isn't installed.
+//! The modes of the program `triples` over the Rust crate, for tests that compare with it; the mode `cfg`, which writes
+//! rustc's options for each line, and the mode `driver`, which writes what a compiler's driver asks. It isn't installed.
 #![forbid(unsafe_code)]
 
 #[path = "../../../../checks/comparisons/lines.rs"]
@@ -8,6 +9,7 @@ use serde_json::Value;
 use std::fmt::Write as _;
 use std::io::{self, Read};
 use std::process::ExitCode;
+use target_lexicon::tool_names::{CLibrary, FloatAbi, RustcCfg, TypeLayout};
 use target_lexicon::TripleRef;
 
 /// What mode `json` writes, or why the input is no list.
@@ -26,13 +28,48 @@ fn json(input: Vec<u8>) -> Result<String, &'static str> {
     Ok(Value::from(printed).to_string())
 }
 
+/// For each line what is shown of its triple, or why it is refused, and this end.
+fn each(show: fn(&TripleRef) -> String, end: &str) -> io::Result<()> {
+    for line in io::stdin().lines() {
+        match TripleRef::from_str(&line?) {
+            Ok(triple) => print!("{}{end}", show(&triple)),
+            Err(refusal) => print!("error: {refusal}\n{end}"),
+        }
+    }
+    Ok(())
+}
+
+/// The C library, how floating-point arguments are passed, and the size and alignment of `long double` and `wchar_t`; `-`
+/// where there is no answer.
+fn driver(triple: &TripleRef) -> String {
+    let layout = |it: Option<TypeLayout>| it.map_or("- -".to_string(), |it| format!("{} {}", it.size, it.alignment));
+    format!(
+        "{} {} {} {}\n",
+        CLibrary::of(triple).map_or("-", CLibrary::name),
+        FloatAbi::of(triple).map_or("-", FloatAbi::name),
+        layout(TypeLayout::of_long_double(triple)),
+        layout(TypeLayout::of_wchar(triple)),
+    )
+}
+
 fn main() -> io::Result<ExitCode> {
-    if std::env::args().nth(1).as_deref() != Some("json") {
-        lines::answer(
-            |output, triple| write!(output, "{triple}").expect("memory"),
-            |triple| triple.settle().ok(),
-        )?;
-        return Ok(ExitCode::SUCCESS);
+    match std::env::args().nth(1).as_deref() {
+        Some("json") => {}
+        Some("cfg") => {
+            each(|triple| RustcCfg::of(triple).to_string(), "\n")?;
+            return Ok(ExitCode::SUCCESS);
+        }
+        Some("driver") => {
+            each(driver, "")?;
+            return Ok(ExitCode::SUCCESS);
+        }
+        _ => {
+            lines::answer(
+                |output, triple| write!(output, "{triple}").expect("memory"),
+                |triple| triple.settle().ok(),
+            )?;
+            return Ok(ExitCode::SUCCESS);
+        }
     }
     let mut input = Vec::new();
     io::stdin().read_to_end(&mut input)?;

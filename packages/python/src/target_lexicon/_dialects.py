@@ -1,7 +1,7 @@
 """The tools whose names of targets are read and written."""
 from __future__ import annotations
 
-from typing import Literal, Union
+from typing import List, Literal, Union
 
 from ._named import NamedValue
 
@@ -18,10 +18,12 @@ class Dialect(NamedValue):
     OCI = "oci"
     #: `process.platform` and `process.arch` of Node, as npm's packages join them, some with a C library: `linux-x64`, `linux-x64-musl`.
     NODE = "node"
-    #: Prefixes of GNU's cross compilers, which are only written: `x86_64-w64-mingw32`.
+    #: Prefixes of GNU's cross compilers, and strings that mean the same to config.sub: `x86_64-w64-mingw32`.
     GNU = "gnu"
     #: Platforms of Python, as tags of wheels such as `macosx_11_0_arm64`, and as `sysconfig.get_platform()` prints them.
     PYTHON = "python"
+    #: Targets of rustc, as `rustc --print target-list` lists them: `riscv64gc-unknown-linux-gnu`.
+    RUST = "rust"
     #: What `uname -s` and `uname -m` print, with a space between them, which is only read: `Linux x86_64`.
     UNAME = "uname"
     #: Architectures of packages of RPM, whose distributions have glibc: `x86_64`, `armv7hl`.
@@ -41,18 +43,20 @@ class Dialect(NamedValue):
     # end of what is written
 
 
-# The names of the dialects that are read, and of all; the other names of dialects; and those that are read, and that are written, in the
-# order of answers.
-# written by tools/names/write: the names of dialects for Python
-ReadDialectName = Literal["debian", "go", "oci", "node", "python", "uname", "rpm", "apk", "pacman", "dotnet", "conda", "zig", "nix", "docker", "npm"]
-DialectName = Literal["debian", "go", "oci", "node", "gnu", "python", "uname", "rpm", "apk", "pacman", "dotnet", "conda", "zig", "nix", "docker", "npm"]
+#: The names of the dialects; the other names; and those that are only read, or only written.
+# written by tools/names/write: the dialects' names for Python
+DialectName = Literal["debian", "go", "oci", "node", "gnu", "python", "rust", "uname", "rpm", "apk", "pacman", "dotnet", "conda", "zig", "nix", "docker", "npm"]
 OTHER_NAMES = {"docker": "oci", "npm": "node"}
-READ = [Dialect.UNAME, Dialect.DEBIAN, Dialect.GO, Dialect.OCI, Dialect.NODE, Dialect.PYTHON, Dialect.RPM, Dialect.APK, Dialect.PACMAN, Dialect.DOTNET, Dialect.CONDA, Dialect.ZIG, Dialect.NIX]
-WRITTEN = [Dialect.DEBIAN, Dialect.GO, Dialect.OCI, Dialect.NODE, Dialect.PYTHON, Dialect.RPM, Dialect.APK, Dialect.PACMAN, Dialect.DOTNET, Dialect.CONDA, Dialect.ZIG, Dialect.NIX, Dialect.GNU]
+ONLY_READ = [Dialect.UNAME]
+ONLY_WRITTEN: List[Dialect] = []
 # end of what is written
 
 #: The number in the library for C of no dialect: the string is spelled like a triple.
 NO_DIALECT = 0
+
+# Those that are read and those that are written, in the order of answers.
+READ = [*ONLY_READ, *(it for it in Dialect if it not in ONLY_READ + ONLY_WRITTEN)]
+WRITTEN = [*(it for it in Dialect if it not in ONLY_READ + ONLY_WRITTEN), *ONLY_WRITTEN]
 
 
 def dialect_number(dialect: Union[Dialect, DialectName]) -> int:

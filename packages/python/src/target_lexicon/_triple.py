@@ -8,7 +8,7 @@ from struct import Struct
 from typing import TYPE_CHECKING, Any, Callable, Dict, Iterable, Mapping, Optional, Tuple, Type, Union, final
 
 from . import _library
-from ._dialects import NO_DIALECT, Dialect, DialectName, ReadDialectName, dialect_number
+from ._dialects import NO_DIALECT, Dialect, DialectName, dialect_number
 from ._errors import FIELDS, encoded, refusal
 from ._facts import CallingConvention, DataModel, Endianness
 from ._fields import CustomVendor
@@ -98,7 +98,7 @@ class Triple:
         return cls(text)
 
     @classmethod
-    def read(cls, text: str, dialect: Union[Dialect, ReadDialectName, None] = None) -> Triple:
+    def read(cls, text: str, dialect: Union[Dialect, DialectName, None] = None) -> Triple:
         """The triple that a name of another tool means. The tool is a `Dialect`, or its name; none is guessed.
 
         >>> Triple.read("linux/arm64", Dialect.OCI), Triple.read("armhf", "debian")

@@ -1,6 +1,6 @@
 use Rattle.std.proofs.Common.{◌≡◌, drop}
-use Rattle.tool_names.specs.Tables.{plain_rows, row_named}
+use Rattle.tool_names.specs.Tables.{row_named, rows_in}
 use Rattle.tool_names.proofs.names.row_named.Given as goal
 
-abbrev pub invariant-loop-row : goal.invariant-loop-row
-invariant-loop-row l = row_named l.tags (plain_rows (drop l.row-index l.rows)) l.name ≡ row_named l.tags (plain_rows l.rows) l.name
+abbrev pub invariant-loop-rows : goal.invariant-loop-rows
+invariant-loop-rows l = row_named l.tags (rows_in (drop l.rows-index l.tables)) l.name ≡ row_named l.tags (rows_in l.tables) l.name

@@ -27,10 +27,12 @@ pub enum Dialect {
     Oci,
     /// `process.platform` and `process.arch` of Node, as npm's packages join them, some with a C library: `linux-x64`, `linux-x64-musl`.
     Node,
-    /// Prefixes of GNU's cross compilers, which are only written: `x86_64-w64-mingw32`.
+    /// Prefixes of GNU's cross compilers, and strings that mean the same to config.sub: `x86_64-w64-mingw32`.
     Gnu,
     /// Platforms of Python, as tags of wheels such as `macosx_11_0_arm64`, and as `sysconfig.get_platform()` prints them.
     Python,
+    /// Targets of rustc, as `rustc --print target-list` lists them: `riscv64gc-unknown-linux-gnu`.
+    Rust,
     /// What `uname -s` and `uname -m` print, with a space between them, which is only read: `Linux x86_64`.
     Uname,
     /// Architectures of packages of RPM, whose distributions have glibc: `x86_64`, `armv7hl`.
@@ -66,6 +68,7 @@ impl Dialect {
             Dialect::Node => "node",
             Dialect::Gnu => "gnu",
             Dialect::Python => "python",
+            Dialect::Rust => "rust",
             Dialect::Uname => "uname",
             Dialect::Rpm => "rpm",
             Dialect::Apk => "apk",
@@ -83,13 +86,14 @@ impl Dialect {
     }
 }
 
-static DIALECTS: [(&str, Dialect); 16] = [
+static DIALECTS: [(&str, Dialect); 17] = [
     ("debian", Dialect::Debian),
     ("go", Dialect::Go),
     ("oci", Dialect::Oci),
     ("node", Dialect::Node),
     ("gnu", Dialect::Gnu),
     ("python", Dialect::Python),
+    ("rust", Dialect::Rust),
     ("uname", Dialect::Uname),
     ("rpm", Dialect::Rpm),
     ("apk", Dialect::Apk),

@@ -75,7 +75,7 @@ fn toolchain_format(
 }
 
 /// The format of WebAssembly on its architectures, elsewhere this one.
-fn wasm_or(format: BinaryFormat, architecture: Architecture) -> BinaryFormat {
+pub(crate) fn wasm_or(format: BinaryFormat, architecture: Architecture) -> BinaryFormat {
     match architecture {
         Architecture::Wasm32 | Architecture::Wasm64 => BinaryFormat::Wasm,
         _ => format,

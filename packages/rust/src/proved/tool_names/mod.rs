@@ -5,10 +5,16 @@
 #[cfg(feature = "tool_names")]
 pub(crate) mod change;
 #[cfg(feature = "tool_names")]
+pub(crate) mod completion;
+#[cfg(feature = "tool_names")]
 pub(crate) mod dialect;
 pub(crate) mod distance;
 #[cfg(feature = "tool_names")]
+pub(crate) mod driver;
+#[cfg(feature = "tool_names")]
 pub(crate) mod formats;
+#[cfg(feature = "tool_names")]
+pub(crate) mod gnu;
 pub(crate) mod known_names;
 pub(crate) mod macos;
 pub(crate) mod misspelling;
@@ -26,16 +32,24 @@ pub(crate) mod platform;
 #[cfg(feature = "tool_names")]
 pub(crate) mod reading;
 #[cfg(feature = "tool_names")]
+pub(crate) mod rustc_cfg;
+#[cfg(feature = "tool_names")]
 pub(crate) mod shape;
 pub(crate) mod spelling;
 pub(crate) mod suggestions;
 #[cfg(feature = "tool_names")]
 pub(crate) mod tables;
+#[cfg(feature = "tool_names")]
+pub(crate) mod translation;
 
 #[cfg(feature = "tool_names")]
 pub use change::{changes, Change, ChangedParts};
 #[cfg(feature = "tool_names")]
+pub use completion::{complete, LinuxLibc};
+#[cfg(feature = "tool_names")]
 pub use dialect::Dialect;
+#[cfg(feature = "tool_names")]
+pub use driver::{CLibrary, FloatAbi, TypeLayout};
 #[cfg(feature = "tool_names")]
 pub use formats::object_format;
 #[cfg(feature = "tool_names")]
@@ -44,5 +58,9 @@ pub use name::Name;
 pub use names::NameError;
 #[cfg(feature = "tool_names")]
 pub use reading::read;
+#[cfg(feature = "tool_names")]
+pub use rustc_cfg::{is_unix, RustcCfg};
 pub use spelling::Spelling;
 pub use suggestions::suggestion;
+#[cfg(feature = "tool_names")]
+pub use translation::{TranslateError, WriteError};

@@ -2,6 +2,7 @@
 //! Reading and writing the names of a dialect.
 
 use crate::proved::tool_names::dialect::Dialect;
+use crate::proved::tool_names::gnu::read_as_gnu;
 use crate::proved::tool_names::misspelling::{misspelling, TOO_MANY_EDITS};
 use crate::proved::tool_names::name::Name;
 use crate::proved::tool_names::nearest::nearer;
@@ -35,8 +36,9 @@ impl Dialect {
     /// The triple that a name of this dialect means. It is canonical, and has a known vendor. What the name doesn't
     /// state is unknown: `linux/arm64` of Go is `aarch64-unknown-linux`, without a C library. Nothing is allocated.
     ///
-    /// A name of Python is read by its tag: `macosx-11.0-arm64` and `macosx_11_0_arm64` mean the same. Prefixes of GNU's
-    /// cross compilers are spelled like triples: [`read`](crate::proved::tool_names::read) reads them.
+    /// A name of Python is read by its tag: `macosx-11.0-arm64` and `macosx_11_0_arm64` mean the same. A name of GNU that is
+    /// none of its cross compilers' is read by its spelling, as by [`read`](crate::proved::tool_names::read), and completed as `config.sub` does:
+    /// its vendor says nothing, Linux is with `gnu`, and without a system `gnu` is the Hurd's; otherwise there is none.
     ///
     /// # Errors
     ///
@@ -53,15 +55,16 @@ impl Dialect {
     /// ```
     pub fn read(self, name: &str) -> Result<TripleRef<'static>, NameError> {
         let rules = self.rules();
-        if let Some((row, numbers)) = row_named(self.rows(), name, rules.tags) {
+        let tables = self.tables();
+        if let Some((row, numbers)) = row_named(&tables, name, rules.tags) {
             return row_meaning(row, numbers);
         }
         if rules.platforms {
-            if let Some(row) = row_of_platform(self.rows(), name) {
+            if let Some(row) = row_of_platform(&tables, name) {
                 return row_meaning(row, Numbers::NoNumber);
             }
         }
-        Err(NameError::Unknown)
+        spelled_meaning(name, rules.spelled)
     }
 
     /// The name of a triple in this dialect: that of its [shape](Dialect::shape). `None` if it has none. Nothing is
@@ -94,10 +97,11 @@ impl Dialect {
     #[must_use]
     pub fn suggestion(self, name: &str) -> Option<&'static str> {
         let name = name.as_bytes();
+        let tables = self.tables();
         nearer(
             name,
-            nearest_name(name, self.rows(), true),
-            nearest_name(name, self.rows(), false),
+            nearest_name(name, &tables, true),
+            nearest_name(name, &tables, false),
         )
     }
 
@@ -108,12 +112,22 @@ impl Dialect {
         if MAX_LENGTH < length {
             return None;
         }
-        pattern_for(self.rows(), numbers, &buffer[..length])
+        pattern_for(&self.tables(), numbers, &buffer[..length])
     }
 }
 
 /// The first row that has a name, or its tag, and the numbers of the name.
-fn row_named(rows: &[Row], name: &str, tags: bool) -> Option<(Row, Numbers)> {
+fn row_named(tables: &[&'static [Row]], name: &str, tags: bool) -> Option<(Row, Numbers)> {
+    for rows in tables {
+        if let Some(found) = row_in(rows, name, tags) {
+            return Some(found);
+        }
+    }
+    None
+}
+
+/// That row of one table.
+fn row_in(rows: &[Row], name: &str, tags: bool) -> Option<(Row, Numbers)> {
     for row in rows {
         if let Some(numbers) = matched(row.0.as_bytes(), name.as_bytes(), tags) {
             return Some((*row, numbers));
@@ -123,7 +137,17 @@ fn row_named(rows: &[Row], name: &str, tags: bool) -> Option<(Row, Numbers)> {
 }
 
 /// The name of the first row that is written for a triple's string and this many numbers.
-fn pattern_for(rows: &[Row], numbers: usize, text: &[u8]) -> Option<&'static str> {
+fn pattern_for(tables: &[&'static [Row]], numbers: usize, text: &[u8]) -> Option<&'static str> {
+    for rows in tables {
+        if let Some(pattern) = pattern_in(rows, numbers, text) {
+            return Some(pattern);
+        }
+    }
+    None
+}
+
+/// That name in one table.
+fn pattern_in(rows: &[Row], numbers: usize, text: &[u8]) -> Option<&'static str> {
     for row in rows {
         if is_written(row.2) && text == row.1.as_bytes() && star_count(row.0.as_bytes()) == numbers
         {
@@ -149,6 +173,18 @@ fn row_meaning(row: Row, numbers: Numbers) -> Result<TripleRef<'static>, NameErr
         }
         Way::Written => Err(NameError::WithoutTriple(ONLY_WRITTEN)),
         Way::NoTriple => Err(NameError::WithoutTriple(row.1)),
+    }
+}
+
+/// What a name means that has no row.
+fn spelled_meaning(name: &str, spelled: bool) -> Result<TripleRef<'static>, NameError> {
+    if spelled {
+        match read_as_gnu(name) {
+            Some(triple) => Ok(triple),
+            None => Err(NameError::Unknown),
+        }
+    } else {
+        Err(NameError::Unknown)
     }
 }
 
@@ -202,7 +238,16 @@ fn without_numbers(system: OperatingSystem) -> OperatingSystem {
 
 /// The nearest of the names without a number that are read, and are written or aren't, if a name may be a misspelling of
 /// it.
-fn nearest_name(name: &[u8], rows: &'static [Row], written: bool) -> Option<&'static str> {
+fn nearest_name(name: &[u8], tables: &[&'static [Row]], written: bool) -> Option<&'static str> {
+    let mut nearest = None;
+    for rows in tables {
+        nearest = nearer(name, nearest, nearest_in(name, rows, written));
+    }
+    nearest
+}
+
+/// That name in one table.
+fn nearest_in(name: &[u8], rows: &'static [Row], written: bool) -> Option<&'static str> {
     let mut nearest = None;
     let mut limit = TOO_MANY_EDITS;
     for row in rows {

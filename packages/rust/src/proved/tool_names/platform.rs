@@ -47,8 +47,22 @@ impl<'a> Platform<'a> {
 }
 
 /// The first row without a number whose name has the words of a platform's normal form.
-pub(crate) fn row_of_platform(rows: &[Row], name: &str) -> Option<Row> {
-    let platform = Platform::of(name.as_bytes()).normal();
+pub(crate) fn row_of_platform(tables: &[&'static [Row]], name: &str) -> Option<Row> {
+    row_in_tables(tables, Platform::of(name.as_bytes()).normal())
+}
+
+/// The first such row of several tables.
+fn row_in_tables(tables: &[&'static [Row]], platform: Platform<'_>) -> Option<Row> {
+    for rows in tables {
+        if let Some(row) = row_with_words(rows, platform) {
+            return Some(row);
+        }
+    }
+    None
+}
+
+/// That row of one table.
+fn row_with_words(rows: &[Row], platform: Platform<'_>) -> Option<Row> {
     for row in rows {
         let pattern = row.0.as_bytes();
         if star_count(pattern) == 0 && Platform::of(pattern).is(platform) {

@@ -265,8 +265,9 @@ fn is_digit_or_dot(byte: u8) -> bool {
 }
 
 #[rustfmt::skip]
-static FIRST_SPELLINGS: [(&str, &str); 23] = [
+static FIRST_SPELLINGS: [(&str, &str); 31] = [
     ("amd64", "x86_64"),
+    ("x64", "x86_64"),
     ("i486", "i386"),
     ("i786", "i686"),
     ("i886", "i686"),
@@ -283,8 +284,15 @@ static FIRST_SPELLINGS: [(&str, &str); 23] = [
     ("ppc32", "powerpc"),
     ("ppc64", "powerpc64"),
     ("ppc64le", "powerpc64le"),
+    ("ppc64el", "powerpc64le"),
+    ("rs6000", "powerpc"),
+    ("sun4v", "sparc64"),
     ("mipseb", "mips"),
     ("mips64eb", "mips64"),
+    ("mipsr6", "mipsisa32r6"),
+    ("mipsr6el", "mipsisa32r6el"),
+    ("mips64r6", "mipsisa64r6"),
+    ("mips64r6el", "mipsisa64r6el"),
     ("bpf_be", "bpfeb"),
     ("bpf_le", "bpfel"),
     ("systemz", "s390x"),
@@ -292,20 +300,23 @@ static FIRST_SPELLINGS: [(&str, &str); 23] = [
 ];
 
 #[rustfmt::skip]
-static LATER_SPELLINGS: [(&str, &str); 9] = [
+static LATER_SPELLINGS: [(&str, &str); 12] = [
     ("w64", "pc"),
     ("mingw32", "windows-gnu"),
     ("mingw64", "windows-gnu"),
+    ("mingw32ucrt", "windows-gnu"),
     ("win32", "windows-msvc"),
     ("macos", "macosx"),
     ("netbsdelf", "netbsd"),
     ("simulator", "sim"),
+    ("muslgnueabi", "musleabi"),
+    ("muslgnueabihf", "musleabihf"),
     ("uclibcgnueabi", "uclibceabi"),
     ("uclibcgnueabihf", "uclibceabihf"),
 ];
 
 #[rustfmt::skip]
-static VERSIONED_SPELLINGS: [(&str, &str); 12] = [
+static VERSIONED_SPELLINGS: [(&str, &str); 18] = [
     ("aix", "aix"),
     ("bitrig", "bitrig"),
     ("dragonfly", "dragonfly"),
@@ -314,7 +325,13 @@ static VERSIONED_SPELLINGS: [(&str, &str); 12] = [
     ("openbsd", "openbsd"),
     ("solaris", "solaris"),
     ("netbsdelf", "netbsd"),
+    ("vxworks", "vxworks"),
+    ("gnu.", "gnu"),
+    ("gnu2.", "gnu"),
     ("gnu", "hurd-gnu"),
+    ("gnueabi", "gnueabi"),
+    ("gnueabihf", "gnueabihf"),
+    ("musl", "musl"),
     ("android", "android"),
     ("androideabi", "androideabi"),
     ("msvc", "msvc"),

@@ -1,6 +1,6 @@
 use Rattle.std.proofs.Common.{rules, ◌∙◌, ap}
 use Rattle.lexicon_c.specs.Facts.{model_number, type_sizes}
-use Rattle.lexicon_c.proofs.triple_facts.facts_of.Goals as goal
+use Rattle.lexicon_c.proofs.triple_facts.query_facts_of.Goals as goal
 
 pub returns : goal.returns
 returns c = record {
@@ -8,9 +8,6 @@ returns c = record {
   pointer_width = c.pointer_width.ensures;
   default_calling_convention = c.convention_number.ensures;
   data_model = c.model_number.ensures ∙ ap model_number c.model_of-model.ensures;
-  implied_format = search rules;
-  object_format = search rules;
-  family = c.family_number.ensures;
   is_thumb = search rules;
   is_like_darwin = search rules;
   has_custom_vendor = search rules;

@@ -1,0 +1,191 @@
+//! What a C library completes, how names are translated, and strings as tools print them.
+
+use crate::values::{hash_alike, prints};
+use target_lexicon::TripleRef;
+use tool_names::{Dialect, LinuxLibc, TranslateError, WriteError, complete, read};
+
+/// A triple, and what it is with glibc and with musl.
+const COMPLETED: &str = "\
+arm-unknown-linux arm-unknown-linux-gnueabihf arm-unknown-linux-musleabihf
+armv5te-unknown-linux armv5te-unknown-linux-gnueabi armv5te-unknown-linux-musleabi
+armv5tej-unknown-linux armv5tej-unknown-linux-gnueabi armv5tej-unknown-linux-musleabi
+armv6-unknown-linux armv6-unknown-linux-gnueabihf armv6-unknown-linux-musleabihf
+armv6k-unknown-linux armv6k-unknown-linux-gnueabihf armv6k-unknown-linux-musleabihf
+armv7-unknown-linux armv7-unknown-linux-gnueabihf armv7-unknown-linux-musleabihf
+armv7a-unknown-linux armv7a-unknown-linux-gnueabihf armv7a-unknown-linux-musleabihf
+armv8-unknown-linux armv8-unknown-linux-gnueabihf armv8-unknown-linux-musleabihf
+aarch64-poky-linux aarch64-poky-linux-gnu aarch64-poky-linux-musl
+mips-unknown-linux mips-unknown-linux-gnu mips-unknown-linux-musl
+mips64-unknown-linux mips64-unknown-linux-gnuabi64 mips64-unknown-linux-muslabi64
+mips64el-unknown-linux mips64el-unknown-linux-gnuabi64 mips64el-unknown-linux-muslabi64
+mipsisa64r6-unknown-linux mipsisa64r6-unknown-linux-gnuabi64 mipsisa64r6-unknown-linux-muslabi64
+x86_64-unknown-linux x86_64-unknown-linux-gnu x86_64-unknown-linux-musl
+x86_64-unknown-linux-gnux32 x86_64-unknown-linux-gnux32 x86_64-unknown-linux-gnux32
+x86_64-unknown-linux-musl x86_64-unknown-linux-musl x86_64-unknown-linux-musl
+aarch64-linux-android aarch64-linux-android aarch64-linux-android
+x86_64-unknown-freebsd x86_64-unknown-freebsd x86_64-unknown-freebsd
+x86_64-pc-windows x86_64-pc-windows x86_64-pc-windows
+armv7-unknown-none armv7-unknown-none armv7-unknown-none";
+
+#[test]
+fn triples_are_completed(rt: HostRuntime) {
+    for row in COMPLETED.lines() {
+        let mut columns = row.split(' ');
+        let (Some(text), Some(glibc), Some(musl)) = (columns.next(), columns.next(), columns.next())
+        else {
+            panic!(rt; "{row}");
+        };
+        for (c_library, text_of) in [(LinuxLibc::Glibc, glibc), (LinuxLibc::Musl, musl)] {
+            match TripleRef::from_str(text) {
+                Ok(triple) => {
+                    assert!(rt; prints(&complete(&triple, c_library), text_of), "{row}");
+                }
+                Err(_) => panic!(rt; "{row}"),
+            }
+        }
+    }
+}
+
+/// The names of Linux that OCI reads, with the architecture of Debian and the prefix of GNU's compilers.
+const PLATFORMS: &str = "\
+linux/386 i386 i686-linux-gnu
+linux/aarch64 arm64 aarch64-linux-gnu
+linux/amd64 amd64 x86_64-linux-gnu
+linux/amd64/v1 amd64 x86_64-linux-gnu
+linux/arm armhf arm-linux-gnueabihf
+linux/arm/v5 armel arm-linux-gnueabi
+linux/arm/v6 armhf arm-linux-gnueabihf
+linux/arm/v7 armhf arm-linux-gnueabihf
+linux/arm/v8 armhf arm-linux-gnueabihf
+linux/arm64 arm64 aarch64-linux-gnu
+linux/arm64/v8 arm64 aarch64-linux-gnu
+linux/armel armhf arm-linux-gnueabihf
+linux/armhf armhf arm-linux-gnueabihf
+linux/i386 i386 i686-linux-gnu
+linux/loong64 loong64 loongarch64-linux-gnu
+linux/mips mips mips-linux-gnu
+linux/mips64 mips64 mips64-linux-gnuabi64
+linux/mips64le mips64el mips64el-linux-gnuabi64
+linux/mipsle mipsel mipsel-linux-gnu
+linux/ppc64 ppc64 powerpc64-linux-gnu
+linux/ppc64le ppc64el powerpc64le-linux-gnu
+linux/riscv64 riscv64 riscv64-linux-gnu
+linux/s390x s390x s390x-linux-gnu
+linux/x86-64 amd64 x86_64-linux-gnu
+linux/x86_64 amd64 x86_64-linux-gnu";
+
+/// Whether a dialect calls a triple so.
+fn is_called(dialect: Dialect, triple: &TripleRef<'_>, name: &str) -> bool {
+    match dialect.write(triple) {
+        Some(found) => found.as_str() == name,
+        None => false,
+    }
+}
+
+#[test]
+fn platforms_lead_to_debian_and_gnu(rt: HostRuntime) {
+    for row in PLATFORMS.lines() {
+        let mut columns = row.split(' ');
+        let (Some(name), Some(debian), Some(gnu)) = (columns.next(), columns.next(), columns.next())
+        else {
+            panic!(rt; "{row}");
+        };
+        match Dialect::Oci.read(name) {
+            Ok(platform) => {
+                assert!(rt; Dialect::Debian.write(&platform) == None, "{row}");
+                let triple = complete(&platform, LinuxLibc::Glibc);
+                assert!(rt; is_called(Dialect::Debian, &triple, debian), "{row}");
+                assert!(rt; is_called(Dialect::Gnu, &triple, gnu), "{row}");
+                assert!(rt;
+                    Dialect::Oci.write(&triple) == Dialect::Oci.write(&platform),
+                    "{row}"
+                );
+            }
+            Err(_) => panic!(rt; "{row}"),
+        }
+    }
+    assert!(rt; PLATFORMS.lines().count() == 25);
+}
+
+#[test]
+fn c_libraries_are_named(rt: HostRuntime) {
+    for (name, c_library, other) in [
+        ("glibc", LinuxLibc::Glibc, LinuxLibc::Musl),
+        ("musl", LinuxLibc::Musl, LinuxLibc::Glibc),
+    ] {
+        assert!(rt; name.parse() == Ok(c_library) && prints(&c_library, name));
+        assert!(rt; hash_alike(&c_library, &c_library) && c_library != other);
+    }
+    assert!(rt; LinuxLibc::from_str("gnu") == Err(()));
+}
+
+/// A name, the dialects that it is translated between, the C library, and the name or why there is none.
+const TRANSLATIONS: &str = "\
+oci linux/arm64/v8 debian glibc arm64
+oci linux/arm64/v8 gnu musl aarch64-linux-musl
+oci linux/arm/v7 debian - needs a C library
+oci linux/arm/v7 go - linux/arm
+oci windows/amd64 debian - has no name
+oci windows/amd64 debian glibc has no name
+oci linux/foo debian glibc isn't read
+go linux/mips64 gnu glibc mips64-linux-gnuabi64
+node linux-x64-musl debian glibc musl-linux-amd64
+debian armhf oci musl linux/arm
+debian armel node - linux-arm-glibc";
+
+#[test]
+fn names_are_translated(rt: HostRuntime) {
+    for row in TRANSLATIONS.lines() {
+        let mut columns = row.splitn(5, ' ');
+        let (Some(from), Some(name), Some(to), Some(c_library), Some(expected)) = (
+            columns.next(),
+            columns.next(),
+            columns.next(),
+            columns.next(),
+            columns.next(),
+        ) else {
+            panic!(rt; "{row}");
+        };
+        let (Ok(from), Ok(to)) = (Dialect::from_str(from), Dialect::from_str(to)) else {
+            panic!(rt; "{row}");
+        };
+        let found = from.translate(name, LinuxLibc::from_str(c_library).ok(), to);
+        let is_expected = match found {
+            Ok(name) => name.as_str() == expected,
+            Err(TranslateError::Read(_)) => expected == "isn't read",
+            Err(TranslateError::Write(WriteError::NoName)) => expected == "has no name",
+            Err(TranslateError::Write(WriteError::NeedsCLibrary)) => {
+                expected == "needs a C library"
+            }
+        };
+        assert!(rt; is_expected, "{row}");
+    }
+}
+
+/// Strings as tools print them, and what is read.
+const SPELLED: &str = "\
+x86_64-unknown-linux-gnu.2.17=x86_64-unknown-linux-gnu
+x86_64-linux-gnu2.28=x86_64-unknown-linux-gnu
+armv7-unknown-linux-gnueabihf.2.31=armv7-unknown-linux-gnueabihf
+i686-unknown-gnu0.9=i686-unknown-hurd-gnu
+i686-w64-mingw32ucrt=i686-pc-windows-gnu
+i586-wrs-vxworks7=i586-wrs-vxworks
+arm-openwrt-linux-muslgnueabi=arm-openwrt-linux-musleabi
+ppc64el-linux-gnu=powerpc64le-unknown-linux-gnu
+rs6000-ibm-aix7.2=powerpc-ibm-aix
+mips64r6el-linux-gnuabi64=mipsisa64r6el-unknown-linux-gnuabi64";
+
+#[test]
+fn strings_of_tools_are_read(rt: HostRuntime) {
+    for row in SPELLED.lines() {
+        match row.split_once('=') {
+            Some((text, expected)) => match read(text) {
+                Ok(triple) => {
+                    assert!(rt; prints(&triple, expected), "{row}");
+                }
+                Err(_) => panic!(rt; "{row}"),
+            },
+            None => panic!(rt; "{row}"),
+        }
+    }
+}

@@ -1,0 +1,78 @@
+-- The environment that a C library gives to a triple of Linux which states none.
+use Rattle.std.specs.Prelude.{◌≡◌, ◌≢◌, List, [], ◌∷◌, ℕ, codes, Option}
+use Rattle.lexicon_fields.specs.{declared.architecture.arm.ArmArchitecture.ArmArchitecture, Names.named_values, Names.value_named}
+use Rattle.target_lexicon.specs.{Queries.endianness, Queries.pointer_width}
+use Rattle.target_lexicon.specs.Values.{Architecture, OperatingSystem, Environment, Values}
+use Rattle.target_lexicon.specs.Values.architecture
+use Rattle.target_lexicon.specs.Values.arm
+use Rattle.target_lexicon.specs.Values.operating_system
+use Rattle.target_lexicon.specs.Values.environment
+use Rattle.tool_names.specs.declared.completion.LinuxLibc.{LinuxLibc}
+use Rattle.tool_names.specs.declared.completion.LinuxLibc.TheVariants.{Glibc, Musl}
+use Rattle.tool_names.specs.declared.dialect.Dialect.{Dialect}
+use Rattle.tool_names.specs.declared.shape.AbiRule.TheVariants.{Dropped}
+use Rattle.tool_names.specs.{Dialects.rules_of, ObjectFormat.object_format, Shape.arm_of_version, Shape.shape, ToolNames.triple_name}
+
+-- the name of a C library
+abbrev pub c_library_name : LinuxLibc → List ℕ
+c_library_name Glibc = codes "glibc"
+c_library_name Musl = codes "musl"
+
+-- the C library with this name
+unfoldable pub c_library_of : List ℕ → Option LinuxLibc
+c_library_of name = value_named (named_values c_library_name (Glibc ∷ Musl ∷ [])) name
+
+-- the environment of a C library on an Arm, which is taken by its version. Floating-point numbers are passed in registers of
+-- their own, except on Armv5
+abbrev pub arm_environment : LinuxLibc → ArmArchitecture → Environment
+arm_environment Glibc arm.Arm = environment.Gnueabihf
+arm_environment Glibc arm.Armv5te = environment.Gnueabi
+arm_environment Glibc arm.Armv6 = environment.Gnueabihf
+arm_environment Glibc arm.Armv7 = environment.Gnueabihf
+arm_environment Glibc arm.Armv8 = environment.Gnueabihf
+arm_environment Glibc _ = environment.Gnu
+arm_environment Musl arm.Arm = environment.Musleabihf
+arm_environment Musl arm.Armv5te = environment.Musleabi
+arm_environment Musl arm.Armv6 = environment.Musleabihf
+arm_environment Musl arm.Armv7 = environment.Musleabihf
+arm_environment Musl arm.Armv8 = environment.Musleabihf
+arm_environment Musl _ = environment.Musl
+
+-- the usual environment of a C library on an architecture
+abbrev pub usual_environment : LinuxLibc → Architecture → Environment
+usual_environment c (architecture.Arm a) = arm_environment c (arm_of_version a)
+usual_environment Glibc (architecture.Mips64 _) = environment.Gnuabi64
+usual_environment Musl (architecture.Mips64 _) = environment.Muslabi64
+usual_environment Glibc _ = environment.Gnu
+usual_environment Musl _ = environment.Musl
+
+-- the environment, which is the usual one if it is unknown, on Linux
+abbrev pub environment_with : LinuxLibc → Architecture → OperatingSystem → Environment → Environment
+environment_with c a operating_system.Linux environment.Unknown = usual_environment c a
+environment_with c a s e = e
+
+-- a triple with the usual environment of a C library, if it is of Linux and has none
+unfoldable pub completed : LinuxLibc → Values → Values
+completed c t = record t { environment = environment_with c t.architecture t.operating_system t.environment }
+
+-- completion changes only the environment, and only an unknown one on Linux; that it makes known
+pub record CompletionFillsOnlyAGap : Type 0 where
+  pub only : (c : LinuxLibc) (t : Values) → completed c t ≡ record t { environment = (completed c t).environment }
+  pub known : (c : LinuxLibc) (t : Values) → t.environment ≢ environment.Unknown → completed c t ≡ t
+  pub elsewhere : (c : LinuxLibc) (t : Values) → t.operating_system ≢ operating_system.Linux → completed c t ≡ t
+  pub filled : (c : LinuxLibc) (t : Values) → t.operating_system ≡ operating_system.Linux → (completed c t).environment ≢ environment.Unknown
+
+-- once is enough, whatever C library comes after
+abbrev pub CompletedTriplesStay : Type 0
+CompletedTriplesStay = (c other : LinuxLibc) (t : Values) → completed other (completed c t) ≡ completed c t
+
+-- completion keeps the byte order, the pointer width and the object format
+pub record CompletionKeepsAnswers : Type 0 where
+  pub endianness : (c : LinuxLibc) (t : Values) → endianness (completed c t) ≡ endianness t
+  pub pointer_width : (c : LinuxLibc) (t : Values) → pointer_width (completed c t) ≡ pointer_width t
+  pub object_format : (c : LinuxLibc) (t : Values) → object_format (completed c t) ≡ object_format t
+
+-- a dialect that doesn't state the C library names a completed triple as before
+pub record CompletionIsUnstated : Type 0 where
+  pub shape : (d : Dialect) (c : LinuxLibc) (t : Values) → (rules_of d).abi ≡ Dropped → shape d (completed c t) ≡ shape d t
+  pub name : (d : Dialect) (c : LinuxLibc) (t : Values) → (rules_of d).abi ≡ Dropped → triple_name d (completed c t) ≡ triple_name d t

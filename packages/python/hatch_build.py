@@ -1,0 +1,140 @@
+"""What hatchling asks of this package: the shared library in the wheel, its platform's tag, and the library's sources in the sdist.
+
+The library is the file that the variable TARGET_LEXICON_LIBRARY names. Without that variable cargo builds it, from the sources in
+the repository or, in an sdist, below the folder `native`. If the variable is `system`, the wheel has no library: then the package
+loads the one that is installed. An editable wheel has only the path of the sources, beside which the library is written.
+"""
+import os
+import re
+import shutil
+import struct
+import subprocess
+import sysconfig
+import tempfile
+
+from hatchling.builders.hooks.plugin.interface import BuildHookInterface
+
+NO_CARGO = """the shared library of this package isn't built: cargo doesn't run ({error}).
+Install Rust, which has cargo, or set the variable TARGET_LEXICON_LIBRARY to PATH/libtarget_lexicon.so of a built library for C
+(libtarget_lexicon 0.5)."""
+CARGO_FAILED = "the shared library of this package isn't built: cargo ended with status {status}, and wrote why above."
+
+LICENCES = ("LICENSE", "COPYRIGHT")
+# What an sdist has of the repository, below `native`: what cargo builds the library from, what the tests read, and the licence.
+SOURCES = ("Cargo.toml", "Cargo.lock", *(f"packages/{package}/{name}" for package in ("c", "rust") for name in ("Cargo.toml", "build.rs", "src")))
+LISTS = ("packages/c/include", "tools/names/names.tsv", "tools/names/elsewhere.tsv", "checks/known_triples.txt", "checks/target_lines.py",
+         "checks/failing_allocator.c", "crates/tests/src")
+
+
+class CustomBuildHook(BuildHookInterface):
+    def initialize(self, version, build_data):
+        own = os.path.join(self.root, "native")
+        self.top = own if os.path.isdir(own) else os.path.normpath(os.path.join(self.root, "..", ".."))
+        included = build_data["force_include"]
+        if self.target_name == "sdist":
+            if self.top != own:
+                included.update({os.path.join(self.top, path): f"native/{path}" for path in SOURCES + LISTS + LICENCES})
+            return
+        licences = f"target_lexicon-{self.metadata.version}.dist-info/licenses"
+        included.update({os.path.join(self.top, name): f"{licences}/{name}" for name in LICENCES})
+        given = os.environ.get("TARGET_LEXICON_LIBRARY")
+        if given == "system":
+            return
+        library, platform = given_library(given) if given else self.built_library()
+        build_data["pure_python"] = False
+        build_data["tag"] = f"py3-none-{platform}"
+        # Python would take a file whose name ends with `.so` for a module.
+        path = f"target_lexicon/libtarget_lexicon.so.{self.metadata.version.rpartition('.')[0]}"
+        if version == "editable":
+            new = os.path.join(self.root, "src", f"{path}.new")
+            shutil.copyfile(library, new)
+            os.replace(new, os.path.join(self.root, "src", path))  # a running program keeps the one that it has
+            return
+        included[library] = path
+
+    def built_library(self):
+        """The library that cargo builds, and the platform that it is for: this one, or that of CARGO_BUILD_TARGET."""
+        target = os.environ.get("CARGO_BUILD_TARGET", "")
+        self.folder = tempfile.TemporaryDirectory()  # which stays until the wheel is written
+        work = self.folder.name
+        words = [os.environ.get("CARGO", "cargo"), "build", "--quiet", "--release", "--locked", "--offline", "--target-dir", work, "--manifest-path",
+                 os.path.join(self.top, "packages", "c", "Cargo.toml")]
+        try:
+            status = subprocess.run(words, check=False).returncode
+        except OSError as error:
+            raise SystemExit(NO_CARGO.format(error=error)) from None
+        if status:
+            raise SystemExit(CARGO_FAILED.format(status=status))
+        paths = [os.path.join(work, target, "release", it) for it in ("libtarget_lexicon.so", "libtarget_lexicon.dylib", "target_lexicon.dll")]
+        path = next(it for it in paths if os.path.exists(it))
+        platform = linux_platform(read(path))
+        if not platform and target:
+            raise SystemExit(f"there is no name for the platform of {target}: build the wheel on such a machine")
+        return path, platform or re.sub(r"\W", "_", sysconfig.get_platform())
+
+
+def read(path):
+    with open(path, "rb") as it:
+        return it.read()
+
+
+def given_library(name):
+    """The library that the variable names, and the platform that it is for."""
+    path = os.path.realpath(name)
+    platform = linux_platform(read(path))
+    if not platform:
+        raise SystemExit("TARGET_LEXICON_LIBRARY isn't a shared library for Linux on x86-64 or 64-bit Arm")
+    return path, platform
+
+
+# ---- the platform that a library is for
+
+MACHINES = {62: "x86_64", 183: "aarch64"}
+DYNAMIC, DYNAMIC_SYMBOLS, NEEDED_VERSIONS = 6, 11, 0x6FFFFFFE
+DT_NEEDED, DT_SONAME = 1, 14
+MANYLINUX_LIBRARIES = {"libc.so.6", "libgcc_s.so.1", "libm.so.6", "libpthread.so.0", "libdl.so.2", "librt.so.1",
+                       "ld-linux-x86-64.so.2", "ld-linux-aarch64.so.1"}
+
+
+def linux_platform(content):
+    """The tag of the Linux platforms that a shared library is for, by what it needs of the C library, or None.
+
+    A library that needs other ones than the C library is for `linux_x86_64`, for which nothing is promised.
+    """
+    machine = MACHINES.get(struct.unpack_from("<H", content, 18)[0]) if content[:6] == b"\x7fELF\x02\x01" else None
+    if machine is None:
+        return None
+    libraries, versions = needs_of(content)
+    glibc = [tuple(map(int, it[6:].split(".")[:2])) for it in versions if re.fullmatch(r"GLIBC_[\d.]+", it)]
+    if not libraries <= MANYLINUX_LIBRARIES or "GLIBC_PRIVATE" in versions:
+        return f"linux_{machine}"
+    major, minor = max([*glibc, (2, 17)])
+    return f"manylinux_{major}_{minor}_{machine}"
+
+
+def needs_of(content):
+    """The names of the libraries that an ELF file needs, and those of the versions of their symbols."""
+    start, = struct.unpack_from("<Q", content, 40)
+    size, count = struct.unpack_from("<HH", content, 58)
+    sections = [struct.unpack_from("<IIQQQQIIQQ", content, start + i * size) for i in range(count)]
+
+    def text(section, at):
+        begin = sections[section[6]][4] + at
+        return content[begin:content.index(b"\0", begin)].decode()
+
+    libraries, versions = set(), set()
+    for section in sections:
+        if section[1] == DYNAMIC:
+            entries = struct.iter_unpack("<QQ", content[section[4]:section[4] + section[5]])
+            libraries |= {text(section, value) for kind, value in entries if kind == DT_NEEDED}
+        elif section[1] == NEEDED_VERSIONS:
+            at = section[4]
+            for _ in range(section[7]):
+                _, entries, _, first, following = struct.unpack_from("<HHIII", content, at)
+                entry = at + first
+                for _ in range(entries):
+                    _, _, _, name, next_entry = struct.unpack_from("<IHHII", content, entry)
+                    versions.add(text(section, name))
+                    entry += next_entry
+                at += following
+    return libraries, versions

@@ -1,0 +1,143 @@
+// Erased from crates/tool_names/src/completion.rt by tools/erase. Don't edit it here.
+//! The environment that a C library gives to a triple of Linux.
+
+use crate::proved::tool_names::shape::arm_of_version;
+use crate::proved::tool_names::spelling::look_up;
+use crate::proved::{Architecture, ArmArchitecture, Environment, OperatingSystem, TripleRef};
+use core::fmt;
+use core::str::FromStr;
+
+/// A C library of Linux, which gives a triple its environment: [`complete`].
+///
+/// # Examples
+///
+/// ```
+/// use target_lexicon::tool_names::LinuxLibc;
+///
+/// assert_eq!("musl".parse(), Ok(LinuxLibc::Musl));
+/// assert_eq!(LinuxLibc::Glibc.to_string(), "glibc");
+/// ```
+#[derive(Clone, Copy, Debug, PartialEq, Eq, Hash)]
+pub enum LinuxLibc {
+    /// GNU's C library, which most distributions have.
+    Glibc,
+    /// musl, as Alpine has it.
+    Musl,
+}
+
+impl LinuxLibc {
+    /// The name of the C library.
+    ///
+    /// # Examples
+    ///
+    /// ```
+    /// assert_eq!(target_lexicon::tool_names::LinuxLibc::Musl.as_str(), "musl");
+    /// ```
+    #[must_use]
+    pub fn as_str(self) -> &'static str {
+        match self {
+            LinuxLibc::Glibc => "glibc",
+            LinuxLibc::Musl => "musl",
+        }
+    }
+
+    /// The C library with this name. `Err` for every other text.
+    pub(crate) fn from_str(name: &str) -> Result<Self, ()> {
+        look_up(&C_LIBRARIES, name).ok_or(())
+    }
+
+    /// The usual environment on an architecture.
+    fn environment(self, architecture: Architecture) -> Environment {
+        match (self, architecture) {
+            (_, Architecture::Arm(arm)) => self.arm_environment(arm_of_version(arm)),
+            (LinuxLibc::Glibc, Architecture::Mips64(_)) => Environment::Gnuabi64,
+            (LinuxLibc::Musl, Architecture::Mips64(_)) => Environment::Muslabi64,
+            (LinuxLibc::Glibc, _) => Environment::Gnu,
+            (LinuxLibc::Musl, _) => Environment::Musl,
+        }
+    }
+
+    /// The usual environment on an Arm, which is taken by its version.
+    fn arm_environment(self, arm: ArmArchitecture) -> Environment {
+        match arm {
+            ArmArchitecture::Arm
+            | ArmArchitecture::Armv6
+            | ArmArchitecture::Armv7
+            | ArmArchitecture::Armv8 => match self {
+                LinuxLibc::Glibc => Environment::Gnueabihf,
+                LinuxLibc::Musl => Environment::Musleabihf,
+            },
+            ArmArchitecture::Armv5te => match self {
+                LinuxLibc::Glibc => Environment::Gnueabi,
+                LinuxLibc::Musl => Environment::Musleabi,
+            },
+            _ => match self {
+                LinuxLibc::Glibc => Environment::Gnu,
+                LinuxLibc::Musl => Environment::Musl,
+            },
+        }
+    }
+}
+
+static C_LIBRARIES: [(&str, LinuxLibc); 2] =
+    [("glibc", LinuxLibc::Glibc), ("musl", LinuxLibc::Musl)];
+
+impl FromStr for LinuxLibc {
+    type Err = ();
+
+    fn from_str(name: &str) -> Result<LinuxLibc, ()> {
+        LinuxLibc::from_str(name)
+    }
+}
+
+impl fmt::Display for LinuxLibc {
+    fn fmt(&self, f: &mut fmt::Formatter<'_>) -> fmt::Result {
+        f.write_str(self.as_str())
+    }
+}
+
+/// The triple with the usual environment of a C library, if it is of Linux and its environment is unknown. Every other
+/// triple is returned as it is. Nothing is allocated.
+///
+/// Names of Go, OCI and Python don't state the C library, so that what they mean has no name of Debian, of GNU or of
+/// rustc. Nothing is guessed: the caller says which C library it is. With glibc the environment is `gnueabihf` on `arm`,
+/// `armv6`, `armv7` and `armv8`, `gnueabi` on `armv5te`, `gnuabi64` on 64-bit MIPS, and `gnu` on every other architecture;
+/// with musl it is `musleabihf`, `musleabi`, `muslabi64` or `musl`. A name of one Arm that stands for a version, such as
+/// `armv7a`, counts as that version.
+///
+/// # Examples
+///
+/// ```
+/// use target_lexicon::tool_names::{complete, LinuxLibc, Dialect};
+///
+/// let platform = Dialect::Oci.read("linux/arm/v7").unwrap();
+/// assert_eq!(Dialect::Debian.write(&platform), None);
+/// let triple = complete(&platform, LinuxLibc::Glibc);
+/// assert_eq!(triple.to_string(), "armv7-unknown-linux-gnueabihf");
+/// assert_eq!(Dialect::Debian.write(&triple).unwrap().as_str(), "armhf");
+/// ```
+#[must_use]
+pub fn complete<'a>(triple: &TripleRef<'a>, c_library: LinuxLibc) -> TripleRef<'a> {
+    TripleRef {
+        environment: completed_environment(
+            c_library,
+            triple.architecture,
+            triple.operating_system,
+            triple.environment,
+        ),
+        ..*triple
+    }
+}
+
+/// The environment, which is the usual one if it is unknown, on Linux.
+fn completed_environment(
+    c_library: LinuxLibc,
+    architecture: Architecture,
+    operating_system: OperatingSystem,
+    environment: Environment,
+) -> Environment {
+    match (operating_system, environment) {
+        (OperatingSystem::Linux, Environment::Unknown) => c_library.environment(architecture),
+        _ => environment,
+    }
+}
