@@ -90,10 +90,18 @@ enum lexicon_dialect {
   LEXICON_DIALECT_DEBIAN = 1, /* Debian's architectures, as dpkg names them: amd64, armhf, musl-linux-arm64 */
   LEXICON_DIALECT_GO = 2, /* Go's ports, as go tool dist list prints them: linux/amd64 */
   LEXICON_DIALECT_OCI = 3, /* Platforms of container images, as containerd writes them: linux/arm/v7 */
-  LEXICON_DIALECT_NODE = 4, /* process.platform and process.arch of Node, as npm joins them: linux-x64, linux-x64-musl */
+  LEXICON_DIALECT_NODE = 4, /* process.platform and process.arch of Node, as npm's packages join them, some with a C library: linux-x64, linux-x64-musl */
   LEXICON_DIALECT_GNU = 5, /* Prefixes of GNU's cross compilers, and strings that mean the same to config.sub: x86_64-w64-mingw32 */
   LEXICON_DIALECT_PYTHON = 6, /* Platforms of Python, as tags of wheels such as macosx_11_0_arm64, and as sysconfig.get_platform() prints them */
   LEXICON_DIALECT_RUST = 7, /* Targets of rustc, as rustc --print target-list lists them: riscv64gc-unknown-linux-gnu */
+  LEXICON_DIALECT_UNAME = 8, /* What uname -s and uname -m print, with a space between them, which is only read: Linux x86_64 */
+  LEXICON_DIALECT_RPM = 9, /* Architectures of packages of RPM, whose distributions have glibc: x86_64, armv7hl */
+  LEXICON_DIALECT_APK = 10, /* Architectures of Alpine's packages, which has musl: x86_64, armhf */
+  LEXICON_DIALECT_PACMAN = 11, /* Architectures of packages of Arch Linux and its ports, which have glibc: x86_64, armv7h */
+  LEXICON_DIALECT_DOTNET = 12, /* Identifiers of .NET's runtimes, in its portable list: linux-x64, win-arm64 */
+  LEXICON_DIALECT_CONDA = 13, /* Subdirectories of conda's channels, whose packages for Linux have glibc: linux-64, osx-arm64 */
+  LEXICON_DIALECT_ZIG = 14, /* Zig's targets: x86_64-linux-musl, aarch64-macos */
+  LEXICON_DIALECT_NIX = 15, /* Systems of Nix and nixpkgs: x86_64-linux, aarch64-darwin */
   /* end of what is written */
 };
 

@@ -107,6 +107,14 @@ enum class Dialect : std::uint8_t {
   Gnu = LEXICON_DIALECT_GNU,
   Python = LEXICON_DIALECT_PYTHON,
   Rust = LEXICON_DIALECT_RUST,
+  Uname = LEXICON_DIALECT_UNAME,
+  Rpm = LEXICON_DIALECT_RPM,
+  Apk = LEXICON_DIALECT_APK,
+  Pacman = LEXICON_DIALECT_PACMAN,
+  Dotnet = LEXICON_DIALECT_DOTNET,
+  Conda = LEXICON_DIALECT_CONDA,
+  Zig = LEXICON_DIALECT_ZIG,
+  Nix = LEXICON_DIALECT_NIX,
   // end of what is written
 };
 
@@ -197,7 +205,7 @@ inline std::string_view name(Field field) {
 }
 inline std::string_view name(Dialect value) {
   // written by tools/names/write: the dialects' names for C++
-  constexpr const char* names[] = {"", "debian", "go", "oci", "node", "gnu", "python", "rust"};
+  constexpr const char* names[] = {"", "debian", "go", "oci", "node", "gnu", "python", "rust", "uname", "rpm", "apk", "pacman", "dotnet", "conda", "zig", "nix"};
   // end of what is written
   return detail::name_at(names, static_cast<std::size_t>(value));
 }

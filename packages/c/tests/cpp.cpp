@@ -248,8 +248,8 @@ static void try_dialects() {
   EXPECT(Triple::read("x86_64-acme-linux")->vendor_name() == "acme" && !Triple::read("linux/arm64"));
   auto wheel = Triple::read("macosx_11_0_arm64", Dialect::Python);
   EXPECT(wheel && wheel->printed() == "aarch64-apple-macosx11.0.0" && wheel->name_in(Dialect::Python) == "macosx_11_0_arm64");
-  EXPECT(!Triple::read("amd64", Dialect::Go, &error) && error.status == LEXICON_UNKNOWN_NAME && error.part == "amd64" && !error.field());
-  EXPECT(shown(error) == "Unknown name: amd64\n  amd64\n  ^^^^^" && error.reason.empty() && error.suggestion.empty());
+  EXPECT(!Triple::read("linux", Dialect::Go, &error) && error.status == LEXICON_UNKNOWN_NAME && error.part == "linux" && !error.field());
+  EXPECT(shown(error) == "Unknown name: linux\n  linux\n  ^^^^^" && error.reason.empty() && error.suggestion.empty());
   EXPECT(!Triple::read("linux/amd46", Dialect::Go, &error) && error.suggestion == "linux/amd64" && error.reason.empty());
   EXPECT(shown(error) == "Unknown name: linux/amd46\n  linux/amd46\n  ^^^^^^^^^^^ did you mean `linux/amd64`?");
   EXPECT(!Triple::read("plan9/386", Dialect::Go, &error) && error.status == LEXICON_NAME_WITHOUT_TRIPLE);

@@ -366,9 +366,9 @@ class Samples(Folder):
         targets = ["arm64-apple-ios17.1", "avr", "x86_64-aple-linux", "x86_64-unknown-uefi", "armv6k-nintendo-3ds", "thumbv7m-none-eabi",
                    "x86_64-w64-windows-gnu", "x86_64-pc-linx", "x86_64-\u00e9\U0001f600-x", "", "x86_64-linux-elf-gnu", "x86_64-w64-mingw32"]
         names = ["linux/arm64", "amd64", "linux-x64-musl", "js/wasm", "linux/amd46", "x86_64-linux-gnu", "", "x86_64-w64-mingw32", "gnu-\u00e9"]
-        calls = [["facts"], ["explain"], ["settle"], ["elsewhere"], *(["write", "--to", str(it)] for it in target_lexicon.Dialect)]
+        calls = [["facts"], ["explain"], ["settle"], ["elsewhere"], *(["write", "--to", str(it)] for it in target_lexicon._dialects.WRITTEN)]
         calls = [(words, targets) for words in calls] + [(["read"], targets + names)]
-        calls += [(["read", "--from", str(it)], names) for it in target_lexicon.Dialect if it is not target_lexicon.Dialect.GNU]
+        calls += [(["read", "--from", str(it)], names) for it in target_lexicon._dialects.READ]
         for words, given in calls:
             lines = "".join(f"{it}\r\n" for it in given).encode()
             for arguments, line in (given, b""), (["--json", "-", "avr"], lines):
