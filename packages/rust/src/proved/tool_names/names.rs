@@ -87,6 +87,14 @@ impl Dialect {
 
     /// The name that is suggested for an unknown one: the nearest of the names without a version that
     /// [`read`](Dialect::read) knows, if the name may be a misspelling of it. Nothing is allocated.
+    ///
+    /// # Examples
+    ///
+    /// ```
+    /// use target_lexicon::tool_names::Dialect;
+    ///
+    /// assert_eq!(Dialect::Go.suggestion("linux/amd46"), Some("linux/amd64"));
+    /// ```
     #[must_use]
     pub fn suggestion(self, name: &str) -> Option<&'static str> {
         let name = name.as_bytes();
