@@ -26,7 +26,7 @@ _COMMANDS = {
     "write": "the name that another tool has for it",
     "elsewhere": "the names that other tools have for it",
 }
-_DIALECTS = list(Dialect)
+_DIALECTS: List[Dialect] = list(Dialect)
 
 
 def _places(targets: List[str]) -> Iterator[Answer]:
