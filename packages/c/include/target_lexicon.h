@@ -79,7 +79,7 @@ enum lexicon_status {
   LEXICON_UNKNOWN_NAME = 12,        /* the dialect has no such name */
   LEXICON_NAME_WITHOUT_TRIPLE = 13, /* the dialect has the name, but no triple means the same; lexicon_reason says why */
   LEXICON_TRIPLE_WITHOUT_NAME = 14, /* the dialect has no name for the triple */
-  LEXICON_NO_SUCH_DIALECT = 15,     /* the number of a dialect is above 6; for lexicon_write also 0 */
+  LEXICON_NO_SUCH_DIALECT = 15,     /* the number of a dialect is above 7; for lexicon_write also 0 */
   LEXICON_TOO_LARGE = 16            /* a size is above PTRDIFF_MAX; that of a custom vendor gives LEXICON_NO_SUCH_VENDOR */
 };
 

@@ -299,18 +299,19 @@ class Samples(Folder):
 
     @unittest.skipUnless(sys.version_info >= (3, 10), "the page's programs are for Python 3.10 or later")
     def test_programs_of_the_page(self):
-        self.assertEqual(self.commands_run(sys.executable, None), 8)
+        self.assertEqual(self.commands_run(sys.executable, None), 6)
 
     @unittest.skipUnless(HAS_DASK, "no pandas and Dask")
     def test_columns_of_the_page(self):
-        self.assertEqual(self.commands_run(DEBIAN_PYTHON, "pandas"), 4)
+        self.assertEqual(self.commands_run(DEBIAN_PYTHON, "pandas"), 3)
 
     @unittest.skipUnless(run(PATH_PYTHON, "-c", "import pandas, pyarrow").returncode == 0, "no pandas and pyarrow")
     def test_parquet(self):
-        """The frame of the page's program is written to a file, and read again."""
-        program = re.search(r"<!-- file: write.py -->\n```python\n(.*?)```", lists.read("packages/python/README.md"), re.S)[1]
+        """A frame of facts is written to a file, and read again."""
         path = os.path.join(self.folder, "targets.parquet")
-        program += f"frame.to_parquet({path!r})\nassert pandas.read_parquet({path!r}).equals(frame)\n"
+        program = ("import target_lexicon, pandas\n"
+                   "frame = pandas.DataFrame(target_lexicon.facts_all(['arm64-linux-gnu', 'x86_64-pc-linx'])).convert_dtypes()\n"
+                   f"frame.to_parquet({path!r})\nassert pandas.read_parquet({path!r}).equals(frame)\n")
         self.assertEqual(run(PATH_PYTHON, "-c", program, PYTHONPATH=PACKAGES).stderr, "")
 
     @unittest.skipUnless(HAS_PYDANTIC, "no pydantic 2")
