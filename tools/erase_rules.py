@@ -12,6 +12,11 @@ PACKAGES = {
 }
 # The modules that are compiled only with a feature of their name, and what of each is always compiled: suggestions need it.
 FEATURES = {"tool_names": {"distance", "known_names", "macos", "misspelling", "nearest", "spelling", "suggestions"}}
+# The modules of which only the names of other tools use all, by the module that they are in; and the public names of those.
+PARTLY = {"": {"decimal", "reading"}, "tool_names": {"spelling"}}
+ONLY_FOR_TOOL_NAMES = {"MAX_DECIMAL_LENGTH", "decimal_text", "Spelling"}
+# Public names that no package uses.
+NOT_EXPORTED = {"FixedRow", "ROW_COUNT", "expected_after", "row_order"}
 # The module of the layer that proved files name: what older versions of Rust lack.
 LAYER = {"compat"}
 # Where one package finds the crates of another.
@@ -39,7 +44,7 @@ HIDDEN = {"DeploymentTarget::from_text", "Refusal::write_to", "TripleRef::step",
 INLINE = {
     "TripleRef::from_str", "Triple::write_to", "TripleRef::write_to", "TripleRef::write_upstream_to", "Pieces::write_to",
     "Pieces::text_length", "Pieces::version_length", "Pieces::put_version", "Pieces::put", "Piece::text_length", "Piece::put",
-    "put", "Refusal::write_to", "nearest_known_name",
+    "put", "Refusal::write_to",
 }
 INLINE_MODULES = {
     "distance", "macos", "misspelling", "nearest", "settle", "settles_as", "spelling", "suggestions",
@@ -73,6 +78,8 @@ REPLACEMENTS = [
     ("lexicon_fields/src/table.rt", ", steps: &mut Steps", ""),
     ("lexicon_fields/src/table.rt", ", steps)", ")"),
     ("lexicon_fields/src/table.rt", "steps.tick();", ""),
+    ("lexicon_fields/src/table.rt", "/// `steps` ticks once for each row that is compared with the string: at least once, and at most eight times.\n", ""),
+    ("lexicon_fields/src/table.rt", " `steps` ticks once.", ""),
     ("", ", &mut Steps::new()", ""),
     # `FromStr` has it.
     ("lexicon_c/src/numbers.rt", "use target_lexicon::{", "use std::str::FromStr as _;\nuse target_lexicon::{"),

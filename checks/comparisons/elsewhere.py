@@ -3,7 +3,7 @@
 dpkg says byte order, pointer width and GNU type of each name; Go and containerd, which names they have and how they write
 them; esbuild and Node's manual, the words; config.sub, which strings there are, and what it makes of them. The crate cc has a
 table of prefixes. rustc lists its targets, and says the architecture, byte order, pointer width and object format of each, and what its cfg options are.
-Python's sysconfig says how it names platforms, and packaging which tags it makes. rpm says which machines have 64
+clang prints its own form of each known name. Python's sysconfig says how it names platforms, and packaging which tags it makes. rpm says which machines have 64
 bits, and how they pass floating-point numbers; config.guess, what a system is whose `uname` is told; Nix and makepkg, how they name the
 machine that they run on. The tools that aren't installed are named.
 Without any tool it checks that a machine's word means one architecture, and that each other spelling is explained by a rule or
@@ -11,7 +11,7 @@ listed here. The status is 1 if an answer differs that docs/TOOL_NAMES.md doesn'
 Python 3.13 that runs this.
 
 Debian's packages: dpkg-dev autotools-dev golang-go golang-github-containerd-containerd-dev esbuild nodejs-doc librust-cc-dev
-python3-packaging rpm nix-bin makepkg.
+python3-packaging rpm nix-bin makepkg clang.
 """
 import collections
 import glob
@@ -58,7 +58,8 @@ NOT_PORTS = ("386", "amd64", "arm64", "linux/s390", "zos/s390x")
 # Other spellings that no rule of `spelled_by_rule` explains, and what they are read as.
 SPELLINGS = {"amd64": "x86_64", "i486": "i386", "bpf_be": "bpfeb", "bpf_le": "bpfel", "systemz": "s390x", "thumbv7": "thumbv7a", "w64": "pc",
              "mingw32": "windows-gnu", "mingw64": "windows-gnu", "win32": "windows-msvc", "macos": "macosx", "gnu*": "hurd-gnu",
-             "netbsdelf": "netbsd", "netbsdelf*": "netbsd", "simulator": "sim"}
+             "netbsdelf": "netbsd", "netbsdelf*": "netbsd", "simulator": "sim", "x64": "x86_64", "ppc64el": "powerpc64le", "rs6000": "powerpc",
+             "sun4v": "sparc64", "mingw32ucrt": "windows-gnu", "gnu.*": "gnu", "gnu2.*": "gnu"}
 # The machines and ends of strings that config.sub is asked for.
 MACHINES = "x86_64 i686 aarch64 arm armv7l armv6l armeb powerpc powerpc64le ppc64le mips mips64el riscv64 riscv32 s390x sparc64 loongarch64 m68k avr".split()
 ENDS = ("", "linux", "unknown-linux", "redhat-linux", "suse-linux", "poky-linux", "buildroot-linux-gnu", "linux-gnu", "alpine-linux-musl", "linux-musl",
@@ -256,6 +257,8 @@ class Comparison(Report):
         rows = self.rows_of("gnu")
         self.fact("a name of GNU's compilers without a system or a vendor is read as its triple without a dialect too", (
             (row.name, str(self.read(row.name)), row.triple) for row in rows), "hurd|none|i486|sparcv9")
+        self.fact("and has that one's byte order and width", (
+            (row.name, order_and_width(self.read(row.name)), order_and_width(it)) for row in rows if (it := self.read(row.name, "gnu"))))
         sub = "/usr/share/misc/config.sub"
         if self.has("config.sub", os.path.exists(sub)):
             self.fact("config.sub takes the names of GNU's compilers", (
@@ -294,6 +297,18 @@ class Comparison(Report):
             (name, it.object_format.value, theirs[name]["format"]) for name, it in read.items()), "wali")
         self.fact("a target that parses without a custom vendor has a triple, and that triple its name", (
             (name, it.name_in("rust"), name) for name, it in self.parsed(targets).items() if not it.has_custom_vendor), "-uwp-")
+
+    def check_clang(self):
+        clang = shutil.which("clang")
+        if not self.has("clang", clang):
+            return
+        names = upstream.read(f"{built.ROOT}/checks/known_triples.txt").split()
+        printed = {name: output(clang, "-target", name, "-print-target-triple").strip() for name in names}
+        # clang puts `unknown` between `none` and an embedded ABI, has Cygwin as an environment of Windows and kernels as systems, and older
+        # versions print androideabi as android.
+        self.fact("what clang prints for a known name is read as that name", (
+            (name, text, target(self.read(text)), target(self.read(name))) for name, text in printed.items()),
+            "none-unknown-eabi|cygnus|kernel-none|androideabi")
 
     def check_python(self):
         self.has("Python's sysconfig", True)
@@ -365,11 +380,18 @@ def family(triple):
     return re.sub(r"^i\d86$", "i686", str(triple.architecture))
 
 
+def target(triple):
+    """What a tool has to agree on: all but the vendor."""
+    return triple and str((triple.architecture, triple.operating_system, triple.environment, triple.binary_format))
+
+
 def spelled_by_rule(name):
     """What a part is read as if a rule explains it: `l` after an Arm is dropped, `ppc` is `powerpc`, `eb` after `mips` goes without
-    saying, later models of the i686 are one, a later part loses its version, and uClibc doesn't say that it is with GNU's tools."""
+    saying, release 6 of MIPS is an architecture of its own, later models of the i686 are one, a later part loses its version, and uClibc and musl
+    don't say that they are with GNU's tools."""
     for pattern, new in ((r"(armv\d[a-z]*?)h?l", r"\1"), ("ppc(32)?", "powerpc"), ("ppc64(le)?", r"powerpc64\1"), ("(mips(64)?)eb", r"\1"),
-                         ("i[789]86", "i686"), ("uclibcgnu(eabi(hf)?)", r"uclibc\1"), (r"(\w+)\*", r"\1")):
+                         ("mips64r6(el)?", r"mipsisa64r6\1"), ("mipsr6(el)?", r"mipsisa32r6\1"), ("i[789]86", "i686"),
+                         ("(uclibc|musl)gnu(eabi(hf)?)", r"\1\2"), (r"(\w+)\*", r"\1")):
         if re.fullmatch(pattern, name):
             return re.sub(pattern, new, name)
     return None
@@ -402,6 +424,8 @@ def main(options, folder):
     comparison.check_node()
     comparison.check_gnu()
     comparison.check_rust()
+
+    comparison.check_clang()
     comparison.check_python()
     rustc_cfg.check(comparison)
     return comparison.conclude()

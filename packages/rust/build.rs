@@ -1,5 +1,5 @@
 //! Writes the triple of the target that the crate is built for, which the crate's own parser finds.
-#![allow(dead_code, unused_imports, unused_variables)]
+#![allow(dead_code, unused_imports, clippy::all)]
 
 extern crate alloc;
 

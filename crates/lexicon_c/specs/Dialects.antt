@@ -2,7 +2,12 @@
 use Rattle.std.specs.Prelude.{◌≡◌, ℕ, List, [], ◌∷◌, length, Option, Some, None, Result, Ok, Err}
 use Rattle.tool_names.specs.Nearest.{IsNearestOf}
 use Rattle.target_lexicon.specs.Values.{Values}
-use Rattle.tool_names.specs.{Spelling.spelled_reading, ToolNames.Unread, ToolNames.IsUnknown, ToolNames.HasNoTriple, ToolNames.name_meaning, ToolNames.names_that_are_read}
+use Rattle.tool_names.specs.declared.completion.LinuxLibc.{LinuxLibc}
+use Rattle.tool_names.specs.declared.completion.LinuxLibc.TheVariants.{Glibc, Musl}
+use Rattle.tool_names.specs.declared.name.Name.{Name}
+use Rattle.tool_names.specs.declared.translation.WriteError.{WriteError}
+use Rattle.tool_names.specs.declared.translation.WriteError.TheVariants.{NoName, NeedsCLibrary}
+use Rattle.tool_names.specs.{Spelling.spelled_reading, Translation.written, ToolNames.name_bytes, ToolNames.Unread, ToolNames.IsUnknown, ToolNames.HasNoTriple, ToolNames.name_meaning, ToolNames.names_that_are_read}
 use Rattle.tool_names.specs.declared.dialect.Dialect.{Dialect}
 use Rattle.tool_names.specs.declared.dialect.Dialect.TheVariants as dialect
 use Rattle.lexicon_c.specs.{Parsing.refusal_numbers, Triple.AreNumbersOf, declared.error.TextError.TextError, declared.triple.NumberedTriple.NumberedTriple}
@@ -55,3 +60,34 @@ IsSuggestedFor (Ok t) is_suggested found = found ≡ None
 -- what is suggested for a name: for an unknown one the nearest of the names that are read, if it may be a misspelling of that
 abbrev pub IsNameSuggestion : Dialect → List ℕ → Option (List ℕ) → Type 0
 IsNameSuggestion d name found = IsSuggestedFor (name_meaning d name) (IsNearestOf name (names_that_are_read d)) found
+
+-- the C libraries by number. The first is none
+abbrev pub c_libraries_by_number : List (Option LinuxLibc)
+c_libraries_by_number = None ∷ Some Glibc ∷ Some Musl ∷ []
+
+-- the status of a triple without a name: there is none, or a C library isn't said
+abbrev pub unwritten_status : WriteError → ℕ
+unwritten_status NoName = 14
+unwritten_status NeedsCLibrary = 17
+
+-- the refusal of a name whose triple isn't written: it is that of the whole name
+abbrev pub write_error : List ℕ → WriteError → TextError
+write_error text why = record { status = unwritten_status why; start = 0; end = length text }
+
+abbrev pub written_or_error : List ℕ → Result (List ℕ) WriteError → Result (List ℕ) TextError
+written_or_error text (Ok name) = Ok name
+written_or_error text (Err why) = Err (write_error text why)
+
+-- the name in a dialect of what was read
+abbrev pub written_text : List ℕ → Option LinuxLibc → Dialect → Result Values TextError → Result (List ℕ) TextError
+written_text text c to (Ok t) = written_or_error text (written to c t)
+written_text text c to (Err error) = Err error
+
+-- the name in a dialect of what a string means: as a name of another dialect, or, with none, as it is spelled
+abbrev pub text_translation : Option Dialect → List ℕ → Option LinuxLibc → Dialect → Result (List ℕ) TextError
+text_translation from text c to = written_text text c to (dialect_reading from text)
+
+-- what a result says
+abbrev pub name_or_error : Result Name TextError → Result (List ℕ) TextError
+name_or_error (Ok name) = Ok (name_bytes name)
+name_or_error (Err error) = Err error

@@ -1,14 +1,15 @@
 //! Names of targets in other tools.
 ghost use Rattle.std.specs.Prelude.{◌≡◌, option_map, slice_get};
+ghost use Rattle.tool_names.specs.Completion.{completed};
 ghost use Rattle.tool_names.specs.Spelling.{spelled_reading};
 ghost use Rattle.tool_names.specs.ToolNames.{name_bytes, name_meaning, triple_name, unread_of};
-ghost use Rattle.lexicon_c.specs.Dialects.{GivesTriple, IsNameSuggestion, dialect_reading, dialects_by_number, name_error, reason_of};
-ghost use Rattle.lexicon_c.specs.Triple.{Answers, OnTriple};
+ghost use Rattle.lexicon_c.specs.Dialects.{GivesTriple, IsNameSuggestion, c_libraries_by_number, dialect_reading, dialects_by_number, name_error, name_or_error, reason_of, text_translation, write_error};
+ghost use Rattle.lexicon_c.specs.Triple.{Answers, AreNumbersOf, OnTriple};
 
 use crate::error::{TextError, error_of};
 use crate::triple::{Fault, NumberedTriple, numbers_of, triple_in};
 use tool_names::laws::{names_are_canonical, refused_parts_are_in_the_string};
-use tool_names::{Dialect, Name, NameError};
+use tool_names::{LinuxLibc, Dialect, Name, NameError, TranslateError, WriteError};
 
 /// The dialect with this number. 0 is no dialect: that of strings that are spelled like triples.
 pub fn dialect_at(number: u32) -> Option<Option<Dialect>>
@@ -70,6 +71,62 @@ pub fn name_in(dialect: Dialect, triple: &NumberedTriple<'_>) -> Result<Option<N
     }
 }
 
+/// The C library with this number. 0 is none.
+pub fn c_library_at(number: u32) -> Option<Option<LinuxLibc>>
+    ensures { result ≡ slice_get c_libraries_by_number number }
+{
+    match number {
+        0 => Some(None),
+        1 => Some(Some(LinuxLibc::Glibc)),
+        2 => Some(Some(LinuxLibc::Musl)),
+        _ => None,
+    }
+}
+
+/// The triple with the usual environment of a C library, if it is of Linux and states none.
+#[tactic(auto, unfolding(tool_names::specs::Completion::completed))]
+pub fn complete<'a>(
+    triple: &NumberedTriple<'a>,
+    c_library: LinuxLibc,
+) -> Result<NumberedTriple<'a>, Fault>
+    ensures { OnTriple triple.now (λ t. Answers (AreNumbersOf (completed c_library t))) result }
+{
+    match triple_in(triple) {
+        Ok(named) => Ok(numbers_of(&tool_names::complete(&named, c_library))),
+        Err(fault) => Err(fault),
+    }
+}
+
+/// The name in a dialect of what a name of another one means, or a string that is spelled like a triple, with a C library
+/// if one is said; or why there is none.
+#[tactic(auto, unfolding(tool_names::specs::Translation::translation))]
+pub fn translate(
+    from: Option<Dialect>,
+    text: &str,
+    c_library: Option<LinuxLibc>,
+    to: Dialect,
+) -> Result<Name, TextError>
+    ensures { name_or_error result ≡ text_translation from text.now c_library to }
+{
+    match from {
+        Some(from) => match from.translate(text, c_library, to) {
+            Ok(name) => Ok(name),
+            Err(TranslateError::Read(error)) => Err(name_error(error, text)),
+            Err(TranslateError::Write(error)) => Err(write_error(error, text)),
+        },
+        None => {
+            refused_parts_are_in_the_string();
+            match tool_names::read(text) {
+                Ok(triple) => match to.write_with(&triple, c_library) {
+                    Ok(name) => Ok(name),
+                    Err(error) => Err(write_error(error, text)),
+                },
+                Err(refusal) => Err(error_of(&refusal)),
+            }
+        }
+    }
+}
+
 /// Why a name of a dialect has no triple, if it is a name and has none.
 pub fn reason(dialect: Dialect, name: &str) -> Option<&'static str>
     ensures { option_map (λ why. why.now) result ≡ reason_of (name_meaning dialect name.now) }
@@ -98,6 +155,20 @@ fn name_error(error: NameError, name: &str) -> TextError
         status: match error {
             NameError::Unknown => 12,
             NameError::WithoutTriple(_) => 13,
+        },
+        start: 0,
+        end: name.len(),
+    }
+}
+
+/// Why what a name means isn't written, as numbers. The range is the whole name.
+fn write_error(error: WriteError, name: &str) -> TextError
+    ensures { result ≡ write_error name.now error }
+{
+    TextError {
+        status: match error {
+            WriteError::NoName => 14,
+            WriteError::NeedsCLibrary => 17,
         },
         start: 0,
         end: name.len(),

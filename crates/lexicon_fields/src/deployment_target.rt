@@ -95,7 +95,7 @@ pub fn version_text(version: DeploymentTarget, buffer: &mut [u8; MAX_VERSION_LEN
     match from_utf8(text) {
         Ok(text) => text,
         // Digits and dots are UTF-8.
-        Err(_) => "",
+        Err(_) => unreachable!(),
     }
 }
 

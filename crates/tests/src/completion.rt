@@ -130,8 +130,9 @@ oci windows/amd64 debian glibc has no name
 oci linux/foo debian glibc isn't read
 go linux/mips64 gnu glibc mips64-linux-gnuabi64
 node linux-x64-musl debian glibc musl-linux-amd64
-debian armhf oci musl linux/arm
-debian armel node - linux-arm-glibc";
+debian armhf go musl linux/arm
+debian armhf oci musl has no name
+debian armhf node - linux-arm-glibc";
 
 #[test]
 fn names_are_translated(rt: HostRuntime) {

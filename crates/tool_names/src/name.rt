@@ -49,7 +49,7 @@ impl Name {
         match from_utf8(&self.bytes[..self.length]) {
             Ok(text) => text,
             // A name is UTF-8.
-            Err(_) => "",
+            Err(_) => unreachable!(),
         }
     }
 

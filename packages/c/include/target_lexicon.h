@@ -403,6 +403,21 @@ enum lexicon_data_model {
   LEXICON_DATA_MODEL_LP64 = 4,
   LEXICON_DATA_MODEL_ILP64 = 5
 };
+/* The C library that a triple states, by its environment or by a system that has only one. */
+enum lexicon_c_library {
+  LEXICON_C_LIBRARY_NONE = 0,
+  LEXICON_C_LIBRARY_BIONIC = 1, /* Android's */
+  LEXICON_C_LIBRARY_GLIBC = 2,  /* the GNU C library */
+  LEXICON_C_LIBRARY_MINGW = 3,  /* MinGW, over a library of Windows */
+  LEXICON_C_LIBRARY_MSVC = 4,   /* Microsoft's Visual C++ */
+  LEXICON_C_LIBRARY_MUSL = 5,
+  LEXICON_C_LIBRARY_NEWLIB = 6, /* of embedded systems */
+  LEXICON_C_LIBRARY_RELIBC = 7, /* that of Redox */
+  LEXICON_C_LIBRARY_SYSTEM = 8, /* the system's own, which no other system has */
+  LEXICON_C_LIBRARY_UCLIBC = 9
+};
+/* How floating-point arguments are passed: in integer registers, or in floating-point registers. */
+enum lexicon_float_abi { LEXICON_FLOAT_ABI_NONE = 0, LEXICON_FLOAT_ABI_SOFT = 1, LEXICON_FLOAT_ABI_HARD = 2 };
 
 struct lexicon_triple {
   uint16_t architecture;     /* enum lexicon_architecture */
@@ -461,6 +476,10 @@ struct lexicon_triple_facts {
   uint8_t implied_format;             /* enum lexicon_binary_format: what the other fields imply */
   uint8_t object_format;              /* likewise: what toolchains write, where the triple leaves it open */
   uint8_t family;                     /* enum lexicon_family */
+  uint8_t c_library;                  /* enum lexicon_c_library */
+  uint8_t float_abi;                  /* enum lexicon_float_abi */
+  bool is_unix;                       /* rustc counts the system to the family unix */
+  uint8_t long_double_size, long_double_alignment, wchar_size, wchar_alignment; /* of C's long double and wchar_t, in bytes */
 };
 
 /* A buffer of text_size + LEXICON_MAX_GROWTH + 1 bytes always has room for what lexicon_print writes for the triple that the
@@ -504,7 +523,8 @@ LEXICON_CHECKED LEXICON_NONNULL(1, 2, 3)
 enum lexicon_status lexicon_same_target(const struct lexicon_triple *first, const struct lexicon_triple *second, bool *answer);
 
 /* What a compiler asks about a triple. facts_size is sizeof *facts: so the library may be newer than the header that a program
-   was compiled with, and have more members, or older, and then the members that it doesn't have become 0. */
+   was compiled with, and have more members, or older, and then the members that it doesn't have become 0. What comes after the
+   size isn't computed: up to implied_format takes the least time, then up to c_library. */
 LEXICON_CHECKED LEXICON_NONNULL(1, 2)
 enum lexicon_status lexicon_facts(const struct lexicon_triple *triple, struct lexicon_triple_facts *facts, size_t facts_size);
 

@@ -133,6 +133,21 @@ enum class DataModel : std::uint8_t {
   ILP64 = LEXICON_DATA_MODEL_ILP64
 };
 
+// The C library that a triple states. System is the system's own, which no other system has.
+enum class CLibrary : std::uint8_t {
+  Bionic = LEXICON_C_LIBRARY_BIONIC,
+  Glibc = LEXICON_C_LIBRARY_GLIBC,
+  Mingw = LEXICON_C_LIBRARY_MINGW,
+  Msvc = LEXICON_C_LIBRARY_MSVC,
+  Musl = LEXICON_C_LIBRARY_MUSL,
+  Newlib = LEXICON_C_LIBRARY_NEWLIB,
+  Relibc = LEXICON_C_LIBRARY_RELIBC,
+  System = LEXICON_C_LIBRARY_SYSTEM,
+  Uclibc = LEXICON_C_LIBRARY_UCLIBC
+};
+// How floating-point arguments are passed: in integer registers, or in floating-point registers.
+enum class FloatAbi : std::uint8_t { Soft = LEXICON_FLOAT_ABI_SOFT, Hard = LEXICON_FLOAT_ABI_HARD };
+
 // Where the value of a field comes from: nowhere, so that it is unknown; a part of the string; or the other fields.
 enum class Origin : std::uint8_t {
   NotGiven = LEXICON_ORIGIN_NOT_GIVEN, Given = LEXICON_ORIGIN_GIVEN, Implied = LEXICON_ORIGIN_IMPLIED, Alias = LEXICON_ORIGIN_ALIAS
@@ -211,8 +226,25 @@ inline std::string_view name(DataModel value) {
   return detail::name_at(names, static_cast<std::size_t>(value));
 }
 
+inline std::string_view name(CLibrary value) {
+  constexpr const char* names[] = {"", "bionic", "glibc", "mingw", "msvc", "musl", "newlib", "relibc", "system", "uclibc"};
+  return detail::name_at(names, static_cast<std::size_t>(value));
+}
+inline std::string_view name(FloatAbi value) {
+  constexpr const char* names[] = {"", "soft", "hard"};
+  return detail::name_at(names, static_cast<std::size_t>(value));
+}
+
 // Each value is written by its name.
 template <class Value> auto operator<<(std::ostream& out, Value value) -> decltype(out << name(value)) { return out << name(value); }
+
+// The size and the alignment of a type of C, in bytes.
+struct TypeLayout {
+  unsigned size = 0, alignment = 0;
+
+  friend bool operator==(TypeLayout a, TypeLayout b) { return a.size == b.size && a.alignment == b.alignment; }
+  friend bool operator!=(TypeLayout a, TypeLayout b) { return !(a == b); }
+};
 
 struct Version {
   std::uint16_t major = 0;
@@ -363,32 +395,42 @@ class Triple {
   }
 
   // What a compiler asks. Sizes of C's types are in bytes.
-  std::optional<Endianness> endianness() const { return detail::answer<Endianness>(facts().endianness); }
-  std::optional<unsigned> pointer_width() const { return detail::answer<unsigned>(facts().pointer_width); }
+  std::optional<Endianness> endianness() const { return detail::answer<Endianness>(queries().endianness); }
+  std::optional<unsigned> pointer_width() const { return detail::answer<unsigned>(queries().pointer_width); }
   std::optional<CallingConvention> default_calling_convention() const {
-    return detail::answer<CallingConvention>(facts().default_calling_convention);
+    return detail::answer<CallingConvention>(queries().default_calling_convention);
   }
-  std::optional<DataModel> data_model() const { return detail::answer<DataModel>(facts().data_model); }
-  std::optional<unsigned> short_size() const { return detail::answer<unsigned>(facts().short_size); }
-  std::optional<unsigned> int_size() const { return detail::answer<unsigned>(facts().int_size); }
-  std::optional<unsigned> long_size() const { return detail::answer<unsigned>(facts().long_size); }
-  std::optional<unsigned> long_long_size() const { return detail::answer<unsigned>(facts().long_long_size); }
-  std::optional<unsigned> float_size() const { return detail::answer<unsigned>(facts().float_size); }
-  std::optional<unsigned> double_size() const { return detail::answer<unsigned>(facts().double_size); }
-  BinaryFormat implied_format() const { return static_cast<BinaryFormat>(facts().implied_format); }
+  std::optional<DataModel> data_model() const { return detail::answer<DataModel>(queries().data_model); }
+  std::optional<unsigned> short_size() const { return detail::answer<unsigned>(queries().short_size); }
+  std::optional<unsigned> int_size() const { return detail::answer<unsigned>(queries().int_size); }
+  std::optional<unsigned> long_size() const { return detail::answer<unsigned>(queries().long_size); }
+  std::optional<unsigned> long_long_size() const { return detail::answer<unsigned>(queries().long_long_size); }
+  std::optional<unsigned> float_size() const { return detail::answer<unsigned>(queries().float_size); }
+  std::optional<unsigned> double_size() const { return detail::answer<unsigned>(queries().double_size); }
+  BinaryFormat implied_format() const { return static_cast<BinaryFormat>(formats().implied_format); }
   // The format that toolchains write, where the triple leaves it open: COFF for UEFI, though its triple implies ELF.
-  BinaryFormat object_format() const { return static_cast<BinaryFormat>(facts().object_format); }
-  Family family() const { return static_cast<Family>(facts().family); }
-  bool is_thumb() const { return facts().is_thumb; }
-  bool is_like_darwin() const { return facts().is_like_darwin; }
+  BinaryFormat object_format() const { return static_cast<BinaryFormat>(formats().object_format); }
+  Family family() const { return static_cast<Family>(formats().family); }
+  bool is_thumb() const { return queries().is_thumb; }
+  bool is_like_darwin() const { return queries().is_like_darwin; }
   bool has_custom_vendor() const { return !custom_vendor_.empty(); }
 
-  // All of these at once.
-  lexicon_triple_facts facts() const {
-    lexicon_triple_facts facts = {};
-    lexicon_triple triple = c_triple();
-    return lexicon_facts(&triple, &facts, sizeof facts) == LEXICON_OK ? facts : lexicon_triple_facts{};
+  // What a driver asks.
+  std::optional<CLibrary> c_library() const { return detail::answer<CLibrary>(facts().c_library); }
+  std::optional<FloatAbi> float_abi() const { return detail::answer<FloatAbi>(facts().float_abi); }
+  // rustc counts the system to the family unix.
+  bool is_unix() const { return facts().is_unix; }
+  std::optional<TypeLayout> long_double() const {
+    auto it = facts();
+    return layout(it.long_double_size, it.long_double_alignment);
   }
+  std::optional<TypeLayout> wchar() const {
+    auto it = facts();
+    return layout(it.wchar_size, it.wchar_alignment);
+  }
+
+  // All of these at once.
+  lexicon_triple_facts facts() const { return facts_up_to(sizeof(lexicon_triple_facts)); }
 
   // The printed triple, and that of the canonical form, which is a key.
   std::string printed() const {
@@ -439,6 +481,18 @@ class Triple {
   }
 
  private:
+  // The facts that lie in the first bytes of the struct: the others aren't computed.
+  lexicon_triple_facts facts_up_to(std::size_t size) const {
+    lexicon_triple_facts facts = {};
+    lexicon_triple triple = c_triple();
+    return lexicon_facts(&triple, &facts, size) == LEXICON_OK ? facts : lexicon_triple_facts{};
+  }
+  lexicon_triple_facts queries() const { return facts_up_to(offsetof(lexicon_triple_facts, implied_format)); }
+  lexicon_triple_facts formats() const { return facts_up_to(offsetof(lexicon_triple_facts, c_library)); }
+  static std::optional<TypeLayout> layout(unsigned size, unsigned alignment) {
+    return size == 0 ? std::nullopt : std::make_optional(TypeLayout{size, alignment});
+  }
+
   // The triple of a struct that is one. What isn't read of it may have any value.
   explicit Triple(const lexicon_triple& it) {
     numbers_.architecture = it.architecture;
@@ -471,7 +525,7 @@ class Triple {
   // The triple of a struct, perhaps with the format that its other fields imply.
   static std::optional<Triple> finished(const lexicon_triple& it, bool is_implied) {
     auto triple = from_c(it);
-    if (triple && is_implied) triple->numbers_.binary_format = triple->facts().implied_format;
+    if (triple && is_implied) triple->numbers_.binary_format = triple->formats().implied_format;
     return triple;
   }
 

@@ -110,6 +110,8 @@ fn names_of_answers(prefix: &str, of: &str) -> Vec<&'static str> {
 fn the_conventions_and_models_are_those_of_the_queries() {
     let conventions = names_of_answers("LEXICON_CALLING_CONVENTION_", "CallingConvention");
     let models = names_of_answers("LEXICON_DATA_MODEL_", "DataModel");
+    assert_eq!(names_of_answers("LEXICON_C_LIBRARY_", "CLibrary").len(), 10);
+    assert_eq!(names_of_answers("LEXICON_FLOAT_ABI_", "FloatAbi"), ["", "soft", "hard"]);
     for (number, architecture) in (0..).map_while(|it| Some((it, architecture_at(it)?))) {
         for (system_number, operating_system) in (0..).map_while(|it| Some((it, operating_system_at(it, None)?))) {
             let triple = TripleRef { architecture, operating_system, ..TripleRef::unknown() };
@@ -211,7 +213,12 @@ fn the_structs_are_those_of_the_library() {
     let numbers = fields(triple, "TripleNumbers");
     assert_eq!(members("lexicon_triple"), flattened(fields(library, "Triple"), "TripleNumbers", &numbers));
     let sizes: Vec<_> = fields(facts, "TypeSizes").into_iter().map(|(of, name)| (of, name + "_size")).collect();
-    assert_eq!(members("lexicon_triple_facts"), flattened(fields(library, "Facts"), "TypeSizes", &sizes));
+    let groups = fields(library, "Facts").into_iter().flat_map(|(of, _)| flattened(fields(facts, &of), "TypeSizes", &sizes));
+    let layout = |it: (String, String)| match &*it.0 {
+        "LayoutNumbers" => fields(facts, "LayoutNumbers").into_iter().map(|(of, name)| (of, format!("{}_{name}", it.1))).collect(),
+        _ => vec![it],
+    };
+    assert_eq!(members("lexicon_triple_facts"), groups.flat_map(layout).collect::<Vec<_>>());
     assert_eq!(members("lexicon_error"), fields(error, "TextError"));
     assert_eq!(members("lexicon_source"), fields(sources, "FieldSource"));
     assert_eq!(members("lexicon_sources"), fields(sources, "FieldSources"));

@@ -28,10 +28,11 @@ use core::{slice, str};
 use error_text::{line, line_and_caret, suggestion};
 use lines::settle_lines;
 use names::{c_name, c_reason};
-use proved::triple::CUSTOM_VENDOR;
+use proved::triple::{triple_in, CUSTOM_VENDOR};
+use proved::triple_facts::{driver_facts_of, format_facts_of, query_facts_of};
 use proved::{
-    dialect_at, explain, field_at, name_at, name_in, name_suggestion, number_in, parse, print, read, reason, same_target, settle, Fault,
-    FieldSource, FieldSources, NumberedTriple, TextError, TripleFacts, TripleNumbers, TypeSizes,
+    dialect_at, explain, field_at, name_at, name_in, name_suggestion, number_in, parse, print, read, reason, same_target, settle,
+    DriverFacts, Fault, FieldSource, FieldSources, FormatFacts, NumberedTriple, QueryFacts, TextError, TripleNumbers,
 };
 use target_lexicon::{tool_names, Field};
 use text::{write_text, Text};
@@ -71,40 +72,17 @@ pub struct Triple {
     custom_vendor_size: usize,
 }
 
-/// `struct lexicon_triple_facts`. First is what the queries of the Rust crate answer. A later version adds members at the end.
+/// `struct lexicon_triple_facts`: the groups of facts. A later version adds one at the end.
 #[repr(C)]
 pub struct Facts {
-    endianness: u8,
-    pointer_width: u8,
-    default_calling_convention: u8,
-    data_model: u8,
-    sizes: TypeSizes,
-    is_thumb: bool,
-    is_like_darwin: bool,
-    has_custom_vendor: bool,
-    implied_format: u8,
-    object_format: u8,
-    family: u8,
+    queries: QueryFacts,
+    formats: FormatFacts,
+    driver: DriverFacts,
 }
 
-impl From<TripleFacts> for Facts {
-    #[inline(always)]
-    fn from(it: TripleFacts) -> Facts {
-        Facts {
-            endianness: it.endianness,
-            pointer_width: it.pointer_width,
-            default_calling_convention: it.default_calling_convention,
-            data_model: it.data_model,
-            sizes: it.sizes,
-            is_thumb: it.is_thumb,
-            is_like_darwin: it.is_like_darwin,
-            has_custom_vendor: it.has_custom_vendor,
-            implied_format: it.implied_format,
-            object_format: it.object_format,
-            family: it.family,
-        }
-    }
-}
+/// Where the second group begins, and the third.
+const FORMATS: usize = size_of::<QueryFacts>();
+const DRIVER: usize = FORMATS + size_of::<FormatFacts>();
 
 /// The sizes that the structs of target_lexicon.h have, with words of 64 bits or of 32.
 const _: () = {
@@ -113,7 +91,7 @@ const _: () = {
     assert!(size_of::<Triple>() == if word == 8 { 32 } else { 20 });
     assert!(size_of::<TextError>() == 3 * word);
     assert!(size_of::<FieldSources>() == 15 * word);
-    assert!(size_of::<Facts>() == 16);
+    assert!(size_of::<Facts>() == 23);
 };
 
 impl Triple {
@@ -311,23 +289,49 @@ pub unsafe extern "C" fn lexicon_facts(triple: *const Triple, facts: *mut u8, fa
     if facts_size > MAX_SIZE {
         return TOO_LARGE;
     }
-    match proved::facts(&unsafe { Triple::read(triple) }) {
-        Ok(it) if facts_size == size_of::<Facts>() => unsafe { facts.cast::<Facts>().write(it.into()) },
-        Ok(it) => unsafe { write_part(&it.into(), facts, facts_size) },
+    if facts_size <= FORMATS {
+        unsafe { write_facts::<false>(triple, facts, facts_size) }
+    } else {
+        unsafe { write_facts::<true>(triple, facts, facts_size) }
+    }
+}
+
+/// Writes the first group of facts of a triple, and if `MORE` the others, as far as the caller's struct has room. The first
+/// alone takes fewer instructions where it is compiled by itself.
+#[inline(never)]
+unsafe fn write_facts<const MORE: bool>(triple: *const Triple, facts: *mut u8, facts_size: usize) -> Status {
+    let numbered = unsafe { Triple::read(triple) };
+    let asked = match triple_in(&numbered) {
+        Ok(asked) => asked,
         Err(fault) => return fault.into(),
+    };
+    unsafe {
+        write_group(query_facts_of(&asked), facts, facts_size);
+        if !MORE {
+            return OK;
+        }
+        write_group(format_facts_of(&asked), facts.add(FORMATS), facts_size - FORMATS);
+        if facts_size > DRIVER {
+            write_group(driver_facts_of(&asked), facts.add(DRIVER), facts_size - DRIVER);
+        }
+        // What this version doesn't answer has no answer.
+        if facts_size > size_of::<Facts>() {
+            facts.add(size_of::<Facts>()).write_bytes(0, facts_size - size_of::<Facts>());
+        }
     }
     OK
 }
 
-/// Writes facts into the caller's struct, which has fewer members than that of this version, or more: these become zeros,
-/// which are no answer.
-#[cold]
-unsafe fn write_part(facts: &Facts, to: *mut u8, size: usize) {
-    let known = size.min(size_of::<Facts>());
-    // SAFETY: the caller's struct of this size, whose members are bytes.
+/// Writes a group of facts, or as much of it as the rest of the caller's struct has.
+#[inline(always)]
+unsafe fn write_group<Group>(group: Group, to: *mut u8, size: usize) {
+    // SAFETY: the caller's struct, whose members are bytes.
     unsafe {
-        ptr::copy_nonoverlapping((facts as *const Facts).cast(), to, known);
-        to.add(known).write_bytes(0, size - known);
+        if size >= size_of::<Group>() {
+            to.cast::<Group>().write(group);
+        } else {
+            ptr::copy_nonoverlapping(addr_of!(group).cast(), to, size);
+        }
     }
 }
 

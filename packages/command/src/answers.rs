@@ -4,7 +4,7 @@ use crate::input::{Place, Target};
 use crate::json::{Json, Object};
 use crate::refusal::Parsed;
 use std::io::{self, Write};
-use target_lexicon::tool_names::{self, changes, object_format, read, Change, Dialect};
+use target_lexicon::tool_names::{self, changes, object_format, read, Change, Dialect, RustcCfg};
 use target_lexicon::{
     default_binary_format, Architecture, CDataModel, Field, Size, Source, TripleRef, VendorRef,
 };
@@ -182,6 +182,28 @@ fn family(architecture: Architecture) -> String {
         Some((family, _)) => family.to_lowercase(), // as in `Arm(Armv7)`
         None => architecture.name().into(),
     }
+}
+
+/// The values of rustc's cfg options.
+pub fn cfg(triple: &TripleRef<'_>) -> Object {
+    let cfg = RustcCfg::of(triple);
+    let families = cfg.target_family.iter().map(|family| Json::from(*family));
+    vec![
+        ("target_arch", cfg.target_arch.into()),
+        ("target_os", cfg.target_os.into()),
+        ("target_env", cfg.target_env.into()),
+        ("target_abi", cfg.target_abi.into()),
+        ("target_family", Json::List(families.collect())),
+        ("target_vendor", cfg.target_vendor.into()),
+        (
+            "target_pointer_width",
+            cfg.target_pointer_width.map(|it| it.bits()).into(),
+        ),
+        (
+            "target_endian",
+            cfg.target_endian.map(|it| it.name()).into(),
+        ),
+    ]
 }
 
 /// Each fact, with the name that it has in every language.

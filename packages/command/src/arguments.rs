@@ -45,12 +45,29 @@ const OTHER_NAMES: [(&str, Dialect); 2] = [
 ];
 // end of what is written
 
-/// An option for one of the dialects.
-fn dialect(name: &'static str, dialects: &[Dialect], help: &'static str) -> Arg {
-    let names = dialects.iter().map(|dialect| {
+/// The value of `--from` for all dialects.
+pub const ANY: &str = "any";
+
+/// An option for the C library of a triple that states none.
+fn libc() -> Arg {
+    Arg::new("libc")
+        .long("libc")
+        .value_name("LIBRARY")
+        .value_parser(PossibleValuesParser::new(["glibc", "musl"]))
+        .help("The C library of targets on Linux that state none")
+}
+
+/// The names of dialects, with their other names.
+fn words(dialects: &[Dialect]) -> impl Iterator<Item = PossibleValue> + '_ {
+    dialects.iter().map(|dialect| {
         let others = OTHER_NAMES.iter().filter(|(_, of)| of == dialect);
         PossibleValue::new(dialect.as_str()).aliases(others.map(|(name, _)| *name))
-    });
+    })
+}
+
+/// An option for one of the dialects.
+fn dialect(name: &'static str, dialects: &[Dialect], help: &'static str) -> Arg {
+    let names = words(dialects);
     Arg::new(name)
         .long(name)
         .value_name("DIALECT")
@@ -158,7 +175,17 @@ pub fn command() -> Command {
                  Examples:\n  $ target-lexicon read --from oci linux/arm/v7\n  $ target-lexicon read \"$(cc -dumpmachine)\"",
             )
             .mut_arg("target", |names| names.value_name("NAME"))
-            .arg(dialect("from", &DIALECTS, "The tool whose names are read"))
+            .arg(
+                dialect(
+                    "from",
+                    &DIALECTS[..READ],
+                    "The tool whose names are read; `any` writes a line for each that has the name",
+                )
+                .value_parser(PossibleValuesParser::new(
+                    words(&DIALECTS[..READ]).chain([PossibleValue::new(ANY)]),
+                )),
+            )
+            .arg(libc())
             .arg(
                 flag("changes", "Show which parts of a name are read as others, such as amd64 as x86_64")
                     .conflicts_with("from"),
@@ -168,7 +195,22 @@ pub fn command() -> Command {
                 "Write the name that another tool has for each target",
                 "Example:\n  $ target-lexicon write --to debian aarch64-unknown-linux-gnu",
             )
-            .arg(dialect("to", &DIALECTS[ONLY_READ..], "The tool whose names are written").required(true)),
+            .arg(dialect("to", &DIALECTS[ONLY_READ..], "The tool whose names are written").required(true))
+            .arg(libc()),
+            of_targets(
+                "translate",
+                "Write the name that one tool has for what a name of another means",
+                "Example:\n  $ target-lexicon translate --from oci --to debian --libc glibc linux/arm64",
+            )
+            .mut_arg("target", |names| names.value_name("NAME"))
+            .arg(dialect("from", &DIALECTS[..READ], "The tool whose names are read").required(true))
+            .arg(dialect("to", &DIALECTS[ONLY_READ..], "The tool whose names are written").required(true))
+            .arg(libc()),
+            of_targets(
+                "cfg",
+                "Write the values of rustc's cfg options for a target",
+                "Example:\n  $ target-lexicon cfg aarch64-apple-ios",
+            ),
             of_targets(
                 "elsewhere",
                 "Show the names that other tools have for a target",

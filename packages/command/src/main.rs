@@ -12,7 +12,7 @@ mod output;
 mod refusal;
 mod streams;
 
-use arguments::FIELDS;
+use arguments::{ANY, FIELDS};
 use clap::error::{ContextKind, ContextValue, ErrorKind};
 use clap::ArgMatches;
 use clap_complete::Shell;
@@ -26,7 +26,7 @@ use std::env;
 use std::io::{self, Write};
 use std::path::Path;
 use std::process;
-use target_lexicon::tool_names::{Dialect, Name};
+use target_lexicon::tool_names::{complete, Dialect, LinuxLibc, Name, RustcCfg};
 use target_lexicon::TripleRef;
 
 /// What ends a run early.
@@ -54,21 +54,37 @@ enum Call {
     Settle,
     Check,
     Matrix,
-    Read(Option<Dialect>),
+    Read(From),
     Write(Dialect),
+    Translate(Dialect, Dialect),
+    Cfg,
     Elsewhere,
+}
+
+/// Whose names are read.
+#[derive(Clone, Copy, PartialEq, Eq)]
+pub enum From {
+    /// Strings that are spelled like triples.
+    Triples,
+    Dialect(Dialect),
+    /// Each of them that has the name.
+    Any,
 }
 
 /// What was found out about a target.
 enum Found<'a> {
     Parsed(refusal::Parsed<'a>),
     Read(TripleRef<'a>),
+    /// Which dialects have the name, and what it means in each.
+    Meanings(Vec<(&'static str, TripleRef<'a>)>),
     Name(Name),
 }
 
 /// A call that answers for targets.
 struct Run {
     call: Call,
+    /// The C library that the user says, for a triple of Linux that states none.
+    libc: Option<LinuxLibc>,
     is_strict: bool,
     is_quiet: bool,
     skips_comments: bool,
@@ -114,6 +130,7 @@ impl Answers for Run {
                             target.text,
                             answers::facts(&explanation.triple),
                         ),
+                        Call::Cfg => write!(out, "{}", RustcCfg::of(&explanation.triple)),
                         Call::Elsewhere => answers::write_facts(
                             out,
                             target.text,
@@ -127,6 +144,11 @@ impl Answers for Run {
                             true => answers::write_changes(out, target.text),
                             false => Ok(()),
                         }
+                    }
+                    Found::Meanings(meanings) => {
+                        meanings.into_iter().try_for_each(|(name, triple)| {
+                            writeln!(out, "{name}\t{}", answers::canonical(triple))
+                        })
                     }
                     Found::Name(name) => writeln!(out, "{name}"),
                 })
@@ -175,16 +197,34 @@ impl Run {
     }
 
     fn find<'a>(&self, text: &'a str) -> Result<Found<'a>, Refusal<'a>> {
-        if let Call::Read(dialect) = self.call {
-            return refusal::read(text, dialect).map(Found::Read);
+        match self.call {
+            Call::Read(From::Any) => {
+                let meanings = refusal::meanings(text)?;
+                let complete = |(name, triple)| (name, self.completed(triple));
+                return Ok(Found::Meanings(
+                    meanings.into_iter().map(complete).collect(),
+                ));
+            }
+            Call::Read(from) => {
+                return refusal::read(text, from).map(|it| Found::Read(self.completed(it)));
+            }
+            Call::Translate(from, to) => {
+                return refusal::translate(text, from, self.libc, to).map(Found::Name);
+            }
+            _ => {}
         }
         let explanation = refusal::explanation(text, self.is_strict)?;
         match self.call {
             Call::Write(dialect) => {
-                refusal::name_in(dialect, text, &explanation.triple).map(Found::Name)
+                refusal::name_in(dialect, text, self.libc, &explanation.triple).map(Found::Name)
             }
             _ => Ok(Found::Parsed(explanation)),
         }
+    }
+
+    /// The triple with the C library that the user says.
+    fn completed<'a>(&self, triple: TripleRef<'a>) -> TripleRef<'a> {
+        self.libc.map_or(triple, |libc| complete(&triple, libc))
     }
 
     /// The members of the object for what was found.
@@ -194,15 +234,23 @@ impl Run {
             Found::Parsed(explanation) => match self.call {
                 Call::Explain => answers::explained(explanation),
                 Call::Facts => answers::facts(&explanation.triple),
+                Call::Cfg => answers::cfg(&explanation.triple),
                 Call::Elsewhere => answers::elsewhere(&explanation.triple),
                 _ => canonical(explanation.triple),
             },
             Found::Read(triple) => {
                 let changes = match self.call {
-                    Call::Read(None) => answers::changed_parts(text),
+                    Call::Read(From::Triples) => answers::changed_parts(text),
                     _ => Json::Null,
                 };
                 [canonical(*triple), vec![("changes", changes)]].concat()
+            }
+            Found::Meanings(meanings) => {
+                let meaning = |(name, triple): &(&'static str, TripleRef<'_>)| {
+                    (*name, answers::canonical(*triple).to_string().into())
+                };
+                let meanings = Json::Object(meanings.iter().map(meaning).collect());
+                vec![("meanings", meanings)]
             }
             Found::Name(name) => vec![("name", name.as_str().into())],
         }
@@ -211,6 +259,7 @@ impl Run {
     fn new(call: Call, arguments: &ArgMatches) -> Self {
         Run {
             call,
+            libc: libc(call, arguments),
             is_strict: arguments.get_flag("strict"),
             is_quiet: arguments.get_flag("quiet"),
             skips_comments: arguments.get_flag("comments"),
@@ -231,17 +280,17 @@ impl Run {
     /// What the user may have meant by a target that is refused.
     fn note(&self, target: Target<'_>) -> Option<String> {
         let text = target.text.trim();
-        if let (false, Some(meant)) = (
-            matches!(self.call, Call::Read(_)),
-            answers::meaning_elsewhere(text),
-        ) {
-            return Some(format!(
-                "other tools mean `{meant}`, which `target-lexicon read` gives"
-            ));
+        let is_name = matches!(self.call, Call::Read(_) | Call::Translate(..));
+        if !is_name && TripleRef::from_str(text).is_err() {
+            if let Some(meant) = answers::meaning_elsewhere(text) {
+                return Some(format!(
+                    "other tools mean `{meant}`, which `target-lexicon read` gives"
+                ));
+            }
         }
         let command = match self.call {
-            Call::Read(None) => Some(""),
-            Call::Read(_) => None,
+            Call::Read(From::Triples) => Some(""),
+            Call::Read(_) | Call::Translate(..) => None,
             _ => Some("target-lexicon read "),
         };
         if let Some(note) = command.and_then(|command| refusal::dialects_note(command, text)) {
@@ -259,11 +308,13 @@ impl Run {
                 "there is a file of that name: `-f {}` answers for its lines",
                 visible(text)
             )),
-            _ if self.call == Call::Read(None) && text.contains('/') => {
+            _ if self.call == Call::Read(From::Triples) && text.contains('/') => {
                 Some("a name of another tool needs `--from`".to_string())
             }
             Place::Line { .. } if self.end_of_line == 0 => None,
-            Place::Line { .. } if !self.skips_comments && (text.is_empty() || text.contains('#')) => {
+            Place::Line { .. }
+                if !self.skips_comments && (text.is_empty() || text.contains('#')) =>
+            {
                 Some("with `--comments` blank lines and comments are skipped".to_string())
             }
             _ => None,
@@ -355,6 +406,21 @@ fn dialect(arguments: &ArgMatches, option: &str) -> Option<Dialect> {
     arguments.get_one::<String>(option)?.parse().ok()
 }
 
+/// Whose names are read.
+fn from(arguments: &ArgMatches) -> From {
+    match arguments.get_one::<String>("from").map(String::as_str) {
+        None => From::Triples,
+        Some(ANY) => From::Any,
+        Some(_) => From::Dialect(dialect(arguments, "from").expect("it is a dialect")),
+    }
+}
+
+fn libc(call: Call, arguments: &ArgMatches) -> Option<LinuxLibc> {
+    let has_option = matches!(call, Call::Read(_) | Call::Write(_) | Call::Translate(..));
+    let requested = has_option.then(|| arguments.get_one::<String>("libc"))??;
+    requested.parse().ok()
+}
+
 fn run(arguments: &ArgMatches) -> Result<i32, Fault> {
     let (name, arguments) = arguments.subcommand().expect("a subcommand is required");
     let call = match name {
@@ -363,7 +429,12 @@ fn run(arguments: &ArgMatches) -> Result<i32, Fault> {
         "settle" => Call::Settle,
         "check" => Call::Check,
         "matrix" => Call::Matrix,
-        "read" => Call::Read(dialect(arguments, "from")),
+        "read" => Call::Read(from(arguments)),
+        "translate" => Call::Translate(
+            dialect(arguments, "from").expect("a dialect is required"),
+            dialect(arguments, "to").expect("a dialect is required"),
+        ),
+        "cfg" => Call::Cfg,
         "write" => Call::Write(dialect(arguments, "to").expect("a dialect is required")),
         "elsewhere" => Call::Elsewhere,
         _ => {

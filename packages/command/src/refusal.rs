@@ -2,8 +2,12 @@
 use crate::arguments::{DIALECTS, FIELDS};
 use crate::input::{Place, Target};
 use crate::json::{Json, Object};
+use crate::From;
 use std::io::{self, Write};
-use target_lexicon::tool_names::{self, Dialect, Name, NameError};
+use target_lexicon::tool_names::{
+    self, Dialect, LinuxLibc, Name, NameError, TranslateError, WriteError,
+};
+
 use target_lexicon::{Field, Source, Sources, TextPart, TripleRef, VendorRef};
 
 pub struct Refusal<'a> {
@@ -56,50 +60,64 @@ pub fn explanation(text: &str, is_strict: bool) -> Result<Parsed<'_>, Refusal<'_
     }
 }
 
-/// The triple that a name of another tool means; without a dialect, that of a string spelled like a triple.
-pub fn read(text: &str, dialect: Option<Dialect>) -> Result<TripleRef<'_>, Refusal<'_>> {
-    match dialect {
-        None => tool_names::read(text).map_err(Refusal::of_part),
-        Some(dialect) => dialect.read(text).map_err(|refusal| match refusal {
-            NameError::Unknown => Refusal {
-                names: Names::OfDialect(dialect, text),
-                ..Refusal::of_all(format!("unknown name of {dialect}"), text)
-            },
-            NameError::WithoutTriple(why) => Refusal {
-                reason: Some(why),
-                ..Refusal::of_all(
-                    format!("no triple means the same as the name of {dialect}"),
-                    text,
-                )
-            },
-        }),
+/// The triple that a name of another tool means, or a string that is spelled like a triple.
+pub fn read(text: &str, from: From) -> Result<TripleRef<'_>, Refusal<'_>> {
+    match from {
+        From::Dialect(dialect) => dialect
+            .read(text)
+            .map_err(|error| Refusal::of_name(text, dialect, error)),
+        _ => tool_names::read(text).map_err(Refusal::of_part),
     }
 }
 
+/// What a name means in each dialect that has it, and as a string that is spelled like a triple.
+pub fn meanings(text: &str) -> Result<Vec<(&'static str, TripleRef<'_>)>, Refusal<'_>> {
+    let of_dialect = |dialect: Dialect| Some((dialect.as_str(), dialect.read(text).ok()?));
+    let mut meanings: Vec<_> = DIALECTS.into_iter().filter_map(of_dialect).collect();
+    if let Ok(triple) = tool_names::read(text) {
+        meanings.insert(0, ("triple", triple));
+    }
+    if meanings.is_empty() {
+        return Err(Refusal::of_all("no tool has the name".into(), text));
+    }
+    Ok(meanings)
+}
+
+/// The name in one dialect of what a name in another means.
+pub fn translate(
+    text: &str,
+    from: Dialect,
+    libc: Option<LinuxLibc>,
+    to: Dialect,
+) -> Result<Name, Refusal<'_>> {
+    from.translate(text, libc, to).map_err(|error| match error {
+        TranslateError::Read(error) => Refusal::of_name(text, from, error),
+        TranslateError::Write(error) => Refusal::of_written(text, to, error),
+    })
+}
 /// How a name is read that isn't spelled like a triple, if it is one of another tool. `command` comes before the option.
 pub fn dialects_note(command: &str, name: &str) -> Option<String> {
     let options: Vec<_> = DIALECTS
         .into_iter()
+        // GNU's names are spelled like triples.
+        .filter(|dialect| *dialect != Dialect::Gnu)
         .filter(|dialect| !matches!(dialect.read(name), Err(NameError::Unknown)))
         .map(|dialect| format!("`{command}--from {dialect}`"))
         .collect();
-    (!options.is_empty()).then(|| {
-        format!(
-            "it is a name of another tool: use {}",
-            options.join(" or ")
-        )
-    })
+    (!options.is_empty())
+        .then(|| format!("it is a name of another tool: use {}", options.join(" or ")))
 }
 
 /// The name that another tool has for the triple of a target.
 pub fn name_in<'a>(
     dialect: Dialect,
     text: &'a str,
+    libc: Option<LinuxLibc>,
     triple: &TripleRef<'_>,
 ) -> Result<Name, Refusal<'a>> {
     dialect
-        .write(triple)
-        .ok_or_else(|| Refusal::of_all(format!("no name of {dialect} for"), text))
+        .write_with(triple, libc)
+        .map_err(|error| Refusal::of_written(text, dialect, error))
 }
 
 impl<'a> Refusal<'a> {
@@ -111,6 +129,32 @@ impl<'a> Refusal<'a> {
             part: refusal.part,
             names: Names::OfParts(refusal),
             reason: None,
+        }
+    }
+
+    /// A name that a dialect doesn't have, or that has no triple.
+    fn of_name(text: &'a str, dialect: Dialect, error: NameError) -> Self {
+        match error {
+            NameError::Unknown => Refusal {
+                names: Names::OfDialect(dialect, text),
+                ..Refusal::of_all(format!("unknown name of {dialect}"), text)
+            },
+            NameError::WithoutTriple(why) => Refusal {
+                reason: Some(why),
+                ..Refusal::of_all(
+                    format!("no triple means the same as the name of {dialect}"),
+                    text,
+                )
+            },
+        }
+    }
+
+    /// A target that has no name in a dialect.
+    fn of_written(text: &'a str, dialect: Dialect, error: WriteError) -> Self {
+        let needs = "it depends on the C library: use `--libc glibc` or `--libc musl`";
+        Refusal {
+            reason: (error == WriteError::NeedsCLibrary).then_some(needs),
+            ..Refusal::of_all(format!("no name of {dialect} for"), text)
         }
     }
 
@@ -201,7 +245,10 @@ impl Refusal<'_> {
     /// What is wrong, as the members of an object.
     pub fn members(&self, help: &Help) -> Object {
         let error = match self.reason {
-            Some(reason) => format!("no triple means the same: {reason}"),
+            Some(reason) if self.error.starts_with("no triple") => {
+                format!("no triple means the same: {reason}")
+            }
+            Some(reason) => format!("{} it: {reason}", self.error),
             None => self.error.clone(),
         };
         vec![

@@ -720,7 +720,7 @@ fn the_manual_and_the_completions_have_all_of_the_help() {
         .map_while(|line| line.strip_prefix("  ")?.split(' ').next())
         .filter(|call| *call != "help")
         .collect();
-    assert_eq!(calls.len(), 11);
+    assert_eq!(calls.len(), 13);
     for call in calls {
         assert!(
             page.contains(&format!(".B target-lexicon {call}\n")),
@@ -796,4 +796,66 @@ fn utf_16_is_named() {
     assert_eq!(status, 3);
     let (_, errors, _) = texts(&run_on(&["check"], b"z\x008\x000\0"));
     assert!(errors.contains("a file in UTF-16 has them"), "{errors}");
+}
+
+#[test]
+fn names_are_translated_with_a_c_library() {
+    let translated = |words: &[&str]| answers(&[&["translate", "--from", "oci"], words].concat());
+    let (out, _, status) = translated(&["--to", "rust", "--libc", "glibc", "linux/arm64/v8"]);
+    assert_eq!((out.as_str(), status), ("aarch64-unknown-linux-gnu\n", 0));
+    let (out, errors, status) = translated(&["--to", "debian", "linux/arm64"]);
+    assert_eq!((out.as_str(), status), ("", 1));
+    assert_eq!(
+        errors,
+        "error: no name of debian for `linux/arm64`\n  linux/arm64\n  \
+         ^^^^^^^^^^^ it depends on the C library: use `--libc glibc` or `--libc musl`\n"
+    );
+    assert!(translated(&["--to", "debian", "linux/foo"])
+        .1
+        .contains("unknown name of oci"));
+    let written = [
+        "write",
+        "--to",
+        "rust",
+        "--libc",
+        "musl",
+        "armv7-unknown-linux",
+    ];
+    assert_eq!(answers(&written).0, "armv7-unknown-linux-musleabihf\n");
+    let read = ["read", "--from", "go", "--libc", "musl", "linux/arm64"];
+    assert_eq!(answers(&read).0, "aarch64-unknown-linux-musl\n");
+}
+
+#[test]
+fn any_tool_may_have_a_name() {
+    let (out, _, status) = answers(&["read", "--from", "any", "linux/arm64"]);
+    assert_eq!(status, 0);
+    for line in [
+        "go\taarch64-unknown-linux\n",
+        "oci\taarch64-unknown-linux\n",
+    ] {
+        assert!(out.contains(line), "{out}");
+    }
+    assert_eq!(
+        json_of(&["read", "--from", "any", "--json", "linux/arm64"])[0]["meanings"]["oci"],
+        "aarch64-unknown-linux"
+    );
+    let (_, errors, status) = answers(&["read", "--from", "any", "foo/bar"]);
+    assert!(
+        errors.starts_with("error: no tool has the name `foo/bar`\n"),
+        "{errors}"
+    );
+    assert_eq!(status, 1);
+}
+
+#[test]
+fn values_of_rustc_are_written() {
+    assert_eq!(
+        answers(&["cfg", "wasm32-wasip1"]).0,
+        "target_abi=\"\"\ntarget_arch=\"wasm32\"\ntarget_endian=\"little\"\ntarget_env=\"p1\"\n\
+         target_family=\"wasm\"\ntarget_os=\"wasi\"\ntarget_pointer_width=\"32\"\ntarget_vendor=\"unknown\"\n"
+    );
+    let values = &json_of(&["cfg", "--json", "x86_64-pc-windows-msvc"])[0];
+    assert_eq!(values["target_family"], json!(["windows"]));
+    assert_eq!(values["target_pointer_width"], 64);
 }

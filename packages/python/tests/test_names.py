@@ -128,10 +128,11 @@ class Names(unittest.TestCase):
     def test_nearest_names(self):
         for dialect, name, nearest in (("go", "linux/amd46", "linux/amd64"), ("debian", "amd63", None), ("oci", "linux/arm/v9", None),
                                        ("node", "linux-x64-mulsl", "linux-x64-musl"), ("go", "plan10", None), ("python", "linux_x86_46", "linux_x86_64"),
-                                       ("python", "macosx_11_0_arm46", None), ("gnu", "x86_64-linux-gnuu", "x86_64-linux-gnu")):
+                                       ("python", "macosx_11_0_arm46", None), ("gnu", "x86_64-linux-gnuu", "x86_64-linux-gnu"),
+                                       ("rust", "x86_64-apple-darwn", "x86_64-apple-darwin")):
             error = self.refusal(name, dialect)
             self.assertEqual((error.suggestion, error.reason, str(error).endswith(f"^ did you mean `{nearest}`?")), (nearest, None, nearest is not None))
-        rows = [it for it in NAMES if "r" in it.ways and "13_2" not in it.name]
+        rows = [it for it in NAMES if "r" in it.ways and it.dialect != "gnu" and "13_2" not in it.name]
         found = sum(self.refusal(it.name[0] + it.name, it.dialect).suggestion == it.name for it in rows)
         self.assertGreater(found, len(rows) * 9 // 10)
 

@@ -3,7 +3,9 @@
 
 use crate::proved::error::{error_of, TextError};
 use crate::proved::triple::{numbers_of, triple_in, Fault, NumberedTriple};
-use target_lexicon::proved::tool_names::{Dialect, Name, NameError};
+use target_lexicon::proved::tool_names::{
+    Dialect, LinuxLibc, Name, NameError, TranslateError, WriteError,
+};
 
 /// The dialect with this number. 0 is no dialect: that of strings that are spelled like triples.
 #[must_use]
@@ -51,6 +53,54 @@ pub fn name_in(dialect: Dialect, triple: &NumberedTriple<'_>) -> Result<Option<N
     }
 }
 
+/// The C library with this number. 0 is none.
+#[must_use]
+pub fn c_library_at(number: u32) -> Option<Option<LinuxLibc>> {
+    match number {
+        0 => Some(None),
+        1 => Some(Some(LinuxLibc::Glibc)),
+        2 => Some(Some(LinuxLibc::Musl)),
+        _ => None,
+    }
+}
+
+/// The triple with the usual environment of a C library, if it is of Linux and states none.
+pub fn complete<'a>(
+    triple: &NumberedTriple<'a>,
+    c_library: LinuxLibc,
+) -> Result<NumberedTriple<'a>, Fault> {
+    match triple_in(triple) {
+        Ok(named) => Ok(numbers_of(&target_lexicon::proved::tool_names::complete(
+            &named, c_library,
+        ))),
+        Err(fault) => Err(fault),
+    }
+}
+
+/// The name in a dialect of what a name of another one means, or a string that is spelled like a triple, with a C library
+/// if one is said; or why there is none.
+pub fn translate(
+    from: Option<Dialect>,
+    text: &str,
+    c_library: Option<LinuxLibc>,
+    to: Dialect,
+) -> Result<Name, TextError> {
+    match from {
+        Some(from) => match from.translate(text, c_library, to) {
+            Ok(name) => Ok(name),
+            Err(TranslateError::Read(error)) => Err(name_error(error, text)),
+            Err(TranslateError::Write(error)) => Err(write_error(error, text)),
+        },
+        None => match target_lexicon::proved::tool_names::read(text) {
+            Ok(triple) => match to.write_with(&triple, c_library) {
+                Ok(name) => Ok(name),
+                Err(error) => Err(write_error(error, text)),
+            },
+            Err(refusal) => Err(error_of(&refusal)),
+        },
+    }
+}
+
 /// Why a name of a dialect has no triple, if it is a name and has none.
 #[must_use]
 pub fn reason(dialect: Dialect, name: &str) -> Option<&'static str> {
@@ -75,6 +125,18 @@ fn name_error(error: NameError, name: &str) -> TextError {
         status: match error {
             NameError::Unknown => 12,
             NameError::WithoutTriple(_) => 13,
+        },
+        start: 0,
+        end: name.len(),
+    }
+}
+
+/// Why what a name means isn't written, as numbers. The range is the whole name.
+fn write_error(error: WriteError, name: &str) -> TextError {
+    TextError {
+        status: match error {
+            WriteError::NoName => 14,
+            WriteError::NeedsCLibrary => 17,
         },
         start: 0,
         end: name.len(),

@@ -14,7 +14,9 @@ pub use calls::{
     comes_back, driver_facts, equal, explain, facts, format_facts, parse, print, query_facts,
     same_target, settle,
 };
-pub use dialects::{dialect_at, name_in, name_suggestion, read, reason};
+pub use dialects::{
+    c_library_at, complete, dialect_at, name_in, name_suggestion, read, reason, translate,
+};
 pub use error::{expected_at, TextError};
 pub use numbers::{name_at, number_in};
 pub use sources::{FieldSource, FieldSources};

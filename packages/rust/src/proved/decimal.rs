@@ -13,7 +13,7 @@ pub fn decimal_text(n: usize, buffer: &mut [u8; MAX_DECIMAL_LENGTH]) -> &str {
     match from_utf8(text) {
         Ok(text) => text,
         // Digits are UTF-8.
-        Err(_) => "",
+        Err(_) => unreachable!(),
     }
 }
 

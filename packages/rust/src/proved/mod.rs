@@ -4,6 +4,7 @@ pub(crate) mod architecture;
 pub(crate) mod binary_format;
 pub(crate) mod calling_convention;
 pub(crate) mod data_model;
+#[cfg_attr(not(feature = "tool_names"), allow(dead_code, unused_imports))]
 pub(crate) mod decimal;
 pub(crate) mod default_format;
 pub(crate) mod defaults;
@@ -18,6 +19,7 @@ pub(crate) mod operating_system;
 pub(crate) mod pointer_width;
 pub(crate) mod queries;
 pub(crate) mod read;
+#[cfg_attr(not(feature = "tool_names"), allow(dead_code, unused_imports))]
 pub(crate) mod reading;
 pub(crate) mod refusal;
 pub(crate) mod settle;
@@ -38,6 +40,7 @@ pub use architecture::{
 pub use binary_format::BinaryFormat;
 pub use calling_convention::CallingConvention;
 pub use data_model::{CDataModel, Size};
+#[cfg(feature = "tool_names")]
 pub use decimal::{decimal_text, MAX_DECIMAL_LENGTH};
 pub use default_format::default_binary_format;
 pub use defaults::{DefaultToHost, DefaultToUnknown};
@@ -49,10 +52,10 @@ pub use field::Field;
 pub use known_vendor::KnownVendor;
 pub use operating_system::OperatingSystem;
 pub use pointer_width::PointerWidth;
-pub use read::{expected_after, explain, first_part};
+pub use read::{explain, first_part};
 pub use reading::Reading;
 pub use refusal::{refusal_prefix, Refusal};
-pub use table::{fixed_row, row_order, FixedRow, ROW_COUNT};
+pub use table::fixed_row;
 pub use triple::Triple;
 pub use triple_ref::TripleRef;
 pub use vendor::{CustomVendor, Vendor};

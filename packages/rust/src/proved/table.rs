@@ -47,7 +47,6 @@ enum Meaning {
 type Row = (&'static str, u64, Meaning);
 
 /// The row of the string, or `None` if the string is neither a fixed name nor the alias `arm64`: a search by halves.
-/// `steps` ticks once for each row that is compared with the string: at least once, and at most eight times.
 #[must_use]
 #[inline(always)]
 pub fn fixed_row(text: &str) -> Option<FixedRow> {
@@ -73,7 +72,7 @@ fn row_number(text: &str) -> Option<usize> {
     None
 }
 
-/// The order by bytes of the string of row `i`, counted from 0, relative to `text`. `steps` ticks once.
+/// The order by bytes of the string of row `i`, counted from 0, relative to `text`.
 #[must_use]
 #[inline(always)]
 pub fn row_order(i: usize, text: &str) -> Ordering {

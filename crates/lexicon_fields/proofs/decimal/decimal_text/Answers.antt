@@ -17,8 +17,8 @@ put_decimal-end-requires c = omega (arith, decimal-short c.args.n (omega arith))
 pub shared_ref_as_front-text : goal.shared_ref_as_front-text
 shared_ref_as_front-text c = omega (arith, c.put_decimal-end.ensures.end_is, decimal-short c.args.n (omega arith))
 
-pub returns-in-Ok : goal.returns-in-Ok
-returns-in-Ok c = c.in-Ok.ensures.cases.0 ∙ put_taken c.put_decimal-end.ensures
+pub unreachable-requires : goal.unreachable-requires
+unreachable-requires c = c.in-Err.ensures.cases.0 (rw (put_taken c.put_decimal-end.ensures) (decimal-utf8 c.args.n (omega arith)))
 
-pub returns-in-Err : goal.returns-in-Err
-returns-in-Err c = absurd (c.in-Err.ensures.cases.0 (rw (put_taken c.put_decimal-end.ensures) (decimal-utf8 c.args.n (omega arith))))
+pub returns : goal.returns
+returns c = c.in-Ok.ensures.cases.0 ∙ put_taken c.put_decimal-end.ensures

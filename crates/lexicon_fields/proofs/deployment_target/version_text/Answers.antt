@@ -23,10 +23,10 @@ shared_ref_as_front-text c =
     let range : IsVersionInRange c.args.version = search rules in
     omega (arith, c.put_version-end.ensures.end_is, version-short c.args.version range)
 
-pub returns-in-Ok-clause-text : goal.returns-in-Ok-clause-text
-returns-in-Ok-clause-text c = c.in-Ok.ensures.cases.0 ∙ put_taken c.put_version-end.ensures
-
-pub returns-in-Err-clause-text : goal.returns-in-Err-clause-text
-returns-in-Err-clause-text c =
+pub unreachable-requires : goal.unreachable-requires
+unreachable-requires c =
     let range : IsVersionInRange c.args.version = search rules in
-    absurd (c.in-Err.ensures.cases.0 (rw (put_taken c.put_version-end.ensures) (version-utf8 c.args.version range)))
+    c.in-Err.ensures.cases.0 (rw (put_taken c.put_version-end.ensures) (version-utf8 c.args.version range))
+
+pub returns-clause-text : goal.returns-clause-text
+returns-clause-text c = c.in-Ok.ensures.cases.0 ∙ put_taken c.put_version-end.ensures

@@ -35,6 +35,7 @@ pub(crate) mod reading;
 pub(crate) mod rustc_cfg;
 #[cfg(feature = "tool_names")]
 pub(crate) mod shape;
+#[cfg_attr(not(feature = "tool_names"), allow(dead_code, unused_imports))]
 pub(crate) mod spelling;
 pub(crate) mod suggestions;
 #[cfg(feature = "tool_names")]
@@ -60,6 +61,7 @@ pub use names::NameError;
 pub use reading::read;
 #[cfg(feature = "tool_names")]
 pub use rustc_cfg::{is_unix, RustcCfg};
+#[cfg(feature = "tool_names")]
 pub use spelling::Spelling;
 pub use suggestions::suggestion;
 #[cfg(feature = "tool_names")]

@@ -609,13 +609,14 @@ fn gnu() -> &'static [Row] {
 }
 
 #[rustfmt::skip]
-static GNU: [(&str, &str, Way); 94] = [
+static GNU: [(&str, &str, Way); 95] = [
     ("aarch64--netbsd", "aarch64-unknown-netbsd", Both),
     ("aarch64-linux-gnu", "aarch64-unknown-linux-gnu", Both),
     ("aarch64-linux-gnu_ilp32", "aarch64-unknown-linux-gnu_ilp32", Both),
     ("aarch64-linux-musl", "aarch64-unknown-linux-musl", Both),
     ("aarch64-linux-uclibc", "aarch64-unknown-linux-uclibc", Both),
     ("aarch64-w64-mingw32", "aarch64-pc-windows-gnu", Both),
+    ("aarch64-none-elf", "aarch64-unknown-none-elf", Both),
     ("arm--netbsdelf-eabi", "arm-unknown-netbsd-eabi", Both),
     ("arm--netbsdelf-eabihf", "arm-unknown-netbsd-eabihf", Both),
     ("arm-linux-gnu", "arm-unknown-linux-gnu", Both),

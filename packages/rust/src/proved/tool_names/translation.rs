@@ -91,8 +91,8 @@ impl Dialect {
     ///
     /// let name = Dialect::Oci.translate("linux/arm64/v8", Some(LinuxLibc::Glibc), Dialect::Gnu);
     /// assert_eq!(name.unwrap().as_str(), "aarch64-linux-gnu");
-    /// let name = Dialect::Debian.translate("armhf", None, Dialect::Oci);
-    /// assert_eq!(name.unwrap().as_str(), "linux/arm/v7");
+    /// let name = Dialect::Debian.translate("arm64", None, Dialect::Oci);
+    /// assert_eq!(name.unwrap().as_str(), "linux/arm64");
     /// ```
     pub fn translate(
         self,
