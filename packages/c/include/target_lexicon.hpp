@@ -25,6 +25,7 @@
 #include <string_view>
 #include <tuple>
 #include <utility>
+#include <vector>
 
 #include "target_lexicon.h"
 
@@ -125,6 +126,23 @@ enum class DataModel : std::uint8_t {
   ILP64 = LEXICON_DATA_MODEL_ILP64
 };
 
+// The C library that a triple states.
+enum class CLibrary : std::uint8_t {
+  Bionic = LEXICON_C_LIBRARY_BIONIC,
+  Glibc = LEXICON_C_LIBRARY_GLIBC,
+  Mingw = LEXICON_C_LIBRARY_MINGW,
+  Msvc = LEXICON_C_LIBRARY_MSVC,
+  Musl = LEXICON_C_LIBRARY_MUSL,
+  Newlib = LEXICON_C_LIBRARY_NEWLIB,
+  Relibc = LEXICON_C_LIBRARY_RELIBC,
+  System = LEXICON_C_LIBRARY_SYSTEM,
+  Uclibc = LEXICON_C_LIBRARY_UCLIBC
+};
+enum class FloatAbi : std::uint8_t { Soft = LEXICON_FLOAT_ABI_SOFT, Hard = LEXICON_FLOAT_ABI_HARD };
+
+// A C library of Linux, which the caller says where a name doesn't state it.
+enum class LinuxLibc : std::uint8_t { Glibc = LEXICON_LINUX_LIBC_GLIBC, Musl = LEXICON_LINUX_LIBC_MUSL };
+
 // Where the value of a field comes from: nowhere, so that it is unknown; a part of the string; or the other fields.
 enum class Origin : std::uint8_t {
   NotGiven = LEXICON_ORIGIN_NOT_GIVEN, Given = LEXICON_ORIGIN_GIVEN, Implied = LEXICON_ORIGIN_IMPLIED, Alias = LEXICON_ORIGIN_ALIAS
@@ -194,6 +212,18 @@ inline std::string_view name(CallingConvention value) {
   constexpr const char* names[] = {"", "SystemV", "WasmBasicCAbi", "WindowsFastcall", "AppleAarch64"};
   return detail::name_at(names, static_cast<std::size_t>(value));
 }
+inline std::string_view name(CLibrary value) {
+  constexpr const char* names[] = {"", "bionic", "glibc", "mingw", "msvc", "musl", "newlib", "relibc", "system", "uclibc"};
+  return detail::name_at(names, static_cast<std::size_t>(value));
+}
+inline std::string_view name(FloatAbi value) {
+  constexpr const char* names[] = {"", "soft", "hard"};
+  return detail::name_at(names, static_cast<std::size_t>(value));
+}
+inline std::string_view name(LinuxLibc value) {
+  constexpr const char* names[] = {"", "glibc", "musl"};
+  return detail::name_at(names, static_cast<std::size_t>(value));
+}
 inline std::string_view name(Origin value) {
   constexpr const char* names[] = {"not given", "given", "implied", "alias"};
   return detail::name_at(names, static_cast<std::size_t>(value));
@@ -218,9 +248,18 @@ struct Version {
   }
 };
 
-// Why a string is refused.
+// The size and the alignment of a type of C, in bytes.
+struct TypeLayout {
+  std::uint8_t size = 0, alignment = 0;
+
+  friend bool operator==(TypeLayout a, TypeLayout b) { return a.size == b.size && a.alignment == b.alignment; }
+  friend bool operator!=(TypeLayout a, TypeLayout b) { return !(a == b); }
+};
+
+// Why a string is refused, or a name isn't translated.
 struct ParseError {
-  // From LEXICON_UNRECOGNIZED_ARCHITECTURE to LEXICON_NOT_UTF8; of a dialect's name LEXICON_UNKNOWN_NAME or ..WITHOUT_TRIPLE.
+  // From LEXICON_UNRECOGNIZED_ARCHITECTURE to LEXICON_NOT_UTF8; of a dialect's name LEXICON_UNKNOWN_NAME or ..WITHOUT_TRIPLE; of one
+  // that is read and not written LEXICON_TRIPLE_WITHOUT_NAME or LEXICON_NEEDS_C_LIBRARY.
   lexicon_status status = LEXICON_OK;
   std::size_t start = 0, end = 0;  // the refused part, in bytes
   std::string part;
@@ -235,6 +274,13 @@ struct ParseError {
     return static_cast<Field>(status - 1);
   }
   friend std::ostream& operator<<(std::ostream& out, const ParseError& it) { return out << it.text; }
+};
+
+// A part of a string that `Triple::read` reads as other names. A version that is dropped is one: freebsd13.2 is freebsd.
+struct Change {
+  std::size_t start = 0, end = 0;  // the part, in bytes
+  std::string part;
+  std::string names;  // one, or more with dashes between them
 };
 
 struct Source {
@@ -334,6 +380,27 @@ class Triple {
     return name.empty() ? std::nullopt : std::make_optional(std::move(name));
   }
 
+  // The triple with the usual environment of a C library, if it is of Linux and states none; else this one.
+  Triple completed(LinuxLibc libc) const {
+    lexicon_triple triple = c_triple();
+    return lexicon_complete(&triple, static_cast<std::uint32_t>(libc)) == LEXICON_OK ? Triple(triple) : *this;
+  }
+
+  // The name in the dialect `to` of what a name of the dialect `from` means, with a C library of Linux if one is said. Without
+  // `from`, the string is spelled like a triple. If there is none, `error` says why.
+  static std::optional<std::string> translate(std::string_view name, std::optional<Dialect> from, Dialect to,
+                                              std::optional<LinuxLibc> libc = std::nullopt, ParseError* error = nullptr) {
+    std::uint32_t dialect = from ? static_cast<std::uint32_t>(*from) : std::uint32_t(LEXICON_DIALECT_NONE);
+    std::uint32_t number = libc ? static_cast<std::uint32_t>(*libc) : std::uint32_t(LEXICON_LINUX_LIBC_NONE);
+    lexicon_error found = {};
+    std::string translated = detail::written([&](char* out, std::size_t size, std::size_t* length) {
+      return lexicon_translate(dialect, name.data(), name.size(), number, static_cast<std::uint32_t>(to), out, size, length, &found);
+    });
+    if (!translated.empty()) return translated;
+    if (error) *error = name_error(dialect, name, found);
+    return std::nullopt;
+  }
+
   // The five fields, in order.
   Architecture architecture() const { return static_cast<Architecture>(numbers_.architecture); }
   Vendor vendor() const { return has_custom_vendor() ? Vendor::Custom : static_cast<Vendor>(numbers_.vendor); }
@@ -374,6 +441,13 @@ class Triple {
   bool is_thumb() const { return facts().is_thumb; }
   bool is_like_darwin() const { return facts().is_like_darwin; }
   bool has_custom_vendor() const { return !custom_vendor_.empty(); }
+
+  std::optional<CLibrary> c_library() const { return detail::answer<CLibrary>(facts().c_library); }
+  std::optional<FloatAbi> float_abi() const { return detail::answer<FloatAbi>(facts().float_abi); }
+  // Whether rustc counts the system to its family `unix`.
+  bool is_unix() const { return facts().is_unix; }
+  std::optional<TypeLayout> long_double() const { return layout(facts().long_double_size, facts().long_double_alignment); }
+  std::optional<TypeLayout> wchar() const { return layout(facts().wchar_size, facts().wchar_alignment); }
 
   // All of these at once.
   lexicon_triple_facts facts() const {
@@ -493,17 +567,26 @@ class Triple {
     lexicon_triple triple;
     lexicon_error found;
     if (lexicon_read(dialect, text.data(), text.size(), &triple, &found) == LEXICON_OK) return Triple(triple);
-    if (!error) return std::nullopt;
-    *error = error_of(text, found);
-    if (const char* reason = lexicon_reason(dialect, text.data(), text.size())) {
-      error->reason = reason;
-      error->text += " " + error->reason;
-    }
-    if (const char* name = lexicon_name_suggestion(dialect, text.data(), text.size())) {
-      error->suggestion = name;
-      error->text += " did you mean `" + error->suggestion + "`?";
-    }
+    if (error) *error = name_error(dialect, text, found);
     return std::nullopt;
+  }
+
+  static std::optional<TypeLayout> layout(std::uint8_t size, std::uint8_t alignment) {
+    return size == 0 ? std::nullopt : std::make_optional(TypeLayout{size, alignment});
+  }
+
+  // The error of a name in a dialect.
+  static ParseError name_error(std::uint32_t dialect, std::string_view name, const lexicon_error& found) {
+    ParseError error = error_of(name, found);
+    if (const char* reason = lexicon_reason(dialect, name.data(), name.size())) {
+      error.reason = reason;
+      error.text += " " + error.reason;
+    }
+    if (const char* meant = lexicon_name_suggestion(dialect, name.data(), name.size())) {
+      error.suggestion = meant;
+      error.text += " did you mean `" + error.suggestion + "`?";
+    }
+    return error;
   }
 
   static ParseError error_of(std::string_view text, const lexicon_error& found) {
@@ -543,6 +626,18 @@ inline std::optional<Explanation> Triple::explain(std::string_view text, ParseEr
   auto of = [](const lexicon_source& it) { return Source{static_cast<Origin>(it.origin), it.start, it.end}; };
   return Explanation{Triple(triple), of(sources.architecture), of(sources.vendor), of(sources.operating_system), of(sources.environment),
                      of(sources.binary_format)};
+}
+
+// What `Triple::read` reads as other names in a string that is spelled like a triple, from its start to its end.
+inline std::vector<Change> changes(std::string_view text) {
+  std::vector<Change> found;
+  for (lexicon_change it = {};;) {
+    std::string names = detail::written([&](char* out, std::size_t size, std::size_t* length) {
+      return lexicon_changes(text.data(), text.size(), found.size(), &it, out, size, length);
+    });
+    if (names.empty()) return found;
+    found.push_back({it.start, it.end, std::string(text.substr(it.start, it.end - it.start)), std::move(names)});
+  }
 }
 
 // The canonical form of each line of a string, with a line feed after it; of a line that is refused, only the line feed.

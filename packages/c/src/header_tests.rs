@@ -1,7 +1,10 @@
 //! The numbers of target_lexicon.h and target_lexicon.hpp are the library's.
-use crate::proved::values::{architecture_at, operating_system_at};
-use crate::proved::{dialect_at, expected_at, facts, field_at, name_at, NumberedTriple, TripleNumbers};
+use crate::proved::values::{architecture_at, environment_at, operating_system_at};
+use crate::proved::{
+    c_library_at, dialect_at, driver_facts, expected_at, facts, field_at, name_at, NumberedTriple, TripleNumbers,
+};
 use std::collections::BTreeMap;
+use target_lexicon::tool_names::{CLibrary, FloatAbi};
 use target_lexicon::TripleRef;
 
 const HEADER: &str = include_str!("../include/target_lexicon.h");
@@ -122,6 +125,37 @@ fn the_conventions_and_models_are_those_of_the_queries() {
 }
 
 #[test]
+fn the_answers_for_a_driver_are_those_of_the_library() {
+    let libraries = names_of_answers("LEXICON_C_LIBRARY_", "CLibrary");
+    let floats = names_of_answers("LEXICON_FLOAT_ABI_", "FloatAbi");
+    let said = names_of_answers("LEXICON_LINUX_LIBC_", "LinuxLibc");
+    let mut seen = [false; 10];
+    for system in 0.. {
+        let Some(operating_system) = operating_system_at(system, None) else { break };
+        for environment in 0.. {
+            let Some(environment_value) = environment_at(environment) else { break };
+            for architecture in [15, 91] {
+                let mut it = numbered(architecture, system);
+                it.numbers.environment = environment;
+                let facts = driver_facts(&it).ok().expect("a triple");
+                let triple = TripleRef {
+                    architecture: architecture_at(architecture).expect("a value"),
+                    operating_system,
+                    environment: environment_value,
+                    ..TripleRef::unknown()
+                };
+                assert_eq!(libraries[usize::from(facts.c_library)], CLibrary::of(&triple).map_or("", |it| it.name()));
+                assert_eq!(floats[usize::from(facts.float_abi)], FloatAbi::of(&triple).map_or("", |it| it.name()));
+                seen[usize::from(facts.c_library)] = true;
+            }
+        }
+    }
+    assert_eq!((libraries.len(), seen), (10, [true; 10]));
+    let found: Vec<_> = (0..).map_while(c_library_at).map(|it| it.map_or("", |it| it.as_str())).collect();
+    assert_eq!(said, found);
+}
+
+#[test]
 fn the_statuses_are_those_of_the_calls() {
     let (_, after) = HEADER.split_once("enum lexicon_status {").expect("the statuses");
     let found = enumerators(after.split_once("};").expect("an end").0, "LEXICON_");
@@ -208,10 +242,16 @@ fn the_structs_are_those_of_the_library() {
     let (triple, facts) = (include_str!("proved/triple.rs"), include_str!("proved/triple_facts.rs"));
     let (error, sources) = (include_str!("proved/error.rs"), include_str!("proved/sources.rs"));
     let library = include_str!("lib.rs");
+    let layout = |name: &str| fields(facts, "LayoutNumbers").into_iter().map(|(of, it)| (of, format!("{name}_{it}"))).collect::<Vec<_>>();
     let numbers = fields(triple, "TripleNumbers");
     assert_eq!(members("lexicon_triple"), flattened(fields(library, "Triple"), "TripleNumbers", &numbers));
     let sizes: Vec<_> = fields(facts, "TypeSizes").into_iter().map(|(of, name)| (of, name + "_size")).collect();
-    assert_eq!(members("lexicon_triple_facts"), flattened(fields(library, "Facts"), "TypeSizes", &sizes));
+    let of_driver = fields(facts, "DriverFacts").into_iter();
+    let of_driver = of_driver.flat_map(|it| if it.0 == "LayoutNumbers" { layout(&it.1) } else { vec![it] });
+    let queries = flattened(fields(facts, "QueryFacts"), "TypeSizes", &sizes);
+    let expected: Vec<_> = queries.into_iter().chain(fields(facts, "FormatFacts")).chain(of_driver).collect();
+    assert_eq!(members("lexicon_triple_facts"), expected);
+    assert_eq!(members("lexicon_change"), fields(library, "Change"));
     assert_eq!(members("lexicon_error"), fields(error, "TextError"));
     assert_eq!(members("lexicon_source"), fields(sources, "FieldSource"));
     assert_eq!(members("lexicon_sources"), fields(sources, "FieldSources"));

@@ -28,13 +28,15 @@ use core::{slice, str};
 use error_text::{line, line_and_caret, suggestion};
 use lines::settle_lines;
 use names::{c_name, c_reason};
-use proved::triple::CUSTOM_VENDOR;
+use proved::triple::{triple_in, CUSTOM_VENDOR};
+use proved::triple_facts::{driver_facts_of, format_facts_of, query_facts_of};
 use proved::{
-    dialect_at, explain, field_at, name_at, name_in, name_suggestion, number_in, parse, print, read, reason, same_target, settle, Fault,
-    FieldSource, FieldSources, NumberedTriple, TextError, TripleFacts, TripleNumbers, TypeSizes,
+    c_library_at, complete, dialect_at, explain, field_at, name_at, name_in, name_suggestion, number_in, parse, print, read, reason,
+    same_target, settle, translate, DriverFacts, Fault, FieldSource, FieldSources, FormatFacts, NumberedTriple, QueryFacts, TextError,
+    TripleNumbers,
 };
 use target_lexicon::{tool_names, Field};
-use text::{write_text, Text};
+use text::{shown, write_text, written, Text};
 
 /// `enum lexicon_status`. From 1 to 6 a text is refused, where a value of the first to the fifth field was expected, or none.
 pub type Status = u32;
@@ -50,6 +52,9 @@ const NAME_WITHOUT_TRIPLE: Status = 13;
 const TRIPLE_WITHOUT_NAME: Status = 14;
 const NO_SUCH_DIALECT: Status = 15;
 const TOO_LARGE: Status = 16;
+const NEEDS_C_LIBRARY: Status = 17;
+const NO_SUCH_C_LIBRARY: Status = 18;
+const NO_SUCH_CHANGE: Status = 19;
 
 /// The greatest size of anything in memory, `PTRDIFF_MAX`. Rust has no slice that is larger.
 const MAX_SIZE: usize = isize::MAX as usize;
@@ -71,39 +76,11 @@ pub struct Triple {
     custom_vendor_size: usize,
 }
 
-/// `struct lexicon_triple_facts`. First is what the queries of the Rust crate answer. A later version adds members at the end.
+/// `struct lexicon_change`.
 #[repr(C)]
-pub struct Facts {
-    endianness: u8,
-    pointer_width: u8,
-    default_calling_convention: u8,
-    data_model: u8,
-    sizes: TypeSizes,
-    is_thumb: bool,
-    is_like_darwin: bool,
-    has_custom_vendor: bool,
-    implied_format: u8,
-    object_format: u8,
-    family: u8,
-}
-
-impl From<TripleFacts> for Facts {
-    #[inline(always)]
-    fn from(it: TripleFacts) -> Facts {
-        Facts {
-            endianness: it.endianness,
-            pointer_width: it.pointer_width,
-            default_calling_convention: it.default_calling_convention,
-            data_model: it.data_model,
-            sizes: it.sizes,
-            is_thumb: it.is_thumb,
-            is_like_darwin: it.is_like_darwin,
-            has_custom_vendor: it.has_custom_vendor,
-            implied_format: it.implied_format,
-            object_format: it.object_format,
-            family: it.family,
-        }
-    }
+pub struct Change {
+    start: usize,
+    end: usize,
 }
 
 /// The sizes that the structs of target_lexicon.h have, with words of 64 bits or of 32.
@@ -113,7 +90,7 @@ const _: () = {
     assert!(size_of::<Triple>() == if word == 8 { 32 } else { 20 });
     assert!(size_of::<TextError>() == 3 * word);
     assert!(size_of::<FieldSources>() == 15 * word);
-    assert!(size_of::<Facts>() == 16);
+    assert!(size_of::<QueryFacts>() == 13 && size_of::<FormatFacts>() == 3 && size_of::<DriverFacts>() == 7);
 };
 
 impl Triple {
@@ -214,13 +191,18 @@ unsafe fn parsed(result: Result<NumberedTriple<'_>, TextError>, triple: *mut Tri
             triple.write(Triple::new(&it));
             OK
         },
-        Err(it) => unsafe {
-            if !error.is_null() {
-                error.write(it);
-            }
-            it.status
-        },
+        Err(it) => unsafe { refused(it, error) },
     }
+}
+
+/// Writes an error if the caller wants it.
+#[inline(always)]
+unsafe fn refused(it: TextError, error: *mut TextError) -> Status {
+    if !error.is_null() {
+        // SAFETY: the caller's variable.
+        unsafe { error.write(it) }
+    }
+    it.status
 }
 
 /// The error of bytes that aren't UTF-8: the range of the first that are no character.
@@ -311,23 +293,54 @@ pub unsafe extern "C" fn lexicon_facts(triple: *const Triple, facts: *mut u8, fa
     if facts_size > MAX_SIZE {
         return TOO_LARGE;
     }
-    match proved::facts(&unsafe { Triple::read(triple) }) {
-        Ok(it) if facts_size == size_of::<Facts>() => unsafe { facts.cast::<Facts>().write(it.into()) },
-        Ok(it) => unsafe { write_part(&it.into(), facts, facts_size) },
+    let asked = match triple_in(&unsafe { Triple::read(triple) }) {
+        Ok(asked) => asked,
         Err(fault) => return fault.into(),
+    };
+    let mut members = Members { at: facts, room: facts_size };
+    unsafe {
+        members.write(|| query_facts_of(&asked));
+        members.write(|| format_facts_of(&asked));
+        members.write(|| driver_facts_of(&asked));
+        members.at.write_bytes(0, members.room);
     }
     OK
 }
 
-/// Writes facts into the caller's struct, which has fewer members than that of this version, or more: these become zeros,
-/// which are no answer.
-#[cold]
-unsafe fn write_part(facts: &Facts, to: *mut u8, size: usize) {
-    let known = size.min(size_of::<Facts>());
-    // SAFETY: the caller's struct of this size, whose members are bytes.
-    unsafe {
-        ptr::copy_nonoverlapping((facts as *const Facts).cast(), to, known);
-        to.add(known).write_bytes(0, size - known);
+/// The members of the caller's struct that aren't written yet. It has fewer than that of this version, or more: these become
+/// zeros, which are no answer.
+struct Members {
+    at: *mut u8,
+    room: usize,
+}
+
+impl Members {
+    /// Writes the next members, as far as the struct has them. If it has none of them, they aren't computed.
+    #[inline(always)]
+    unsafe fn write<T>(&mut self, members: impl FnOnce() -> T) {
+        if self.room == 0 {
+            return;
+        }
+        let members = members();
+        let size = self.room.min(size_of::<T>());
+        // SAFETY: the rest of the caller's struct. All its members are bytes.
+        unsafe {
+            if size == size_of::<T>() {
+                self.at.cast::<T>().write(members);
+            } else {
+                ptr::copy_nonoverlapping(addr_of!(members).cast(), self.at, size);
+            }
+            self.at = self.at.add(size);
+        }
+        self.room -= size;
+    }
+}
+
+#[no_mangle]
+pub unsafe extern "C" fn lexicon_complete(triple: *mut Triple, linux_libc: u32) -> Status {
+    match c_library_at(linux_libc).flatten() {
+        Some(c_library) => unsafe { answer(triple, complete(&Triple::read(triple), c_library).map(|it| Triple::new(&it))) },
+        None => NO_SUCH_C_LIBRARY,
     }
 }
 
@@ -368,12 +381,62 @@ pub unsafe extern "C" fn lexicon_write(
     }
 }
 
-/// The length of a text, which is written if the buffer has room for it.
-fn written(text: &str, out: &mut [u8]) -> usize {
-    if let Some(out) = out.get_mut(..text.len()) {
-        out.copy_from_slice(text.as_bytes());
+#[no_mangle]
+pub unsafe extern "C" fn lexicon_translate(
+    from: u32,
+    name: *const u8,
+    name_size: usize,
+    linux_libc: u32,
+    to: u32,
+    out: *mut u8,
+    out_size: usize,
+    length: *mut usize,
+    error: *mut TextError,
+) -> Status {
+    let find = || {
+        let no_range = |status| TextError { status, start: 0, end: 0 };
+        let bytes = unsafe { bytes_at(name, name_size) }?;
+        if out_size > MAX_SIZE {
+            return Err(no_range(TOO_LARGE));
+        }
+        let from = dialect_at(from).ok_or(no_range(NO_SUCH_DIALECT))?;
+        let to = dialect_at(to).flatten().ok_or(no_range(NO_SUCH_DIALECT))?;
+        let c_library = c_library_at(linux_libc).ok_or(no_range(NO_SUCH_C_LIBRARY))?;
+        translate(from, text_of(bytes)?, c_library, to)
+    };
+    match find() {
+        Ok(found) => unsafe { write_text(out, out_size, length, |out| Ok(written(found.as_str(), out))) },
+        Err(it) => unsafe { refused(it, error) },
     }
-    text.len()
+}
+
+#[no_mangle]
+pub unsafe extern "C" fn lexicon_changes(
+    text: *const u8,
+    text_size: usize,
+    number: usize,
+    change: *mut Change,
+    out: *mut u8,
+    out_size: usize,
+    length: *mut usize,
+) -> Status {
+    let find = || {
+        let text = unsafe { text_at(text, text_size) }.map_err(|error| error.status)?;
+        if out_size > MAX_SIZE {
+            return Err(TOO_LARGE);
+        }
+        tool_names::changes(text).nth(number).ok_or(NO_SUCH_CHANGE)
+    };
+    let found = match find() {
+        Ok(found) => found,
+        Err(status) => return status,
+    };
+    let status = unsafe { write_text(out, out_size, length, |out| Ok(shown(&found.names, out))) };
+    if status == OK {
+        let range = found.part.range();
+        unsafe { change.write(Change { start: range.start, end: range.end }) }
+    }
+    status
 }
 
 #[no_mangle]
