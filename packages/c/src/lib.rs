@@ -35,7 +35,7 @@ use proved::{
     same_target, settle, translate, DriverFacts, Fault, FieldSource, FieldSources, FormatFacts, NumberedTriple, QueryFacts, TextError,
     TripleNumbers,
 };
-use target_lexicon::{tool_names, Field};
+use target_lexicon::{tool_names, Field, TripleRef};
 use text::{shown, write_text, written, Text};
 
 /// `enum lexicon_status`. From 1 to 6 a text is refused, where a value of the first to the fifth field was expected, or none.
@@ -297,43 +297,43 @@ pub unsafe extern "C" fn lexicon_facts(triple: *const Triple, facts: *mut u8, fa
         Ok(asked) => asked,
         Err(fault) => return fault.into(),
     };
-    let mut members = Members { at: facts, room: facts_size };
+    // A group of members that the struct has not is not computed.
     unsafe {
-        members.write(|| query_facts_of(&asked));
-        members.write(|| format_facts_of(&asked));
-        members.write(|| driver_facts_of(&asked));
-        members.at.write_bytes(0, members.room);
+        let rest = write_members(query_facts_of(&asked), facts, facts_size);
+        if rest > 0 {
+            let at = facts.add(size_of::<QueryFacts>());
+            let rest = write_members(format_facts_of(&asked), at, rest);
+            if rest > 0 {
+                write_driver_facts(&asked, at.add(size_of::<FormatFacts>()), rest);
+            }
+        }
     }
     OK
 }
 
-/// The members of the caller's struct that aren't written yet. It has fewer than that of this version, or more: these become
-/// zeros, which are no answer.
-struct Members {
-    at: *mut u8,
-    room: usize,
+/// Writes what a driver asks into the rest of the caller's struct. What it has besides becomes zeros, which are no answer.
+#[inline(never)]
+unsafe fn write_driver_facts(asked: &TripleRef<'_>, to: *mut u8, room: usize) {
+    // SAFETY: the rest of the caller's struct, whose members are bytes.
+    unsafe {
+        let rest = write_members(driver_facts_of(asked), to, room);
+        to.add(room - rest).write_bytes(0, rest);
+    }
 }
 
-impl Members {
-    /// Writes the next members, as far as the struct has them. If it has none of them, they aren't computed.
-    #[inline(always)]
-    unsafe fn write<T>(&mut self, members: impl FnOnce() -> T) {
-        if self.room == 0 {
-            return;
+/// Writes members into the rest of the caller's struct, as far as it has them. The room that is left.
+#[inline(always)]
+unsafe fn write_members<T>(members: T, to: *mut u8, room: usize) -> usize {
+    let size = size_of::<T>();
+    // SAFETY: the rest of the caller's struct, whose members are bytes.
+    unsafe {
+        if room >= size {
+            to.cast::<T>().write(members);
+            return room - size;
         }
-        let members = members();
-        let size = self.room.min(size_of::<T>());
-        // SAFETY: the rest of the caller's struct. All its members are bytes.
-        unsafe {
-            if size == size_of::<T>() {
-                self.at.cast::<T>().write(members);
-            } else {
-                ptr::copy_nonoverlapping(addr_of!(members).cast(), self.at, size);
-            }
-            self.at = self.at.add(size);
-        }
-        self.room -= size;
+        ptr::copy_nonoverlapping(addr_of!(members).cast(), to, room);
     }
+    0
 }
 
 #[no_mangle]
