@@ -446,8 +446,14 @@ class Triple {
   std::optional<FloatAbi> float_abi() const { return detail::answer<FloatAbi>(facts().float_abi); }
   // Whether rustc counts the system to its family `unix`.
   bool is_unix() const { return facts().is_unix; }
-  std::optional<TypeLayout> long_double() const { return layout(facts().long_double_size, facts().long_double_alignment); }
-  std::optional<TypeLayout> wchar() const { return layout(facts().wchar_size, facts().wchar_alignment); }
+  std::optional<TypeLayout> long_double() const {
+    lexicon_triple_facts it = facts();
+    return layout(it.long_double_size, it.long_double_alignment);
+  }
+  std::optional<TypeLayout> wchar() const {
+    lexicon_triple_facts it = facts();
+    return layout(it.wchar_size, it.wchar_alignment);
+  }
 
   // All of these at once.
   lexicon_triple_facts facts() const {
