@@ -20,7 +20,7 @@ import time
 TOP = os.path.dirname(os.path.dirname(os.path.realpath(__file__)))
 WORK = tempfile.mkdtemp(prefix="gate-")
 BUILT, CARGO_HOME, WASM = f"{WORK}/built", f"{WORK}/cargo", f"{WORK}/rust"
-COMMANDS = "packages/command/target/release"
+COMMANDS = "packages/target/release"
 STARTED = time.time()
 DEBIAN_CRATES = "/usr/share/cargo/registry"
 

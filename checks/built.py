@@ -9,6 +9,7 @@ BUILT = os.environ.get("BUILT", "")
 DEBIAN_CRATES = f"{ROOT}/tools/debian.toml"
 CARGO = ["cargo", *(["--config", DEBIAN_CRATES, "--offline"] if os.path.isdir("/usr/share/cargo/registry") else [])]
 COMMANDS = f"{ROOT}/packages/command"
+COMMANDS_TARGET = f"{ROOT}/packages/target"
 
 
 def made(check, command, folder, status, **environment):
@@ -22,13 +23,13 @@ def made(check, command, folder, status, **environment):
 
 
 def cargo_program(check, name, status=1):
-    """The path of a program of packages/command, which is a workspace of its own: `target-lexicon`, or `lines` for comparisons."""
+    """The path of a program of packages/command, which has a workspace of its own: `target-lexicon`, or `lines` for comparisons."""
     environment = {}
     if os.path.isdir("/usr/share/cargo/registry/clap-4.0.32"):
-        environment["CARGO_HOME"] = f"{COMMANDS}/target/debian"
+        environment["CARGO_HOME"] = f"{COMMANDS_TARGET}/debian"
         made(check, [f"{ROOT}/tools/debian_crates", environment["CARGO_HOME"]], COMMANDS, status)
     made(check, ["cargo", "build", "--quiet", "--release", "--locked", "--all-features"], COMMANDS, status, **environment)
-    return f"{os.environ.get('CARGO_TARGET_DIR', f'{COMMANDS}/target')}/release/{name}"
+    return f"{os.environ.get('CARGO_TARGET_DIR', COMMANDS_TARGET)}/release/{name}"
 
 
 def program(check, name, status=1, words=()):

@@ -44,7 +44,7 @@ HIDDEN = {"DeploymentTarget::from_text", "Refusal::write_to", "TripleRef::step",
 INLINE = {
     "TripleRef::from_str", "Triple::write_to", "TripleRef::write_to", "TripleRef::write_upstream_to", "Pieces::write_to",
     "Pieces::text_length", "Pieces::version_length", "Pieces::put_version", "Pieces::put", "Piece::text_length", "Piece::put",
-    "put", "Refusal::write_to", "nearest_known_name",
+    "put", "Refusal::write_to",
 }
 INLINE_MODULES = {
     "distance", "macos", "misspelling", "nearest", "settle", "settles_as", "spelling", "suggestions",

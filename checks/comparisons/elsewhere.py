@@ -3,13 +3,15 @@
 dpkg says byte order, pointer width and GNU type of each name; Go and containerd, which names they have and how they write
 them; esbuild and Node's manual, the words; config.sub, which strings there are, and what it makes of them. The crate cc has a
 table of prefixes. rustc lists its targets, and says the architecture, byte order, pointer width and object format of each, and what its cfg options are.
-clang prints its own form of each known name. Python's sysconfig says how it names platforms, and packaging which tags it makes. The tools that aren't installed are named.
+clang prints its own form of each known name. Python's sysconfig says how it names platforms, and packaging which tags it makes. rpm says which machines have 64
+bits, and how they pass floating-point numbers; config.guess, what a system is whose `uname` is told; Nix and makepkg, how they name the
+machine that they run on. The tools that aren't installed are named.
 Without any tool it checks that a machine's word means one architecture, and that each other spelling is explained by a rule or
 listed here. The status is 1 if an answer differs that docs/TOOL_NAMES.md doesn't list. The names of Android and iOS need a
 Python 3.13 that runs this.
 
 Debian's packages: dpkg-dev autotools-dev golang-go golang-github-containerd-containerd-dev esbuild nodejs-doc librust-cc-dev
-python3-packaging clang.
+python3-packaging clang rpm nix-bin makepkg.
 """
 import collections
 import glob
@@ -27,14 +29,32 @@ from comparisons.tools import Report, order_and_width, output, rustc_answers, ru
 
 # The word of each dialect for a system, where it isn't the library's. A word that means another system in every row of a
 # dialect is found by nothing else.
-SYSTEM_WORDS = {"android": "linux", "win32": "windows", "win": "windows", "manylinux": "linux", "musllinux": "linux", "macos": "darwin",
-                "sunos": "solaris illumos", "hurd": "hurd", "musl": "linux", "uclibc": "linux"}
+SYSTEM_WORDS = {"android": "linux", "win32": "windows", "win": "windows", "manylinux": "linux", "musllinux": "linux", "macos": "darwin macosx",
+                "sunos": "solaris illumos", "hurd": "hurd", "musl": "linux", "uclibc": "linux", "lpia": "linux", "iphoneos": "ios", "alpine": "linux",
+                "linuxmusl": "linux", "mas": "darwin", "openharmony": "linux", "osx": "darwin macosx", "maccatalyst": "ios", "iossimulator": "ios",
+                "tvossimulator": "tvos", "browser": "emscripten", "freestanding": "none unknown", "pyodide": "emscripten", "mingw": "windows",
+                "gnu": "hurd", "msys_nt": "cygwin", "cygwin_nt": "cygwin", "mingw64_nt": "windows", "mingw32_nt": "windows", "windows_nt": "windows",}
+# The dialects whose names have a word for the system, and those whose names are a machine's word, mostly.
+OF_SYSTEMS = ("debian", "go", "oci", "node", "python", "uname", "dotnet", "conda", "zig", "nix")
+DIALECTS = (*OF_SYSTEMS, "rpm", "apk", "pacman")
 # The architecture of a machine's word that only one name has, so that no other name of a dialect says what it means.
 ONLY_ONCE = {"arm64ilp32": "aarch64", "powerpcspe": "powerpc", "x32": "x86_64", "amd64/v1": "x86_64", "arm/v5": "armv5te", "arm/v8": "armv8",
              "x86-64": "x86_64", "arm64_v8a": "aarch64", "armeabi_v7a": "armv7", "x86": "i686", "armv8l": "armv8", "ppc": "powerpc",
-             "win32": "i686", "arm32": "armv7", "armel of oci": "armv6", "armhf of oci": "armv7"}
-# Words that mean another machine in one dialect: containerd's 32-bit Arm, and the little-endian builds of Node on Linux.
-OWN_WORDS = ("arm of oci", "armel of oci", "armhf of oci", "ppc64 of node linux")
+             "win32": "i686", "arm32": "armv7", "lpia": "i686", "riscv": "riscv32", "arm64be": "aarch64_be", "amd64_v1": "x86_64", "arm64_v8.0": "aarch64",
+             "arm/v7l": "armv7", "arm64v8": "aarch64", "aarch64_be": "aarch64_be", "armv4tl": "armv4t", "power macintosh": "powerpc",
+             "octeon": "mips64", "loongson": "mips64el", "i686-at386": "i686", "bepc": "i586", "em64t": "x86_64", "ia32e": "x86_64",
+             "athlon": "i686", "armv6hl": "armv6", "armv7hl": "armv7", "armv7hnl": "armv7", "armv8hl": "armv8", "ppc64p7": "powerpc64",
+             "sparcv9": "sparc", "armv7h": "armv7", "armv6h": "armv6", "thumb": "thumbv7a"}
+# Words that mean another machine in one dialect, or there on one system: the little-endian builds of Node on Linux, the versions of Arm that
+# a tool needs, models of the i386 that others don't tell apart, and programs of 32 bits on Windows.
+OWN_WORDS = {"linux ppc64 of node": "powerpc64le", "arm of dotnet": "armv7", "armel of dotnet": "armv7", "armhf of apk": "armv6",
+             "armel of apk": "armv5te", "arm of pacman": "armv5te", "64 of conda": "x86_64", "32 of conda": "i686", "i386 of rpm": "i386",
+             "linux i386 of uname": "i386", "freebsd riscv of uname": "riscv64", "mingw32_nt x86_64 of uname": "i686",
+             **{f"{name} of node": "armv7" for name in ("android-arm-eabi", "linux-arm-gnueabihf", "linux-arm-musleabihf", "openharmony-arm")}}
+# Names of packages that aren't in dpkg's table: those of Termux, Ubuntu and iOS, and wildcards.
+NOT_DPKG = ("aarch64", "i686", "x86_64", "amd64v3", "lpia", "iphoneos-arm", "iphoneos-arm64", "linux-amd64", "any-amd64", "hurd-any", "linux-any")
+# Names of Go without a triple that are no ports.
+NOT_PORTS = ("386", "amd64", "arm64", "linux/s390", "zos/s390x")
 # Other spellings that no rule of `spelled_by_rule` explains, and what they are read as.
 SPELLINGS = {"amd64": "x86_64", "i486": "i386", "bpf_be": "bpfeb", "bpf_le": "bpfel", "systemz": "s390x", "thumbv7": "thumbv7a", "w64": "pc",
              "mingw32": "windows-gnu", "mingw64": "windows-gnu", "win32": "windows-msvc", "macos": "macosx", "gnu*": "hurd-gnu",
@@ -57,6 +77,11 @@ func main() {
 }
 """
 
+# What stands for `uname` while config.guess asks.
+UNAME = """#!/bin/sh
+case "$1" in -m) echo "$TOLD_MACHINE";; -p) echo unknown;; -r) echo 7.1;; *) echo "$TOLD_SYSTEM";; esac
+"""
+
 Row = collections.namedtuple("Row", "dialect name triple ways note", defaults=[""])
 
 
@@ -74,31 +99,39 @@ class Comparison(Report):
         return {row.name: self.read(row.name, dialect) for row in self.rows_of(dialect, ("rw", "r"))}
 
     def check_systems(self):
-        for dialect in ("debian", "go", "oci", "node", "python"):
+        for dialect in OF_SYSTEMS:
             rows = []
             for row in self.rows_of(dialect):
-                word = re.split("[/_-]", row.name)[0] if dialect != "debian" or "-" in row.name else "linux"
-                word = word if word in SYSTEM_WORDS else word.rstrip("0123456789")
-                known = set(SYSTEM_WORDS.get(word, word).split()) & set(re.split("[-.0-9*]", row.triple))
+                word = words_of(dialect, row.name)[0]
+                known = set(SYSTEM_WORDS.get(word, word).split()) & {*re.split("[-.0-9*]", row.triple), *row.triple.split("-")}
                 rows.append((row.name, row.triple, bool(known), True))
             self.fact(f"the word of {dialect} for the system is the library's, or a listed one", rows)
 
     def check_machines(self):
         words = collections.defaultdict(list)
-        for dialect in ("debian", "go", "oci", "node", "python"):
+        for dialect in DIALECTS:
             for row in self.rows_of(dialect):
-                system, word = machine_of(dialect, row.name)
-                own = {f"{word} of {dialect}", f"{word} of {dialect} {system}"}.intersection(OWN_WORDS)
+                system, word = words_of(dialect, row.name)
+                own = OWN_WORDS.keys() & {f"{it} of {dialect}" for it in (word, f"{system} {word}", row.name)}
                 words[own.pop() if own else word].append((dialect, row.name, row.triple.split("-")[0]))
-        self.fact("a machine's word means one architecture in all dialects", (
-            (*row, rows[0][2]) for rows in words.values() for row in rows))
+        self.fact("a machine's word means one architecture in all dialects, or a listed one", (
+            (*row, OWN_WORDS.get(word, rows[0][2])) for word, rows in words.items() for row in rows))
         # A name with one number says no more than that with two.
         self.fact("and one that only one name has is listed here", (
             (word, rows[0][2], ONLY_ONCE.get(word)) for word, rows in words.items()
-            if rows[0][2] and len({(dialect, name.replace("*_*", "*")) for dialect, name, _ in rows}) == 1))
+            if rows[0][2] and word not in OWN_WORDS and len({(dialect, name.replace("*_*", "*")) for dialect, name, _ in rows}) == 1))
         self.fact("a word that says 64 or 32 is that of a machine with as many bits", (
             (word, rows[0][2], self.target_lexicon.Triple(rows[0][2]).pointer_width, 64 if "64" in word else 32)
-            for word, rows in words.items() if re.search("64|32", word)), "x32")
+            for word, rows in words.items() if re.search("64|32", word)), "x32|mingw32|ia32e")
+
+    def check_libraries(self):
+        rows = []
+        for dialect in DIALECTS:
+            linux = [row for row in self.rows_of(dialect, ("rw", "w")) if "-linux" in row.triple]
+            if all(row.triple.endswith("-unknown-linux") or row.triple.endswith(("android", "androideabi")) for row in linux):
+                rows += [(row.name, self.target_lexicon.Triple(f"{row.triple}-{library}").name_in(dialect), row.name)
+                         for row in linux if row.triple.endswith("-unknown-linux") for library in ("gnu", "musl")]
+        self.fact("a dialect that states no C library has its names for each", rows)
 
     def check_spellings(self):
         self.fact("each other spelling of a part is explained by a rule, or listed here", (
@@ -119,15 +152,16 @@ class Comparison(Report):
             return
         known = {*output("dpkg-architecture", "-L").split(), "all", "any", "source"}
         rows = self.rows_of("debian", ("rw", "-"))
-        self.fact("Debian's names are dpkg's", ((row.name, row.name in known, True) for row in rows))
-        meanings, said, gnu = self.meanings("debian"), {}, {}
+        self.fact("Debian's names are dpkg's, or listed here", ((row.name, row.name in {*known, *NOT_DPKG}, True) for row in rows))
+        meanings, said, gnu = {name: it for name, it in self.meanings("debian").items() if name not in NOT_DPKG}, {}, {}
         for name in meanings:
             it = dict(line.split("=", 1) for line in output("dpkg-architecture", "-f", "-a", name).splitlines())
             said[name], gnu[name] = (it["DEB_HOST_ARCH_ENDIAN"], int(it["DEB_HOST_ARCH_BITS"])), it["DEB_HOST_GNU_TYPE"]
         self.fact("Debian's names have dpkg's byte order and width", (
             (name, order_and_width(it), said[name]) for name, it in meanings.items()))
+        written = {row.name for row in self.rows_of("debian", ("rw",))}
         self.fact("the name of GNU's compiler is dpkg's GNU type", (
-            (name, it and it.name_in("gnu"), gnu[name]) for name, it in meanings.items()))
+            (name, it.name_in("gnu"), gnu[name]) for name, it in meanings.items() if name in written))
 
     def check_go(self):
         go = shutil.which("go")
@@ -136,7 +170,7 @@ class Comparison(Report):
         environment = {**os.environ, "GOFLAGS": "", "GO111MODULE": "off", "CGO_ENABLED": "0", "GOCACHE": f"{self.folder}/go",
                        "GOPATH": "/usr/share/gocode"}
         theirs = output(go, "tool", "dist", "list", env=environment).split()
-        ours = [row.name for row in self.rows_of("go", ("rw", "-"))]
+        ours = [row.name for row in self.rows_of("go", ("rw", "-")) if row.name not in NOT_PORTS]
         newer = {row.name for row in self.rows if row.note.startswith("since")} | {"wasip1/wasm"}
         self.fact("Go's names are those of `go tool dist list`", (
             (name, name in ours, name in theirs) for name in {*ours, *theirs} - (newer - {*theirs})))
@@ -146,18 +180,59 @@ class Comparison(Report):
             width = 8 * int(re.search(r"PtrSize:\s+(\d)", text)[1])
             machines[re.search(r'Name:\s+"(\w+)"', text)[1]] = ("little" if "LittleEndian" in text else "big", width)
         self.fact("Go's names have Go's byte order and width", (
-            (name, order_and_width(it), machines[name.split("/")[1]]) for name, it in self.meanings("go").items()))
+            (name, order_and_width(it), machines[name.split("/")[1]]) for name, it in self.meanings("go").items() if name in ours))
         if not self.has("containerd", os.path.isdir("/usr/share/gocode/src/github.com/containerd/containerd/platforms")):
             return
         upstream.write(f"{self.folder}/platforms.go", PLATFORMS)
         subprocess.run([go, "build", "-o", f"{self.folder}/platforms", f"{self.folder}/platforms.go"], env=environment, check=True)
-        meanings = self.meanings("oci")
+        meanings = {**self.meanings("oci"), **{name: self.read(name, "oci") for name in platforms()}}
         lines = output(f"{self.folder}/platforms", input="".join(f"{name}\n" for name in meanings)).splitlines()
         normal = dict(zip(meanings, lines, strict=True))
         self.fact("a name of OCI means what containerd's normal form of it means", (
             (name, normal[name], self.read(normal[name], "oci"), it) for name, it in meanings.items()))
         self.fact("a name of OCI that is written is containerd's normal form", (
             (row.name, normal[row.name]) for row in self.rows_of("oci", ("rw",))))
+
+    def check_rpm(self):
+        if not self.has("rpm", shutil.which("rpm")):
+            return
+        meanings = self.meanings("rpm")
+        asked = {name: output("rpm", f"--target={name}-linux", "--eval", "%{_lib} %{optflags}") for name in meanings}
+        known = re.findall(r"^arch_canon:\s*(\w+):", upstream.read("/usr/lib/rpm/rpmrc"), re.M)
+        self.fact("rpm has its architectures", ((name, name in known, True) for name in meanings))
+        self.fact("rpm has 64-bit libraries for 64-bit machines", (
+            (name, it.pointer_width, 64 if "lib64" in asked[name] else 32) for name, it in meanings.items()), "amd64|em64t|ia32e")
+        self.fact("rpm passes floating-point numbers in registers where the ABI is hard-float", (
+            (name, str(it.environment).endswith("hf"), "-mfloat-abi=hard" in asked[name]) for name, it in meanings.items()))
+        said = {name: re.search(r"-march=(armv\d+\w*)", flags) for name, flags in asked.items()}
+        self.fact("rpm compiles for the version of Arm", (
+            (name, str(meanings[name].architecture)[:5], it[1][:5]) for name, it in said.items() if it))
+
+    def check_uname(self):
+        guess = "/usr/share/misc/config.guess"
+        if not self.has("config.guess", os.path.exists(guess)):
+            return
+        upstream.write(f"{self.folder}/uname", UNAME)
+        os.chmod(f"{self.folder}/uname", 0o755)
+        rows = []
+        for row in self.rows_of("uname"):
+            system, machine = row.name.replace("*", "19045").split(" ", 1)
+            told = {**os.environ, "PATH": f"{self.folder}:{os.environ['PATH']}", "TOLD_SYSTEM": system, "TOLD_MACHINE": machine}
+            said = self.read(output("sh", guess, env=told).strip().lower())
+            ours = self.read(row.name.replace("*", "19045"), "uname")
+            rows.append((row.name, *(it and f"{family(it)} {re.sub('[0-9.]', '', str(it.operating_system))}" for it in (ours, said))))
+        # Of the systems of BSD it asks `uname -p` and `arch`, and not `uname -m`; a compiler tells it what Mac it is; it doesn't know busybox.
+        self.fact("config.guess means the same machine and system as the words of uname", rows,
+                  "BSD|Power Macintosh|Darwin i386|Darwin x86_64|DragonFly|Windows_NT|MINGW32_NT-10.0-\\* x86_64|MSYS|GNU")
+
+    def check_host(self):
+        """Tools that name the machine that they run on."""
+        host = output("uname", "-m").strip()
+        nix = shutil.which("nix-instantiate") and output("nix-instantiate", "--eval", "--expr", "builtins.currentSystem").strip('"\n')
+        makepkg = re.search(r'^CARCH="(.*)"', upstream.read("/etc/makepkg.conf"), re.M) if os.path.exists("/etc/makepkg.conf") else None
+        for tool, dialect, name in (("Nix", "nix", nix), ("makepkg", "pacman", makepkg and makepkg[1])):
+            if self.has(tool, name):
+                self.fact(f"{tool} names this machine so", [(name, self.read(name, dialect).architecture, self.read(f"Linux {host}", "uname").architecture)])
 
     def check_node(self):
         main = glob.glob("/usr/lib/*/nodejs/esbuild/lib/main.js")
@@ -171,11 +246,11 @@ class Comparison(Report):
             with gzip.open(manual, "rt") as file:
                 text = file.read()
             # Machines and a system that are newer than the manual, as esbuild has them.
-            known = {"arch": {"loong64", "riscv64", "mips64el"}, "platform": {"netbsd"}}
+            known = {"arch": {"loong64", "riscv64", "mips64el"}, "platform": {"netbsd", "openharmony"}}
             for of, words in known.items():
                 words |= {*re.findall(r"`'(\w+)'`", text[text.index(f"## `process.{of}`"):][:900])}
-            names = [(row.name, *row.name.split("-")[:2]) for row in self.rows_of("node")]
-            self.fact("Node's words are the manual's or newer", (
+            names = [(row.name, *row.name.split("-")[:2]) for row in self.rows_of("node", ("rw", "w"))]
+            self.fact("Node's words are the manual's or newer, in names that are written", (
                 (name, system in known["platform"] and machine in known["arch"], True) for name, system, machine in names))
 
     def check_gnu(self):
@@ -244,7 +319,7 @@ class Comparison(Report):
         # A deployment target may be one number. The tag that is written has two.
         full = {name: re.sub(r"^(macosx|ios)_(\d+)_(?!\d+_)", r"\1_\2_0_", tag) for name, tag in tags.items()}
         self.fact("the tag of what sysconfig says is written", (
-            (name, it and it.name_in("python"), full[name]) for name, it in said.items()), "android")
+            (name, it and it.name_in("python"), full[name]) for name, it in said.items()), "android|bsd|dragonfly|haiku|cygwin|wasm32")
         made = []
         try:
             made = python_platforms.from_packaging()
@@ -271,16 +346,38 @@ def machine_of_rustc(triple):
     return words.get(family, words.get(name, family))
 
 
-def machine_of(dialect, name):
-    """The system's and the machine's word of a name."""
+def words_of(dialect, name):
+    """The system's and the machine's word of a name. A name without a system's is Linux's."""
+    if dialect in ("rpm", "apk", "pacman"):
+        return "linux", name
     if dialect in ("go", "oci"):
-        return name.split("/", 1)
-    if dialect == "node":
-        return name.split("-")[:2]
+        return re.fullmatch(r"([a-z0-9]+)(?:\(.*\))?[/_-](.+)", name).groups()
+    if dialect == "uname":
+        return re.fullmatch(r"(\w+?)(?:-10\.0-\*)? (.+)", name.lower()).groups()
+    if dialect in ("zig", "nix"):
+        machine, system = re.match(r"(\w+)-(\w+)", name).groups()
+        return system, machine
+    if dialect in ("node", "dotnet", "conda"):
+        system, machine = re.match(r"(?:node\*-)?([a-z]+\d*)(?:\.\*\.\*)?(?:-(?:musl|bionic))?-(\w+)", name).groups()
+        return (system if system in SYSTEM_WORDS else system.rstrip("0123456789")), machine
     if dialect == "debian":
-        return "", name.split("-")[-1]
-    system, word = re.fullmatch(r"(win|linux|manylinux[0-9_*]*|(?:musllinux|macosx|ios|android)[_*]*|)_?(.*?)(?:_iphone\w+)?", name).groups()
-    return system, word if system != "win" or name != "win32" else name
+        return (name.split("-")[0] if "-" in name else "linux"), name.split("-")[-1]
+    system, word = re.fullmatch(r"(?:cp\*_)?(win|linux|mingw|manylinux|musllinux|macosx|ios|android|freebsd|openbsd|netbsd|dragonfly|haiku|cygwin|emscripten|pyodide|wasi)"
+                                r"[0-9_*]*_?(?:RELEASE_)?(\D.*?)??(?:_iphone\w+|_(?:ucrt|msvcrt)_\w+)?", name).groups()
+    return system, name if name == "win32" else word
+
+
+def platforms():
+    """Names of platforms: words that containerd knows, in any case, with variants."""
+    systems = "linux Linux WINDOWS windows darwin macos MacOS freebsd netbsd openbsd dragonfly android ios solaris illumos aix".split()
+    machines = "386 i386 amd64 AMD64 x86_64 x86-64 X86_64 arm arm64 ARM64 aarch64 armhf armel ppc64le riscv64 s390x mips".split()
+    return [f"{system}/{machine}{variant}" for system in systems for machine in machines
+            for variant in ("", "/v1", "/v5", "/v6", "/v7", "/v8", "/V8", "/5", "/6", "/7", "/8")]
+
+
+def family(triple):
+    """The architecture, without the model of an Arm or an i386."""
+    return re.sub(r"^i\d86$", "i686", str(triple.architecture))
 
 
 def target(triple):
@@ -317,9 +414,13 @@ def main(options, folder):
     comparison = Comparison(options, folder)
     comparison.check_systems()
     comparison.check_machines()
+    comparison.check_libraries()
     comparison.check_spellings()
     comparison.check_dpkg()
     comparison.check_go()
+    comparison.check_rpm()
+    comparison.check_uname()
+    comparison.check_host()
     comparison.check_node()
     comparison.check_gnu()
     comparison.check_rust()

@@ -8,19 +8,21 @@ TABLE_ROWS = 100
 WAYS = {"rw": "Both", "r": "Read", "w": "Written", "-": "NoTriple"}
 DIALECT, ONLY_WRITTEN = "# dialect ", "# only written: "
 # The rules of a dialect: for each word of its line the field of `Rules`, and its value for each choice. The first choice goes
-# without saying.
+# without saying. A dialect may have other names too.
 RULES = {"machine": ("machine", {"order": "MachineRule::Order", "version": "MachineRule::Version", "rustc": "MachineRule::Rustc"}),
          "abi": ("abi", {"kept": "AbiRule::Kept", "dropped": "AbiRule::Dropped", "linux": "AbiRule::KeptOnLinux",
                   "systems": "AbiRule::KeptOnSystems"}),
          "versions": ("versions", {"no": "false", "yes": "true"}), "tags": ("tags", {"no": "false", "yes": "true"}),
-         "spelled": ("spelled", {"no": "false", "yes": "true"})}
+         "spelled": ("spelled", {"no": "false", "yes": "true"}), "platforms": ("platforms", {"no": "false", "yes": "true"})}
 
 
 @dataclass
 class Dialect:
-    """A dialect: its rules, what is said of it, and its rows. A row is a name, what it means or why it has no triple, and its way."""
+    """A dialect: its rules, its other names, what is said of it, and its rows. A row is a name, what it means or why it has no triple,
+    and its way."""
     name: str
     rules: dict
+    other_names: list
     about: str = ""
     rows: list = field(default_factory=list)
 
@@ -31,6 +33,14 @@ class Dialect:
     @property
     def constant(self):
         return self.name.upper()
+
+    @property
+    def is_read(self):
+        return any(way in ("Both", "Read") for _, _, way in self.rows)
+
+    @property
+    def is_written(self):
+        return any(way in ("Both", "Written") for _, _, way in self.rows)
 
     @property
     def tables(self):
@@ -55,11 +65,12 @@ def tables_of(text, wrong):
         if line.startswith(DIALECT):
             name, *rules = line.removeprefix(DIALECT).split()
             rules = dict(rule.partition("=")[::2] for rule in rules)
-            if name in found.dialects or any(word not in RULES or choice not in RULES[word][1] for word, choice in rules.items()):
+            others = [it for it in rules.pop("names", "").split(",") if it]
+            if {name, *others} & {*found.dialects, *(it[0] for it in other_names(found))} or any(word not in RULES or choice not in RULES[word][1] for word, choice in rules.items()):
                 mistake("a new dialect is wanted, and choices for some of " + ", ".join(RULES))
                 continue
             rules = {word: rules.get(word, next(iter(choices))) for word, (_, choices) in RULES.items()}
-            described = found.dialects.setdefault(name, Dialect(name, rules))
+            described = found.dialects.setdefault(name, Dialect(name, rules, others))
         elif line.startswith(ONLY_WRITTEN):
             found.only_written = line.removeprefix(ONLY_WRITTEN)
         elif line.startswith("#"):
@@ -79,6 +90,11 @@ def tables_of(text, wrong):
             meaning = note[0] if ways == "-" else triple.replace("*", "") if dialect in found.dialects else triple
             rows.append((name, meaning, WAYS[ways]))
     return found
+
+
+def other_names(tables):
+    """The other names of dialects, with their dialects."""
+    return [(name, it) for it in tables.dialects.values() for name in it.other_names]
 
 
 def names_that_are_read(tables):
@@ -106,8 +122,10 @@ def rust_lists(tables):
         "the reason of names that are only written": [f'pub(crate) const ONLY_WRITTEN: &str = "{tables.only_written}";'],
         "the dialects": [line for it in dialects for line in (f"/// {it.about}", f"{it.variant},")],
         "the names of the dialects": [f'Dialect::{it.variant} => "{it.name}",' for it in dialects],
-        "the dialects by name": [f"static DIALECTS: [(&str, Dialect); {len(dialects)}] = [",
-                                 *(f'    ("{it.name}", Dialect::{it.variant}),' for it in dialects), "];"],
+        "the dialects by name": [f"static DIALECTS: [(&str, Dialect); {len(dialects) + len(other_names(tables))}] = [",
+                                 *(f'    ("{name}", Dialect::{it.variant}),' for name, it in [*((it.name, it) for it in dialects), *other_names(tables)]),
+                                 "];"],
+        "each dialect": [f"Dialect::{it.variant}," for it in dialects],
         "the rules of the dialects": [f"Dialect::{it.variant} => Rules {{ {', '.join(f'{name}: {value}' for name, value in rules(it, str))} }},"
                                       for it in dialects],
         "the most tables of a dialect": [f"const TABLE_COUNT: usize = {table_count(dialects)};"],
@@ -115,28 +133,46 @@ def rust_lists(tables):
             f"Dialect::{it.variant} => [{', '.join([f'{name}()' for name, _ in it.tables] + ['&[]'] * (table_count(dialects) - len(it.tables)))}],"
             for it in dialects],
         "the tables of the dialects": "\n".join(line for it in dialects for name, rows in it.tables for line in table(name, rows)).strip("\n").split("\n"),
-        **lists_of_languages(list(dialects)),
+        **lists_of_languages(list(dialects), other_names(tables)),
         "the dialects by number": [f"{number} => Some(Some(Dialect::{it.variant}))," for number, it in enumerate(dialects, 1)],
     }
 
 
-def lists_of_languages(dialects):
+def lists_of_languages(dialects, others):
     names = ", ".join(f'"{it.name}"' for it in dialects)
     words = [it.name for it in dialects]
+    read, written = [it for it in dialects if it.is_read], [it for it in dialects if it.is_written]
+    in_order = sorted(dialects, key=lambda it: (it.is_written, not it.is_read))
     return {
         "the dialects for C": [f"LEXICON_DIALECT_{it.constant} = {number}, /* {it.about.rstrip('.').replace('`', '')} */" for number, it in enumerate(dialects, 1)],
         "the last dialect": [f"enum {{ LAST_DIALECT = {len(dialects)} }};"],
         "the dialects for C++": [f"{it.variant} = LEXICON_DIALECT_{it.constant}," for it in dialects],
         "the dialects' names for C++": [f'constexpr const char* names[] = {{"", {names}}};'],
         "the dialects for the command": [f"pub const DIALECTS: [Dialect; {len(dialects)}] = [",
-                                         *(f"    Dialect::{it.variant}," for it in dialects), "];"],
-        "the dialects for the manual": [f"the tool whose names are read or written: {', '.join(words[:-1])} or {words[-1]}."],
+                                         *(f"    Dialect::{it.variant}," for it in in_order), "];",
+                                         f"pub const READ: usize = {len(read)};", f"pub const ONLY_READ: usize = {len(dialects) - len(written)};"],
+        "the other names of dialects for the command": [f"const OTHER_NAMES: [(&str, Dialect); {len(others)}] = [",
+                                                        *(f'    ("{name}", Dialect::{it.variant}),' for name, it in others), "];"],
+        "the dialects for the manual": [f"the tool whose names are read or written: {', '.join(words[:-1])} or {words[-1]}.",
+                                        f"Names of {' and '.join(it.name for it in dialects if not it.is_written)} are only read."],
         "the dialects for Python": [line for it in dialects for line in (f"#: {it.about}", f'{it.constant} = "{it.name}"')],
-        "the dialects' names for Python": [f"DialectName = Literal[{names}]"],
+        "the dialects' names for Python": [f"DialectName = {literal([*words, *(name for name, _ in others)])}",
+                                           f"OTHER_NAMES = {{{', '.join(f'{chr(34)}{name}{chr(34)}: {chr(34)}{it.name}{chr(34)}' for name, it in others)}}}",
+                                           f"ONLY_READ = [{', '.join(f'Dialect.{it.constant}' for it in dialects if not it.is_written)}]",
+                                           f"ONLY_WRITTEN: List[Dialect] = [{', '.join(f'Dialect.{it.constant}' for it in dialects if not it.is_read)}]"],
+        "the other names of dialects for JavaScript": [f"const OTHER_NAMES = {{ {', '.join(f'{name}: {chr(34)}{it.name}{chr(34)}' for name, it in others)} }};"],
+        "the dialects for the documentation": ["", "| Dialect | Its names | Read | Written |", "|---|---|---|---|",
+                                               *(f"| {', '.join(f'`{name}`' for name in [it.name, *it.other_names])} | {it.about} | "
+                                                 f"{'yes' if it.is_read else 'no'} | {'yes' if it.is_written else 'no'} |" for it in dialects)],
+        "the dialects for the page": [f"const {name} = [{', '.join(chr(34) + it.name + chr(34) for it in of)}];" for name, of in (("READ", read), ("WRITTEN", written))],
         "the dialects for JavaScript": [f"export const DIALECTS = Object.freeze([{names}]);"],
-        "the type of dialects": ["export type Dialect = " + " | ".join(f'"{it.name}"' for it in dialects) + ";"],
+        "the type of dialects": ["export type Dialect = " + " | ".join(f'"{it}"' for it in [*words, *(name for name, _ in others)]) + ";"],
         "the dialects for TypeScript": [f"export const DIALECTS: readonly [{names}];"],
     }
+
+
+def literal(names):
+    return "Literal[" + ", ".join(f'"{it}"' for it in names) + "]"
 
 
 def table_count(dialects):
@@ -168,6 +204,7 @@ def antt_lists(tables):
         "versioned_spellings": pairs("versioned_spellings", other, names),
         "dialect_name": [f'dialect_name dialect.{it.variant} = codes "{it.name}"' for it in dialects],
         "dialects": ["dialects = " + " ∷ ".join([*(f"dialect.{it.variant}" for it in dialects), "[]"])],
+        "other_dialect_names": ["other_dialect_names = " + " ∷ ".join([*(f'(codes "{name}", dialect.{it.variant})' for name, it in other_names(tables)), "[]"])],
         "dialects_by_number": ["dialects_by_number = " + " ∷ ".join(["None", *(f"Some dialect.{it.variant}" for it in dialects), "[]"])],
         "rules_of": [f"rules_of dialect.{it.variant} = record {{ "
                      + "; ".join(f"{name} = {value}" for name, value in rules(it, lambda value: value.replace("AbiRule::", "abi.").replace("MachineRule::", "machine."))) + " }"

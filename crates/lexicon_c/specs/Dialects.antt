@@ -15,7 +15,7 @@ use Rattle.lexicon_c.specs.{Parsing.refusal_numbers, Triple.AreNumbersOf, declar
 -- the dialects by number. The first is none: strings that are spelled like triples. A number never changes its meaning
 abbrev pub dialects_by_number : List (Option Dialect)
 -- written by tools/names/write: dialects_by_number
-dialects_by_number = None ∷ Some dialect.Debian ∷ Some dialect.Go ∷ Some dialect.Oci ∷ Some dialect.Node ∷ Some dialect.Gnu ∷ Some dialect.Python ∷ Some dialect.Rust ∷ []
+dialects_by_number = None ∷ Some dialect.Debian ∷ Some dialect.Go ∷ Some dialect.Oci ∷ Some dialect.Node ∷ Some dialect.Gnu ∷ Some dialect.Python ∷ Some dialect.Rust ∷ Some dialect.Uname ∷ Some dialect.Rpm ∷ Some dialect.Apk ∷ Some dialect.Pacman ∷ Some dialect.Dotnet ∷ Some dialect.Conda ∷ Some dialect.Zig ∷ Some dialect.Nix ∷ []
 
 -- end of what is written
 

@@ -25,6 +25,14 @@ pub fn dialect_at(number: u32) -> Option<Option<Dialect>>
         5 => Some(Some(Dialect::Gnu)),
         6 => Some(Some(Dialect::Python)),
         7 => Some(Some(Dialect::Rust)),
+        8 => Some(Some(Dialect::Uname)),
+        9 => Some(Some(Dialect::Rpm)),
+        10 => Some(Some(Dialect::Apk)),
+        11 => Some(Some(Dialect::Pacman)),
+        12 => Some(Some(Dialect::Dotnet)),
+        13 => Some(Some(Dialect::Conda)),
+        14 => Some(Some(Dialect::Zig)),
+        15 => Some(Some(Dialect::Nix)),
         // end of what is written
         _ => None,
     }

@@ -2,7 +2,7 @@
 
 use crate::values::{hash_alike, prints};
 use target_lexicon::TripleRef;
-use tool_names::{LinuxLibc, Dialect, TranslateError, WriteError, complete, read};
+use tool_names::{Dialect, LinuxLibc, TranslateError, WriteError, complete, read};
 
 /// A triple, and what it is with glibc and with musl.
 const COMPLETED: &str = "\

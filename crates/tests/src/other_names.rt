@@ -172,6 +172,35 @@ manylinux_2_x86_64==
 manylinux_2_17_sparc==
 ==";
 
+/// The same for platforms of container images.
+const PLATFORMS: &str = "\
+linux/arm=armv7-unknown-linux=linux/arm/v7
+linux/arm/7=armv7-unknown-linux=linux/arm/v7
+linux/arm/5=armv5te-unknown-linux=linux/arm/v5
+linux/arm/V8=armv8-unknown-linux=linux/arm/v8
+linux/armhf/v5=armv7-unknown-linux=linux/arm/v7
+linux/armel=armv6-unknown-linux=linux/arm/v6
+LINUX/ARM64=aarch64-unknown-linux=linux/arm64
+linux/aarch64/8=aarch64-unknown-linux=linux/arm64
+macOS/aarch64/v8=aarch64-apple-darwin=darwin/arm64
+windows/x86_64=x86_64-pc-windows=windows/amd64
+Windows/X86-64/V1=x86_64-pc-windows=windows/amd64
+android/i386/v5=i686-linux-android=android/386
+windows(10.0.17763)/amd64=x86_64-pc-windows=windows/amd64
+wasip1/wasm=wasm32-wasip1=
+linux/arm/9==
+linux/arm64/==
+linux/arm64/v8/==
+linux/amd64/v1/v1==
+linux//amd64==
+linux/i386x==
+linuxx/amd64==
+macos==
+x86_64==
+//==
+/==
+==";
+
 const GNU: &str = "\
 x86_64-redhat-linux=x86_64-unknown-linux-gnu=x86_64-linux-gnu
 x86_64-pc-linux-gnu=x86_64-unknown-linux-gnu=x86_64-linux-gnu
@@ -218,6 +247,7 @@ x86_64-unknown-linux==
 fn names_of_dialects(rt: HostRuntime) {
     for (dialect, rows) in [
         (Dialect::Python, PYTHON),
+        (Dialect::Oci, PLATFORMS),
         (Dialect::Gnu, GNU),
         (Dialect::Rust, RUST),
     ] {
@@ -370,6 +400,7 @@ fn values_of_other_names_are_compared_and_displayed(rt: HostRuntime) {
     ];
     assert!(rt; are_distinct(&errors));
     let dialects = [
+        // written by tools/names/write: each dialect
         Dialect::Debian,
         Dialect::Go,
         Dialect::Oci,
@@ -377,12 +408,22 @@ fn values_of_other_names_are_compared_and_displayed(rt: HostRuntime) {
         Dialect::Gnu,
         Dialect::Python,
         Dialect::Rust,
+        Dialect::Uname,
+        Dialect::Rpm,
+        Dialect::Apk,
+        Dialect::Pacman,
+        Dialect::Dotnet,
+        Dialect::Conda,
+        Dialect::Zig,
+        Dialect::Nix,
+        // end of what is written
     ];
     assert!(rt; are_distinct(&dialects));
     for dialect in dialects {
         assert!(rt; hash_alike(&dialect, &dialect) && prints(&dialect, dialect.as_str()));
         assert!(rt; dialect.as_str().parse() == Ok(dialect));
     }
+    assert!(rt; "docker".parse() == Ok(Dialect::Oci) && "npm".parse() == Ok(Dialect::Node));
     match (
         TripleRef::from_str("x86_64-unknown-linux"),
         TripleRef::from_str("x86_64-unknown-linux-gnu"),

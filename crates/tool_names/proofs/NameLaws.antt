@@ -16,6 +16,7 @@ use Rattle.target_lexicon.specs.Values.riscv32
 use Rattle.lexicon_fields.specs.declared.architecture.riscv.Riscv64Architecture.TheVariants as riscv64
 use Rattle.tool_names.specs.declared.dialect.Dialect.{Dialect}
 use Rattle.tool_names.specs.declared.shape.MachineRule.{MachineRule}
+use Rattle.tool_names.specs.declared.dialect.Dialect.TheVariants.{Debian}
 use Rattle.tool_names.specs.declared.shape.MachineRule.TheVariants.{Order, Version, Rustc}
 use Rattle.tool_names.specs.declared.tables.Way.{Way}
 use Rattle.tool_names.specs.declared.tables.Way.TheVariants.{Both, Read, Written, NoTriple}
@@ -24,15 +25,17 @@ use Rattle.tool_names.specs.{Laws.IsCanonical, Laws.IsNamed, Laws.NamesAreCanoni
 use Rattle.tool_names.specs.Gnu.{as_gnu, gnu_meaning, gnu_reading, gnu_system}
 use Rattle.tool_names.specs.Spelling.{spelled_reading}
 use Rattle.tool_names.specs.{ObjectFormat.object_format, Shape.machine_by, Shape.shape, Shape.sparc_of_rustc, Shape.system_by, Shape.unversioned, Shape.with_two_numbers}
+use Rattle.std.specs.Option.{option_or}
+use Rattle.tool_names.specs.Platforms.{Words, normal_words, row_with_words, words_of}
 use Rattle.tool_names.specs.Patterns.{all_limits, are_within, filled, fits, star_count, with_star, without_star}
 use Rattle.tool_names.specs.Tables.{Row, is_read_and, is_written, row_named}
-use Rattle.tool_names.specs.ToolNames.{HasNoTriple, Unread, found_meaning, name_meaning, numbers_in, read_or_unknown, row_meaning, shape_row, spelled_meaning, system_with, text_without_numbers, triple_name, values_or_unknown, version_of_numbers, with_numbers, without_numbers}
+use Rattle.tool_names.specs.ToolNames.{HasNoTriple, Unread, found_meaning, name_meaning, numbers_in, platform_row, read_or_unknown, row_meaning, shape_row, spelled_meaning, system_with, text_without_numbers, triple_name, values_or_unknown, version_of_numbers, with_numbers, without_numbers}
 use Rattle.tool_names.proofs.Filling.{counted_fits, filled_matches, fits_are_within, fits_counted, is_own_tag, is_spaced, match_fits}
 use Rattle.tool_names.proofs.KeptFormats.{keeps_abi, kept-format}
 use Rattle.tool_names.proofs.ObjectFormats.{given_kept}
 use Rattle.tool_names.proofs.RowChecks.{IsWrittenFor, both_rows, gives_no_special_text, has_canonical, has_form, has_numbers, has_pair, has_triple, is_both, is_canonical, is_canonical_as, is_known_format, is_ordinary, is_ordinary_architecture, is_ordinary_system, is_long_of, is_pair, is_short_of, name_of, plain-back, row-written, rows-apart, rows-canonical, rows-formed, rows-paired, tags-unspelled, versioned-back, written_back}
 use Rattle.tool_names.proofs.ReadAgain.{read-sound}
-use Rattle.tool_names.proofs.RowLemmas.{all-at, any-at, is_only_written, is_refused, named-at, row-found}
+use Rattle.tool_names.proofs.RowLemmas.{all-at, any-at, is_only_written, is_refused, named-at, row-found, words-at}
 use Rattle.tool_names.proofs.Tags.{named_tag}
 use Rattle.tool_names.proofs.ShapeLemmas.{has_no_special_text, numbers-within, shape-endianness, shape-no_special, shape-width, usual-no_special, with-again, without-range}
 
@@ -148,9 +151,18 @@ without_triple_refused = record {
   only_written = λ d row name numbers named is. written-refused d row name numbers named (rw is refl);
 }
 
+-- where names are tags they are no platforms
+
+not-both : (d : Dialect) → ((rules_of d).tags && (rules_of d).platforms) ≡ false
+not-both Debian = refl
+not-both _ = refl
+
+no-platforms : (d : Dialect) → (rules_of d).tags ≡ true → (rules_of d).platforms ≡ false
+no-platforms d tags = let both = not-both d in let none = rw tags at both in none
+
 pub tags_mean_same : TagsMeanTheSame
 unfolding name_meaning
-tags_mean_same d name tags = rw (tags, not-false (rules_of d).spelled (implied (rules_of d).tags (not (rules_of d).spelled) tags (tags-unspelled d)), named_tag (rows_of d) name) refl
+tags_mean_same d name tags = rw (tags, no-platforms d tags, not-false (rules_of d).spelled (implied (rules_of d).tags (not (rules_of d).spelled) tags (tags-unspelled d)), named_tag (rows_of d) name) refl
 
 -- the form of a row, and its name with numbers
 
@@ -298,8 +310,12 @@ triple-canonical way kept text stars h is = and_parts _ _ (rw is at h)
 abbrev keeps : Dialect → Bool
 keeps d = keeps_abi (rules_of d).abi
 
-canonical-at : (d : Dialect) (i : ℕ) (row : Row) → slice_get (rows_of d) i ≡ Some row → has_triple row.way ≡ true → (is_canonical (keeps d) row.meaning ≡ true) × ((nat_eq (star_count row.pattern) 0 || gives_no_special_text (reading row.meaning)) ≡ true)
-canonical-at d i row at is = triple-canonical row.way (keeps d) row.meaning (nat_eq (star_count row.pattern) 0 || gives_no_special_text (reading row.meaning)) (all-at (has_canonical (keeps d)) (rows_of d) i row (rows-canonical d) at) is
+-- whether a name needn't be that of an ordinary triple
+abbrev is_free : Dialect → Row → Bool
+is_free d row = not (is_written row.way) || keeps d
+
+canonical-at : (d : Dialect) (i : ℕ) (row : Row) → slice_get (rows_of d) i ≡ Some row → has_triple row.way ≡ true → (is_canonical (is_free d row) row.meaning ≡ true) × ((nat_eq (star_count row.pattern) 0 || gives_no_special_text (reading row.meaning)) ≡ true)
+canonical-at d i row at is = triple-canonical row.way (is_free d row) row.meaning (nat_eq (star_count row.pattern) 0 || gives_no_special_text (reading row.meaning)) (all-at (has_canonical (keeps d)) (rows_of d) i row (rows-canonical d) at) is
 
 -- with numbers the version is in range
 numbers-range : (ns : List ℕ) → are_within all_limits ns ≡ true → IsVersionInRange (version_of_numbers ns)
@@ -337,11 +353,27 @@ found-canonical : RoundIsNormalStep → ReadTriplesArePlain → (d : Dialect) (n
 found-canonical round_trip read_plain d name found t is triple means =
     let at = named-at (rules_of d).tags (rows_of d) name found is in
     let canonical = canonical-at d at.0 found.0 at.1 triple in
-    let row = canonical-row (keeps d) found.0.meaning canonical.0 in
+    let row = canonical-row (is_free d found.0) found.0.meaning canonical.0 in
     let fit = match_fits (rules_of d).tags found.0.pattern name found.1 at.2 in
     let special = λ (some : found.1 ≢ []). subst (λ r. gives_no_special_text r ≡ true) row.1.reads (numbers-special (star_count found.0.pattern) found.1 (gives_no_special_text (reading found.0.meaning)) (fits_counted found.0.pattern found.1 fit) canonical.1 some) in
     let same : Ok (record row.0 { operating_system = system_with found.1 row.0.operating_system }) ≡ Ok t = sym (ap (λ r. with_numbers found.1 (read_or_unknown r)) row.1.reads) ∙ means in
-    numbered-canonical round_trip read_plain (keeps d) found.0.meaning found.1 t row.0 row.1 special (fits_are_within found.0.pattern found.1 fit) cc
+    numbered-canonical round_trip read_plain (is_free d found.0) found.0.meaning found.1 t row.0 row.1 special (fits_are_within found.0.pattern found.1 fit) cc
+
+words-canonical : RoundIsNormalStep → ReadTriplesArePlain → (d : Dialect) (words : Words) (row : Row) (t : Values) → row_with_words (rows_of d) words ≡ Some row → row_meaning row.way row.meaning [] ≡ Ok t → IsCanonical t
+words-canonical round_trip read_plain d words row t is means = by_way row.way refl means
+  where
+    by_triple : has_triple row.way ≡ true → with_numbers [] (read_or_unknown (reading row.meaning)) ≡ Ok t → IsCanonical t
+    by_triple triple h =
+        let at = words-at (rows_of d) words row is in
+        let it = canonical-row (is_free d row) row.meaning (canonical-at d at.0 row at.1 triple).0 in
+        let same : Ok it.0 ≡ Ok t = sym (ap (λ r. with_numbers [] (read_or_unknown r)) it.1.reads) ∙ h in
+        numbered-canonical round_trip read_plain (is_free d row) row.meaning [] t it.0 it.1 (λ some. absurd (some refl)) refl cc
+
+    by_way : (way : Way) → row.way ≡ way → row_meaning way row.meaning [] ≡ Ok t → IsCanonical t
+    by_way Both way h = by_triple (rw way refl) h
+    by_way Read way h = by_triple (rw way refl) h
+    by_way Written way h = absurd cc
+    by_way NoTriple way h = absurd cc
 
 -- what a spelling means has its usual vendor
 
@@ -382,8 +414,17 @@ names_canonical round_trip read_plain d name t means = by_found (row_named (rule
     by_spelling true h = spelled-canonical round_trip name t h
     by_spelling false h = absurd cc
 
-    by_found : (o : Option (Row × List ℕ)) → row_named (rules_of d).tags (rows_of d) name ≡ o → found_meaning o (spelled_meaning (rules_of d).spelled name) ≡ Ok t → IsCanonical t
-    by_found None is h = by_spelling (rules_of d).spelled h
+    by_words : (o : Option Row) → row_with_words (rows_of d) (normal_words (words_of name)) ≡ o → found_meaning (option_map (λ (row : Row). (row, [])) o) (spelled_meaning (rules_of d).spelled name) ≡ Ok t → IsCanonical t
+    by_words None is h = by_spelling (rules_of d).spelled h
+    by_words (Some row) is h = words-canonical round_trip read_plain d (normal_words (words_of name)) row t is h
+
+    by_platform : (b : Bool) → found_meaning (platform_row b (rows_of d) name) (spelled_meaning (rules_of d).spelled name) ≡ Ok t → IsCanonical t
+    by_platform true h = by_words (row_with_words (rows_of d) (normal_words (words_of name))) refl h
+    by_platform false h = by_spelling (rules_of d).spelled h
+
+    by_found : (o : Option (Row × List ℕ)) → row_named (rules_of d).tags (rows_of d) name ≡ o
+        → found_meaning (option_or o (platform_row (rules_of d).platforms (rows_of d) name)) (spelled_meaning (rules_of d).spelled name) ≡ Ok t → IsCanonical t
+    by_found None is h = by_platform (rules_of d).platforms h
     by_found (Some found) is h = by_way found is found.0.way refl h
 
 -- the row that is written for a shape
@@ -417,7 +458,8 @@ name-row d t name h = by_row (shape_row d (shape d t)) refl h
     by_row None is h = absurd cc
     by_row (Some row) is h =
         let written = row-written d (length (numbers_in (shape d t).operating_system)) (text_without_numbers (shape d t)) row is in
-        let canonical = (canonical-at d written.place row written.listed (written-triple row.way written.written)).0 in
+        let free = (canonical-at d written.place row written.listed (written-triple row.way written.written)).0 in
+        let canonical : is_canonical (keeps d) row.meaning ≡ true = rw written.written at free in
         record { row = row; is = is; written = written; name_is = cc; canonical = subst (λ x. is_canonical (keeps d) x ≡ true) (sym written.text_is) canonical }
 
 base-row : RoundIsNormalStep → (d : Dialect) (t : Values) → is_canonical (keeps d) (text_of (base d t)) ≡ true → (reading (text_of (base d t)) ≡ Ok (base d t)) × ((keeps d || is_ordinary (base d t)) ≡ true)

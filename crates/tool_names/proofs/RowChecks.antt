@@ -43,7 +43,7 @@ abbrev pub is_ordinary : Values → Bool
 is_ordinary t = is_ordinary_architecture t.architecture && is_ordinary_system t.operating_system && is_known_format t.binary_format
 
 -- a text parses as a triple with a known vendor that prints as the text
--- where the dialect doesn't keep every environment, the triple is an ordinary one
+-- where a name is written, and the dialect doesn't keep every environment, the triple is an ordinary one
 abbrev pub is_canonical_as : Bool → List ℕ → Result Values Refusal → Bool
 is_canonical_as kept text (Ok t) = bytes_eq (text_of t) text && not (is_custom t.vendor) && not (is_clever t.architecture) && (kept || is_ordinary t)
 is_canonical_as kept text (Err _) = false
@@ -67,7 +67,7 @@ gives_no_special_text (Ok t) = has_no_special_text t.vendor
 gives_no_special_text (Err _) = false
 
 abbrev pub has_canonical : Bool → Row → Bool
-has_canonical kept row = not (has_triple row.way) || (is_canonical kept row.meaning && (nat_eq (star_count row.pattern) 0 || gives_no_special_text (reading row.meaning)))
+has_canonical kept row = not (has_triple row.way) || (is_canonical (not (is_written row.way) || kept) row.meaning && (nat_eq (star_count row.pattern) 0 || gives_no_special_text (reading row.meaning)))
 
 -- a name has its numbers apart, and is its own tag where names are tags; one that is written has none, or two and is read too,
 -- and it and its triple are short

@@ -5,6 +5,7 @@ use Rattle.std.specs.{Char.is_ascii_digit, List.list_all, List.list_any, List.pr
 use Rattle.std.proofs.lemmas.Bool.{and_parts, eqb-false, eqb-true}
 use Rattle.tool_names.specs.declared.tables.Way.{Way}
 use Rattle.tool_names.specs.declared.tables.Way.TheVariants.{Written, NoTriple}
+use Rattle.tool_names.specs.Platforms.{Words, has_words, row_with_words}
 use Rattle.tool_names.specs.Patterns.{after_digits, all_limits, head_digits, key_by, matched, matched_within, next_number, put_first, rest_of, star}
 use Rattle.tool_names.proofs.Tags.{matched_key}
 use Rattle.tool_names.specs.Tables.{Row, is_written_for, row_for, row_named}
@@ -159,6 +160,16 @@ named-at tags (row ∷ rows) name found is = by_match (matched tags row.pattern 
         let same : (row, numbers) ≡ found = cc in
         subst (λ (f : Row × List ℕ). (i : ℕ) × (slice_get (row ∷ rows) i ≡ Some f.0) × (matched tags f.0.pattern name ≡ Some f.1)) same (0, refl, has)
     by_match None none h again = let rest = again h in (suc rest.0, rest.1, rest.2)
+
+-- so is the row with the words of a platform
+pub words-at : (rows : List Row) (words : Words) (found : Row) → row_with_words rows words ≡ Some found → (i : ℕ) × (slice_get rows i ≡ Some found)
+words-at [] words found is = absurd cc
+words-at (row ∷ rows) words found is = by_test (has_words words row) is (words-at rows words found)
+  where
+    by_test : (b : Bool) → cond b (Some row) (row_with_words rows words) ≡ Some found → (row_with_words rows words ≡ Some found → (i : ℕ) × (slice_get rows i ≡ Some found))
+        → (i : ℕ) × (slice_get (row ∷ rows) i ≡ Some found)
+    by_test true is_first again = let same : row ≡ found = cc in subst (λ (r : Row). (i : ℕ) × (slice_get (row ∷ rows) i ≡ Some r)) same (0, refl)
+    by_test false is_later again = let rest = again is_later in (suc rest.0, rest.1)
 
 -- so is the one for a triple
 pub for-at : (rows : List Row) (numbers : ℕ) (text : List ℕ) (found : Row) → row_for rows numbers text ≡ Some found → (i : ℕ) × (slice_get rows i ≡ Some found) × (is_written_for numbers text found ≡ true)

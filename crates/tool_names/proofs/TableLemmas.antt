@@ -6,6 +6,7 @@ use Rattle.std.proofs.lemmas.Grind.{flat_map-append}
 use Rattle.std.proofs.lemmas.List.{append-nil, drop_more, map-append, take_more}
 use Rattle.std.proofs.lemmas.List.Elements.{filter-append}
 use Rattle.tool_names.specs.Patterns.{matched}
+use Rattle.tool_names.specs.Platforms.{Words, has_words, row_with_words}
 use Rattle.tool_names.specs.Tables.{Row, has_plain_name, is_written_for, plain_rows, row_for, row_named, rows_in}
 use Rattle.tool_names.specs.ToolNames.{plain_names}
 use Rattle.tool_names.proofs.NearestNames.{BorrowedRow}
@@ -33,6 +34,21 @@ pub named_more : (tags : Bool) (tables : List Table) (i : ℕ) (name : List ℕ)
 named_more tags tables i name more =
     ap (λ ts. row_named tags (rows_in ts) name) (drop_more tables i no_table more)
     ∙ named-append tags (plain_rows (get_or tables i no_table).now) (rows_in (drop (i + 1) tables)) name
+
+words-append : (xs ys : List Row) (words : Words) → row_with_words (xs ++ ys) words ≡ option_or (row_with_words xs words) (row_with_words ys words)
+words-append [] ys words = refl
+words-append (x ∷ xs) ys words = by_test (has_words words x) (words-append xs ys words)
+  where
+    by_test : (b : Bool) → row_with_words (xs ++ ys) words ≡ option_or (row_with_words xs words) (row_with_words ys words)
+        → cond b (Some x) (row_with_words (xs ++ ys) words) ≡ option_or (cond b (Some x) (row_with_words xs words)) (row_with_words ys words)
+    by_test true rest = refl
+    by_test false rest = rest
+
+pub words_more : (tables : List Table) (i : ℕ) (words : Words) → i < length tables
+    → row_with_words (rows_in (drop i tables)) words ≡ option_or (row_with_words (plain_rows (get_or tables i no_table).now) words) (row_with_words (rows_in (drop (i + 1) tables)) words)
+words_more tables i words more =
+    ap (λ ts. row_with_words (rows_in ts) words) (drop_more tables i no_table more)
+    ∙ words-append (plain_rows (get_or tables i no_table).now) (rows_in (drop (i + 1) tables)) words
 
 for-append : (xs ys : List Row) (numbers : ℕ) (text : List ℕ) → row_for (xs ++ ys) numbers text ≡ option_or (row_for xs numbers text) (row_for ys numbers text)
 for-append [] ys numbers text = refl

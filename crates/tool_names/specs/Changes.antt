@@ -1,14 +1,14 @@
 -- What is changed in a string that is spelled like a triple: the parts that are other spellings of known names, and a
 -- second part that states no vendor.
-use Rattle.std.specs.Prelude.{◌≡◌, ◌↔◌, false, ℕ, Bool, List, [], ◌∷◌, ◌++◌, Ok, if◌then◌else◌}
+use Rattle.std.specs.Prelude.{◌≡◌, ◌↔◌, ◌-◌, false, ℕ, Bool, List, [], ◌∷◌, ◌++◌, length, Ok, Option, option_map, if◌then◌else◌}
 use Rattle.std.specs.List.{join_with_byte}
 use Rattle.std.specs.Str.{bytes_eq}
 use Rattle.lexicon_fields.specs.{Names.dash, Vendor.is_custom}
-use Rattle.target_lexicon.specs.{Explanation.IsInText, Explanation.PlacedPart, Explanation.part_value, Placement.parts_after, Placement.parts_of, Reading.ReadsAs, Values.Values}
+use Rattle.target_lexicon.specs.{Explanation.IsInText, Explanation.PlacedPart, Explanation.part_end, Explanation.part_from, Explanation.part_value, Placement.parts_after, Placement.parts_of, Reading.ReadsAs, Values.Values}
 use Rattle.tool_names.specs.{declared.change.Change.Change, declared.change.ChangedParts.ChangedParts, declared.change.Position.Position, declared.spelling.Name.Name, declared.spelling.Spelling.Spelling}
 use Rattle.tool_names.specs.declared.change.Position.TheVariants.{First, Second, Later}
 use Rattle.tool_names.specs.declared.spelling.Name.TheVariants.{Text, MacOs}
-use Rattle.tool_names.specs.Spelling.{SpelledPart, first_at_end, first_spelling, later_parts, later_spelling, macosx_name, other_parts, second_spelling, spelled_parts, spelled_reading}
+use Rattle.tool_names.specs.Spelling.{SpelledPart, first_at_end, first_spelling, later_parts, later_spelling, macosx_name, other_parts, second_spelling, spelled_parts, spelled_reading, version_after, versioned_spellings}
 
 -- a part of a string, and the names that are read instead
 pub record PartChange : Type 0 where
@@ -33,6 +33,10 @@ changes_of text (it ∷ others) = change_of text it ++ changes_of text others
 -- the changes of a string: the parts that don't spell only themselves, from the first to the last
 unfoldable pub changes : List ℕ → List PartChange
 changes text = changes_of text (spelled_parts (parts_of text))
+
+-- the version that a part loses, at the end of the part
+unfoldable pub dropped_version : PlacedPart → Option PlacedPart
+dropped_version part = option_map (λ version. part_from (part_end part - length version) version) (version_after versioned_spellings part.text)
 
 -- a string that parses without a custom vendor has no changes
 abbrev pub KnownNamesStay : Type 0

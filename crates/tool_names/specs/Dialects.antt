@@ -1,7 +1,7 @@
 -- The dialects: their names, what they state, and their rows.
-use Rattle.std.specs.Prelude.{ℕ, true, false, List, [], ◌∷◌, codes, Option}
+use Rattle.std.specs.Prelude.{ℕ, true, false, List, [], ◌∷◌, ◌++◌, codes, Option}
 use Rattle.std.specs.List.{flat_map}
-use Rattle.lexicon_fields.specs.Names.{named_values, value_named}
+use Rattle.lexicon_fields.specs.Names.{Pair, named_values, value_named}
 use Rattle.tool_names.specs.declared.dialect.Dialect.{Dialect}
 use Rattle.tool_names.specs.declared.dialect.Dialect.TheVariants as dialect
 use Rattle.tool_names.specs.declared.shape.AbiRule.TheVariants as abi
@@ -20,42 +20,73 @@ dialect_name dialect.Node = codes "node"
 dialect_name dialect.Gnu = codes "gnu"
 dialect_name dialect.Python = codes "python"
 dialect_name dialect.Rust = codes "rust"
+dialect_name dialect.Uname = codes "uname"
+dialect_name dialect.Rpm = codes "rpm"
+dialect_name dialect.Apk = codes "apk"
+dialect_name dialect.Pacman = codes "pacman"
+dialect_name dialect.Dotnet = codes "dotnet"
+dialect_name dialect.Conda = codes "conda"
+dialect_name dialect.Zig = codes "zig"
+dialect_name dialect.Nix = codes "nix"
 
 -- end of what is written
 
 abbrev pub dialects : List Dialect
 -- written by tools/names/write: dialects
-dialects = dialect.Debian ∷ dialect.Go ∷ dialect.Oci ∷ dialect.Node ∷ dialect.Gnu ∷ dialect.Python ∷ dialect.Rust ∷ []
+dialects = dialect.Debian ∷ dialect.Go ∷ dialect.Oci ∷ dialect.Node ∷ dialect.Gnu ∷ dialect.Python ∷ dialect.Rust ∷ dialect.Uname ∷ dialect.Rpm ∷ dialect.Apk ∷ dialect.Pacman ∷ dialect.Dotnet ∷ dialect.Conda ∷ dialect.Zig ∷ dialect.Nix ∷ []
 
 -- end of what is written
 
--- the dialect with this name
+-- other names of dialects
+abbrev pub other_dialect_names : List (Pair Dialect)
+-- written by tools/names/write: other_dialect_names
+other_dialect_names = (codes "docker", dialect.Oci) ∷ (codes "npm", dialect.Node) ∷ []
+
+-- end of what is written
+
+-- the dialect with this name, or with this other name
 unfoldable pub dialect_of : List ℕ → Option Dialect
-dialect_of name = value_named (named_values dialect_name dialects) name
+dialect_of name = value_named (named_values dialect_name dialects ++ other_dialect_names) name
 
 -- what names state in a dialect
 abbrev pub rules_of : Dialect → Rules
 -- written by tools/names/write: rules_of
-rules_of dialect.Debian = record { machine = machine.Order; abi = abi.Kept; versions = false; tags = false; spelled = false }
-rules_of dialect.Go = record { machine = machine.Order; abi = abi.Dropped; versions = false; tags = false; spelled = false }
-rules_of dialect.Oci = record { machine = machine.Version; abi = abi.Dropped; versions = false; tags = false; spelled = false }
-rules_of dialect.Node = record { machine = machine.Order; abi = abi.KeptOnLinux; versions = false; tags = false; spelled = false }
-rules_of dialect.Gnu = record { machine = machine.Order; abi = abi.KeptOnSystems; versions = false; tags = false; spelled = true }
-rules_of dialect.Python = record { machine = machine.Version; abi = abi.Dropped; versions = true; tags = true; spelled = false }
-rules_of dialect.Rust = record { machine = machine.Rustc; abi = abi.Kept; versions = false; tags = false; spelled = false }
+rules_of dialect.Debian = record { machine = machine.Order; abi = abi.Kept; versions = false; tags = false; spelled = false; platforms = false }
+rules_of dialect.Go = record { machine = machine.Order; abi = abi.Dropped; versions = false; tags = false; spelled = false; platforms = false }
+rules_of dialect.Oci = record { machine = machine.Version; abi = abi.Dropped; versions = false; tags = false; spelled = false; platforms = true }
+rules_of dialect.Node = record { machine = machine.Order; abi = abi.KeptOnLinux; versions = false; tags = false; spelled = false; platforms = false }
+rules_of dialect.Gnu = record { machine = machine.Order; abi = abi.KeptOnSystems; versions = false; tags = false; spelled = true; platforms = false }
+rules_of dialect.Python = record { machine = machine.Version; abi = abi.Dropped; versions = true; tags = true; spelled = false; platforms = false }
+rules_of dialect.Rust = record { machine = machine.Rustc; abi = abi.Kept; versions = false; tags = false; spelled = false; platforms = false }
+rules_of dialect.Uname = record { machine = machine.Version; abi = abi.Dropped; versions = false; tags = false; spelled = false; platforms = false }
+rules_of dialect.Rpm = record { machine = machine.Version; abi = abi.Kept; versions = false; tags = false; spelled = false; platforms = false }
+rules_of dialect.Apk = record { machine = machine.Version; abi = abi.Kept; versions = false; tags = false; spelled = false; platforms = false }
+rules_of dialect.Pacman = record { machine = machine.Version; abi = abi.Kept; versions = false; tags = false; spelled = false; platforms = false }
+rules_of dialect.Dotnet = record { machine = machine.Version; abi = abi.KeptOnLinux; versions = false; tags = false; spelled = false; platforms = false }
+rules_of dialect.Conda = record { machine = machine.Version; abi = abi.KeptOnLinux; versions = false; tags = false; spelled = false; platforms = false }
+rules_of dialect.Zig = record { machine = machine.Order; abi = abi.Kept; versions = false; tags = false; spelled = false; platforms = false }
+rules_of dialect.Nix = record { machine = machine.Version; abi = abi.Dropped; versions = false; tags = false; spelled = false; platforms = false }
 
 -- end of what is written
 
 -- the tables of a dialect, in the order in which they are tried
 abbrev pub tables_of : Dialect → List (List Row)
 -- written by tools/names/write: tables_of
-tables_of dialect.Debian = constant_rows table.DEBIAN ∷ []
+tables_of dialect.Debian = constant_rows table.DEBIAN ∷ constant_rows table.DEBIAN_2 ∷ []
 tables_of dialect.Go = constant_rows table.GO ∷ []
 tables_of dialect.Oci = constant_rows table.OCI ∷ []
-tables_of dialect.Node = constant_rows table.NODE ∷ []
+tables_of dialect.Node = constant_rows table.NODE ∷ constant_rows table.NODE_2 ∷ []
 tables_of dialect.Gnu = constant_rows table.GNU ∷ []
-tables_of dialect.Python = constant_rows table.PYTHON ∷ []
+tables_of dialect.Python = constant_rows table.PYTHON ∷ constant_rows table.PYTHON_2 ∷ []
 tables_of dialect.Rust = constant_rows table.RUST ∷ constant_rows table.RUST_2 ∷ constant_rows table.RUST_3 ∷ constant_rows table.RUST_4 ∷ []
+tables_of dialect.Uname = constant_rows table.UNAME ∷ []
+tables_of dialect.Rpm = constant_rows table.RPM ∷ []
+tables_of dialect.Apk = constant_rows table.APK ∷ []
+tables_of dialect.Pacman = constant_rows table.PACMAN ∷ []
+tables_of dialect.Dotnet = constant_rows table.DOTNET ∷ []
+tables_of dialect.Conda = constant_rows table.CONDA ∷ []
+tables_of dialect.Zig = constant_rows table.ZIG ∷ []
+tables_of dialect.Nix = constant_rows table.NIX ∷ []
 
 -- end of what is written
 

@@ -9,6 +9,7 @@ pub mod Laws
 pub mod Nearest
 pub mod ObjectFormat
 pub mod Patterns
+pub mod Platforms
 pub mod Private
 pub mod RustcCfg
 pub mod Shape

@@ -3,9 +3,10 @@ use Rattle.std.specs.Prelude.{⊤, ℕ, ◌+◌, ◌^◌, ◌<◌, ◌==◌, ◌
 use Rattle.std.specs.{Borrow.Bor, List.list_all, Option.option_map_or}
 use Rattle.lexicon_fields.specs.Names.{Pair}
 use Rattle.target_lexicon.specs.Placement.{parts_after, parts_of}
-use Rattle.tool_names.specs.{declared.names_left.Left.Left, declared.pattern.Numbers.Numbers, declared.rustc_cfg.Line.Line, RustcCfg.option_line, declared.tables.Way.Way}
+use Rattle.tool_names.specs.{declared.names_left.Left.Left, declared.pattern.Numbers.Numbers, declared.platform.Platform.Platform, declared.rustc_cfg.Line.Line, RustcCfg.option_line, declared.tables.Way.Way}
 use Rattle.tool_names.specs.declared.pattern.Numbers.TheVariants.{NoNumber, One, Two}
 use Rattle.tool_names.specs.Changes.{name_text}
+use Rattle.tool_names.specs.Platforms.{Words}
 use Rattle.tool_names.specs.{Patterns.plain_number, Patterns.rest_of, Patterns.star, Tables.Row, Tables.plain_row}
 use Rattle.tool_names.specs.Spelling.{SpelledName, later_names, spelled_by}
 
@@ -33,6 +34,10 @@ abbrev pub AreInRange : Numbers → Type 0
 AreInRange NoNumber = ⊤
 AreInRange (One major) = major < 2 ^ 16
 AreInRange (Two major minor) = (major < 2 ^ 16) × (minor < 2 ^ 8)
+
+-- the words of a platform
+abbrev pub platform_words : Platform → Words
+platform_words platform = record { system = platform.system.now; machine = platform.machine.now; variant = platform.variant.now }
 
 -- one more number
 abbrev pub with_number : Numbers → List ℕ → Option Numbers

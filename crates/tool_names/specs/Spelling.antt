@@ -118,6 +118,16 @@ abbrev pub versioned_spelling : List (Pair (List (List ℕ))) → List ℕ → O
 versioned_spelling [] part = None
 versioned_spelling (row ∷ rows) part = if has_dropped_version row.0 part then Some row.1 else versioned_spelling rows part
 
+-- the version after a prefix, if it is one that is dropped
+abbrev pub version_if_dropped : Option (List ℕ) → Option (List ℕ)
+version_if_dropped None = None
+version_if_dropped (Some version) = if is_dropped_version version then Some version else None
+
+-- the version that is dropped from a part: what follows the prefix of the first row that it begins with
+abbrev pub version_after : List (Pair (List (List ℕ))) → List ℕ → Option (List ℕ)
+version_after [] part = None
+version_after (row ∷ rows) part = option_or (version_if_dropped (text_after_prefix row.0 part)) (version_after rows part)
+
 -- the string, if it is a version of a system like Darwin
 abbrev pub checked_version : List ℕ → Option (List ℕ)
 checked_version text = option_map (λ _. text) (version_of text)

@@ -7,7 +7,10 @@ use Rattle.tool_names.specs.{declared.dialect.Dialect.Dialect, declared.name.Nam
 use Rattle.tool_names.specs.declared.names.NameError.TheVariants as name_error
 use Rattle.tool_names.specs.declared.tables.TheConstants.{ONLY_WRITTEN}
 use Rattle.tool_names.specs.declared.tables.Way.TheVariants.{Both, Read, Written, NoTriple}
+use Rattle.std.specs.Option.{option_or}
+use Rattle.tool_names.specs.declared.shape.Rules.{Rules}
 use Rattle.tool_names.specs.Patterns.{filled}
+use Rattle.tool_names.specs.Platforms.{normal_words, row_with_words, words_of}
 use Rattle.tool_names.specs.Tables.{Row, has_plain_name, row_for, row_named}
 
 -- why a name isn't read: it isn't known, or it has no triple, for this reason
@@ -67,9 +70,18 @@ abbrev pub found_meaning : Option (Row × List ℕ) → Result Values Unread →
 found_meaning None other = other
 found_meaning (Some found) other = row_meaning found.0.way found.0.meaning found.1
 
+-- the row of a platform's normal form, where names are platforms
+abbrev pub platform_row : Bool → List Row → List ℕ → Option (Row × List ℕ)
+platform_row true rows name = option_map (λ (row : Row). (row, [])) (row_with_words rows (normal_words (words_of name)))
+platform_row false rows name = None
+
+-- the row of a name, or else that of its normal form, and the numbers of the name
+abbrev pub found_row_of : Rules → List Row → List ℕ → Option (Row × List ℕ)
+found_row_of rules rows name = option_or (row_named rules.tags rows name) (platform_row rules.platforms rows name)
+
 -- what a name means: what its row means, or its spelling if it has no row
 unfoldable pub name_meaning : Dialect → List ℕ → Result Values Unread
-name_meaning d name = found_meaning (row_named (rules_of d).tags (rows_of d) name) (spelled_meaning (rules_of d).spelled name)
+name_meaning d name = found_meaning (found_row_of (rules_of d) (rows_of d) name) (spelled_meaning (rules_of d).spelled name)
 
 -- the numbers of a system's version, which names may have, and the system without them
 abbrev pub numbers_in : OperatingSystem → List ℕ

@@ -1,9 +1,11 @@
 //! What is changed in a string that is spelled like a triple.
-ghost use Rattle.std.specs.Prelude.{◌≡◌};
+ghost use Rattle.std.specs.Prelude.{◌≡◌, ◌^◌, ◌<◌, option_map};
+ghost use Rattle.target_lexicon.specs.Explanation.{part_end, part_value};
 ghost use Rattle.target_lexicon.specs.Placement.{parts_after};
-ghost use Rattle.tool_names.specs.Changes.{change_value, changes, changes_left, next_position, spelling_at, spelling_names};
+ghost use Rattle.tool_names.specs.Spelling.{version_after, versioned_spellings};
+ghost use Rattle.tool_names.specs.Changes.{change_value, changes, changes_left, dropped_version, next_position, spelling_at, spelling_names};
 
-use crate::spelling::{Spelling, first_at_end, first_spelling};
+use crate::spelling::{Spelling, dropped_version, first_at_end, first_spelling};
 use target_lexicon::{TextPart, first_part};
 
 /// A part of a string that is another spelling of known names, or a second part that states no vendor.
@@ -23,6 +25,37 @@ pub struct Change<'a> {
     pub part: TextPart<'a>,
     /// The names that are read instead.
     pub names: Spelling<'a>,
+}
+
+impl<'a> Change<'a> {
+    /// The version that the part loses, as it is in the string: `13.2` of `freebsd13.2`. A triple can't state versions of
+    /// systems other than Apple's, nor those of C libraries and of compilers.
+    ///
+    /// # Examples
+    ///
+    /// ```
+    /// use target_lexicon::tool_names::changes;
+    ///
+    /// let change = changes("aarch64-none-linux-android21").last().unwrap();
+    /// let version = change.dropped_version().unwrap();
+    /// assert_eq!((version.text, version.range()), ("21", 26..28));
+    /// assert_eq!(changes("x86_64-w64-mingw32").last().unwrap().dropped_version(), None);
+    /// ```
+    #[tactic(auto, unfolding(crate::specs::Changes::dropped_version))]
+    pub fn dropped_version(&self) -> Option<TextPart<'a>>
+        ensures text { option_map (λ version. version.text.now) result
+            ≡ version_after versioned_spellings self.now.part.text.now }
+        ensures part { part_end (part_value self.now.part) < 2 ^ 64
+            → option_map part_value result ≡ dropped_version (part_value self.now.part) }
+    {
+        match dropped_version(self.part.text) {
+            Some(version) => Some(TextPart {
+                text: version,
+                start: self.part.range().end.saturating_sub(version.len()),
+            }),
+            None => None,
+        }
+    }
 }
 
 /// Where a part is in a string.
@@ -58,6 +91,14 @@ impl Position {
 }
 
 /// The changes of a string, from its start to its end. [`changes`] returns them.
+///
+/// # Examples
+///
+/// ```
+/// use target_lexicon::tool_names::changes;
+///
+/// assert_eq!(changes("amd64-pc-mingw32").count(), 2);
+/// ```
 #[derive(Debug, Drop)]
 pub struct ChangedParts<'a> {
     text: &'a str,

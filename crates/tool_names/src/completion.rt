@@ -90,7 +90,10 @@ impl LinuxLibc {
     }
 }
 
-static C_LIBRARIES: [(&str, LinuxLibc); 2] = [("glibc", LinuxLibc::Glibc), ("musl", LinuxLibc::Musl)];
+static C_LIBRARIES: [(&str, LinuxLibc); 2] = [
+    ("glibc", LinuxLibc::Glibc),
+    ("musl", LinuxLibc::Musl),
+];
 
 impl FromStr for LinuxLibc {
     type Err = ();

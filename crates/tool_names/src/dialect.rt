@@ -27,7 +27,7 @@ pub enum Dialect {
     Go,
     /// Platforms of container images, as containerd writes them: `linux/arm/v7`.
     Oci,
-    /// `process.platform` and `process.arch` of Node, as npm joins them: `linux-x64`, `linux-x64-musl`.
+    /// `process.platform` and `process.arch` of Node, as npm's packages join them, some with a C library: `linux-x64`, `linux-x64-musl`.
     Node,
     /// Prefixes of GNU's cross compilers, and strings that mean the same to config.sub: `x86_64-w64-mingw32`.
     Gnu,
@@ -35,6 +35,22 @@ pub enum Dialect {
     Python,
     /// Targets of rustc, as `rustc --print target-list` lists them: `riscv64gc-unknown-linux-gnu`.
     Rust,
+    /// What `uname -s` and `uname -m` print, with a space between them, which is only read: `Linux x86_64`.
+    Uname,
+    /// Architectures of packages of RPM, whose distributions have glibc: `x86_64`, `armv7hl`.
+    Rpm,
+    /// Architectures of Alpine's packages, which has musl: `x86_64`, `armhf`.
+    Apk,
+    /// Architectures of packages of Arch Linux and its ports, which have glibc: `x86_64`, `armv7h`.
+    Pacman,
+    /// Identifiers of .NET's runtimes, in its portable list: `linux-x64`, `win-arm64`.
+    Dotnet,
+    /// Subdirectories of conda's channels, whose packages for Linux have glibc: `linux-64`, `osx-arm64`.
+    Conda,
+    /// Zig's targets: `x86_64-linux-musl`, `aarch64-macos`.
+    Zig,
+    /// Systems of Nix and nixpkgs: `x86_64-linux`, `aarch64-darwin`.
+    Nix,
     // end of what is written
 }
 
@@ -58,6 +74,14 @@ impl Dialect {
             Dialect::Gnu => "gnu",
             Dialect::Python => "python",
             Dialect::Rust => "rust",
+            Dialect::Uname => "uname",
+            Dialect::Rpm => "rpm",
+            Dialect::Apk => "apk",
+            Dialect::Pacman => "pacman",
+            Dialect::Dotnet => "dotnet",
+            Dialect::Conda => "conda",
+            Dialect::Zig => "zig",
+            Dialect::Nix => "nix",
             // end of what is written
         }
     }
@@ -72,7 +96,7 @@ impl Dialect {
 }
 
 // written by tools/names/write: the dialects by name
-static DIALECTS: [(&str, Dialect); 7] = [
+static DIALECTS: [(&str, Dialect); 17] = [
     ("debian", Dialect::Debian),
     ("go", Dialect::Go),
     ("oci", Dialect::Oci),
@@ -80,6 +104,16 @@ static DIALECTS: [(&str, Dialect); 7] = [
     ("gnu", Dialect::Gnu),
     ("python", Dialect::Python),
     ("rust", Dialect::Rust),
+    ("uname", Dialect::Uname),
+    ("rpm", Dialect::Rpm),
+    ("apk", Dialect::Apk),
+    ("pacman", Dialect::Pacman),
+    ("dotnet", Dialect::Dotnet),
+    ("conda", Dialect::Conda),
+    ("zig", Dialect::Zig),
+    ("nix", Dialect::Nix),
+    ("docker", Dialect::Oci),
+    ("npm", Dialect::Node),
 ];
 // end of what is written
 

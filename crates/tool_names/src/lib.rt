@@ -18,6 +18,7 @@ mod names;
 mod names_left;
 mod nearest;
 mod pattern;
+mod platform;
 mod reading;
 mod rustc_cfg;
 mod shape;

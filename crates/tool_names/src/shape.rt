@@ -44,6 +44,8 @@ pub(crate) struct Rules {
     pub tags: bool,
     /// A name that has no row is read by its spelling.
     pub spelled: bool,
+    /// Names are platforms of container images, with containerd's other names.
+    pub platforms: bool,
 }
 
 impl Dialect {

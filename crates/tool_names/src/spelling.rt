@@ -2,6 +2,7 @@
 ghost use Rattle.std.specs.Prelude.{◌≡◌, ◌∷◌, [], ℕ, List, Err, IfErr, IfOk, Some, option_map};
 ghost use Rattle.std.specs.List.{list_all};
 ghost use Rattle.lexicon_fields.specs.Names.{value_named};
+ghost use Rattle.lexicon_fields.specs.OperatingSystem.{text_after_prefix};
 ghost use Rattle.std.specs.Str.{bytes_eq};
 ghost use Rattle.target_lexicon.specs.Explanation.{part_value};
 ghost use Rattle.target_lexicon.specs.Placement.{parts_after, parts_of};
@@ -10,7 +11,7 @@ ghost use Rattle.target_lexicon.specs.Resumed.{NamedPart, named, resumed, resume
 ghost use Rattle.target_lexicon.specs.ValuesRef.{values_of_ref};
 ghost use Rattle.tool_names.specs.Changes.{is_only, name_text, spelling_names, spelling_text};
 ghost use Rattle.tool_names.specs.Private.{parts_table, table_of};
-ghost use Rattle.tool_names.specs.Spelling.{first_at_end, first_spelling, first_spellings, has_dropped_version, is_digit_or_dot, is_dropped_version, is_known_name, is_unstated, later_spelling, later_spellings, listed_spelling, second_spelling, versioned_spelling, versioned_spellings};
+ghost use Rattle.tool_names.specs.Spelling.{first_at_end, first_spelling, first_spellings, has_dropped_version, is_digit_or_dot, is_dropped_version, is_known_name, is_unstated, later_spelling, later_spellings, listed_spelling, second_spelling, version_after, version_if_dropped, versioned_spelling, versioned_spellings};
 
 use crate::macos::{MacOsVersion, macos_version};
 use std::fmt;
@@ -297,6 +298,45 @@ fn versioned_spelling(rows: &[(&'static str, &'static str)], part: &str) -> Opti
         }
     }
     None
+}
+
+/// The version that is dropped from a part.
+#[tactic(auto, unfolding(crate::specs::Spelling::versioned_spellings))]
+pub(crate) fn dropped_version(part: &str) -> Option<&str>
+    ensures { option_map (λ version. version.now) result
+        ≡ version_after versioned_spellings part.entry.now }
+{
+    version_after(&VERSIONED_SPELLINGS, part)
+}
+
+/// The version that follows the text of the first row that the part begins with.
+fn version_after<'a>(rows: &[(&'static str, &'static str)], part: &'a str) -> Option<&'a str>
+    ensures { option_map (λ version. version.now) result
+        ≡ version_after (parts_table rows.now) part.entry.now }
+{
+    for row in rows {
+        if let Some(version) = version_after_prefix(row.0, part) {
+            return Some(version);
+        }
+    }
+    None
+}
+
+/// The version that follows this prefix of a part, if it is one that is dropped.
+fn version_after_prefix<'a>(prefix: &str, part: &'a str) -> Option<&'a str>
+    ensures { option_map (λ version. version.now) result
+        ≡ version_if_dropped (text_after_prefix prefix.now part.entry.now) }
+{
+    match part.strip_prefix(prefix) {
+        Some(version) => {
+            if is_dropped_version(version.as_bytes()) {
+                Some(version)
+            } else {
+                None
+            }
+        }
+        None => None,
+    }
 }
 
 /// Whether a part is this prefix and a version that is dropped.

@@ -93,10 +93,18 @@ enum lexicon_dialect {
   LEXICON_DIALECT_DEBIAN = 1, /* Debian's architectures, as dpkg names them: amd64, armhf, musl-linux-arm64 */
   LEXICON_DIALECT_GO = 2, /* Go's ports, as go tool dist list prints them: linux/amd64 */
   LEXICON_DIALECT_OCI = 3, /* Platforms of container images, as containerd writes them: linux/arm/v7 */
-  LEXICON_DIALECT_NODE = 4, /* process.platform and process.arch of Node, as npm joins them: linux-x64, linux-x64-musl */
+  LEXICON_DIALECT_NODE = 4, /* process.platform and process.arch of Node, as npm's packages join them, some with a C library: linux-x64, linux-x64-musl */
   LEXICON_DIALECT_GNU = 5, /* Prefixes of GNU's cross compilers, and strings that mean the same to config.sub: x86_64-w64-mingw32 */
   LEXICON_DIALECT_PYTHON = 6, /* Platforms of Python, as tags of wheels such as macosx_11_0_arm64, and as sysconfig.get_platform() prints them */
   LEXICON_DIALECT_RUST = 7, /* Targets of rustc, as rustc --print target-list lists them: riscv64gc-unknown-linux-gnu */
+  LEXICON_DIALECT_UNAME = 8, /* What uname -s and uname -m print, with a space between them, which is only read: Linux x86_64 */
+  LEXICON_DIALECT_RPM = 9, /* Architectures of packages of RPM, whose distributions have glibc: x86_64, armv7hl */
+  LEXICON_DIALECT_APK = 10, /* Architectures of Alpine's packages, which has musl: x86_64, armhf */
+  LEXICON_DIALECT_PACMAN = 11, /* Architectures of packages of Arch Linux and its ports, which have glibc: x86_64, armv7h */
+  LEXICON_DIALECT_DOTNET = 12, /* Identifiers of .NET's runtimes, in its portable list: linux-x64, win-arm64 */
+  LEXICON_DIALECT_CONDA = 13, /* Subdirectories of conda's channels, whose packages for Linux have glibc: linux-64, osx-arm64 */
+  LEXICON_DIALECT_ZIG = 14, /* Zig's targets: x86_64-linux-musl, aarch64-macos */
+  LEXICON_DIALECT_NIX = 15, /* Systems of Nix and nixpkgs: x86_64-linux, aarch64-darwin */
   /* end of what is written */
 };
 
@@ -401,19 +409,20 @@ enum lexicon_data_model {
   LEXICON_DATA_MODEL_LP64 = 4,
   LEXICON_DATA_MODEL_ILP64 = 5
 };
+/* The C library that a triple states, by its environment or by a system that has only one. */
 enum lexicon_c_library {
   LEXICON_C_LIBRARY_NONE = 0,
   LEXICON_C_LIBRARY_BIONIC = 1, /* Android's */
-  LEXICON_C_LIBRARY_GLIBC = 2,
-  LEXICON_C_LIBRARY_MINGW = 3, /* over a library of Windows */
-  LEXICON_C_LIBRARY_MSVC = 4,  /* Microsoft's Visual C++ */
+  LEXICON_C_LIBRARY_GLIBC = 2,  /* the GNU C library */
+  LEXICON_C_LIBRARY_MINGW = 3,  /* MinGW, over a library of Windows */
+  LEXICON_C_LIBRARY_MSVC = 4,   /* Microsoft's Visual C++ */
   LEXICON_C_LIBRARY_MUSL = 5,
-  LEXICON_C_LIBRARY_NEWLIB = 6,
-  LEXICON_C_LIBRARY_RELIBC = 7, /* of Redox */
+  LEXICON_C_LIBRARY_NEWLIB = 6, /* of embedded systems */
+  LEXICON_C_LIBRARY_RELIBC = 7, /* that of Redox */
   LEXICON_C_LIBRARY_SYSTEM = 8, /* the system's own, which no other system has */
   LEXICON_C_LIBRARY_UCLIBC = 9
 };
-/* How floating-point arguments are passed: in integer registers, or in those of floating-point numbers. */
+/* How floating-point arguments are passed: in integer registers, or in floating-point registers. */
 enum lexicon_float_abi { LEXICON_FLOAT_ABI_NONE = 0, LEXICON_FLOAT_ABI_SOFT = 1, LEXICON_FLOAT_ABI_HARD = 2 };
 
 struct lexicon_triple {
@@ -473,10 +482,10 @@ struct lexicon_triple_facts {
   uint8_t implied_format;             /* enum lexicon_binary_format: what the other fields imply */
   uint8_t object_format;              /* likewise: what toolchains write, where the triple leaves it open */
   uint8_t family;                     /* enum lexicon_family */
-  uint8_t c_library;                  /* enum lexicon_c_library: what the triple states */
+  uint8_t c_library;                  /* enum lexicon_c_library */
   uint8_t float_abi;                  /* enum lexicon_float_abi */
-  bool is_unix;                       /* rustc counts the system to its family unix */
-  uint8_t long_double_size, long_double_alignment, wchar_size, wchar_alignment; /* of long double and wchar_t, in bytes */
+  bool is_unix;                       /* rustc counts the system to the family unix */
+  uint8_t long_double_size, long_double_alignment, wchar_size, wchar_alignment; /* of C's long double and wchar_t, in bytes */
 };
 
 /* A part of a string that lexicon_read, without a dialect, reads as other names. */
@@ -525,9 +534,8 @@ LEXICON_CHECKED LEXICON_NONNULL(1, 2, 3)
 enum lexicon_status lexicon_same_target(const struct lexicon_triple *first, const struct lexicon_triple *second, bool *answer);
 
 /* What a compiler asks about a triple. facts_size is sizeof *facts: so the library may be newer than the header that a program
-   was compiled with, and have more members, or older, and then the members that it doesn't have become 0. A smaller size takes
-   less time, since what it has no room for isn't computed: offsetof(struct lexicon_triple_facts, c_library) leaves out what only
-   a compiler's driver asks. */
+   was compiled with, and have more members, or older, and then the members that it doesn't have become 0. What comes after the
+   size isn't computed: up to implied_format takes the least time, then up to c_library. */
 LEXICON_CHECKED LEXICON_NONNULL(1, 2)
 enum lexicon_status lexicon_facts(const struct lexicon_triple *triple, struct lexicon_triple_facts *facts, size_t facts_size);
 

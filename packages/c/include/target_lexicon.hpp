@@ -108,6 +108,14 @@ enum class Dialect : std::uint8_t {
   Gnu = LEXICON_DIALECT_GNU,
   Python = LEXICON_DIALECT_PYTHON,
   Rust = LEXICON_DIALECT_RUST,
+  Uname = LEXICON_DIALECT_UNAME,
+  Rpm = LEXICON_DIALECT_RPM,
+  Apk = LEXICON_DIALECT_APK,
+  Pacman = LEXICON_DIALECT_PACMAN,
+  Dotnet = LEXICON_DIALECT_DOTNET,
+  Conda = LEXICON_DIALECT_CONDA,
+  Zig = LEXICON_DIALECT_ZIG,
+  Nix = LEXICON_DIALECT_NIX,
   // end of what is written
 };
 
@@ -126,7 +134,7 @@ enum class DataModel : std::uint8_t {
   ILP64 = LEXICON_DATA_MODEL_ILP64
 };
 
-// The C library that a triple states.
+// The C library that a triple states. System is the system's own, which no other system has.
 enum class CLibrary : std::uint8_t {
   Bionic = LEXICON_C_LIBRARY_BIONIC,
   Glibc = LEXICON_C_LIBRARY_GLIBC,
@@ -138,6 +146,7 @@ enum class CLibrary : std::uint8_t {
   System = LEXICON_C_LIBRARY_SYSTEM,
   Uclibc = LEXICON_C_LIBRARY_UCLIBC
 };
+// How floating-point arguments are passed: in integer registers, or in floating-point registers.
 enum class FloatAbi : std::uint8_t { Soft = LEXICON_FLOAT_ABI_SOFT, Hard = LEXICON_FLOAT_ABI_HARD };
 
 // A C library of Linux, which the caller says where a name doesn't state it.
@@ -200,7 +209,7 @@ inline std::string_view name(Field field) {
 }
 inline std::string_view name(Dialect value) {
   // written by tools/names/write: the dialects' names for C++
-  constexpr const char* names[] = {"", "debian", "go", "oci", "node", "gnu", "python", "rust"};
+  constexpr const char* names[] = {"", "debian", "go", "oci", "node", "gnu", "python", "rust", "uname", "rpm", "apk", "pacman", "dotnet", "conda", "zig", "nix"};
   // end of what is written
   return detail::name_at(names, static_cast<std::size_t>(value));
 }
@@ -210,14 +219,6 @@ inline std::string_view name(Endianness value) {
 }
 inline std::string_view name(CallingConvention value) {
   constexpr const char* names[] = {"", "SystemV", "WasmBasicCAbi", "WindowsFastcall", "AppleAarch64"};
-  return detail::name_at(names, static_cast<std::size_t>(value));
-}
-inline std::string_view name(CLibrary value) {
-  constexpr const char* names[] = {"", "bionic", "glibc", "mingw", "msvc", "musl", "newlib", "relibc", "system", "uclibc"};
-  return detail::name_at(names, static_cast<std::size_t>(value));
-}
-inline std::string_view name(FloatAbi value) {
-  constexpr const char* names[] = {"", "soft", "hard"};
   return detail::name_at(names, static_cast<std::size_t>(value));
 }
 inline std::string_view name(LinuxLibc value) {
@@ -233,8 +234,25 @@ inline std::string_view name(DataModel value) {
   return detail::name_at(names, static_cast<std::size_t>(value));
 }
 
+inline std::string_view name(CLibrary value) {
+  constexpr const char* names[] = {"", "bionic", "glibc", "mingw", "msvc", "musl", "newlib", "relibc", "system", "uclibc"};
+  return detail::name_at(names, static_cast<std::size_t>(value));
+}
+inline std::string_view name(FloatAbi value) {
+  constexpr const char* names[] = {"", "soft", "hard"};
+  return detail::name_at(names, static_cast<std::size_t>(value));
+}
+
 // Each value is written by its name.
 template <class Value> auto operator<<(std::ostream& out, Value value) -> decltype(out << name(value)) { return out << name(value); }
+
+// The size and the alignment of a type of C, in bytes.
+struct TypeLayout {
+  unsigned size = 0, alignment = 0;
+
+  friend bool operator==(TypeLayout a, TypeLayout b) { return a.size == b.size && a.alignment == b.alignment; }
+  friend bool operator!=(TypeLayout a, TypeLayout b) { return !(a == b); }
+};
 
 struct Version {
   std::uint16_t major = 0;
@@ -246,14 +264,6 @@ struct Version {
   friend std::ostream& operator<<(std::ostream& out, Version it) {
     return out << it.major << '.' << unsigned(it.minor) << '.' << unsigned(it.patch);
   }
-};
-
-// The size and the alignment of a type of C, in bytes.
-struct TypeLayout {
-  std::uint8_t size = 0, alignment = 0;
-
-  friend bool operator==(TypeLayout a, TypeLayout b) { return a.size == b.size && a.alignment == b.alignment; }
-  friend bool operator!=(TypeLayout a, TypeLayout b) { return !(a == b); }
 };
 
 // Why a string is refused, or a name isn't translated.
@@ -422,45 +432,42 @@ class Triple {
   }
 
   // What a compiler asks. Sizes of C's types are in bytes.
-  std::optional<Endianness> endianness() const { return detail::answer<Endianness>(facts().endianness); }
-  std::optional<unsigned> pointer_width() const { return detail::answer<unsigned>(facts().pointer_width); }
+  std::optional<Endianness> endianness() const { return detail::answer<Endianness>(queries().endianness); }
+  std::optional<unsigned> pointer_width() const { return detail::answer<unsigned>(queries().pointer_width); }
   std::optional<CallingConvention> default_calling_convention() const {
-    return detail::answer<CallingConvention>(facts().default_calling_convention);
+    return detail::answer<CallingConvention>(queries().default_calling_convention);
   }
-  std::optional<DataModel> data_model() const { return detail::answer<DataModel>(facts().data_model); }
-  std::optional<unsigned> short_size() const { return detail::answer<unsigned>(facts().short_size); }
-  std::optional<unsigned> int_size() const { return detail::answer<unsigned>(facts().int_size); }
-  std::optional<unsigned> long_size() const { return detail::answer<unsigned>(facts().long_size); }
-  std::optional<unsigned> long_long_size() const { return detail::answer<unsigned>(facts().long_long_size); }
-  std::optional<unsigned> float_size() const { return detail::answer<unsigned>(facts().float_size); }
-  std::optional<unsigned> double_size() const { return detail::answer<unsigned>(facts().double_size); }
-  BinaryFormat implied_format() const { return static_cast<BinaryFormat>(facts().implied_format); }
+  std::optional<DataModel> data_model() const { return detail::answer<DataModel>(queries().data_model); }
+  std::optional<unsigned> short_size() const { return detail::answer<unsigned>(queries().short_size); }
+  std::optional<unsigned> int_size() const { return detail::answer<unsigned>(queries().int_size); }
+  std::optional<unsigned> long_size() const { return detail::answer<unsigned>(queries().long_size); }
+  std::optional<unsigned> long_long_size() const { return detail::answer<unsigned>(queries().long_long_size); }
+  std::optional<unsigned> float_size() const { return detail::answer<unsigned>(queries().float_size); }
+  std::optional<unsigned> double_size() const { return detail::answer<unsigned>(queries().double_size); }
+  BinaryFormat implied_format() const { return static_cast<BinaryFormat>(formats().implied_format); }
   // The format that toolchains write, where the triple leaves it open: COFF for UEFI, though its triple implies ELF.
-  BinaryFormat object_format() const { return static_cast<BinaryFormat>(facts().object_format); }
-  Family family() const { return static_cast<Family>(facts().family); }
-  bool is_thumb() const { return facts().is_thumb; }
-  bool is_like_darwin() const { return facts().is_like_darwin; }
+  BinaryFormat object_format() const { return static_cast<BinaryFormat>(formats().object_format); }
+  Family family() const { return static_cast<Family>(formats().family); }
+  bool is_thumb() const { return queries().is_thumb; }
+  bool is_like_darwin() const { return queries().is_like_darwin; }
   bool has_custom_vendor() const { return !custom_vendor_.empty(); }
 
+  // What a driver asks.
   std::optional<CLibrary> c_library() const { return detail::answer<CLibrary>(facts().c_library); }
   std::optional<FloatAbi> float_abi() const { return detail::answer<FloatAbi>(facts().float_abi); }
-  // Whether rustc counts the system to its family `unix`.
+  // rustc counts the system to the family unix.
   bool is_unix() const { return facts().is_unix; }
   std::optional<TypeLayout> long_double() const {
-    lexicon_triple_facts it = facts();
+    auto it = facts();
     return layout(it.long_double_size, it.long_double_alignment);
   }
   std::optional<TypeLayout> wchar() const {
-    lexicon_triple_facts it = facts();
+    auto it = facts();
     return layout(it.wchar_size, it.wchar_alignment);
   }
 
   // All of these at once.
-  lexicon_triple_facts facts() const {
-    lexicon_triple_facts facts = {};
-    lexicon_triple triple = c_triple();
-    return lexicon_facts(&triple, &facts, sizeof facts) == LEXICON_OK ? facts : lexicon_triple_facts{};
-  }
+  lexicon_triple_facts facts() const { return facts_up_to(sizeof(lexicon_triple_facts)); }
 
   // The printed triple, and that of the canonical form, which is a key.
   std::string printed() const {
@@ -511,6 +518,18 @@ class Triple {
   }
 
  private:
+  // The facts that lie in the first bytes of the struct: the others aren't computed.
+  lexicon_triple_facts facts_up_to(std::size_t size) const {
+    lexicon_triple_facts facts = {};
+    lexicon_triple triple = c_triple();
+    return lexicon_facts(&triple, &facts, size) == LEXICON_OK ? facts : lexicon_triple_facts{};
+  }
+  lexicon_triple_facts queries() const { return facts_up_to(offsetof(lexicon_triple_facts, implied_format)); }
+  lexicon_triple_facts formats() const { return facts_up_to(offsetof(lexicon_triple_facts, c_library)); }
+  static std::optional<TypeLayout> layout(unsigned size, unsigned alignment) {
+    return size == 0 ? std::nullopt : std::make_optional(TypeLayout{size, alignment});
+  }
+
   // The triple of a struct that is one. What isn't read of it may have any value.
   explicit Triple(const lexicon_triple& it) {
     numbers_.architecture = it.architecture;
@@ -543,7 +562,7 @@ class Triple {
   // The triple of a struct, perhaps with the format that its other fields imply.
   static std::optional<Triple> finished(const lexicon_triple& it, bool is_implied) {
     auto triple = from_c(it);
-    if (triple && is_implied) triple->numbers_.binary_format = triple->facts().implied_format;
+    if (triple && is_implied) triple->numbers_.binary_format = triple->formats().implied_format;
     return triple;
   }
 
@@ -575,10 +594,6 @@ class Triple {
     if (lexicon_read(dialect, text.data(), text.size(), &triple, &found) == LEXICON_OK) return Triple(triple);
     if (error) *error = name_error(dialect, text, found);
     return std::nullopt;
-  }
-
-  static std::optional<TypeLayout> layout(std::uint8_t size, std::uint8_t alignment) {
-    return size == 0 ? std::nullopt : std::make_optional(TypeLayout{size, alignment});
   }
 
   // The error of a name in a dialect.

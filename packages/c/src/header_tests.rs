@@ -242,15 +242,15 @@ fn the_structs_are_those_of_the_library() {
     let (triple, facts) = (include_str!("proved/triple.rs"), include_str!("proved/triple_facts.rs"));
     let (error, sources) = (include_str!("proved/error.rs"), include_str!("proved/sources.rs"));
     let library = include_str!("lib.rs");
-    let layout = |name: &str| fields(facts, "LayoutNumbers").into_iter().map(|(of, it)| (of, format!("{name}_{it}"))).collect::<Vec<_>>();
     let numbers = fields(triple, "TripleNumbers");
     assert_eq!(members("lexicon_triple"), flattened(fields(library, "Triple"), "TripleNumbers", &numbers));
     let sizes: Vec<_> = fields(facts, "TypeSizes").into_iter().map(|(of, name)| (of, name + "_size")).collect();
-    let of_driver = fields(facts, "DriverFacts").into_iter();
-    let of_driver = of_driver.flat_map(|it| if it.0 == "LayoutNumbers" { layout(&it.1) } else { vec![it] });
-    let queries = flattened(fields(facts, "QueryFacts"), "TypeSizes", &sizes);
-    let expected: Vec<_> = queries.into_iter().chain(fields(facts, "FormatFacts")).chain(of_driver).collect();
-    assert_eq!(members("lexicon_triple_facts"), expected);
+    let groups = fields(library, "Facts").into_iter().flat_map(|(of, _)| flattened(fields(facts, &of), "TypeSizes", &sizes));
+    let layout = |it: (String, String)| match &*it.0 {
+        "LayoutNumbers" => fields(facts, "LayoutNumbers").into_iter().map(|(of, name)| (of, format!("{}_{name}", it.1))).collect(),
+        _ => vec![it],
+    };
+    assert_eq!(members("lexicon_triple_facts"), groups.flat_map(layout).collect::<Vec<_>>());
     assert_eq!(members("lexicon_change"), fields(library, "Change"));
     assert_eq!(members("lexicon_error"), fields(error, "TextError"));
     assert_eq!(members("lexicon_source"), fields(sources, "FieldSource"));

@@ -35,7 +35,7 @@ use proved::{
     same_target, settle, translate, DriverFacts, Fault, FieldSource, FieldSources, FormatFacts, NumberedTriple, QueryFacts, TextError,
     TripleNumbers,
 };
-use target_lexicon::{tool_names, Field, TripleRef};
+use target_lexicon::{tool_names, Field};
 use text::{shown, write_text, written, Text};
 
 /// `enum lexicon_status`. From 1 to 6 a text is refused, where a value of the first to the fifth field was expected, or none.
@@ -76,6 +76,18 @@ pub struct Triple {
     custom_vendor_size: usize,
 }
 
+/// `struct lexicon_triple_facts`: the groups of facts. A later version adds one at the end.
+#[repr(C)]
+pub struct Facts {
+    queries: QueryFacts,
+    formats: FormatFacts,
+    driver: DriverFacts,
+}
+
+/// Where the second group begins, and the third.
+const FORMATS: usize = size_of::<QueryFacts>();
+const DRIVER: usize = FORMATS + size_of::<FormatFacts>();
+
 /// `struct lexicon_change`.
 #[repr(C)]
 pub struct Change {
@@ -90,7 +102,7 @@ const _: () = {
     assert!(size_of::<Triple>() == if word == 8 { 32 } else { 20 });
     assert!(size_of::<TextError>() == 3 * word);
     assert!(size_of::<FieldSources>() == 15 * word);
-    assert!(size_of::<QueryFacts>() == 13 && size_of::<FormatFacts>() == 3 && size_of::<DriverFacts>() == 7);
+    assert!(size_of::<Facts>() == 23);
 };
 
 impl Triple {
@@ -293,47 +305,50 @@ pub unsafe extern "C" fn lexicon_facts(triple: *const Triple, facts: *mut u8, fa
     if facts_size > MAX_SIZE {
         return TOO_LARGE;
     }
-    let asked = match triple_in(&unsafe { Triple::read(triple) }) {
+    if facts_size <= FORMATS {
+        unsafe { write_facts::<false>(triple, facts, facts_size) }
+    } else {
+        unsafe { write_facts::<true>(triple, facts, facts_size) }
+    }
+}
+
+/// Writes the first group of facts of a triple, and if `MORE` the others, as far as the caller's struct has room. The first
+/// alone takes fewer instructions where it is compiled by itself.
+#[inline(never)]
+unsafe fn write_facts<const MORE: bool>(triple: *const Triple, facts: *mut u8, facts_size: usize) -> Status {
+    let numbered = unsafe { Triple::read(triple) };
+    let asked = match triple_in(&numbered) {
         Ok(asked) => asked,
         Err(fault) => return fault.into(),
     };
-    // A group of members that the struct has not is not computed.
     unsafe {
-        let rest = write_members(query_facts_of(&asked), facts, facts_size);
-        if rest > 0 {
-            let at = facts.add(size_of::<QueryFacts>());
-            let rest = write_members(format_facts_of(&asked), at, rest);
-            if rest > 0 {
-                write_driver_facts(&asked, at.add(size_of::<FormatFacts>()), rest);
-            }
+        write_group(query_facts_of(&asked), facts, facts_size);
+        if !MORE {
+            return OK;
+        }
+        write_group(format_facts_of(&asked), facts.add(FORMATS), facts_size - FORMATS);
+        if facts_size > DRIVER {
+            write_group(driver_facts_of(&asked), facts.add(DRIVER), facts_size - DRIVER);
+        }
+        // What this version doesn't answer has no answer.
+        if facts_size > size_of::<Facts>() {
+            facts.add(size_of::<Facts>()).write_bytes(0, facts_size - size_of::<Facts>());
         }
     }
     OK
 }
 
-/// Writes what a driver asks into the rest of the caller's struct. What it has besides becomes zeros, which are no answer.
-#[inline(never)]
-unsafe fn write_driver_facts(asked: &TripleRef<'_>, to: *mut u8, room: usize) {
-    // SAFETY: the rest of the caller's struct, whose members are bytes.
-    unsafe {
-        let rest = write_members(driver_facts_of(asked), to, room);
-        to.add(room - rest).write_bytes(0, rest);
-    }
-}
-
-/// Writes members into the rest of the caller's struct, as far as it has them. The room that is left.
+/// Writes a group of facts, or as much of it as the rest of the caller's struct has.
 #[inline(always)]
-unsafe fn write_members<T>(members: T, to: *mut u8, room: usize) -> usize {
-    let size = size_of::<T>();
-    // SAFETY: the rest of the caller's struct, whose members are bytes.
+unsafe fn write_group<Group>(group: Group, to: *mut u8, size: usize) {
+    // SAFETY: the caller's struct, whose members are bytes.
     unsafe {
-        if room >= size {
-            to.cast::<T>().write(members);
-            return room - size;
+        if size >= size_of::<Group>() {
+            to.cast::<Group>().write(group);
+        } else {
+            ptr::copy_nonoverlapping(addr_of!(group).cast(), to, size);
         }
-        ptr::copy_nonoverlapping(addr_of!(members).cast(), to, room);
     }
-    0
 }
 
 #[no_mangle]

@@ -391,7 +391,7 @@ static void try_too_large(void) {
     expect(lexicon_read(LEXICON_DIALECT_NONE, text, large, &triple, &errors[2]) == LEXICON_TOO_LARGE, "too large", "read");
     for (size_t j = 0; j < 3; j++)
       expect(errors[j].status == LEXICON_TOO_LARGE && errors[j].start == 0 && errors[j].end == 0, "too large", "error");
-    expect(lexicon_read(77, text, large, &triple, NULL) == LEXICON_TOO_LARGE, "too large", "read, with no dialect");
+    expect(lexicon_read(99, text, large, &triple, NULL) == LEXICON_TOO_LARGE, "too large", "read, with no dialect");
     expect(lexicon_reason(LEXICON_DIALECT_GO, text, large) == NULL, "too large", "reason");
     expect(lexicon_name_suggestion(LEXICON_DIALECT_GO, text, large) == NULL, "too large", "name_suggestion");
     expect(lexicon_suggestion(text, large, &why) == NULL, "too large", "suggestion");
@@ -407,7 +407,7 @@ static void try_too_large(void) {
     expect(lexicon_write(LEXICON_DIALECT_GO, &known, out, large, &length) == LEXICON_TOO_LARGE, "a buffer too large", "write");
     bad.environment = 255;
     expect(lexicon_print(&bad, out, large, &length) == LEXICON_TOO_LARGE, "a buffer too large", "print, of no value");
-    expect(lexicon_write(77, &known, out, large, &length) == LEXICON_TOO_LARGE, "a buffer too large", "write, with no dialect");
+    expect(lexicon_write(99, &known, out, large, &length) == LEXICON_TOO_LARGE, "a buffer too large", "write, with no dialect");
     expect(is_filled(&triple, sizeof triple) && is_filled(out, sizeof out) && length == 77, "too large", "unchanged");
     bad = triple_of("x86_64-acme-linux");
     bad.custom_vendor_size = large;
@@ -487,7 +487,7 @@ static const struct { uint32_t dialect; const char *name; enum lexicon_status st
     {LEXICON_DIALECT_NONE, "x86_64-\xff", LEXICON_NOT_UTF8, 7, 8, "Not UTF-8", NULL, NULL},
     {LEXICON_DIALECT_GO, "\xff", LEXICON_NOT_UTF8, 0, 1, "Not UTF-8", NULL, NULL},
     {LEXICON_DIALECT_GO, "", LEXICON_UNKNOWN_NAME, 0, 0, "Unknown name: ", NULL, NULL},
-    {LEXICON_DIALECT_GO, "amd64", LEXICON_UNKNOWN_NAME, 0, 5, "Unknown name: amd64", NULL, NULL},
+    {LEXICON_DIALECT_GO, "linux", LEXICON_UNKNOWN_NAME, 0, 5, "Unknown name: linux", NULL, NULL},
     {LEXICON_DIALECT_GO, "linux/amd46", LEXICON_UNKNOWN_NAME, 0, 11, "Unknown name: linux/amd46", NULL, "linux/amd64"},
     {LEXICON_DIALECT_DEBIAN, "amd46", LEXICON_UNKNOWN_NAME, 0, 5, "Unknown name: amd46", NULL, "amd64"},
     {LEXICON_DIALECT_OCI, "linux/arm/v77", LEXICON_UNKNOWN_NAME, 0, 13, "Unknown name: linux/arm/v77", NULL, NULL},
@@ -543,18 +543,18 @@ static void try_dialects(void) {
   size_t length = 77;
   fill(&triple, sizeof triple);
   fill(out, sizeof out);
-  expect(lexicon_read(77, "avr", 3, &triple, &error) == LEXICON_NO_SUCH_DIALECT && is_filled(&triple, sizeof triple), "no dialect", "77");
-  expect(lexicon_read(77, "avr", 3, &triple, NULL) == LEXICON_NO_SUCH_DIALECT, "no dialect, without an error", "77");
-  expect(error.status == LEXICON_NO_SUCH_DIALECT && error.start == 0 && error.end == 0 && lexicon_reason(~0u, "avr", 3) == NULL, "no dialect", "77");
-  expect(lexicon_name_suggestion(77, "linux/amd46", 11) == NULL && lexicon_name_suggestion(~0u, "amd46", 5) == NULL, "no dialect", "77");
-  expect(lexicon_error_line("avr", 3, &error, out, sizeof out, NULL) == LEXICON_NO_SUCH_VALUE, "no line", "77");
+  expect(lexicon_read(99, "avr", 3, &triple, &error) == LEXICON_NO_SUCH_DIALECT && is_filled(&triple, sizeof triple), "no dialect", "99");
+  expect(lexicon_read(99, "avr", 3, &triple, NULL) == LEXICON_NO_SUCH_DIALECT, "no dialect, without an error", "99");
+  expect(error.status == LEXICON_NO_SUCH_DIALECT && error.start == 0 && error.end == 0 && lexicon_reason(~0u, "avr", 3) == NULL, "no dialect", "99");
+  expect(lexicon_name_suggestion(99, "linux/amd46", 11) == NULL && lexicon_name_suggestion(~0u, "amd46", 5) == NULL, "no dialect", "99");
+  expect(lexicon_error_line("avr", 3, &error, out, sizeof out, NULL) == LEXICON_NO_SUCH_VALUE, "no line", "7");
   triple = triple_of("x86_64-acme-linux-gnu"); /* the vendor doesn't matter */
   dialect_of = LEXICON_DIALECT_DEBIAN;
   try_text(write_name, &triple, "amd64", false);
   dialect_of = LEXICON_DIALECT_GNU;
   try_text(write_name, &triple, "x86_64-linux-gnu", false);
   expect(lexicon_write(LEXICON_DIALECT_NONE, &triple, out, sizeof out, &length) == LEXICON_NO_SUCH_DIALECT, "no dialect", "0");
-  expect(lexicon_write(77, &triple, out, sizeof out, &length) == LEXICON_NO_SUCH_DIALECT, "no dialect", "77");
+  expect(lexicon_write(99, &triple, out, sizeof out, &length) == LEXICON_NO_SUCH_DIALECT, "no dialect", "99");
   triple.custom_vendor_size = 0;
   expect(lexicon_write(LEXICON_DIALECT_GO, &triple, out, sizeof out, &length) == LEXICON_NO_SUCH_VENDOR, "a bad vendor", "write");
   triple.environment = 255;
@@ -589,7 +589,7 @@ static const struct { uint32_t from, libc, to; const char *name, *translated; en
     {LEXICON_DIALECT_GO, LEXICON_LINUX_LIBC_GLIBC, LEXICON_DIALECT_OCI, "js/wasm", NULL, LEXICON_NAME_WITHOUT_TRIPLE, 7, "No triple has this name: js/wasm"},
     {LEXICON_DIALECT_NONE, LEXICON_LINUX_LIBC_NONE, LEXICON_DIALECT_OCI, "linx", NULL, LEXICON_UNRECOGNIZED_ARCHITECTURE, 4, "Unrecognized architecture: linx"},
     {LEXICON_DIALECT_GO, LEXICON_LINUX_LIBC_NONE, LEXICON_DIALECT_OCI, "", NULL, LEXICON_UNKNOWN_NAME, 0, "Unknown name: "},
-    {8, LEXICON_LINUX_LIBC_NONE, LEXICON_DIALECT_OCI, "linux/amd64", NULL, LEXICON_NO_SUCH_DIALECT, 0, NULL},
+    {77, LEXICON_LINUX_LIBC_NONE, LEXICON_DIALECT_OCI, "linux/amd64", NULL, LEXICON_NO_SUCH_DIALECT, 0, NULL},
     {LEXICON_DIALECT_GO, LEXICON_LINUX_LIBC_NONE, LEXICON_DIALECT_NONE, "linux/amd64", NULL, LEXICON_NO_SUCH_DIALECT, 0, NULL},
     {LEXICON_DIALECT_GO, LEXICON_LINUX_LIBC_NONE, 77, "linux/amd64", NULL, LEXICON_NO_SUCH_DIALECT, 0, NULL},
     {LEXICON_DIALECT_GO, 3, LEXICON_DIALECT_OCI, "linux/amd64", NULL, LEXICON_NO_SUCH_C_LIBRARY, 0, NULL},

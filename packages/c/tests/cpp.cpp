@@ -151,6 +151,14 @@ static void try_sample() {
   EXPECT(out.str() == "aarch64-apple-ios17.0.0 macho 64");
 }
 
+// What a driver asks.
+static void try_driver() {
+  auto arm = parsed("armv7-unknown-linux-gnueabihf"), musl = parsed("x86_64-unknown-linux-musl"), none = parsed("avr");
+  EXPECT(arm.c_library() == CLibrary::Glibc && arm.float_abi() == FloatAbi::Hard && arm.is_unix());
+  EXPECT(musl.c_library() == CLibrary::Musl && musl.long_double() == (TypeLayout{16, 16}) && musl.wchar() == (TypeLayout{4, 4}));
+  EXPECT(!none.c_library() && !none.float_abi() && !none.is_unix() && !none.long_double() && !none.wchar());
+}
+
 // A custom vendor is owned: neither the string that was parsed nor the triple that was copied is needed.
 static void try_ownership() {
   std::string text = "x86_64-acme-linux";
@@ -199,6 +207,7 @@ static void try_names() {
   EXPECT(value_of<Architecture>("arm64") == Architecture::Aarch64 && !value_of<Environment>("linux"));
   EXPECT(value_of<Vendor>("acme") == Vendor::Custom && value_of<OperatingSystem>("ios17") == OperatingSystem::IOS);
   EXPECT(version().substr(0, 5) == LEXICON_VERSION);
+  EXPECT(shown(CLibrary::Glibc) == "glibc" && shown(CLibrary::Uclibc) == "uclibc" && shown(FloatAbi::Hard) == "hard");
   EXPECT(shown(Endianness::Little) == "little" && shown(Field::BinaryFormat) == "binary format" && shown(DataModel::ILP64) == "ILP64");
 }
 
@@ -222,6 +231,8 @@ static void try_no_names() {
   try_no_name<Endianness>();
   try_no_name<CallingConvention>();
   try_no_name<DataModel>();
+  try_no_name<CLibrary>();
+  try_no_name<FloatAbi>();
   try_no_name<Origin>();
   try_no_name<CLibrary>();
   try_no_name<FloatAbi>();
@@ -240,8 +251,8 @@ static void try_dialects() {
   EXPECT(Triple::read("x86_64-acme-linux")->vendor_name() == "acme" && !Triple::read("linux/arm64"));
   auto wheel = Triple::read("macosx_11_0_arm64", Dialect::Python);
   EXPECT(wheel && wheel->printed() == "aarch64-apple-macosx11.0.0" && wheel->name_in(Dialect::Python) == "macosx_11_0_arm64");
-  EXPECT(!Triple::read("amd64", Dialect::Go, &error) && error.status == LEXICON_UNKNOWN_NAME && error.part == "amd64" && !error.field());
-  EXPECT(shown(error) == "Unknown name: amd64\n  amd64\n  ^^^^^" && error.reason.empty() && error.suggestion.empty());
+  EXPECT(!Triple::read("linux", Dialect::Go, &error) && error.status == LEXICON_UNKNOWN_NAME && error.part == "linux" && !error.field());
+  EXPECT(shown(error) == "Unknown name: linux\n  linux\n  ^^^^^" && error.reason.empty() && error.suggestion.empty());
   EXPECT(!Triple::read("linux/amd46", Dialect::Go, &error) && error.suggestion == "linux/amd64" && error.reason.empty());
   EXPECT(shown(error) == "Unknown name: linux/amd46\n  linux/amd46\n  ^^^^^^^^^^^ did you mean `linux/amd64`?");
   EXPECT(!Triple::read("plan9/386", Dialect::Go, &error) && error.status == LEXICON_NAME_WITHOUT_TRIPLE);
@@ -285,6 +296,7 @@ int main() {
   try_explain();
   try_lines();
   try_sample();
+  try_driver();
   try_ownership();
   try_containers();
   try_errors();

@@ -86,7 +86,7 @@ static bool has_zeros(const struct lexicon_triple *it) {
 }
 
 /* written by tools/names/write: the last dialect */
-enum { LAST_DIALECT = 7 };
+enum { LAST_DIALECT = 15 };
 /* end of what is written */
 
 /* The names of a triple that is well: each that is read means the shape, which has the same name and the same answers. */

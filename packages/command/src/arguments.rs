@@ -1,5 +1,5 @@
 //! The calls of `target-lexicon`, their options and their help.
-use clap::builder::PossibleValuesParser;
+use clap::builder::{PossibleValue, PossibleValuesParser};
 use clap::{value_parser, Arg, ArgAction, Command, ValueHint};
 use std::path::PathBuf;
 use target_lexicon::tool_names::Dialect;
@@ -14,9 +14,11 @@ pub const FIELDS: [(&str, Field); 5] = [
     ("binary_format", Field::BinaryFormat),
 ];
 
-/// The tools whose names are known, in the order of answers: first those whose names are read.
+/// The tools whose names are known, in the order of answers: those whose names are only read, those whose names are also
+/// written, and those whose names are only written.
 // written by tools/names/write: the dialects for the command
-pub const DIALECTS: [Dialect; 7] = [
+pub const DIALECTS: [Dialect; 15] = [
+    Dialect::Uname,
     Dialect::Debian,
     Dialect::Go,
     Dialect::Oci,
@@ -24,6 +26,22 @@ pub const DIALECTS: [Dialect; 7] = [
     Dialect::Gnu,
     Dialect::Python,
     Dialect::Rust,
+    Dialect::Rpm,
+    Dialect::Apk,
+    Dialect::Pacman,
+    Dialect::Dotnet,
+    Dialect::Conda,
+    Dialect::Zig,
+    Dialect::Nix,
+];
+pub const READ: usize = 15;
+pub const ONLY_READ: usize = 1;
+// end of what is written
+
+// written by tools/names/write: the other names of dialects for the command
+const OTHER_NAMES: [(&str, Dialect); 2] = [
+    ("docker", Dialect::Oci),
+    ("npm", Dialect::Node),
 ];
 // end of what is written
 
@@ -40,13 +58,18 @@ fn libc() -> Arg {
 }
 
 /// An option for one of the dialects.
-fn dialect(name: &'static str, help: &'static str) -> Arg {
-    let names = DIALECTS.iter().map(|dialect| dialect.as_str());
+fn dialect(name: &'static str, dialects: &[Dialect], help: &'static str) -> Arg {
     Arg::new(name)
         .long(name)
         .value_name("DIALECT")
-        .value_parser(PossibleValuesParser::new(names))
+        .value_parser(PossibleValuesParser::new(dialects.iter().map(value_of)))
         .help(help)
+}
+
+/// The names of a dialect as a value.
+fn value_of(dialect: &Dialect) -> PossibleValue {
+    let others = OTHER_NAMES.iter().filter(|(_, of)| of == dialect);
+    PossibleValue::new(dialect.as_str()).aliases(others.map(|(name, _)| *name))
 }
 
 fn flag(name: &'static str, help: &'static str) -> Arg {
@@ -150,9 +173,9 @@ pub fn command() -> Command {
             )
             .mut_arg("target", |names| names.value_name("NAME"))
             .arg(
-                dialect("from", "The tool whose names are read; `any` writes a line for each that has the name")
+                dialect("from", &DIALECTS, "The tool whose names are read; `any` writes a line for each that has the name")
                     .value_parser(PossibleValuesParser::new(
-                        DIALECTS.iter().map(|it| it.as_str()).chain([ANY]),
+                        DIALECTS.iter().map(value_of).chain([PossibleValue::new(ANY)]),
                     )),
             )
             .arg(libc())
@@ -165,7 +188,7 @@ pub fn command() -> Command {
                 "Write the name that another tool has for each target",
                 "Example:\n  $ target-lexicon write --to debian aarch64-unknown-linux-gnu",
             )
-            .arg(dialect("to", "The tool whose names are written").required(true))
+            .arg(dialect("to", &DIALECTS[ONLY_READ..], "The tool whose names are written").required(true))
             .arg(libc()),
             of_targets(
                 "translate",
@@ -173,8 +196,8 @@ pub fn command() -> Command {
                 "Example:\n  $ target-lexicon translate --from oci --to debian --libc glibc linux/arm64",
             )
             .mut_arg("target", |names| names.value_name("NAME"))
-            .arg(dialect("from", "The tool whose names are read").required(true))
-            .arg(dialect("to", "The tool whose names are written").required(true))
+            .arg(dialect("from", &DIALECTS, "The tool whose names are read").required(true))
+            .arg(dialect("to", &DIALECTS[ONLY_READ..], "The tool whose names are written").required(true))
             .arg(libc()),
             of_targets(
                 "cfg",

@@ -487,7 +487,7 @@ fn names_of_other_tools_are_read_and_written() {
         ("linux/foo", "note: a name of another tool needs `--from`"),
         (
             "armhf",
-            "note: it is a name of another tool: use `--from debian`",
+            "note: it is a name of another tool: use `--from debian` or `--from apk`",
         ),
         ("foo", "^^^"),
     ] {
@@ -503,6 +503,16 @@ fn names_of_other_tools_are_read_and_written() {
         answers(&["write", "--to", "debian", "aarch64-linux-gnu"]).0,
         "arm64\n"
     );
+    // A dialect may have another name, and one that is only read isn't written.
+    assert_eq!(
+        answers(&["write", "--to", "docker", "aarch64-linux-gnu"]).0,
+        "linux/arm64\n"
+    );
+    assert_eq!(
+        answers(&["read", "--from", "uname", "Linux x86_64"]).0,
+        "x86_64-unknown-linux\n"
+    );
+    assert_eq!(answers(&["write", "--to", "uname", "x86_64"]).2, 2);
     assert_eq!(
         json_of(&["write", "--to", "go", "--json", "x86_64-apple-darwin"])[0]["name"],
         "darwin/amd64"

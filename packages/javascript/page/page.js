@@ -1,9 +1,13 @@
 // The page: shows the targets of the text field in the table. `build` puts target-lexicon.js and this file into one.
-import { DIALECTS, FIELDS, ParseError, Triple, load } from "../src/target-lexicon.js";
+import { FIELDS, ParseError, Triple, load } from "../src/target-lexicon.js";
 
 const LABELS = {
   architecture: "Architecture", vendor: "Vendor", operatingSystem: "System", environment: "Environment", binaryFormat: "Format",
 };
+// written by tools/names/write: the dialects for the page
+const READ = ["debian", "go", "oci", "node", "gnu", "python", "rust", "uname", "rpm", "apk", "pacman", "dotnet", "conda", "zig", "nix"];
+const WRITTEN = ["debian", "go", "oci", "node", "gnu", "python", "rust", "rpm", "apk", "pacman", "dotnet", "conda", "zig", "nix"];
+// end of what is written
 const TOOLS = { oci: "Container images", gnu: "GNU prefix" };
 const toolName = (dialect) => TOOLS[dialect] ?? dialect[0].toUpperCase() + dialect.slice(1);
 // The targets of which there are chips, with the word for one and for more. Those of a kind that is a mistake come first.
@@ -100,7 +104,7 @@ function namesCells(triple, text) {
     cell.hidden = !isOpen;
     button.setAttribute("aria-expanded", isOpen);
     if (!isOpen || list.firstChild) return;
-    for (const dialect of DIALECTS) {
+    for (const dialect of WRITTEN) {
       const name = triple.nameIn(dialect), shown = name === null ? element("span", { class: "dim" }, "none") : code(name);
       list.append(element("div", {}, element("dt", {}, toolName(dialect)), element("dd", {}, shown)));
     }
@@ -146,7 +150,7 @@ const listOf = (words) => words.length < 2 ? words.join() : `${words.slice(0, -1
 /** What a refused target is as a name of other tools: for each meaning, which tools have the name, and the triple or the reason why there is none. */
 function* knownNames(text) {
   const found = new Map();
-  for (const dialect of DIALECTS) {
+  for (const dialect of READ) {
     if (dialect === "gnu") continue; // its names are spelled like triples, of which `meaningElsewhere` says what they mean
     try {
       const meant = Triple.read(text, dialect).canonical;

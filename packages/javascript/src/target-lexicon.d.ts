@@ -86,12 +86,12 @@ export const FAMILIES: readonly Family[];
  * (`oci`), `process.platform` and `process.arch` of Node, the prefixes of GNU's cross compilers, and the platforms of Python and its wheels.
  */
 // written by tools/names/write: the type of dialects
-export type Dialect = "debian" | "go" | "oci" | "node" | "gnu" | "python" | "rust";
+export type Dialect = "debian" | "go" | "oci" | "node" | "gnu" | "python" | "rust" | "uname" | "rpm" | "apk" | "pacman" | "dotnet" | "conda" | "zig" | "nix" | "docker" | "npm";
 // end of what is written
 
 /** The dialects, in the order of their numbers in target_lexicon.h, which begin with 1. */
 // written by tools/names/write: the dialects for TypeScript
-export const DIALECTS: readonly ["debian", "go", "oci", "node", "gnu", "python", "rust"];
+export const DIALECTS: readonly ["debian", "go", "oci", "node", "gnu", "python", "rust", "uname", "rpm", "apk", "pacman", "dotnet", "conda", "zig", "nix"];
 // end of what is written
 
 /** A C library of Linux, which the caller says where a name doesn't state it. */

@@ -18,7 +18,7 @@ export const FAMILIES = Object.freeze([
 
 /** The tools whose names of targets are known: Debian, Go, container images, Node, GNU's cross compilers, and Python. */
 // written by tools/names/write: the dialects for JavaScript
-export const DIALECTS = Object.freeze(["debian", "go", "oci", "node", "gnu", "python", "rust"]);
+export const DIALECTS = Object.freeze(["debian", "go", "oci", "node", "gnu", "python", "rust", "uname", "rpm", "apk", "pacman", "dotnet", "conda", "zig", "nix"]);
 // end of what is written
 
 const OK = 0, REFUSED = 6, TOO_SMALL = 8, NO_SUCH_VALUE = 10, NO_SUCH_VENDOR = 11;
@@ -236,9 +236,13 @@ function stringOf(value) {
   return value;
 }
 
+// written by tools/names/write: the other names of dialects for JavaScript
+const OTHER_NAMES = { docker: "oci", npm: "node" };
+// end of what is written
+
 /** The number of a dialect in target_lexicon.h. */
 function dialectOf(name) {
-  const index = DIALECTS.indexOf(name);
+  const index = DIALECTS.indexOf(Object.hasOwn(OTHER_NAMES, name) ? OTHER_NAMES[name] : name);
   if (index < 0) throw new TypeError(`there is no dialect ${name}`);
   return index + 1;
 }

@@ -299,18 +299,19 @@ class Samples(Folder):
 
     @unittest.skipUnless(sys.version_info >= (3, 10), "the page's programs are for Python 3.10 or later")
     def test_programs_of_the_page(self):
-        self.assertEqual(self.commands_run(sys.executable, None), 8)
+        self.assertEqual(self.commands_run(sys.executable, None), 6)
 
     @unittest.skipUnless(HAS_DASK, "no pandas and Dask")
     def test_columns_of_the_page(self):
-        self.assertEqual(self.commands_run(DEBIAN_PYTHON, "pandas"), 4)
+        self.assertEqual(self.commands_run(DEBIAN_PYTHON, "pandas"), 3)
 
     @unittest.skipUnless(run(PATH_PYTHON, "-c", "import pandas, pyarrow").returncode == 0, "no pandas and pyarrow")
     def test_parquet(self):
-        """The frame of the page's program is written to a file, and read again."""
-        program = re.search(r"<!-- file: write.py -->\n```python\n(.*?)```", lists.read("packages/python/README.md"), re.S)[1]
+        """A frame of facts is written to a file, and read again."""
         path = os.path.join(self.folder, "targets.parquet")
-        program += f"frame.to_parquet({path!r})\nassert pandas.read_parquet({path!r}).equals(frame)\n"
+        program = ("import target_lexicon, pandas\n"
+                   "frame = pandas.DataFrame(target_lexicon.facts_all(['arm64-linux-gnu', 'x86_64-pc-linx'])).convert_dtypes()\n"
+                   f"frame.to_parquet({path!r})\nassert pandas.read_parquet({path!r}).equals(frame)\n")
         self.assertEqual(run(PATH_PYTHON, "-c", program, PYTHONPATH=PACKAGES).stderr, "")
 
     @unittest.skipUnless(HAS_PYDANTIC, "no pydantic 2")
@@ -368,10 +369,10 @@ class Samples(Folder):
         targets = ["arm64-apple-ios17.1", "avr", "x86_64-aple-linux", "x86_64-unknown-uefi", "armv6k-nintendo-3ds", "thumbv7m-none-eabi",
                    "x86_64-w64-windows-gnu", "x86_64-pc-linx", "x86_64-\u00e9\U0001f600-x", "", "x86_64-linux-elf-gnu", "x86_64-w64-mingw32"]
         names = ["linux/arm64", "amd64", "linux-x64-musl", "js/wasm", "linux/amd46", "x86_64-linux-gnu", "", "x86_64-w64-mingw32", "gnu-\u00e9"]
-        calls = [["facts"], ["explain"], ["settle"], ["elsewhere"], *(["write", "--to", str(it)] for it in target_lexicon.Dialect)]
+        calls = [["facts"], ["explain"], ["settle"], ["elsewhere"], *(["write", "--to", str(it)] for it in target_lexicon._dialects.WRITTEN)]
         calls = [(words, targets) for words in calls] + [(["read"], targets + names)]
         calls += [([*words, "--libc", "musl"], targets + names) for words in (["write", "--to", "debian"], ["read"])]
-        calls += [(["read", "--from", str(it)], names) for it in target_lexicon.Dialect if it is not target_lexicon.Dialect.GNU]
+        calls += [(["read", "--from", str(it)], names) for it in target_lexicon._dialects.READ]
         for words, given in calls:
             lines = "".join(f"{it}\r\n" for it in given).encode()
             for arguments, line in (given, b""), (["--json", "-", "avr"], lines):

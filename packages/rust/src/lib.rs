@@ -1,4 +1,4 @@
-//! LLVM target triples: the crate `target-lexicon` 0.13.5, with the Rust source of a verified port.
+//! LLVM target triples: what the crate `target-lexicon` 0.13.5 (upstream) has, with the Rust source of a verified port.
 //!
 //! The types and their methods are the proved source, without the parts that only proofs need. What needs another form in
 //! Rust is written by hand: calls that allocate, the host, the macro and serde.
@@ -16,13 +16,21 @@
 //! # Ok::<(), target_lexicon::ParseError>(())
 //! ```
 //!
-//! The crate needs Rust 1.65, is `no_std` with `alloc`, and has no dependency except `serde`, with the feature
-//! `serde_support`. [`TripleRef`] is a triple that borrows from the string, [`TripleRef::explain`] says where a string is
-//! refused and what was perhaps meant, and [`Triple::settle`] gives a key.
+//! [`Triple::parse`] has an error that shows the place and owns the string, [`TripleRef`] is a triple that borrows from the
+//! string, [`TripleRef::explain`] says which part gave each field, and [`Triple::settle`] gives a key.
 //!
-//! The feature `upstream_printing` prints each triple as upstream does, and `tool_names` has the names of targets in other
-//! tools. Before Rust 1.81 the errors implement `Error` with the feature `std` only. `arch_zkasm` and `arch_z80` change
-//! nothing. The page `README.md` says what differs from upstream, and what is proved.
+//! # Features
+//!
+//! None is on by default.
+//!
+//! - `tool_names`: names of targets in other tools, and what toolchains write.
+//! - `serde_support`: a triple and each field is its string in serde.
+//! - `upstream_printing`: each triple is printed as upstream does.
+//! - `std`: the errors implement `Error` before Rust 1.81 too.
+//! - `arch_zkasm` and `arch_z80` change nothing.
+//!
+//! The crate needs Rust 1.65, is `no_std` with `alloc`, and has no dependency except `serde`. Its README says what differs
+//! from upstream, and what is proved.
 #![no_std]
 #![forbid(unsafe_code)]
 // Names and types of upstream's; forms that proofs need; calls that older versions of Rust have from `compat`.
@@ -31,6 +39,7 @@
     clippy::should_implement_trait,
     clippy::upper_case_acronyms,
     clippy::manual_map,
+    clippy::manual_ok_err,
     clippy::match_like_matches_macro,
     clippy::incompatible_msrv
 )]

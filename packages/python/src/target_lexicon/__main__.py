@@ -13,6 +13,7 @@ from contextlib import suppress
 from typing import Any, Dict, Iterator, List, Optional, Tuple
 
 from . import LIBRARY_VERSION, Dialect, LinuxLibc, ParseError, Triple, explain
+from ._dialects import OTHER_NAMES, READ, WRITTEN
 from ._named import members
 from ._triple import _version_text
 
@@ -27,7 +28,8 @@ _COMMANDS = {
     "write": "the name that another tool has for it",
     "elsewhere": "the names that other tools have for it",
 }
-_DIALECTS = members(Dialect)
+# As the command orders them: those that are only written are the last.
+_DIALECTS = [*READ, *(it for it in WRITTEN if it not in READ)]
 _NEEDS_LIBC = "it depends on the C library: use `--libc glibc` or `--libc musl`"
 
 
@@ -61,7 +63,7 @@ def _answer(command: str, dialect: Optional[Dialect], libc: Optional[LinuxLibc],
     if command == "facts":
         return dict(triple.to_dict())
     if command == "elsewhere":
-        return {str(dialect): triple.name_in(dialect) for dialect in _DIALECTS}
+        return {str(dialect): triple.name_in(dialect) for dialect in WRITTEN}
     if dialect is None:
         return {"canonical": triple.canonical}
     name = triple.name_in(dialect)
@@ -128,7 +130,7 @@ def _is_name(dialect: Dialect, name: str) -> bool:
 
 def _answered(options: argparse.Namespace, target: str) -> Tuple[Answer, str]:
     """The answer for a target, and how it is shown."""
-    dialect = None if options.dialect is None else Dialect(options.dialect)
+    dialect = None if options.dialect is None else Dialect(OTHER_NAMES.get(options.dialect, options.dialect))
     libc = None if options.libc is None else LinuxLibc(options.libc)
     try:
         answer = _answer(options.command, dialect, libc, target)
@@ -143,6 +145,11 @@ def _answered(options: argparse.Namespace, target: str) -> Tuple[Answer, str]:
         return _refusal(error, dialect), "\n".join(lines)
 
 
+def _words(dialects: List[Dialect]) -> List[str]:
+    """The names of dialects, and their other names."""
+    return [*map(str, dialects), *(name for name, it in OTHER_NAMES.items() if Dialect(it) in dialects)]
+
+
 def _parser() -> argparse.ArgumentParser:
     parser = argparse.ArgumentParser("python -m target_lexicon", description=__doc__, formatter_class=argparse.RawDescriptionHelpFormatter)
     parser.add_argument("--version", action="version", version=f"target_lexicon {LIBRARY_VERSION}")
@@ -153,9 +160,9 @@ def _parser() -> argparse.ArgumentParser:
         command.add_argument("--json", action="store_true", help="write one JSON array on one line")
         command.set_defaults(dialect=None, libc=None)
         if name == "read":
-            command.add_argument("--from", dest="dialect", choices=list(map(str, _DIALECTS)))
+            command.add_argument("--from", dest="dialect", choices=_words(READ))
         elif name == "write":
-            command.add_argument("--to", dest="dialect", choices=list(map(str, _DIALECTS)), required=True)
+            command.add_argument("--to", dest="dialect", choices=_words(WRITTEN), required=True)
         if name in ("read", "write"):
             command.add_argument("--libc", choices=list(map(str, members(LinuxLibc))), help="the C library of targets on Linux that state none")
     return parser

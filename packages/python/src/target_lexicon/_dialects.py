@@ -1,7 +1,7 @@
 """The tools whose names of targets are read and written."""
 from __future__ import annotations
 
-from typing import Literal, Type, Union
+from typing import List, Literal, Type, Union
 
 from ._named import NamedValue
 
@@ -16,7 +16,7 @@ class Dialect(NamedValue):
     GO = "go"
     #: Platforms of container images, as containerd writes them: `linux/arm/v7`.
     OCI = "oci"
-    #: `process.platform` and `process.arch` of Node, as npm joins them: `linux-x64`, `linux-x64-musl`.
+    #: `process.platform` and `process.arch` of Node, as npm's packages join them, some with a C library: `linux-x64`, `linux-x64-musl`.
     NODE = "node"
     #: Prefixes of GNU's cross compilers, and strings that mean the same to config.sub: `x86_64-w64-mingw32`.
     GNU = "gnu"
@@ -24,21 +24,44 @@ class Dialect(NamedValue):
     PYTHON = "python"
     #: Targets of rustc, as `rustc --print target-list` lists them: `riscv64gc-unknown-linux-gnu`.
     RUST = "rust"
+    #: What `uname -s` and `uname -m` print, with a space between them, which is only read: `Linux x86_64`.
+    UNAME = "uname"
+    #: Architectures of packages of RPM, whose distributions have glibc: `x86_64`, `armv7hl`.
+    RPM = "rpm"
+    #: Architectures of Alpine's packages, which has musl: `x86_64`, `armhf`.
+    APK = "apk"
+    #: Architectures of packages of Arch Linux and its ports, which have glibc: `x86_64`, `armv7h`.
+    PACMAN = "pacman"
+    #: Identifiers of .NET's runtimes, in its portable list: `linux-x64`, `win-arm64`.
+    DOTNET = "dotnet"
+    #: Subdirectories of conda's channels, whose packages for Linux have glibc: `linux-64`, `osx-arm64`.
+    CONDA = "conda"
+    #: Zig's targets: `x86_64-linux-musl`, `aarch64-macos`.
+    ZIG = "zig"
+    #: Systems of Nix and nixpkgs: `x86_64-linux`, `aarch64-darwin`.
+    NIX = "nix"
     # end of what is written
 
 
-#: The names of the dialects.
+#: The names of the dialects; the other names; and those that are only read, or only written.
 # written by tools/names/write: the dialects' names for Python
-DialectName = Literal["debian", "go", "oci", "node", "gnu", "python", "rust"]
+DialectName = Literal["debian", "go", "oci", "node", "gnu", "python", "rust", "uname", "rpm", "apk", "pacman", "dotnet", "conda", "zig", "nix", "docker", "npm"]
+OTHER_NAMES = {"docker": "oci", "npm": "node"}
+ONLY_READ = [Dialect.UNAME]
+ONLY_WRITTEN: List[Dialect] = []
 # end of what is written
 
 #: The number in the library for C of no dialect: the string is spelled like a triple.
 NO_DIALECT = 0
 
+# Those that are read and those that are written, in the order of answers.
+READ = [*ONLY_READ, *(it for it in Dialect if it not in ONLY_READ + ONLY_WRITTEN)]
+WRITTEN = [*(it for it in Dialect if it not in ONLY_READ + ONLY_WRITTEN), *ONLY_WRITTEN]
+
 
 def dialect_number(dialect: Union[Dialect, DialectName]) -> int:
     """The number in the library for C of a dialect, given as a member or by its name."""
-    return _number(dialect, Dialect, "dialect")
+    return _number(OTHER_NAMES.get(dialect, dialect) if isinstance(dialect, str) else dialect, Dialect, "dialect")
 
 
 class LinuxLibc(NamedValue):

@@ -1,7 +1,9 @@
 // Erased from crates/tool_names/src/change.rt by tools/erase. Don't edit it here.
 //! What is changed in a string that is spelled like a triple.
 
-use crate::proved::tool_names::spelling::{first_at_end, first_spelling, Spelling};
+use crate::proved::tool_names::spelling::{
+    dropped_version, first_at_end, first_spelling, Spelling,
+};
 use crate::proved::{first_part, TextPart};
 
 /// A part of a string that is another spelling of known names, or a second part that states no vendor.
@@ -21,6 +23,32 @@ pub struct Change<'a> {
     pub part: TextPart<'a>,
     /// The names that are read instead.
     pub names: Spelling<'a>,
+}
+
+impl<'a> Change<'a> {
+    /// The version that the part loses, as it is in the string: `13.2` of `freebsd13.2`. A triple can't state versions of
+    /// systems other than Apple's, nor those of C libraries and of compilers.
+    ///
+    /// # Examples
+    ///
+    /// ```
+    /// use target_lexicon::tool_names::changes;
+    ///
+    /// let change = changes("aarch64-none-linux-android21").last().unwrap();
+    /// let version = change.dropped_version().unwrap();
+    /// assert_eq!((version.text, version.range()), ("21", 26..28));
+    /// assert_eq!(changes("x86_64-w64-mingw32").last().unwrap().dropped_version(), None);
+    /// ```
+    #[must_use]
+    pub fn dropped_version(&self) -> Option<TextPart<'a>> {
+        match dropped_version(self.part.text) {
+            Some(version) => Some(TextPart {
+                text: version,
+                start: self.part.range().end.saturating_sub(version.len()),
+            }),
+            None => None,
+        }
+    }
 }
 
 /// Where a part is in a string.
@@ -51,6 +79,14 @@ impl Position {
 }
 
 /// The changes of a string, from its start to its end. [`changes`] returns them.
+///
+/// # Examples
+///
+/// ```
+/// use target_lexicon::tool_names::changes;
+///
+/// assert_eq!(changes("amd64-pc-mingw32").count(), 2);
+/// ```
 #[derive(Debug, Clone)]
 pub struct ChangedParts<'a> {
     text: &'a str,

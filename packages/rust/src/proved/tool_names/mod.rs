@@ -28,6 +28,8 @@ pub(crate) mod nearest;
 #[cfg(feature = "tool_names")]
 pub(crate) mod pattern;
 #[cfg(feature = "tool_names")]
+pub(crate) mod platform;
+#[cfg(feature = "tool_names")]
 pub(crate) mod reading;
 #[cfg(feature = "tool_names")]
 pub(crate) mod rustc_cfg;

@@ -7,6 +7,7 @@ use crate::proved::tool_names::misspelling::{misspelling, TOO_MANY_EDITS};
 use crate::proved::tool_names::name::Name;
 use crate::proved::tool_names::nearest::nearer;
 use crate::proved::tool_names::pattern::{matched, star_count, Numbers};
+use crate::proved::tool_names::platform::row_of_platform;
 use crate::proved::tool_names::tables::{Row, Way, ONLY_WRITTEN};
 use crate::proved::{DeploymentTarget, OperatingSystem, TripleRef};
 
@@ -54,10 +55,16 @@ impl Dialect {
     /// ```
     pub fn read(self, name: &str) -> Result<TripleRef<'static>, NameError> {
         let rules = self.rules();
-        match row_named(&self.tables(), name, rules.tags) {
-            Some((row, numbers)) => row_meaning(row, numbers),
-            None => spelled_meaning(name, rules.spelled),
+        let tables = self.tables();
+        if let Some((row, numbers)) = row_named(&tables, name, rules.tags) {
+            return row_meaning(row, numbers);
         }
+        if rules.platforms {
+            if let Some(row) = row_of_platform(&tables, name) {
+                return row_meaning(row, Numbers::NoNumber);
+            }
+        }
+        spelled_meaning(name, rules.spelled)
     }
 
     /// The name of a triple in this dialect: that of its [shape](Dialect::shape). `None` if it has none. Nothing is
@@ -87,6 +94,14 @@ impl Dialect {
 
     /// The name that is suggested for an unknown one: the nearest of the names without a version that
     /// [`read`](Dialect::read) knows, if the name may be a misspelling of it. Nothing is allocated.
+    ///
+    /// # Examples
+    ///
+    /// ```
+    /// use target_lexicon::tool_names::Dialect;
+    ///
+    /// assert_eq!(Dialect::Go.suggestion("linux/amd46"), Some("linux/amd64"));
+    /// ```
     #[must_use]
     pub fn suggestion(self, name: &str) -> Option<&'static str> {
         let name = name.as_bytes();

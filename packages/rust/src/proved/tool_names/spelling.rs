@@ -239,6 +239,38 @@ fn versioned_spelling(rows: &[(&'static str, &'static str)], part: &str) -> Opti
     None
 }
 
+/// The version that is dropped from a part.
+#[inline]
+pub(crate) fn dropped_version(part: &str) -> Option<&str> {
+    version_after(&VERSIONED_SPELLINGS, part)
+}
+
+/// The version that follows the text of the first row that the part begins with.
+#[inline]
+fn version_after<'a>(rows: &[(&'static str, &'static str)], part: &'a str) -> Option<&'a str> {
+    for row in rows {
+        if let Some(version) = version_after_prefix(row.0, part) {
+            return Some(version);
+        }
+    }
+    None
+}
+
+/// The version that follows this prefix of a part, if it is one that is dropped.
+#[inline]
+fn version_after_prefix<'a>(prefix: &str, part: &'a str) -> Option<&'a str> {
+    match part.strip_prefix(prefix) {
+        Some(version) => {
+            if is_dropped_version(version.as_bytes()) {
+                Some(version)
+            } else {
+                None
+            }
+        }
+        None => None,
+    }
+}
+
 /// Whether a part is this prefix and a version that is dropped.
 #[inline]
 fn has_dropped_version(prefix: &str, part: &str) -> bool {

@@ -1,0 +1,190 @@
+//! Platforms of container images, as containerd normalises them.
+ghost use Rattle.std.specs.Prelude.{◌≡◌, ◌≤◌, length, option_map};
+ghost use Rattle.std.specs.Str.{str_eq_ignore_ascii_case};
+ghost use Rattle.tool_names.specs.Platforms.{aarch64_variant, are_same_words, arm_variant, is_aarch64, is_x86_64, normal_machine, normal_system, normal_words, row_with_words, word_length, words_of, x86_64_variant};
+ghost use Rattle.tool_names.specs.Private.{platform_words};
+ghost use Rattle.tool_names.specs.Tables.{plain_row, plain_rows, rows_in};
+
+use crate::pattern::star_count;
+use crate::tables::Row;
+
+/// The words of a platform's name. That of the variant has the slash before it, and may be empty.
+#[derive(Clone, Copy)]
+pub(crate) struct Platform<'a> {
+    pub system: &'a [u8],
+    pub machine: &'a [u8],
+    pub variant: &'a [u8],
+}
+
+impl<'a> Platform<'a> {
+    /// The words of a name.
+    fn of(name: &'a [u8]) -> Platform<'a>
+        ensures { platform_words result ≡ words_of name.entry.now }
+    {
+        let (system, rest) = name.split_at(word_length(name));
+        let rest = match rest {
+            [_, rest @ ..] => rest,
+            [] => rest,
+        };
+        let (machine, variant) = rest.split_at(word_length(rest));
+        Platform {
+            system,
+            machine,
+            variant,
+        }
+    }
+
+    /// The words of the normal form.
+    fn normal(self) -> Platform<'a>
+        ensures { platform_words result ≡ normal_words (platform_words self.entry) }
+    {
+        let (machine, variant) = normal_machine(self.machine, self.variant);
+        Platform {
+            system: normal_system(self.system),
+            machine,
+            variant,
+        }
+    }
+
+    /// Whether the words are the same, in any case.
+    fn is(self, other: Platform<'_>) -> bool
+        ensures { result ≡ are_same_words (platform_words self.entry) (platform_words other.entry) }
+    {
+        is_word(self.system, other.system)
+            && is_word(self.machine, other.machine)
+            && is_word(self.variant, other.variant)
+    }
+}
+
+/// The first row without a number whose name has the words of a platform's normal form.
+pub(crate) fn row_of_platform(tables: &[&'static [Row]], name: &str) -> Option<Row>
+    ensures { option_map plain_row result
+        ≡ row_with_words (rows_in tables.now) (normal_words (words_of name.now)) }
+{
+    row_in_tables(tables, Platform::of(name.as_bytes()).normal())
+}
+
+/// The first such row of several tables.
+fn row_in_tables(tables: &[&'static [Row]], platform: Platform<'_>) -> Option<Row>
+    ensures { option_map plain_row result
+        ≡ row_with_words (rows_in tables.now) (platform_words platform.entry) }
+{
+    for rows in tables {
+        if let Some(row) = row_with_words(rows, platform) {
+            return Some(row);
+        }
+    }
+    None
+}
+
+/// That row of one table.
+fn row_with_words(rows: &[Row], platform: Platform<'_>) -> Option<Row>
+    ensures { option_map plain_row result
+        ≡ row_with_words (plain_rows rows.now) (platform_words platform.entry) }
+{
+    for row in rows {
+        let pattern = row.0.as_bytes();
+        if star_count(pattern) == 0 && Platform::of(pattern).is(platform) {
+            return Some(*row);
+        }
+    }
+    None
+}
+
+/// How many bytes come before the first slash.
+fn word_length(text: &[u8]) -> usize
+    ensures counted { result ≡ word_length text.now }
+    ensures within { result ≤ length text.now }
+{
+    let mut end = 0;
+    while end < text.len() && text[end] != b'/' {
+        end += 1;
+    }
+    end
+}
+
+fn is_word(text: &[u8], word: &[u8]) -> bool
+    ensures { result ≡ str_eq_ignore_ascii_case text.now word.now }
+{
+    text.eq_ignore_ascii_case(word)
+}
+
+fn normal_system(system: &[u8]) -> &[u8]
+    ensures { result.now ≡ normal_system system.entry.now }
+{
+    if is_word(system, b"macos") {
+        b"darwin"
+    } else {
+        system
+    }
+}
+
+fn is_x86_64(machine: &[u8]) -> bool
+    ensures { result ≡ is_x86_64 machine.now }
+{
+    is_word(machine, b"amd64") || is_word(machine, b"x86_64") || is_word(machine, b"x86-64")
+}
+
+fn is_aarch64(machine: &[u8]) -> bool
+    ensures { result ≡ is_aarch64 machine.now }
+{
+    is_word(machine, b"arm64") || is_word(machine, b"aarch64")
+}
+
+/// The machine, and its variant.
+fn normal_machine<'a>(machine: &'a [u8], variant: &'a [u8]) -> (&'a [u8], &'a [u8])
+    ensures machine { result.0.now ≡ (normal_machine machine.entry.now variant.entry.now).0 }
+    ensures variant { result.1.now ≡ (normal_machine machine.entry.now variant.entry.now).1 }
+{
+    if is_word(machine, b"i386") {
+        (b"386", b"")
+    } else if is_x86_64(machine) {
+        (b"amd64", x86_64_variant(variant))
+    } else if is_aarch64(machine) {
+        (b"arm64", aarch64_variant(variant))
+    } else if is_word(machine, b"armhf") {
+        (b"arm", b"/v7")
+    } else if is_word(machine, b"armel") {
+        (b"arm", b"/v6")
+    } else if is_word(machine, b"arm") {
+        (b"arm", arm_variant(variant))
+    } else {
+        (machine, variant)
+    }
+}
+
+fn x86_64_variant(variant: &[u8]) -> &[u8]
+    ensures { result.now ≡ x86_64_variant variant.entry.now }
+{
+    if is_word(variant, b"/v1") {
+        b""
+    } else {
+        variant
+    }
+}
+
+fn aarch64_variant(variant: &[u8]) -> &[u8]
+    ensures { result.now ≡ aarch64_variant variant.entry.now }
+{
+    if is_word(variant, b"/v8") || is_word(variant, b"/8") {
+        b""
+    } else {
+        variant
+    }
+}
+
+fn arm_variant(variant: &[u8]) -> &[u8]
+    ensures { result.now ≡ arm_variant variant.entry.now }
+{
+    if is_word(variant, b"") || is_word(variant, b"/7") {
+        b"/v7"
+    } else if is_word(variant, b"/5") {
+        b"/v5"
+    } else if is_word(variant, b"/6") {
+        b"/v6"
+    } else if is_word(variant, b"/8") {
+        b"/v8"
+    } else {
+        variant
+    }
+}
