@@ -79,8 +79,11 @@ enum lexicon_status {
   LEXICON_UNKNOWN_NAME = 12,        /* the dialect has no such name */
   LEXICON_NAME_WITHOUT_TRIPLE = 13, /* the dialect has the name, but no triple means the same; lexicon_reason says why */
   LEXICON_TRIPLE_WITHOUT_NAME = 14, /* the dialect has no name for the triple */
-  LEXICON_NO_SUCH_DIALECT = 15,     /* the number of a dialect is above 7; for lexicon_write also 0 */
-  LEXICON_TOO_LARGE = 16            /* a size is above PTRDIFF_MAX; that of a custom vendor gives LEXICON_NO_SUCH_VENDOR */
+  LEXICON_NO_SUCH_DIALECT = 15,     /* the number of a dialect names none; where a name is written, also 0 */
+  LEXICON_TOO_LARGE = 16,           /* a size is above PTRDIFF_MAX; that of a custom vendor gives LEXICON_NO_SUCH_VENDOR */
+  LEXICON_NEEDS_C_LIBRARY = 17,     /* the dialect has a name for it with glibc or musl, and none is said */
+  LEXICON_NO_SUCH_C_LIBRARY = 18,   /* the number of a C library of Linux is above 2; for lexicon_complete also 0 */
+  LEXICON_NO_SUCH_CHANGE = 19       /* the string has no change with this number */
 };
 
 /* A tool, or a group of tools, that names targets in its own way. */
@@ -104,6 +107,9 @@ enum lexicon_dialect {
   LEXICON_DIALECT_NIX = 15, /* Systems of Nix and nixpkgs: x86_64-linux, aarch64-darwin */
   /* end of what is written */
 };
+
+/* A C library of Linux, which the caller says where a name doesn't state it. */
+enum lexicon_linux_libc { LEXICON_LINUX_LIBC_NONE = 0, LEXICON_LINUX_LIBC_GLIBC = 1, LEXICON_LINUX_LIBC_MUSL = 2 };
 
 enum lexicon_field {
   LEXICON_FIELD_ARCHITECTURE = 0,
@@ -482,6 +488,11 @@ struct lexicon_triple_facts {
   uint8_t long_double_size, long_double_alignment, wchar_size, wchar_alignment; /* of C's long double and wchar_t, in bytes */
 };
 
+/* A part of a string that lexicon_read, without a dialect, reads as other names. */
+struct lexicon_change {
+  size_t start, end;
+};
+
 /* A buffer of text_size + LEXICON_MAX_GROWTH + 1 bytes always has room for what lexicon_print writes for the triple that the
    string parses as, and for its canonical form. arm64 prints as aarch64-unknown-unknown-elf, and no string grows by more. */
 #define LEXICON_MAX_GROWTH 22
@@ -549,6 +560,28 @@ enum lexicon_status lexicon_read(uint32_t dialect, const char *text, size_t text
 LEXICON_CHECKED LEXICON_NONNULL(2)
 enum lexicon_status lexicon_write(uint32_t dialect, const struct lexicon_triple *triple, char *out, size_t out_size, size_t *length);
 
+/* Gives a triple of Linux, whose environment is unknown, the usual one of a C library: gnueabihf, gnu and so on. Only the
+   environment changes; any other triple stays as it is. */
+LEXICON_CHECKED LEXICON_NONNULL(1)
+enum lexicon_status lexicon_complete(struct lexicon_triple *triple, uint32_t linux_libc);
+
+/* The name in a dialect of what a name of another one means, or a string that is spelled like a triple: it is read, completed with
+   a C library unless that is LEXICON_LINUX_LIBC_NONE, and written. The name has at most 36 bytes. If it can't be read, the status
+   and the error are those of lexicon_read. LEXICON_TRIPLE_WITHOUT_NAME and LEXICON_NEEDS_C_LIBRARY say that what it means can't be
+   written; the range of the error is that of the whole name. At any other status from 15 on the range is empty, and at
+   LEXICON_TOO_SMALL no error is written. A buffer that is too small is unchanged. */
+LEXICON_CHECKED
+enum lexicon_status lexicon_translate(uint32_t from, const char *name, size_t name_size, uint32_t linux_libc, uint32_t to, char *out,
+                                      size_t out_size, size_t *length, struct lexicon_error *error);
+
+/* The change with this number, from 0, of those that lexicon_read, without a dialect, makes in a string: the range of a part, and
+   the names that it is read as. Of amd64-unknown-freebsd13.2 the first is amd64, read as x86_64, and the second freebsd13.2, read as
+   freebsd: the version is dropped. After the last one the status is LEXICON_NO_SUCH_CHANGE. A string that is refused has its changes
+   too. A buffer that is too small is unchanged, and so is the change then. */
+LEXICON_CHECKED LEXICON_NONNULL(4)
+enum lexicon_status lexicon_changes(const char *text, size_t text_size, size_t number, struct lexicon_change *change, char *out,
+                                    size_t out_size, size_t *length);
+
 /* Why a name of a dialect has no triple, where lexicon_read gives LEXICON_NAME_WITHOUT_TRIPLE. Otherwise null. */
 const char *lexicon_reason(uint32_t dialect, const char *name, size_t name_size);
 
@@ -614,6 +647,16 @@ LEXICON_CHECKED LEXICON_NONNULL(2, 3)
 static inline enum lexicon_status lexicon_read_z(uint32_t dialect, const char *text, struct lexicon_triple *triple,
                                                  struct lexicon_error *error) {
   return lexicon_read(dialect, text, strlen(text), triple, error);
+}
+LEXICON_CHECKED LEXICON_NONNULL(2)
+static inline enum lexicon_status lexicon_translate_z(uint32_t from, const char *name, uint32_t linux_libc, uint32_t to, char *out,
+                                                      size_t out_size, size_t *length, struct lexicon_error *error) {
+  return lexicon_translate(from, name, strlen(name), linux_libc, to, out, out_size, length, error);
+}
+LEXICON_CHECKED LEXICON_NONNULL(1, 3)
+static inline enum lexicon_status lexicon_changes_z(const char *text, size_t number, struct lexicon_change *change, char *out,
+                                                    size_t out_size, size_t *length) {
+  return lexicon_changes(text, strlen(text), number, change, out, out_size, length);
 }
 LEXICON_NONNULL(2)
 static inline const char *lexicon_reason_z(uint32_t dialect, const char *name) {

@@ -25,6 +25,7 @@
 #include <string_view>
 #include <tuple>
 #include <utility>
+#include <vector>
 
 #include "target_lexicon.h"
 
@@ -148,6 +149,9 @@ enum class CLibrary : std::uint8_t {
 // How floating-point arguments are passed: in integer registers, or in floating-point registers.
 enum class FloatAbi : std::uint8_t { Soft = LEXICON_FLOAT_ABI_SOFT, Hard = LEXICON_FLOAT_ABI_HARD };
 
+// A C library of Linux, which the caller says where a name doesn't state it.
+enum class LinuxLibc : std::uint8_t { Glibc = LEXICON_LINUX_LIBC_GLIBC, Musl = LEXICON_LINUX_LIBC_MUSL };
+
 // Where the value of a field comes from: nowhere, so that it is unknown; a part of the string; or the other fields.
 enum class Origin : std::uint8_t {
   NotGiven = LEXICON_ORIGIN_NOT_GIVEN, Given = LEXICON_ORIGIN_GIVEN, Implied = LEXICON_ORIGIN_IMPLIED, Alias = LEXICON_ORIGIN_ALIAS
@@ -217,6 +221,10 @@ inline std::string_view name(CallingConvention value) {
   constexpr const char* names[] = {"", "SystemV", "WasmBasicCAbi", "WindowsFastcall", "AppleAarch64"};
   return detail::name_at(names, static_cast<std::size_t>(value));
 }
+inline std::string_view name(LinuxLibc value) {
+  constexpr const char* names[] = {"", "glibc", "musl"};
+  return detail::name_at(names, static_cast<std::size_t>(value));
+}
 inline std::string_view name(Origin value) {
   constexpr const char* names[] = {"not given", "given", "implied", "alias"};
   return detail::name_at(names, static_cast<std::size_t>(value));
@@ -258,9 +266,10 @@ struct Version {
   }
 };
 
-// Why a string is refused.
+// Why a string is refused, or a name isn't translated.
 struct ParseError {
-  // From LEXICON_UNRECOGNIZED_ARCHITECTURE to LEXICON_NOT_UTF8; of a dialect's name LEXICON_UNKNOWN_NAME or ..WITHOUT_TRIPLE.
+  // From LEXICON_UNRECOGNIZED_ARCHITECTURE to LEXICON_NOT_UTF8; of a dialect's name LEXICON_UNKNOWN_NAME or ..WITHOUT_TRIPLE; of one
+  // that is read and not written LEXICON_TRIPLE_WITHOUT_NAME or LEXICON_NEEDS_C_LIBRARY.
   lexicon_status status = LEXICON_OK;
   std::size_t start = 0, end = 0;  // the refused part, in bytes
   std::string part;
@@ -275,6 +284,13 @@ struct ParseError {
     return static_cast<Field>(status - 1);
   }
   friend std::ostream& operator<<(std::ostream& out, const ParseError& it) { return out << it.text; }
+};
+
+// A part of a string that `Triple::read` reads as other names. A version that is dropped is one: freebsd13.2 is freebsd.
+struct Change {
+  std::size_t start = 0, end = 0;  // the part, in bytes
+  std::string part;
+  std::string names;  // one, or more with dashes between them
 };
 
 struct Source {
@@ -372,6 +388,27 @@ class Triple {
       return lexicon_write(static_cast<std::uint32_t>(dialect), &triple, out, size, length);
     });
     return name.empty() ? std::nullopt : std::make_optional(std::move(name));
+  }
+
+  // The triple with the usual environment of a C library, if it is of Linux and states none; else this one.
+  Triple completed(LinuxLibc libc) const {
+    lexicon_triple triple = c_triple();
+    return lexicon_complete(&triple, static_cast<std::uint32_t>(libc)) == LEXICON_OK ? Triple(triple) : *this;
+  }
+
+  // The name in the dialect `to` of what a name of the dialect `from` means, with a C library of Linux if one is said. Without
+  // `from`, the string is spelled like a triple. If there is none, `error` says why.
+  static std::optional<std::string> translate(std::string_view name, std::optional<Dialect> from, Dialect to,
+                                              std::optional<LinuxLibc> libc = std::nullopt, ParseError* error = nullptr) {
+    std::uint32_t dialect = from ? static_cast<std::uint32_t>(*from) : std::uint32_t(LEXICON_DIALECT_NONE);
+    std::uint32_t number = libc ? static_cast<std::uint32_t>(*libc) : std::uint32_t(LEXICON_LINUX_LIBC_NONE);
+    lexicon_error found = {};
+    std::string translated = detail::written([&](char* out, std::size_t size, std::size_t* length) {
+      return lexicon_translate(dialect, name.data(), name.size(), number, static_cast<std::uint32_t>(to), out, size, length, &found);
+    });
+    if (!translated.empty()) return translated;
+    if (error) *error = name_error(dialect, name, found);
+    return std::nullopt;
   }
 
   // The five fields, in order.
@@ -555,17 +592,22 @@ class Triple {
     lexicon_triple triple;
     lexicon_error found;
     if (lexicon_read(dialect, text.data(), text.size(), &triple, &found) == LEXICON_OK) return Triple(triple);
-    if (!error) return std::nullopt;
-    *error = error_of(text, found);
-    if (const char* reason = lexicon_reason(dialect, text.data(), text.size())) {
-      error->reason = reason;
-      error->text += " " + error->reason;
-    }
-    if (const char* name = lexicon_name_suggestion(dialect, text.data(), text.size())) {
-      error->suggestion = name;
-      error->text += " did you mean `" + error->suggestion + "`?";
-    }
+    if (error) *error = name_error(dialect, text, found);
     return std::nullopt;
+  }
+
+  // The error of a name in a dialect.
+  static ParseError name_error(std::uint32_t dialect, std::string_view name, const lexicon_error& found) {
+    ParseError error = error_of(name, found);
+    if (const char* reason = lexicon_reason(dialect, name.data(), name.size())) {
+      error.reason = reason;
+      error.text += " " + error.reason;
+    }
+    if (const char* meant = lexicon_name_suggestion(dialect, name.data(), name.size())) {
+      error.suggestion = meant;
+      error.text += " did you mean `" + error.suggestion + "`?";
+    }
+    return error;
   }
 
   static ParseError error_of(std::string_view text, const lexicon_error& found) {
@@ -605,6 +647,18 @@ inline std::optional<Explanation> Triple::explain(std::string_view text, ParseEr
   auto of = [](const lexicon_source& it) { return Source{static_cast<Origin>(it.origin), it.start, it.end}; };
   return Explanation{Triple(triple), of(sources.architecture), of(sources.vendor), of(sources.operating_system), of(sources.environment),
                      of(sources.binary_format)};
+}
+
+// What `Triple::read` reads as other names in a string that is spelled like a triple, from its start to its end.
+inline std::vector<Change> changes(std::string_view text) {
+  std::vector<Change> found;
+  for (lexicon_change it = {};;) {
+    std::string names = detail::written([&](char* out, std::size_t size, std::size_t* length) {
+      return lexicon_changes(text.data(), text.size(), found.size(), &it, out, size, length);
+    });
+    if (names.empty()) return found;
+    found.push_back({it.start, it.end, std::string(text.substr(it.start, it.end - it.start)), std::move(names)});
+  }
 }
 
 // The canonical form of each line of a string, with a line feed after it; of a line that is refused, only the line feed.

@@ -1,7 +1,7 @@
 //! Why a text is refused, in words.
 use crate::proved::{expected_at, TextError};
 use crate::text::Text;
-use crate::{Status, NAME_WITHOUT_TRIPLE, NOT_UTF8, NO_SUCH_VALUE, UNKNOWN_NAME};
+use crate::{Status, NAME_WITHOUT_TRIPLE, NEEDS_C_LIBRARY, NOT_UTF8, NO_SUCH_VALUE, TRIPLE_WITHOUT_NAME, UNKNOWN_NAME};
 use core::str;
 use target_lexicon::proved::refusal_prefix;
 use target_lexicon::tool_names;
@@ -25,6 +25,8 @@ fn start_of_line<'a>(bytes: &'a [u8], error: &TextError, out: &mut Text) -> Resu
     match error.status {
         UNKNOWN_NAME => out.push("Unknown name: "),
         NAME_WITHOUT_TRIPLE => out.push("No triple has this name: "),
+        TRIPLE_WITHOUT_NAME => out.push("No name in the other dialect: "),
+        NEEDS_C_LIBRARY => out.push("The name in the other dialect depends on the C library: "),
         status => out.push(refusal_prefix(expected_at(status).ok_or(NO_SUCH_VALUE)?)),
     }
     Ok(Some(part))

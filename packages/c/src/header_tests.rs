@@ -1,7 +1,10 @@
 //! The numbers of target_lexicon.h and target_lexicon.hpp are the library's.
-use crate::proved::values::{architecture_at, operating_system_at};
-use crate::proved::{dialect_at, expected_at, facts, field_at, name_at, NumberedTriple, TripleNumbers};
+use crate::proved::values::{architecture_at, environment_at, operating_system_at};
+use crate::proved::{
+    c_library_at, dialect_at, driver_facts, expected_at, facts, field_at, name_at, NumberedTriple, TripleNumbers,
+};
 use std::collections::BTreeMap;
+use target_lexicon::tool_names::{CLibrary, FloatAbi};
 use target_lexicon::TripleRef;
 
 const HEADER: &str = include_str!("../include/target_lexicon.h");
@@ -110,8 +113,6 @@ fn names_of_answers(prefix: &str, of: &str) -> Vec<&'static str> {
 fn the_conventions_and_models_are_those_of_the_queries() {
     let conventions = names_of_answers("LEXICON_CALLING_CONVENTION_", "CallingConvention");
     let models = names_of_answers("LEXICON_DATA_MODEL_", "DataModel");
-    assert_eq!(names_of_answers("LEXICON_C_LIBRARY_", "CLibrary").len(), 10);
-    assert_eq!(names_of_answers("LEXICON_FLOAT_ABI_", "FloatAbi"), ["", "soft", "hard"]);
     for (number, architecture) in (0..).map_while(|it| Some((it, architecture_at(it)?))) {
         for (system_number, operating_system) in (0..).map_while(|it| Some((it, operating_system_at(it, None)?))) {
             let triple = TripleRef { architecture, operating_system, ..TripleRef::unknown() };
@@ -121,6 +122,37 @@ fn the_conventions_and_models_are_those_of_the_queries() {
             assert_eq!(models[usize::from(facts.data_model)], triple.data_model().map_or("", |it| it.name()));
         }
     }
+}
+
+#[test]
+fn the_answers_for_a_driver_are_those_of_the_library() {
+    let libraries = names_of_answers("LEXICON_C_LIBRARY_", "CLibrary");
+    let floats = names_of_answers("LEXICON_FLOAT_ABI_", "FloatAbi");
+    let said = names_of_answers("LEXICON_LINUX_LIBC_", "LinuxLibc");
+    let mut seen = [false; 10];
+    for system in 0.. {
+        let Some(operating_system) = operating_system_at(system, None) else { break };
+        for environment in 0.. {
+            let Some(environment_value) = environment_at(environment) else { break };
+            for architecture in [15, 91] {
+                let mut it = numbered(architecture, system);
+                it.numbers.environment = environment;
+                let facts = driver_facts(&it).ok().expect("a triple");
+                let triple = TripleRef {
+                    architecture: architecture_at(architecture).expect("a value"),
+                    operating_system,
+                    environment: environment_value,
+                    ..TripleRef::unknown()
+                };
+                assert_eq!(libraries[usize::from(facts.c_library)], CLibrary::of(&triple).map_or("", |it| it.name()));
+                assert_eq!(floats[usize::from(facts.float_abi)], FloatAbi::of(&triple).map_or("", |it| it.name()));
+                seen[usize::from(facts.c_library)] = true;
+            }
+        }
+    }
+    assert_eq!((libraries.len(), seen), (10, [true; 10]));
+    let found: Vec<_> = (0..).map_while(c_library_at).map(|it| it.map_or("", |it| it.as_str())).collect();
+    assert_eq!(said, found);
 }
 
 #[test]
@@ -219,6 +251,7 @@ fn the_structs_are_those_of_the_library() {
         _ => vec![it],
     };
     assert_eq!(members("lexicon_triple_facts"), groups.flat_map(layout).collect::<Vec<_>>());
+    assert_eq!(members("lexicon_change"), fields(library, "Change"));
     assert_eq!(members("lexicon_error"), fields(error, "TextError"));
     assert_eq!(members("lexicon_source"), fields(sources, "FieldSource"));
     assert_eq!(members("lexicon_sources"), fields(sources, "FieldSources"));

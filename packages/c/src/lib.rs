@@ -31,11 +31,12 @@ use names::{c_name, c_reason};
 use proved::triple::{triple_in, CUSTOM_VENDOR};
 use proved::triple_facts::{driver_facts_of, format_facts_of, query_facts_of};
 use proved::{
-    dialect_at, explain, field_at, name_at, name_in, name_suggestion, number_in, parse, print, read, reason, same_target, settle,
-    DriverFacts, Fault, FieldSource, FieldSources, FormatFacts, NumberedTriple, QueryFacts, TextError, TripleNumbers,
+    c_library_at, complete, dialect_at, explain, field_at, name_at, name_in, name_suggestion, number_in, parse, print, read, reason,
+    same_target, settle, translate, DriverFacts, Fault, FieldSource, FieldSources, FormatFacts, NumberedTriple, QueryFacts, TextError,
+    TripleNumbers,
 };
 use target_lexicon::{tool_names, Field};
-use text::{write_text, Text};
+use text::{shown, write_text, written, Text};
 
 /// `enum lexicon_status`. From 1 to 6 a text is refused, where a value of the first to the fifth field was expected, or none.
 pub type Status = u32;
@@ -51,6 +52,9 @@ const NAME_WITHOUT_TRIPLE: Status = 13;
 const TRIPLE_WITHOUT_NAME: Status = 14;
 const NO_SUCH_DIALECT: Status = 15;
 const TOO_LARGE: Status = 16;
+const NEEDS_C_LIBRARY: Status = 17;
+const NO_SUCH_C_LIBRARY: Status = 18;
+const NO_SUCH_CHANGE: Status = 19;
 
 /// The greatest size of anything in memory, `PTRDIFF_MAX`. Rust has no slice that is larger.
 const MAX_SIZE: usize = isize::MAX as usize;
@@ -83,6 +87,13 @@ pub struct Facts {
 /// Where the second group begins, and the third.
 const FORMATS: usize = size_of::<QueryFacts>();
 const DRIVER: usize = FORMATS + size_of::<FormatFacts>();
+
+/// `struct lexicon_change`.
+#[repr(C)]
+pub struct Change {
+    start: usize,
+    end: usize,
+}
 
 /// The sizes that the structs of target_lexicon.h have, with words of 64 bits or of 32.
 const _: () = {
@@ -192,13 +203,18 @@ unsafe fn parsed(result: Result<NumberedTriple<'_>, TextError>, triple: *mut Tri
             triple.write(Triple::new(&it));
             OK
         },
-        Err(it) => unsafe {
-            if !error.is_null() {
-                error.write(it);
-            }
-            it.status
-        },
+        Err(it) => unsafe { refused(it, error) },
     }
+}
+
+/// Writes an error if the caller wants it.
+#[inline(always)]
+unsafe fn refused(it: TextError, error: *mut TextError) -> Status {
+    if !error.is_null() {
+        // SAFETY: the caller's variable.
+        unsafe { error.write(it) }
+    }
+    it.status
 }
 
 /// The error of bytes that aren't UTF-8: the range of the first that are no character.
@@ -336,6 +352,14 @@ unsafe fn write_group<Group>(group: Group, to: *mut u8, size: usize) {
 }
 
 #[no_mangle]
+pub unsafe extern "C" fn lexicon_complete(triple: *mut Triple, linux_libc: u32) -> Status {
+    match c_library_at(linux_libc).flatten() {
+        Some(c_library) => unsafe { answer(triple, complete(&Triple::read(triple), c_library).map(|it| Triple::new(&it))) },
+        None => NO_SUCH_C_LIBRARY,
+    }
+}
+
+#[no_mangle]
 pub unsafe extern "C" fn lexicon_read(
     dialect: u32,
     text: *const u8,
@@ -372,12 +396,62 @@ pub unsafe extern "C" fn lexicon_write(
     }
 }
 
-/// The length of a text, which is written if the buffer has room for it.
-fn written(text: &str, out: &mut [u8]) -> usize {
-    if let Some(out) = out.get_mut(..text.len()) {
-        out.copy_from_slice(text.as_bytes());
+#[no_mangle]
+pub unsafe extern "C" fn lexicon_translate(
+    from: u32,
+    name: *const u8,
+    name_size: usize,
+    linux_libc: u32,
+    to: u32,
+    out: *mut u8,
+    out_size: usize,
+    length: *mut usize,
+    error: *mut TextError,
+) -> Status {
+    let find = || {
+        let no_range = |status| TextError { status, start: 0, end: 0 };
+        let bytes = unsafe { bytes_at(name, name_size) }?;
+        if out_size > MAX_SIZE {
+            return Err(no_range(TOO_LARGE));
+        }
+        let from = dialect_at(from).ok_or(no_range(NO_SUCH_DIALECT))?;
+        let to = dialect_at(to).flatten().ok_or(no_range(NO_SUCH_DIALECT))?;
+        let c_library = c_library_at(linux_libc).ok_or(no_range(NO_SUCH_C_LIBRARY))?;
+        translate(from, text_of(bytes)?, c_library, to)
+    };
+    match find() {
+        Ok(found) => unsafe { write_text(out, out_size, length, |out| Ok(written(found.as_str(), out))) },
+        Err(it) => unsafe { refused(it, error) },
     }
-    text.len()
+}
+
+#[no_mangle]
+pub unsafe extern "C" fn lexicon_changes(
+    text: *const u8,
+    text_size: usize,
+    number: usize,
+    change: *mut Change,
+    out: *mut u8,
+    out_size: usize,
+    length: *mut usize,
+) -> Status {
+    let find = || {
+        let text = unsafe { text_at(text, text_size) }.map_err(|error| error.status)?;
+        if out_size > MAX_SIZE {
+            return Err(TOO_LARGE);
+        }
+        tool_names::changes(text).nth(number).ok_or(NO_SUCH_CHANGE)
+    };
+    let found = match find() {
+        Ok(found) => found,
+        Err(status) => return status,
+    };
+    let status = unsafe { write_text(out, out_size, length, |out| Ok(shown(&found.names, out))) };
+    if status == OK {
+        let range = found.part.range();
+        unsafe { change.write(Change { start: range.start, end: range.end }) }
+    }
+    status
 }
 
 #[no_mangle]

@@ -1,5 +1,6 @@
 //! Texts in the caller's buffer, each with a zero byte after it.
 use crate::{Status, MAX_SIZE, OK, TOO_LARGE, TOO_SMALL};
+use core::fmt::{self, Write};
 use core::{ptr, slice};
 
 /// Writes the length of a text if the caller wants it.
@@ -40,6 +41,31 @@ pub(crate) unsafe fn write_text(
         out.add(size).write(0);
     }
     OK
+}
+
+/// The length of a text, which is written if the buffer has room for it.
+pub(crate) fn written(text: &str, out: &mut [u8]) -> usize {
+    if let Some(out) = out.get_mut(..text.len()) {
+        out.copy_from_slice(text.as_bytes());
+    }
+    text.len()
+}
+
+/// The length of what a value is shown as, which is written if the buffer has room for it.
+pub(crate) fn shown(value: &impl fmt::Display, out: &mut [u8]) -> usize {
+    struct Pieces<'a> {
+        out: &'a mut [u8],
+        length: usize,
+    }
+    impl Write for Pieces<'_> {
+        fn write_str(&mut self, piece: &str) -> fmt::Result {
+            self.length += written(piece, self.out.get_mut(self.length..).unwrap_or(&mut []));
+            Ok(())
+        }
+    }
+    let mut pieces = Pieces { out, length: 0 };
+    let _ = write!(pieces, "{value}"); // which the pieces never refuse
+    pieces.length
 }
 
 /// Copies a text of this size into the caller's buffer, which has room for it. One that was too long for the buffer here is

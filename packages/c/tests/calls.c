@@ -186,6 +186,7 @@ static void try_bad(struct lexicon_triple bad, enum lexicon_status status, const
   expect(lexicon_print(&bad, out, sizeof out, &length) == status && length == 77 && is_filled(out, sizeof out), "bad print", what);
   expect(lexicon_facts(&bad, &facts, sizeof facts) == status && is_filled(&facts, sizeof facts), "bad facts", what);
   expect(lexicon_settle(&copy) == status && are_same(&copy, &bad), "bad settle", what);
+  expect(lexicon_complete(&copy, LEXICON_LINUX_LIBC_GLIBC) == status && are_same(&copy, &bad), "bad complete", what);
   expect(lexicon_comes_back(&bad, &answer) == status && answer, "bad comes_back", what);
   expect(lexicon_equal(&bad, &good, &answer) == status && lexicon_equal(&good, &bad, &answer) == status && answer, "bad equal", what);
   expect(lexicon_same_target(&bad, &good, &answer) == status && lexicon_same_target(&good, &bad, &answer) == status, "bad target", what);
@@ -278,6 +279,9 @@ static void try_all_facts(void) {
   struct lexicon_triple_facts s390x = {LEXICON_ENDIANNESS_BIG, 64, LEXICON_CALLING_CONVENTION_SYSTEM_V, LEXICON_DATA_MODEL_LP64,
       2, 4, 8, 8, 4, 8, false, false, false, LEXICON_BINARY_FORMAT_ELF, LEXICON_BINARY_FORMAT_ELF, LEXICON_FAMILY_S390X,
       LEXICON_C_LIBRARY_NONE, LEXICON_FLOAT_ABI_NONE, true, 16, 8, 4, 4};
+  struct lexicon_triple_facts arm = {LEXICON_ENDIANNESS_LITTLE, 32, LEXICON_CALLING_CONVENTION_SYSTEM_V, LEXICON_DATA_MODEL_ILP32,
+      2, 4, 4, 8, 4, 8, false, false, false, LEXICON_BINARY_FORMAT_ELF, LEXICON_BINARY_FORMAT_ELF, LEXICON_FAMILY_ARM,
+      LEXICON_C_LIBRARY_GLIBC, LEXICON_FLOAT_ABI_HARD, true, 8, 8, 4, 4};
   struct lexicon_triple_facts unknown;
   memset(&unknown, 0, sizeof unknown);
   try_facts("arm64-apple-ios17.2.1-elf", ios);
@@ -285,6 +289,7 @@ static void try_all_facts(void) {
   try_facts("avr-none", avr);
   try_facts("x86_64-pc-windows-msvc", windows);
   try_facts("s390x-linux", s390x);
+  try_facts("armv7-linux-gnueabihf", arm);
   try_facts("unknown", unknown);
 }
 
@@ -560,6 +565,114 @@ static void try_dialects(void) {
   expect(length == 77 && is_filled(out, sizeof out), "write", "unchanged");
 }
 
+/* A triple, and what it prints with glibc and with musl. */
+static const struct { const char *text, *glibc, *musl; } completed[] = {
+    {"aarch64-unknown-linux", "aarch64-unknown-linux-gnu", "aarch64-unknown-linux-musl"},
+    {"armv7-acme-linux", "armv7-acme-linux-gnueabihf", "armv7-acme-linux-musleabihf"},
+    {"armv5te-linux", "armv5te-unknown-linux-gnueabi", "armv5te-unknown-linux-musleabi"},
+    {"mips64el-linux", "mips64el-unknown-linux-gnuabi64", "mips64el-unknown-linux-muslabi64"},
+    {"x86_64-linux-gnu", "x86_64-unknown-linux-gnu", "x86_64-unknown-linux-gnu"},
+    {"x86_64-freebsd", "x86_64-unknown-freebsd", "x86_64-unknown-freebsd"},
+};
+
+/* Two dialects, a C library and a name; the name in the other dialect, or the status, the range and the line. */
+static const struct { uint32_t from, libc, to; const char *name, *translated; enum lexicon_status status; size_t end; const char *line; } translated[] = {
+    {LEXICON_DIALECT_OCI, LEXICON_LINUX_LIBC_GLIBC, LEXICON_DIALECT_RUST, "linux/arm64/v8", "aarch64-unknown-linux-gnu", LEXICON_OK, 0, NULL},
+    {LEXICON_DIALECT_OCI, LEXICON_LINUX_LIBC_MUSL, LEXICON_DIALECT_DEBIAN, "linux/amd64", "musl-linux-amd64", LEXICON_OK, 0, NULL},
+    {LEXICON_DIALECT_DEBIAN, LEXICON_LINUX_LIBC_NONE, LEXICON_DIALECT_GO, "arm64", "linux/arm64", LEXICON_OK, 0, NULL},
+    {LEXICON_DIALECT_NONE, LEXICON_LINUX_LIBC_NONE, LEXICON_DIALECT_NODE, "x86_64-w64-mingw32", "win32-x64", LEXICON_OK, 0, NULL},
+    {LEXICON_DIALECT_OCI, LEXICON_LINUX_LIBC_NONE, LEXICON_DIALECT_DEBIAN, "linux/amd64", NULL, LEXICON_NEEDS_C_LIBRARY, 11,
+     "The name in the other dialect depends on the C library: linux/amd64"},
+    {LEXICON_DIALECT_OCI, LEXICON_LINUX_LIBC_GLIBC, LEXICON_DIALECT_DEBIAN, "windows/amd64", NULL, LEXICON_TRIPLE_WITHOUT_NAME, 13,
+     "No name in the other dialect: windows/amd64"},
+    {LEXICON_DIALECT_GO, LEXICON_LINUX_LIBC_GLIBC, LEXICON_DIALECT_OCI, "linux/amd46", NULL, LEXICON_UNKNOWN_NAME, 11, "Unknown name: linux/amd46"},
+    {LEXICON_DIALECT_GO, LEXICON_LINUX_LIBC_GLIBC, LEXICON_DIALECT_OCI, "js/wasm", NULL, LEXICON_NAME_WITHOUT_TRIPLE, 7, "No triple has this name: js/wasm"},
+    {LEXICON_DIALECT_NONE, LEXICON_LINUX_LIBC_NONE, LEXICON_DIALECT_OCI, "linx", NULL, LEXICON_UNRECOGNIZED_ARCHITECTURE, 4, "Unrecognized architecture: linx"},
+    {LEXICON_DIALECT_GO, LEXICON_LINUX_LIBC_NONE, LEXICON_DIALECT_OCI, "", NULL, LEXICON_UNKNOWN_NAME, 0, "Unknown name: "},
+    {77, LEXICON_LINUX_LIBC_NONE, LEXICON_DIALECT_OCI, "linux/amd64", NULL, LEXICON_NO_SUCH_DIALECT, 0, NULL},
+    {LEXICON_DIALECT_GO, LEXICON_LINUX_LIBC_NONE, LEXICON_DIALECT_NONE, "linux/amd64", NULL, LEXICON_NO_SUCH_DIALECT, 0, NULL},
+    {LEXICON_DIALECT_GO, LEXICON_LINUX_LIBC_NONE, 77, "linux/amd64", NULL, LEXICON_NO_SUCH_DIALECT, 0, NULL},
+    {LEXICON_DIALECT_GO, 3, LEXICON_DIALECT_OCI, "linux/amd64", NULL, LEXICON_NO_SUCH_C_LIBRARY, 0, NULL},
+};
+
+static size_t row_of;
+static enum lexicon_status translate(const void *name, char *out, size_t size, size_t *length) {
+  const char *text = (const char *)name;
+  return lexicon_translate(translated[row_of].from, text, strlen(text), translated[row_of].libc, translated[row_of].to, out, size, length, NULL);
+}
+
+/* A string, and the parts that are read as other names: the number, the range and the names. */
+static const struct { const char *text; size_t number, start, end; const char *names; } changed[] = {
+    {"amd64-unknown-freebsd13.2", 0, 0, 5, "x86_64"},
+    {"amd64-unknown-freebsd13.2", 1, 14, 25, "freebsd"},
+    {"x86_64-w64-mingw32", 0, 7, 10, "pc"},
+    {"x86_64-w64-mingw32", 1, 11, 18, "windows-gnu"},
+    {"arm64-apple-macos13.1", 0, 12, 21, "macosx13.1"},
+    {"amd64-linx-freebsd13.2", 1, 11, 22, "freebsd"},
+};
+
+static const char *changed_of;
+static enum lexicon_status names_of_change(const void *number, char *out, size_t size, size_t *length) {
+  struct lexicon_change change;
+  fill(&change, sizeof change);
+  enum lexicon_status status = lexicon_changes(changed_of, strlen(changed_of), *(const size_t *)number, &change, out, size, length);
+  expect((status == LEXICON_OK) != is_filled(&change, sizeof change), "the change", changed_of);
+  return status;
+}
+
+static void try_translation(void) {
+  char out[64];
+  size_t length = 77;
+  struct lexicon_error error;
+  struct lexicon_change change;
+  struct lexicon_triple triple;
+  for (size_t i = 0; i < sizeof completed / sizeof *completed; i++) {
+    for (uint32_t libc = LEXICON_LINUX_LIBC_GLIBC; libc <= LEXICON_LINUX_LIBC_MUSL; libc++) {
+      triple = triple_of(completed[i].text);
+      expect(lexicon_complete(&triple, libc) == LEXICON_OK, "complete", completed[i].text);
+      try_text(print, &triple, libc == LEXICON_LINUX_LIBC_GLIBC ? completed[i].glibc : completed[i].musl, false);
+    }
+  }
+  struct lexicon_triple copy = triple = triple_of("x86_64-linux");
+  expect(lexicon_complete(&triple, LEXICON_LINUX_LIBC_NONE) == LEXICON_NO_SUCH_C_LIBRARY && are_same(&triple, &copy), "complete", "with none");
+  expect(lexicon_complete(&triple, 3) == LEXICON_NO_SUCH_C_LIBRARY && are_same(&triple, &copy), "complete", "with 3");
+  for (row_of = 0; row_of < sizeof translated / sizeof *translated; row_of++) {
+    const char *name = translated[row_of].name;
+    uint32_t from = translated[row_of].from, libc = translated[row_of].libc, to = translated[row_of].to;
+    if (translated[row_of].translated) try_text(translate, name, translated[row_of].translated, false);
+    fill(out, sizeof out);
+    fill(&error, sizeof error);
+    enum lexicon_status status = lexicon_translate(from, *name ? name : NULL, strlen(name), libc, to, out, sizeof out, NULL, &error);
+    expect(status == translated[row_of].status, "translate", name);
+    expect((status == LEXICON_OK) == is_filled(&error, sizeof error) && (status == LEXICON_OK) != is_filled(out, sizeof out), "translate", name);
+    expect(lexicon_translate_z(from, name, libc, to, out, sizeof out, NULL, NULL) == status, "translate_z", name);
+    if (status == LEXICON_OK) continue;
+    expect(error.status == (uint32_t)status && error.start == 0 && error.end == translated[row_of].end, "the error of", name);
+    error_of = name;
+    if (translated[row_of].line) try_text(error_line, &error, translated[row_of].line, true);
+    else expect(lexicon_error_line_z(name, &error, out, sizeof out, NULL) == LEXICON_NO_SUCH_VALUE, "no line", name);
+  }
+  fill(&error, sizeof error);
+  fill(out, sizeof out);
+  expect(lexicon_translate(LEXICON_DIALECT_GO, "linux/arm64", (size_t)-1, 0, LEXICON_DIALECT_OCI, out, sizeof out, &length, &error) == LEXICON_TOO_LARGE, "too large", "translate");
+  expect(lexicon_translate(77, "linux/arm64", 11, 77, 77, out, (size_t)-1, &length, &error) == LEXICON_TOO_LARGE, "a buffer too large", "translate");
+  expect(error.status == LEXICON_TOO_LARGE && error.end == 0 && length == 77 && is_filled(out, sizeof out), "too large", "translate");
+  for (size_t i = 0; i < sizeof changed / sizeof *changed; i++) {
+    changed_of = changed[i].text;
+    try_text(names_of_change, &changed[i].number, changed[i].names, false);
+    expect(lexicon_changes_z(changed_of, changed[i].number, &change, out, sizeof out, NULL) == LEXICON_OK, "changes_z", changed_of);
+    expect(change.start == changed[i].start && change.end == changed[i].end, "the range of a change", changed_of);
+  }
+  fill(&change, sizeof change);
+  fill(out, sizeof out);
+  expect(lexicon_changes("amd64", 5, 1, &change, out, sizeof out, &length) == LEXICON_NO_SUCH_CHANGE, "no change", "amd64");
+  expect(lexicon_changes(NULL, 0, 0, &change, NULL, 0, &length) == LEXICON_NO_SUCH_CHANGE, "no change", "");
+  expect(lexicon_changes("amd64-ÿ", 7, 0, &change, out, sizeof out, &length) == LEXICON_NOT_UTF8, "changes", "not UTF-8");
+  expect(lexicon_changes("amd64", (size_t)-1, 0, &change, out, sizeof out, &length) == LEXICON_TOO_LARGE, "too large", "changes");
+  expect(lexicon_changes("amd64", 5, 0, &change, out, (size_t)-1, &length) == LEXICON_TOO_LARGE, "a buffer too large", "changes");
+  expect(is_filled(&change, sizeof change) && is_filled(out, sizeof out) && length == 77, "changes", "unchanged");
+}
+
 /* The calls without a size do the same as those with one. */
 static void try_zero_ended(void) {
   for (size_t i = 0; i < sizeof refused / sizeof *refused; i++) {
@@ -612,6 +725,7 @@ int main(void) {
   try_sources();
   try_names();
   try_dialects();
+  try_translation();
   try_zero_ended();
   fprintf(stderr, "calls: %u right, %u wrong\n", count - failures, failures);
   return failures ? 1 : 0;

@@ -234,6 +234,9 @@ static void try_no_names() {
   try_no_name<CLibrary>();
   try_no_name<FloatAbi>();
   try_no_name<Origin>();
+  try_no_name<CLibrary>();
+  try_no_name<FloatAbi>();
+  try_no_name<LinuxLibc>();
   ParseError error;
   EXPECT(!Triple::read("amd64", static_cast<Dialect>(99), &error) && error.status == LEXICON_NO_SUCH_DIALECT);
   EXPECT(!parsed("x86_64-linux").name_in(static_cast<Dialect>(99)));
@@ -259,6 +262,32 @@ static void try_dialects() {
   EXPECT(shown(Dialect::Gnu) == "gnu" && shown(Dialect::Python) == "python" && name(Dialect::Debian) == "debian");
 }
 
+static void try_translation() {
+  ParseError error;
+  EXPECT(parsed("aarch64-linux").completed(LinuxLibc::Glibc) == parsed("aarch64-linux-gnu") && shown(LinuxLibc::Musl) == "musl");
+  EXPECT(parsed("armv7-acme-linux").completed(LinuxLibc::Musl).printed() == "armv7-acme-linux-musleabihf");
+  EXPECT(parsed("x86_64-linux-gnu").completed(LinuxLibc::Musl) == parsed("x86_64-linux-gnu"));
+  EXPECT(parsed("x86_64-linux").completed(static_cast<LinuxLibc>(9)) == parsed("x86_64-linux"));
+  EXPECT(Triple::translate("linux/arm64/v8", Dialect::Oci, Dialect::Rust, LinuxLibc::Glibc) == "aarch64-unknown-linux-gnu");
+  EXPECT(Triple::translate("arm64", Dialect::Debian, Dialect::Oci) == "linux/arm64");
+  EXPECT(Triple::translate("x86_64-w64-mingw32", std::nullopt, Dialect::Node) == "win32-x64");
+  EXPECT(!Triple::translate("linux/arm64", Dialect::Oci, Dialect::Debian) && !Triple::translate("linux/arm64", Dialect::Oci, static_cast<Dialect>(99)));
+  EXPECT(!Triple::translate("linux/arm64", Dialect::Oci, Dialect::Debian, std::nullopt, &error) && error.status == LEXICON_NEEDS_C_LIBRARY);
+  EXPECT(error.line == "The name in the other dialect depends on the C library: linux/arm64" && error.part == "linux/arm64" && !error.field());
+  EXPECT(!Triple::translate("windows/amd64", Dialect::Oci, Dialect::Debian, LinuxLibc::Glibc, &error) && error.status == LEXICON_TRIPLE_WITHOUT_NAME);
+  EXPECT(error.line == "No name in the other dialect: windows/amd64" && error.reason.empty() && error.suggestion.empty());
+  EXPECT(!Triple::translate("linux/amd46", Dialect::Go, Dialect::Oci, std::nullopt, &error) && error.suggestion == "linux/amd64");
+  EXPECT(!Triple::translate("js/wasm", Dialect::Go, Dialect::Oci, std::nullopt, &error) && !error.reason.empty());
+  auto found = changes("amd64-unknown-freebsd13.2");
+  EXPECT(found.size() == 2 && found[0].part == "amd64" && found[0].names == "x86_64" && found[1].start == 14 && found[1].end == 25);
+  EXPECT(found[1].part == "freebsd13.2" && found[1].names == "freebsd" && changes("x86_64-linux").empty() && changes("").empty());
+  EXPECT(changes("x86_64-w64-mingw32").back().names == "windows-gnu");
+  auto android = parsed("armv7-linux-androideabi"), i686 = parsed("i686-linux-gnu");
+  EXPECT(android.c_library() == CLibrary::Bionic && android.float_abi() == FloatAbi::Soft && android.is_unix() && shown(CLibrary::Bionic) == "bionic");
+  EXPECT(i686.long_double() == (TypeLayout{12, 4}) && i686.wchar() == (TypeLayout{4, 4}) && shown(FloatAbi::Hard) == "hard");
+  EXPECT(!parsed("avr").c_library() && !parsed("unknown").wchar() && !parsed("x86_64-pc-windows-msvc").is_unix());
+}
+
 int main() {
   try_triple();
   try_values();
@@ -274,6 +303,7 @@ int main() {
   try_names();
   try_no_names();
   try_dialects();
+  try_translation();
   std::cerr << "cpp: " << failures << " wrong\n";
   return failures != 0;
 }

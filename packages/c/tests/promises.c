@@ -105,6 +105,8 @@ static void try_names(const struct lexicon_triple *triple) {
     CHECK((lexicon_reason(dialect, name, length) == NULL) == (status == LEXICON_OK));
     if (status != LEXICON_OK) continue;
     CHECK(lexicon_write(dialect, &shape, again, sizeof again, NULL) == LEXICON_OK && strcmp(again, name) == 0);
+    CHECK(lexicon_translate(dialect, name, length, LEXICON_LINUX_LIBC_NONE, dialect, again, sizeof again, NULL, NULL) == LEXICON_OK);
+    CHECK(strcmp(again, name) == 0);
     CHECK(lexicon_facts(triple, &facts, sizeof facts) == LEXICON_OK && lexicon_facts(&shape, &shape_facts, sizeof shape_facts) == LEXICON_OK);
     CHECK(facts.endianness == shape_facts.endianness && facts.pointer_width == shape_facts.pointer_width);
     CHECK(facts.object_format == shape_facts.object_format);
@@ -132,6 +134,17 @@ static void try_triple(const struct lexicon_triple *triple) {
   CHECK((facts.data_model == 0) == (facts.short_size == 0) && facts.pointer_width % 16 == 0);
   CHECK(facts.has_custom_vendor == (triple->vendor == LEXICON_VENDOR_CUSTOM));
   CHECK(!triple->has_version || facts.is_like_darwin);
+  CHECK((facts.long_double_size == 0) == (facts.long_double_alignment == 0) && (facts.wchar_size == 0) == (facts.wchar_alignment == 0));
+  for (uint32_t libc = LEXICON_LINUX_LIBC_GLIBC; libc <= LEXICON_LINUX_LIBC_MUSL; libc++) {
+    struct lexicon_triple completed = *triple, twice;
+    CHECK(lexicon_complete(&completed, libc) == LEXICON_OK && has_zeros(&completed));
+    twice = completed;
+    CHECK(lexicon_complete(&twice, libc) == LEXICON_OK && are_equal(&twice, &completed));
+    twice.environment = triple->environment;
+    CHECK(are_equal(&twice, triple));
+    bool is_open = triple->operating_system == LEXICON_OPERATING_SYSTEM_LINUX && triple->environment == LEXICON_ENVIRONMENT_UNKNOWN;
+    CHECK((completed.environment != triple->environment) == is_open);
+  }
   try_names(triple);
 }
 
@@ -232,10 +245,11 @@ static void try_error(const char *text, size_t size, const struct lexicon_error 
     CHECK(line == 77 && whole == 77);
     return;
   }
-  CHECK(status == LEXICON_TOO_SMALL && line <= 31 + error->end - error->start && whole > line);
+  CHECK(status == LEXICON_TOO_SMALL && line <= 56 + error->end - error->start && whole > line);
   char *out = (char *)before_guard(2, whole + 1);
   CHECK(lexicon_error_text(text, size, error, out, whole + 1, &again) == LEXICON_OK && again == whole && strlen(out) == whole);
-  bool of_name = strncmp(out, "Unknown name: ", 14) == 0 || strncmp(out, "No triple has this name: ", 25) == 0;
+  bool of_name = strncmp(out, "Unknown name: ", 14) == 0 || strncmp(out, "No triple has this name: ", 25) == 0 ||
+                 strncmp(out, "No name in the other dialect: ", 30) == 0 || strncmp(out, "The name in the other dialect depends", 37) == 0;
   CHECK(of_name || strncmp(out, "Unrecognized ", 13) == 0 || strncmp(out, "Not UTF-8", 9) == 0);
   out = (char *)before_guard(2, whole / 2 + 1);
   CHECK(lexicon_error_text(text, size, error, out, whole / 2 + 1, &again) == LEXICON_TOO_SMALL && again == whole);
@@ -262,6 +276,24 @@ static void try_parsed(const char *text, size_t size, const struct lexicon_tripl
   char *out;
   CHECK(printed(triple, 2, &out) <= size + LEXICON_MAX_GROWTH);
   try_triple(triple);
+}
+
+/* The changes of a text are parts of it, from its start to its end. One that parses without a custom vendor has none. */
+static void try_changes(const char *text, size_t size, uint32_t parsed, const struct lexicon_triple *triple) {
+  struct lexicon_change change;
+  uint32_t status;
+  size_t number = 0, last = 0, length = 77;
+  for (;; number++) {
+    memset(&change, 0xa5, sizeof change);
+    char *names = (char *)before_guard(2, size + 30);
+    status = lexicon_changes(text, size, number, &change, names, size + 30, &length);
+    if (status != LEXICON_OK) break;
+    CHECK(length > 0 && length == strlen(names) && last <= change.start && change.start <= change.end && change.end <= size);
+    last = change.end;
+  }
+  CHECK(status == LEXICON_NO_SUCH_CHANGE || (status == LEXICON_NOT_UTF8 && number == 0));
+  CHECK(is_unchanged(&change, sizeof change) && (parsed == LEXICON_NOT_UTF8) == (status == LEXICON_NOT_UTF8));
+  CHECK(number == 0 || parsed != LEXICON_OK || triple->vendor == LEXICON_VENDOR_CUSTOM);
 }
 
 /* A text as a name of each dialect, and of none, where parsing it gave this status and, if that is LEXICON_OK, this triple. */
@@ -347,6 +379,7 @@ static void try_text(const char *text, size_t size) {
     CHECK(is_unchanged(&error, sizeof error) && is_unchanged(&other, sizeof other));
     try_parsed(text, size, &triple, &explained);
     try_read(text, size, status, &triple);
+    try_changes(text, size, status, &triple);
     return;
   }
   CHECK(is_unchanged(&triple, sizeof triple) && is_unchanged(&explained, sizeof explained));
@@ -354,6 +387,7 @@ static void try_text(const char *text, size_t size) {
   CHECK(other.status == status && other.start == error.start && other.end == error.end);
   try_error(text, size, &error);
   try_read(text, size, status, &triple);
+  try_changes(text, size, status, &triple);
 }
 
 int LLVMFuzzerTestOneInput(const uint8_t *data, size_t data_size) {

@@ -4,7 +4,10 @@ use crate::input::{Place, Target};
 use crate::json::{Json, Object};
 use crate::refusal::Parsed;
 use std::io::{self, Write};
-use target_lexicon::tool_names::{self, changes, object_format, read, Change, Dialect, RustcCfg};
+use target_lexicon::tool_names::{
+    self, changes, is_unix, object_format, read, CLibrary, Change, Dialect, FloatAbi, RustcCfg,
+    TypeLayout,
+};
 use target_lexicon::{
     default_binary_format, Architecture, CDataModel, Field, Size, Source, TripleRef, VendorRef,
 };
@@ -216,6 +219,10 @@ pub fn facts(triple: &TripleRef<'_>) -> Object {
         }
     }
     let model = triple.data_model().ok();
+    let (long_double, wchar) = (
+        TypeLayout::of_long_double(triple),
+        TypeLayout::of_wchar(triple),
+    );
     let bytes = |size: fn(CDataModel) -> Size| model.map(|model| size(model).bytes()).into();
     members.extend([
         (
@@ -253,6 +260,16 @@ pub fn facts(triple: &TripleRef<'_>) -> Object {
             triple.operating_system.is_like_darwin().into(),
         ),
         ("has_custom_vendor", triple.vendor.is_custom().into()),
+        ("c_library", CLibrary::of(triple).map(|it| it.name()).into()),
+        ("float_abi", FloatAbi::of(triple).map(|it| it.name()).into()),
+        ("is_unix", is_unix(triple).into()),
+        ("long_double_size", long_double.map(|it| it.size).into()),
+        (
+            "long_double_alignment",
+            long_double.map(|it| it.alignment).into(),
+        ),
+        ("wchar_size", wchar.map(|it| it.size).into()),
+        ("wchar_alignment", wchar.map(|it| it.alignment).into()),
         ("printed", triple.to_string().into()),
         ("canonical", canonical(*triple).to_string().into()),
     ]);

@@ -273,7 +273,12 @@ fn json_has_the_same_names_everywhere() {
     assert_eq!(facts[0]["version"], "17.0.0");
     assert_eq!(facts[0]["pointer_width"], 64);
     assert_eq!(facts[0]["is_like_darwin"], true);
+    assert_eq!(facts[0]["c_library"], "system");
+    assert_eq!(facts[0]["is_unix"], true);
+    assert_eq!(facts[0]["long_double_size"], 8);
+    assert_eq!(facts[0]["wchar_alignment"], 4);
     facts = json_of(&["facts", "--json", "avr-none"]);
+    assert_eq!(facts[0]["float_abi"], Value::Null);
     assert_eq!(facts[0]["data_model"], Value::Null);
     assert_eq!(facts[0]["binary_format"], "unknown");
     assert_eq!(facts[0]["implied_format"], "unknown");

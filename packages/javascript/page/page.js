@@ -151,6 +151,7 @@ const listOf = (words) => words.length < 2 ? words.join() : `${words.slice(0, -1
 function* knownNames(text) {
   const found = new Map();
   for (const dialect of READ) {
+    if (dialect === "gnu") continue; // its names are spelled like triples, of which `meaningElsewhere` says what they mean
     try {
       const meant = Triple.read(text, dialect).canonical;
       found.set(meant, { meant, tools: [...found.get(meant)?.tools ?? [], dialect] });

@@ -94,6 +94,9 @@ export type Dialect = "debian" | "go" | "oci" | "node" | "gnu" | "python" | "rus
 export const DIALECTS: readonly ["debian", "go", "oci", "node", "gnu", "python", "rust", "uname", "rpm", "apk", "pacman", "dotnet", "conda", "zig", "nix"];
 // end of what is written
 
+/** A C library of Linux, which the caller says where a name doesn't state it. */
+export type LinuxLibc = "glibc" | "musl";
+
 export interface Version {
   readonly major: number;
   readonly minor: number;
@@ -158,9 +161,28 @@ export interface Facts {
   /** Whether the system is one of Apple's. Only these may have a version. */
   isLikeDarwin: boolean;
   hasCustomVendor: boolean;
+  /** The C library that the triple states; `system` is one that no other system has. */
+  cLibrary: "bionic" | "glibc" | "mingw" | "msvc" | "musl" | "newlib" | "relibc" | "system" | "uclibc" | null;
+  /** How floating-point arguments are passed: in integer registers, or in floating-point registers. */
+  floatAbi: "soft" | "hard" | null;
+  /** Whether rustc counts the system to its family `unix`. */
+  isUnix: boolean;
+  /** The layouts of C's `long double` and `wchar_t`, in bytes. */
+  longDoubleSize: number | null;
+  longDoubleAlignment: number | null;
+  wcharSize: number | null;
+  wcharAlignment: number | null;
 }
 
-/** Why a string is refused, and where: the refused part is text.slice(start, end), in units of UTF-16. */
+/** A part of a string that `Triple.read` reads as other names, with dashes between them. The range is in units of UTF-16. */
+export interface Change {
+  part: string;
+  start: number;
+  end: number;
+  names: string;
+}
+
+/** Why a string is refused, or a name isn't translated, and where: the refused part is text.slice(start, end), in units of UTF-16. */
 export class ParseError extends Error {
   private constructor();
   /** What was expected; null where the part follows the binary format, and for a name in a dialect. */
@@ -173,6 +195,8 @@ export class ParseError extends Error {
   readonly suggestion: string | null;
   /** Why a name of a dialect means no triple; null for an unknown name, and for any string that isn't one. */
   readonly reason: string | null;
+  /** Whether `translate` has a name with a C library that is said. */
+  readonly needsLibc: boolean;
   /**
    * The message, the string below it, and carets below the refused part, with the suggestion or the reason. A control character is
    * shown as U+FFFD; `message` keeps it.
@@ -227,6 +251,8 @@ export class Triple {
    * width and object format do.
    */
   nameIn(dialect: Dialect): string | null;
+  /** The triple with the usual environment of a C library, if it is of Linux and states none; any other one as it is. */
+  complete(libc: LinuxLibc): Triple;
   /** The canonical form: two canonical triples with the same printed string are equal, so the string is a key. */
   settle(): Triple;
   /** The printed string of the canonical form: the key of the target, which all its spellings have. */
@@ -238,6 +264,19 @@ export class Triple {
   sameTarget(other: Triple): boolean;
   facts(): Facts;
 }
+
+/**
+ * The name in the dialect `to` of what a name of the dialect `from` means. Where `from` is null, the string is spelled like a triple.
+ * Names of Debian, GNU and rustc state the C library of Linux, and those of Go, container images and Python don't: from one of the
+ * latter to one of the former, say `libc`. Throws a ParseError if the name isn't read, or what it means has no name.
+ */
+export function translate(name: string, from: Dialect | null, to: Dialect, libc?: LinuxLibc | null): string;
+
+/**
+ * What `Triple.read`, without a dialect, reads as other names in a string. A version that is dropped is such a part: `freebsd13.2` is
+ * read as `freebsd`. A string that is refused has its changes too.
+ */
+export function changes(text: string): Change[];
 
 /** The names of a field's values, by their numbers. */
 export function namesOf<Name extends Field>(field: Name): readonly (Name extends "vendor" ? KnownVendor : Values[Name])[];

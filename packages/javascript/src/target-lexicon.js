@@ -22,18 +22,22 @@ export const DIALECTS = Object.freeze(["debian", "go", "oci", "node", "gnu", "py
 // end of what is written
 
 const OK = 0, REFUSED = 6, TOO_SMALL = 8, NO_SUCH_VALUE = 10, NO_SUCH_VENDOR = 11;
-const UNKNOWN_NAME = 12, NAME_WITHOUT_TRIPLE = 13, TRIPLE_WITHOUT_NAME = 14;
+const UNKNOWN_NAME = 12, NAME_WITHOUT_TRIPLE = 13, TRIPLE_WITHOUT_NAME = 14, NEEDS_C_LIBRARY = 17, NO_SUCH_CHANGE = 19;
 const CUSTOM = 255; // the number of every vendor that has none of its own
 const ORIGINS = ["not given", "given", "implied", "alias"]; // where a value comes from, by the numbers
 const ENDIANNESS = [null, "little", "big"];
 const CONVENTIONS = [null, "SystemV", "WasmBasicCAbi", "WindowsFastcall", "AppleAarch64"];
 const MODELS = [null, "LP32", "ILP32", "LLP64", "LP64", "ILP64"];
+const C_LIBRARIES = [null, "bionic", "glibc", "mingw", "msvc", "musl", "newlib", "relibc", "system", "uclibc"];
+const FLOAT_ABIS = [null, "soft", "hard"];
+const LINUX_LIBCS = [null, "glibc", "musl"]; // those of Linux, which the caller says
 
 // Where the structs of target_lexicon.h are, after the module's own data, with pointers and sizes of 32 bits. Strings and buffers
 // follow them. In a triple the numbers are at 0 (16 bits), 2, 3, 4, 5, 6, 7, 8 (8 bits each) and 10 (16 bits); the string of a
 // custom vendor and its size are at 12 and 16.
-const FIRST = 0, SECOND = 20, LENGTH = 40, ANSWER = 44, ERROR = 48, FACTS = 60, SOURCE_TABLE = 76, TEXTS = 136;
-const VENDOR = 12, SOURCE_SIZE = 12;
+const FIRST = 0, SECOND = 20, LENGTH = 40, ANSWER = 44, ERROR = 48, FACTS = 60, SOURCE_TABLE = 84, TEXTS = 144;
+const VENDOR = 12, SOURCE_SIZE = 12, FACTS_SIZE = 23;
+const RANGE = ERROR + 4; // that of an error, or of a change
 const PAGE = 65536;
 const SHORT = 64; // up to here a loop over ASCII is faster than the encoder and the decoder
 const ROOM = 128; // the first try for a string that the module writes, beside a custom vendor
@@ -129,7 +133,7 @@ class Instance {
       const out = this.base + TEXTS + used;
       const status = this.call(name, ...values, out, room, this.base + LENGTH);
       if (status === OK) return this.read(out, this.number(LENGTH));
-      if (status === TRIPLE_WITHOUT_NAME) return null;
+      if (status === TRIPLE_WITHOUT_NAME || status === NO_SUCH_CHANGE) return null;
       if (status !== TOO_SMALL) throw failure(status);
     }
   }
@@ -243,12 +247,19 @@ function dialectOf(name) {
   return index + 1;
 }
 
+/** The number of a C library of Linux in target_lexicon.h. */
+function libcOf(name) {
+  const number = LINUX_LIBCS.indexOf(name);
+  if (number < 1) throw new TypeError(`there is no C library ${name}`);
+  return number;
+}
+
 function tripleOf(value) {
   if (!(value instanceof Triple)) throw new TypeError("only a Triple can be compared with a Triple");
   return value;
 }
 
-/** Why a string is refused, and where: the refused part is text.slice(start, end). */
+/** Why a string is refused, or a name isn't translated, and where: the refused part is text.slice(start, end). */
 export class ParseError extends Error {
   #status;
   #range; // in bytes
@@ -263,6 +274,7 @@ export class ParseError extends Error {
     this.end = end;
     this.suggestion = suggestion;
     this.reason = reason;
+    this.needsLibc = status === NEEDS_C_LIBRARY;
     this.#status = status;
     this.#range = range;
   }
@@ -286,7 +298,7 @@ function rangesAt(it, place, text, size) {
 
 /** The error of the string that was written last; `dialect` is the number of that in which it is a name, and else 0. */
 function errorAt(it, status, text, given, dialect = 0) {
-  const [range, [start, end]] = rangesAt(it, ERROR + 4, text, given[1]);
+  const [range, [start, end]] = rangesAt(it, RANGE, text, given[1]);
   const line = it.written("error_line", given[1], ...given, it.base + ERROR);
   const suggestion = it.string(status === UNKNOWN_NAME ? it.call("name_suggestion", dialect, ...given) : it.call("suggestion", ...given, it.base + ERROR));
   const reason = it.string(it.call("reason", dialect, ...given));
@@ -336,8 +348,7 @@ export class Triple {
     const it = instance(), number = dialect === null ? 0 : dialectOf(dialect), given = it.text(stringOf(text));
     const status = it.call("read", number, ...given, it.base + FIRST, it.base + ERROR);
     if (status === OK) return it.tripleAt();
-    const isRefused = status <= REFUSED || status === UNKNOWN_NAME || status === NAME_WITHOUT_TRIPLE;
-    throw isRefused ? errorAt(it, status, text, given, number) : failure(status);
+    throw isRefusal(status) ? errorAt(it, status, text, given, number) : failure(status);
   }
 
   /** The triple or the error of a string, and where each field comes from. */
@@ -404,6 +415,13 @@ export class Triple {
     return it.written("write", used, number, start);
   }
 
+  /** The triple with the usual environment of a C library, if it is of Linux and states none; any other one as it is. */
+  complete(libc) {
+    const it = instance(), number = libcOf(libc), status = it.call("complete", it.triple(this).start, number);
+    if (status !== OK) throw failure(status);
+    return it.tripleAt();
+  }
+
   /** The canonical form: two canonical triples with the same printed string are equal. */
   settle() {
     const it = instance(), status = it.call("settle", it.triple(this).start);
@@ -432,9 +450,9 @@ export class Triple {
 
   /** What a compiler asks of a triple; null where there is no answer. */
   facts() {
-    const it = instance(), status = it.call("facts", it.triple(this).start, it.base + FACTS, 16);
+    const it = instance(), status = it.call("facts", it.triple(this).start, it.base + FACTS, FACTS_SIZE);
     if (status !== OK) throw failure(status);
-    const n = it.bytes.subarray(it.base + FACTS, it.base + FACTS + 16);
+    const n = it.bytes.subarray(it.base + FACTS, it.base + FACTS + FACTS_SIZE);
     return {
       endianness: ENDIANNESS[n[0]],
       pointerWidth: n[1] || null,
@@ -452,8 +470,42 @@ export class Triple {
       isThumb: n[10] === 1,
       isLikeDarwin: n[11] === 1,
       hasCustomVendor: n[12] === 1,
+      cLibrary: C_LIBRARIES[n[16]],
+      floatAbi: FLOAT_ABIS[n[17]],
+      isUnix: n[18] === 1,
+      longDoubleSize: n[19] || null,
+      longDoubleAlignment: n[20] || null,
+      wcharSize: n[21] || null,
+      wcharAlignment: n[22] || null,
     };
   }
+}
+
+/** Whether a status says why a string is refused, or a name isn't translated. */
+function isRefusal(status) {
+  return status <= REFUSED || [UNKNOWN_NAME, NAME_WITHOUT_TRIPLE, TRIPLE_WITHOUT_NAME, NEEDS_C_LIBRARY].includes(status);
+}
+
+/**
+ * The name in the dialect `to` of what a name of the dialect `from` means, with a C library of Linux if one is said. Where `from` is
+ * null, the string is spelled like a triple. Throws a ParseError if there is none.
+ */
+export function translate(name, from, to, libc = null) {
+  const it = instance(), source = from === null ? 0 : dialectOf(from), target = dialectOf(to), number = libc === null ? 0 : libcOf(libc);
+  const given = it.text(stringOf(name)), out = it.base + TEXTS + given[1];
+  const status = it.call("translate", source, ...given, number, target, out, ROOM, it.base + LENGTH, it.base + ERROR);
+  if (status === OK) return it.read(out, it.number(LENGTH));
+  throw isRefusal(status) ? errorAt(it, status, name, given, source) : failure(status);
+}
+
+/** What `Triple.read`, without a dialect, reads as other names in a string, such as a version that is dropped. */
+export function changes(text) {
+  const it = instance(), given = it.text(stringOf(text)), found = [];
+  for (let names; (names = it.written("changes", given[1], ...given, found.length, it.base + RANGE)) !== null; ) {
+    const [, [start, end]] = rangesAt(it, RANGE, text, given[1]);
+    found.push({ part: text.slice(start, end), start, end, names });
+  }
+  return found;
 }
 
 /** The value of a field that a part of a refused string gives, or null without a part. */

@@ -5,7 +5,7 @@ import { pathToFileURL } from "node:url";
 
 const [script, file] = process.argv.slice(2);
 const all = await import(pathToFileURL(script));
-const { DIALECTS, FAMILIES, FIELDS, ParseError, Triple, host, load, namesOf, numberOf, version } = all;
+const { DIALECTS, FAMILIES, FIELDS, ParseError, Triple, changes, host, load, namesOf, numberOf, translate, version } = all;
 const fields = (it) => FIELDS.map((field) => it[field]).join(" ");
 const refusal = (text, call = Triple.parse) => {
   try {
@@ -134,6 +134,38 @@ const tests = {
     assert.equal(Triple.read("linux/arm64", "docker").nameIn("npm"), "linux-arm64");
     assert.equal(Triple.parse("x86_64-apple-ios65535.255-sim").nameIn("python"), "ios_65535_255_x86_64_iphonesimulator");
   },
+  "a C library completes a triple of Linux": () => {
+    for (const [text, glibc, musl] of [
+      ["aarch64-linux", "aarch64-unknown-linux-gnu", "aarch64-unknown-linux-musl"],
+      ["armv7-acme-linux", "armv7-acme-linux-gnueabihf", "armv7-acme-linux-musleabihf"],
+      ["x86_64-linux-gnu", "x86_64-unknown-linux-gnu", "x86_64-unknown-linux-gnu"], ["avr", "avr-unknown-unknown", "avr-unknown-unknown"],
+    ]) assert.deepEqual([`${Triple.parse(text).complete("glibc")}`, `${Triple.parse(text).complete("musl")}`], [glibc, musl]);
+    for (const it of ["gnu", "", null, undefined, 1]) assert.throws(() => Triple.parse("x86_64").complete(it), TypeError);
+  },
+  "a name is translated": () => {
+    assert.equal(translate("linux/arm64/v8", "oci", "rust", "glibc"), "aarch64-unknown-linux-gnu");
+    assert.deepEqual([translate("arm64", "debian", "go"), translate("x86_64-w64-mingw32", null, "node")], ["linux/arm64", "win32-x64"]);
+    const why = (...words) => refusal(words[0], () => translate(...words));
+    const unsaid = why("linux/arm64", "oci", "debian"), none = why("windows/amd64", "oci", "debian", "musl");
+    assert.deepEqual([unsaid.needsLibc, unsaid.message], [true, "The name in the other dialect depends on the C library: linux/arm64"]);
+    assert.deepEqual([none.needsLibc, none.message, none.field, none.suggestion, none.reason],
+      [false, "No name in the other dialect: windows/amd64", null, null, null]);
+    assert.equal(none.report, "No name in the other dialect: windows/amd64\n  windows/amd64\n  ^^^^^^^^^^^^^");
+    assert.deepEqual([why("linux/amd46", "go", "oci").suggestion, why("linx", null, "oci").field], ["linux/amd64", "architecture"]);
+    assert.match(why("js/wasm", "go", "oci").reason, /^Go's pointers/);
+    for (const it of [["amd64", "Debian", "go"], ["amd64", "debian", null], ["amd64", "debian", "go", "gnu"], [1, "debian", "go"]]) {
+      assert.throws(() => translate(...it), TypeError);
+    }
+  },
+  "what is read as other names": () => {
+    const freebsd = { part: "freebsd13.2", start: 14, end: 25, names: "freebsd" };
+    assert.deepEqual(changes("amd64-unknown-freebsd13.2"), [{ part: "amd64", start: 0, end: 5, names: "x86_64" }, freebsd]);
+    assert.deepEqual(changes("amd64-\u{1f600}-macos13").slice(1), [{ part: "macos13", start: 9, end: 16, names: "macosx13" }]);
+    const version = "0".repeat(500) + "13";
+    assert.deepEqual(changes(`arm64-apple-macos${version}`).map((it) => it.names), [`macosx${version}`]);
+    assert.deepEqual([changes("x86_64-unknown-linux-gnu"), changes("")], [[], []]);
+    assert.throws(() => changes(null), TypeError);
+  },
   "only strings are parsed": () => {
     for (const it of [undefined, null, 7, ["x86_64"], new String("x86_64")]) {
       assert.throws(() => Triple.parse(it), TypeError);
@@ -172,7 +204,10 @@ const tests = {
       endianness: "little", pointerWidth: 64, defaultCallingConvention: "WindowsFastcall", dataModel: "LLP64",
       shortSize: 2, intSize: 4, longSize: 4, longLongSize: 8, floatSize: 4, doubleSize: 8, impliedFormat: "coff", objectFormat: "coff",
       family: "x86_64", isThumb: false, isLikeDarwin: false, hasCustomVendor: true,
+      cLibrary: "msvc", floatAbi: null, isUnix: false, longDoubleSize: 8, longDoubleAlignment: 8, wcharSize: 2, wcharAlignment: 2,
     });
+    const arm = Triple.parse("armv7-linux-gnueabihf").facts();
+    assert.deepEqual([arm.cLibrary, arm.floatAbi, arm.isUnix, arm.wcharSize], ["glibc", "hard", true, 4]);
     const thumb = Triple.parse("thumbv7em-none-eabihf").facts(), uefi = Triple.parse("x86_64-unknown-uefi").facts();
     assert.deepEqual([thumb.family, thumb.isThumb, thumb.pointerWidth], ["arm", true, 32]);
     assert.deepEqual([uefi.impliedFormat, uefi.objectFormat], ["elf", "coff"]);

@@ -1,7 +1,7 @@
 // For `tsc --strict`: each line after `@ts-expect-error` is an error, and no other one is.
-import { DIALECTS, FAMILIES, FIELDS, ParseError, Triple, host, load, namesOf, numberOf, version } from "target-lexicon";
+import { DIALECTS, FAMILIES, FIELDS, ParseError, Triple, changes, host, load, namesOf, numberOf, translate, version } from "target-lexicon";
 import type {
-  Architecture, BinaryFormat, Dialect, Environment, Explained, Explanation, Facts, Family, Field, Given, KnownVendor, OperatingSystem, Values, Vendor, Version,
+  Architecture, BinaryFormat, Change, Dialect, Environment, Explained, Explanation, Facts, Family, Field, Given, KnownVendor, OperatingSystem, Values, Vendor, Version,
 } from "target-lexicon";
 
 const triple: Triple = Triple.parse("arm64-apple-ios17");
@@ -17,6 +17,7 @@ const spread: Triple = Triple.of({ ...triple, environment: "sim" });
 const cloned: Triple[] = [Triple.of(structuredClone(triple)), Triple.of(triple), triple.with({ ...triple, version: null })];
 
 const dialects: readonly Dialect[] = DIALECTS;
+const debian: string = translate("linux/arm64", "oci", "debian", "glibc"), changed: Change[] = changes(debian);
 const names: (string | null)[] = dialects.map((dialect) => Triple.read("linux/arm64", "oci").nameIn(dialect));
 
 // Each value that an answer may have, and no other.
@@ -25,6 +26,9 @@ const orders: Each<NonNullable<Facts["endianness"]>> = { little: true, big: true
 const widths: Each<NonNullable<Facts["pointerWidth"]>> = { 16: true, 32: true, 64: true };
 const conventions: Each<NonNullable<Facts["defaultCallingConvention"]>> = { SystemV: true, WasmBasicCAbi: true, WindowsFastcall: true, AppleAarch64: true };
 const models: Each<NonNullable<Facts["dataModel"]>> = { LP32: true, ILP32: true, LLP64: true, LP64: true, ILP64: true };
+const libraries: Each<NonNullable<Facts["cLibrary"]>> = {
+  bionic: true, glibc: true, mingw: true, msvc: true, musl: true, newlib: true, relibc: true, system: true, uclibc: true,
+};
 const origins: Each<Explained<string>["origin"]> = { given: true, alias: true, "not given": true, implied: true };
 const tools: Each<Dialect> = { debian: true, go: true, oci: true, node: true, gnu: true, python: true, rust: true };
 const parts: Each<Field> = { architecture: true, vendor: true, operatingSystem: true, environment: true, binaryFormat: true };
@@ -37,11 +41,14 @@ const answers: {
     endianness: "little" | "big" | null; pointerWidth: 16 | 32 | 64 | null; defaultCallingConvention: keyof typeof conventions | null;
     dataModel: keyof typeof models | null; shortSize: Size; intSize: Size; longSize: Size; longLongSize: Size; floatSize: Size; doubleSize: Size;
     impliedFormat: BinaryFormat; objectFormat: BinaryFormat; family: Family; isThumb: boolean; isLikeDarwin: boolean; hasCustomVendor: boolean;
+    cLibrary: keyof typeof libraries | null; floatAbi: "soft" | "hard" | null; isUnix: boolean; longDoubleSize: Size; longDoubleAlignment: Size;
+    wcharSize: Size; wcharAlignment: Size;
   }[Name]>
 } = {
   endianness: true, pointerWidth: true, defaultCallingConvention: true, dataModel: true, shortSize: true, intSize: true, longSize: true,
   longLongSize: true, floatSize: true, doubleSize: true, impliedFormat: true, objectFormat: true, family: true, isThumb: true, isLikeDarwin: true,
-  hasCustomVendor: true,
+  hasCustomVendor: true, cLibrary: true, floatAbi: true, isUnix: true, longDoubleSize: true, longDoubleAlignment: true, wcharSize: true,
+  wcharAlignment: true,
 };
 const members: {
   [Name in keyof Triple]: Same<Triple[Name], {
@@ -49,18 +56,19 @@ const members: {
     version: Version | null; hasCustomVendor: boolean; numbers: Readonly<Record<Field, number>>; with: (values: Given) => Triple;
     toString: () => string; toJSON: () => string; nameIn: (dialect: Dialect) => string | null; settle: () => Triple; comesBack: () => boolean;
     equals: (other: Triple) => boolean; sameTarget: (other: Triple) => boolean; facts: () => Facts;
-    canonical: string;
+    canonical: string; complete: (libc: "glibc" | "musl") => Triple;
   }[Name]>
 } = {
   architecture: true, vendor: true, operatingSystem: true, environment: true, binaryFormat: true, version: true, hasCustomVendor: true,
   numbers: true, with: true, toString: true, toJSON: true, nameIn: true, settle: true, comesBack: true, equals: true, sameTarget: true, facts: true,
-  canonical: true,
+  canonical: true, complete: true,
 };
 const errors: {
   [Name in Exclude<keyof ParseError, keyof Error>]: Same<ParseError[Name], {
     field: Field | null; text: string; part: string; start: number; end: number; suggestion: string | null; reason: string | null; report: string;
+    needsLibc: boolean;
   }[Name]>
-} = { field: true, text: true, part: true, start: true, end: true, suggestion: true, reason: true, report: true };
+} = { field: true, text: true, part: true, start: true, end: true, suggestion: true, reason: true, report: true, needsLibc: true };
 type Part = { part: string; start: number; end: number };
 type Sources<Value> =
   | ({ value: Value; origin: "given" } & Part) | ({ value: Value; origin: "alias" } & Part)
@@ -73,7 +81,9 @@ const calls: [
   Same<typeof Triple.read, (text: string, dialect?: Dialect | null) => Triple>, Same<typeof Triple.of, (values: Given) => Triple>,
   Same<typeof host, () => Triple>, Same<typeof version, () => string>, Same<typeof numberOf, (field: Field, text: string) => number | null>,
   Same<typeof load, (module: ArrayBuffer | ArrayBufferView | WebAssembly.Module) => Promise<void>>, Same<typeof FAMILIES, readonly Family[]>,
-] = [true, true, true, true, true, true, true, true, true];
+  Same<typeof translate, (name: string, from: Dialect | null, to: Dialect, libc?: "glibc" | "musl" | null) => string>,
+  Same<typeof changes, (text: string) => Change[]>,
+] = [true, true, true, true, true, true, true, true, true, true, true];
 
 function text(explanation: Explanation): string {
   if (explanation.error) return explanation.error.report;
@@ -111,4 +121,4 @@ namesOf("os");
 // @ts-expect-error an error comes from a string that is refused
 new ParseError("");
 
-export { answers, architectures, calls, cloned, errors, explained, family, members, models, names, orders, origins, parts, sources, spread, system, text, tools, vendors, widths };
+export { answers, architectures, calls, changed, cloned, debian, errors, explained, family, members, models, names, orders, origins, parts, sources, spread, system, text, tools, vendors, widths };

@@ -10,7 +10,7 @@ import unittest
 
 import target_lexicon
 import lists
-from target_lexicon import CustomVendor, Dialect, ParseError, Triple, _dialects, _library
+from target_lexicon import CustomVendor, Dialect, LinuxLibc, ParseError, Triple, _dialects, _library
 
 UNKNOWN, WITHOUT = "Unknown name: ", "No triple has this name: "
 NAMES = [it for it in lists.elsewhere() if it.dialect not in ("first", "later")]
@@ -162,6 +162,68 @@ class Names(unittest.TestCase):
         self.assertRaises(TypeError, calls[1], None)
         for number in 0, len(Dialect) + 1:
             self.assertRaises(target_lexicon.LibraryError, _library.name_in, number, Triple("x86_64-linux")._struct)
+
+    def test_a_c_library_completes(self):
+        for text, glibc, musl in (("aarch64-linux", "aarch64-unknown-linux-gnu", "aarch64-unknown-linux-musl"),
+                                  ("armv7-acme-linux", "armv7-acme-linux-gnueabihf", "armv7-acme-linux-musleabihf"),
+                                  ("mips64-linux", "mips64-unknown-linux-gnuabi64", "mips64-unknown-linux-muslabi64"),
+                                  ("x86_64-linux-gnu", "x86_64-unknown-linux-gnu", "x86_64-unknown-linux-gnu"), ("avr", "avr-unknown-unknown", "avr-unknown-unknown")):
+            triple = Triple(text)
+            self.assertEqual((str(triple.complete("glibc")), str(triple.complete(LinuxLibc.MUSL))), (glibc, musl))
+            self.assertEqual(triple, Triple(text))
+        vendor = Triple(f"x86_64-{'a' * 500}-linux").complete("musl")
+        gc.collect()
+        self.assertEqual(str(vendor), f"x86_64-{'a' * 500}-linux-musl")
+        for value in "gnu", "", "Glibc":
+            self.assertRaisesRegex(ValueError, "the C library must be one of glibc, musl, not ", Triple("x86_64").complete, value)
+        for value in None, 1, b"musl":
+            self.assertRaisesRegex(TypeError, "the C library must be of type LinuxLibc or str", Triple("x86_64").complete, value)
+
+    def test_translations(self):
+        for words, translated in ((("linux/arm64/v8", "oci", "rust", "glibc"), "aarch64-unknown-linux-gnu"), (("arm64", "debian", "go"), "linux/arm64"),
+                                  (("linux/amd64", Dialect.OCI, Dialect.DEBIAN, LinuxLibc.MUSL), "musl-linux-amd64"),
+                                  (("x86_64-w64-mingw32", None, "node"), "win32-x64")):
+            self.assertEqual(target_lexicon.translate(*words), translated)
+        # What is translated is what is read, completed and written, and what isn't has the same refusal.
+        for row in NAMES:
+            name = row.name.replace("*", "13")
+            for target, libc in itertools.product(Dialect, (None, *LinuxLibc)):
+                try:
+                    triple = Triple.read(name, row.dialect)
+                except ParseError as error:
+                    with self.assertRaises(ParseError) as caught:
+                        target_lexicon.translate(name, row.dialect, target, libc)
+                    self.assertEqual(str(caught.exception), str(error))
+                    break
+                expected = (triple.complete(libc) if libc else triple).name_in(target)
+                try:
+                    self.assertEqual(target_lexicon.translate(name, row.dialect, target, libc), expected)
+                except target_lexicon.TranslationError as error:
+                    with_libc = [triple.complete(it).name_in(target) for it in LinuxLibc]
+                    self.assertEqual((expected, error.needs_libc), (None, libc is None and any(with_libc)), name)
+
+    def test_translations_that_fail(self):
+        for words, line in ((("linux/arm64", "oci", "debian"), "The name in the other dialect depends on the C library: linux/arm64"),
+                            (("windows/amd64", "oci", Dialect.DEBIAN, "musl"), "No name in the other dialect: windows/amd64"),
+                            (("avr-none", None, "go"), "No name in the other dialect: avr-none")):
+            with self.assertRaises(target_lexicon.TranslationError) as caught:
+                target_lexicon.translate(*words)
+            for error in caught.exception, pickle.loads(pickle.dumps(caught.exception)), copy.deepcopy(caught.exception):
+                self.assertEqual((str(error), error.text, error.source, error.target), (line, words[0], words[1], "go" if words[1] is None else "debian"))
+        self.assertRaisesRegex(TypeError, "must be a str, not int", target_lexicon.translate, 1, "oci", "go")
+        self.assertRaises(TypeError, target_lexicon.translate, "amd64", "debian", None)
+        self.assertRaises(ValueError, target_lexicon.translate, "amd64", "Docker", "go")
+        self.assertRaises(ParseError, target_lexicon.translate, "linux/\udcff", "go", "oci")
+
+    def test_changes(self):
+        found = target_lexicon.changes("amd64-unknown-freebsd13.2")
+        self.assertEqual(found, [(0, 5, "amd64", "x86_64"), (14, 25, "freebsd13.2", "freebsd")])
+        self.assertEqual(target_lexicon.changes("amd64-\u00e9-macos13")[1:], [(8, 15, "macos13", "macosx13")])
+        version = "0" * 500 + "13"
+        self.assertEqual([it.names for it in target_lexicon.changes(f"arm64-apple-macos{version}")], [f"macosx{version}"])
+        self.assertEqual((target_lexicon.changes(""), target_lexicon.changes("x86_64-unknown-linux-gnu")), ([], []))
+        self.assertRaises(TypeError, target_lexicon.changes, b"amd64")
+        self.assertRaises(ParseError, target_lexicon.changes, "amd64-\udcff")
 
     def test_lone_surrogates(self):
         for dialect in None, *Dialect:

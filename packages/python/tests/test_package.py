@@ -348,6 +348,9 @@ class Samples(Folder):
         self.assertEqual([answer(*it)[1].count("note") for it in (["read", "linx"], ["settle", "linux/arm64"], ["read", "--from", "debian", "linux/arm64"])],
                          [0, 0, 0])
         self.assertEqual(answer("write", "--to", "go", "arm64-linux", "avr-none"), ("linux/arm64\n", "no name of go for avr-none\n", 1))
+        needs = "no name of debian for x86_64-linux: it depends on the C library: use `--libc glibc` or `--libc musl`\n"
+        self.assertEqual(answer("write", "--to", "debian", "avr-none", "x86_64-linux")[1], f"no name of debian for avr-none\n{needs}")
+        self.assertEqual(answer("write", "--to", "debian", "--libc", "glibc", "x86_64-linux"), ("amd64\n", "", 0))
         self.assertIn("\n  go      linux/arm64\n", answer("elsewhere", "arm64-linux-gnu")[0])
         self.assertEqual(answer("read", "--from", "go", "js/wasm", "--json")[0].count('"error":"no triple means the same: Go'), 1)
         objects, _, status = answer("facts", "--json", "avr", "-", given="arm64-apple-ios17\r\n")
@@ -368,6 +371,7 @@ class Samples(Folder):
         names = ["linux/arm64", "amd64", "linux-x64-musl", "js/wasm", "linux/amd46", "x86_64-linux-gnu", "", "x86_64-w64-mingw32", "gnu-\u00e9"]
         calls = [["facts"], ["explain"], ["settle"], ["elsewhere"], *(["write", "--to", str(it)] for it in target_lexicon._dialects.WRITTEN)]
         calls = [(words, targets) for words in calls] + [(["read"], targets + names)]
+        calls += [([*words, "--libc", "musl"], targets + names) for words in (["write", "--to", "debian"], ["read"])]
         calls += [(["read", "--from", str(it)], names) for it in target_lexicon._dialects.READ]
         for words, given in calls:
             lines = "".join(f"{it}\r\n" for it in given).encode()

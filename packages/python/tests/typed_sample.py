@@ -2,7 +2,7 @@
 from typing import Dict, List, Optional, Tuple, Union
 
 import target_lexicon
-from target_lexicon import Architecture, CustomVendor, Dialect, Endianness, Triple, Vendor
+from target_lexicon import Architecture, CLibrary, CustomVendor, Dialect, Endianness, LinuxLibc, Triple, Vendor
 
 
 def described(text: str) -> Tuple[str, Optional[int], Optional[Tuple[int, int, int]]]:
@@ -23,6 +23,13 @@ def image(debian: str) -> Optional[str]:
         return Triple.read(debian, "debian").name_in(Dialect.OCI)
     except target_lexicon.ParseError as error:
         return error.reason
+
+
+def package(platform: str) -> str:
+    name: str = target_lexicon.translate(platform, "oci", Dialect.DEBIAN, "glibc")
+    library: Optional[CLibrary] = Triple.read(platform, "oci").complete(LinuxLibc.GLIBC).c_library
+    parts: List[str] = [it.names for it in target_lexicon.changes(name)]
+    return f"{name} {library} {parts}"
 
 
 def keys(column: List[str]) -> Dict[Optional[str], Optional[int]]:

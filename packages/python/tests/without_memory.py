@@ -61,6 +61,8 @@ CALLS = {
     "explain": lambda: [str(target_lexicon.explain("arm64-aple-ios17.2")), target_lexicon.explain("x86_64-linux").sources],
     "read": lambda: [Triple.read("linux/arm64", "oci"), Triple.read("x86_64-w64-mingw32")],
     "name": lambda: [LINUX.name_in("go"), OTHER.name_in(target_lexicon.Dialect.OCI)],
+    "translate": lambda: [target_lexicon.translate("linux/arm64", "oci", "debian", "glibc"), LINUX.complete("musl"), CUSTOM.complete("glibc")],
+    "changes": lambda: target_lexicon.changes("amd64-unknown-freebsd13.2"),
     "values": lambda: [Architecture.parse("arm64"), Vendor.parse("acme"), CustomVendor("acme")],
     "copy": lambda: [*map(pickle.loads, PICKLES), copy.deepcopy(OTHER)],
     "refusal": lambda: refusal(Triple, "x86_64-pc-linx"),

@@ -5,17 +5,18 @@
 wasm32-wasi 32 wasm
 
 `Triple` has the fields, the facts and the printed string of a triple. `explain` says which part of a string gave which
-field. `Triple.read` and `Triple.name_in` know the names of other tools. `settle_all` and `facts_all` answer for a column
-of targets.
+field. `Triple.read` and `Triple.name_in` know the names of other tools, and `translate` leads from one to another. `settle_all`
+and `facts_all` answer for a column of targets.
 """
 from ._columns import Facts, facts_all, settle_all
-from ._dialects import Dialect
+from ._dialects import Dialect, LinuxLibc
 from ._errors import ParseError
 from ._explain import Explanation, Origin, Source, explain
-from ._facts import CallingConvention, DataModel, Endianness
+from ._facts import CallingConvention, CLibrary, DataModel, Endianness, FloatAbi
 from ._fields import CustomVendor
 from ._library import LIBRARY_PATH, LIBRARY_VERSION, LibraryError
 from ._library import VERSION as __version__
+from ._translation import Change, TranslationError, changes, translate
 from ._triple import Keep, Triple
 from ._values import Architecture, BinaryFormat, Environment, Family, OperatingSystem, Vendor
 
@@ -24,7 +25,9 @@ __all__ = [
     "LIBRARY_VERSION",
     "Architecture",
     "BinaryFormat",
+    "CLibrary",
     "CallingConvention",
+    "Change",
     "CustomVendor",
     "DataModel",
     "Dialect",
@@ -33,16 +36,21 @@ __all__ = [
     "Explanation",
     "Facts",
     "Family",
+    "FloatAbi",
     "Keep",
     "LibraryError",
+    "LinuxLibc",
     "OperatingSystem",
     "Origin",
     "ParseError",
     "Source",
+    "TranslationError",
     "Triple",
     "Vendor",
     "__version__",
+    "changes",
     "explain",
     "facts_all",
     "settle_all",
+    "translate",
 ]

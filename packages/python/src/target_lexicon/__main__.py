@@ -12,8 +12,9 @@ import sys
 from contextlib import suppress
 from typing import Any, Dict, Iterator, List, Optional, Tuple
 
-from . import LIBRARY_VERSION, Dialect, ParseError, Triple, explain
+from . import LIBRARY_VERSION, Dialect, LinuxLibc, ParseError, Triple, explain
 from ._dialects import OTHER_NAMES, READ, WRITTEN
+from ._named import members
 from ._triple import _version_text
 
 # What is answered for a target, with the keys of JSON. Of one that is refused there is an `error`.
@@ -29,6 +30,7 @@ _COMMANDS = {
 }
 # As the command orders them: those that are only written are the last.
 _DIALECTS = [*READ, *(it for it in WRITTEN if it not in READ)]
+_NEEDS_LIBC = "it depends on the C library: use `--libc glibc` or `--libc musl`"
 
 
 def _places(targets: List[str]) -> Iterator[Answer]:
@@ -52,12 +54,12 @@ def _explained(target: str) -> Answer:
     return {**answer, "has_custom_vendor": explanation.triple.has_custom_vendor, "suggestion": explanation.suggestion}
 
 
-def _answer(command: str, dialect: Optional[Dialect], target: str) -> Answer:
+def _answer(command: str, dialect: Optional[Dialect], libc: Optional[LinuxLibc], target: str) -> Answer:
     if command == "explain":
         return _explained(target)
     if command == "read":
-        return {"canonical": Triple.read(target, dialect).canonical}
-    triple = Triple(target)
+        return {"canonical": _completed(Triple.read(target, dialect), libc).canonical}
+    triple = _completed(Triple(target), libc)
     if command == "facts":
         return dict(triple.to_dict())
     if command == "elsewhere":
@@ -65,7 +67,14 @@ def _answer(command: str, dialect: Optional[Dialect], target: str) -> Answer:
     if dialect is None:
         return {"canonical": triple.canonical}
     name = triple.name_in(dialect)
-    return _refused(f"no name of {dialect} for", target) if name is None else {"name": name}
+    if name is not None:
+        return {"name": name}
+    needs_libc = libc is None and any(triple.complete(it).name_in(dialect) for it in members(LinuxLibc))
+    return _refused(f"no name of {dialect} for" + (f" it: {_NEEDS_LIBC}" if needs_libc else ""), target)
+
+
+def _completed(triple: Triple, libc: Optional[LinuxLibc]) -> Triple:
+    return triple if libc is None else triple.complete(libc)
 
 
 def _refused(error: str, part: str, start: int = 0, field: Optional[str] = None, suggestion: Optional[str] = None) -> Answer:
@@ -101,7 +110,8 @@ def _lines(command: str, target: str, answer: Answer) -> str:
     if command == "explain":
         return _explanation(target)
     if "error" in answer:
-        return f"{answer['error']} {target}"
+        no_name, _, reason = answer["error"].partition(" it: ")
+        return f"{no_name} {target}" + (f": {reason}" if reason else "")
     if command not in ("facts", "elsewhere"):
         return "".join(answer.values())
     width = max(map(len, answer))
@@ -121,15 +131,16 @@ def _is_name(dialect: Dialect, name: str) -> bool:
 def _answered(options: argparse.Namespace, target: str) -> Tuple[Answer, str]:
     """The answer for a target, and how it is shown."""
     dialect = None if options.dialect is None else Dialect(OTHER_NAMES.get(options.dialect, options.dialect))
+    libc = None if options.libc is None else LinuxLibc(options.libc)
     try:
-        answer = _answer(options.command, dialect, target)
+        answer = _answer(options.command, dialect, libc, target)
         return answer, "" if options.json else _lines(options.command, target, answer)
     except ParseError as error:
         lines = [str(error)]
         if options.command != "read":
             return _refusal(error, None), lines[0]
         if dialect is None:
-            known = " or ".join(f"`--from {it}`" for it in _DIALECTS if _is_name(it, target))
+            known = " or ".join(f"`--from {it}`" for it in _DIALECTS if it is not Dialect.GNU and _is_name(it, target))
             lines += [f"  note: it is a name of another tool: use {known}"] if known else []
         return _refusal(error, dialect), "\n".join(lines)
 
@@ -147,11 +158,13 @@ def _parser() -> argparse.ArgumentParser:
         command = commands.add_parser(name, help=about, description=f"Writes for each target {about}.")
         command.add_argument("targets", nargs="*", metavar="TARGET", help="`-` is standard input, one target a line")
         command.add_argument("--json", action="store_true", help="write one JSON array on one line")
-        command.set_defaults(dialect=None)
+        command.set_defaults(dialect=None, libc=None)
         if name == "read":
             command.add_argument("--from", dest="dialect", choices=_words(READ))
         elif name == "write":
             command.add_argument("--to", dest="dialect", choices=_words(WRITTEN), required=True)
+        if name in ("read", "write"):
+            command.add_argument("--libc", choices=list(map(str, members(LinuxLibc))), help="the C library of targets on Linux that state none")
     return parser
 
 

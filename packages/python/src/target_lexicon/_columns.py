@@ -7,7 +7,7 @@ from itertools import islice
 from typing import Any, Callable, Dict, Iterable, List, NamedTuple, Optional, Sequence, Tuple, TypeVar
 
 from . import _library
-from ._facts import CallingConvention, DataModel, Endianness
+from ._facts import CallingConvention, CLibrary, DataModel, Endianness, FloatAbi
 from ._named import members
 from ._triple import Triple
 from ._values import Architecture, BinaryFormat, Environment, Family, OperatingSystem, Vendor
@@ -20,7 +20,8 @@ _AT_ONCE, _REMEMBERED = 1 << 12, 1 << 16
 # The names of values by number; those of facts begin with None, for no answer.
 _ARCHITECTURES, _VENDORS, _SYSTEMS, _ENVIRONMENTS, _FORMATS, _FAMILIES = (
     [it.value for it in members(of)] for of in (Architecture, Vendor, OperatingSystem, Environment, BinaryFormat, Family))
-_ORDERS, _CONVENTIONS, _MODELS = ([None, *(it.value for it in members(of))] for of in (Endianness, CallingConvention, DataModel))
+_ORDERS, _CONVENTIONS, _MODELS, _C_LIBRARIES, _FLOAT_ABIS = (
+    [None, *(it.value for it in members(of))] for of in (Endianness, CallingConvention, DataModel, CLibrary, FloatAbi))
 
 
 class Facts(NamedTuple):
@@ -51,6 +52,13 @@ class Facts(NamedTuple):
     is_thumb: Optional[bool] = None
     is_like_darwin: Optional[bool] = None
     has_custom_vendor: Optional[bool] = None
+    c_library: Optional[str] = None
+    float_abi: Optional[str] = None
+    is_unix: Optional[bool] = None
+    long_double_size: Optional[int] = None
+    long_double_alignment: Optional[int] = None
+    wchar_size: Optional[int] = None
+    wchar_alignment: Optional[int] = None
     printed: Optional[str] = None
     canonical: Optional[str] = None
 
@@ -124,7 +132,7 @@ class _Answered(ctypes.Structure):
 
 
 # The numbers that are in it: those of the triple, its custom vendor's pointer and size, and those of the facts.
-_NUMBERS = struct.Struct("@HBBBBBBBHPN10B3?3B")
+_NUMBERS = struct.Struct("@HBBBBBBBHPN10B3?5B?4B")
 
 # Calls whose arguments are values of `ctypes`, which takes half the time.
 _parse, _facts, _print = map(_library.undeclared, ("lexicon_parse", "lexicon_facts", "lexicon_print"))
@@ -161,11 +169,13 @@ def facts_of(it: Triple) -> Facts:
 def _facts_from(numbers: Tuple[Any, ...], vendor: Optional[str], printed: str, canonical: str) -> Facts:
     """All answers, from the numbers and the strings. Only a custom vendor must be given."""
     (architecture, known, system, environment, form, has_version, minor, patch, major, _, _, order, width, convention, model, short,
-     int_, long, long_long, float_, double, is_thumb, is_like_darwin, is_custom, implied, written, family) = numbers
+     int_, long, long_long, float_, double, is_thumb, is_like_darwin, is_custom, implied, written, family, library, floats, is_unix,
+     long_double, long_double_alignment, wchar, wchar_alignment) = numbers
     return Facts._make((
         _ARCHITECTURES[architecture], vendor or _VENDORS[known], _SYSTEMS[system],
         f"{major}.{minor}.{patch}" if has_version else None, _ENVIRONMENTS[environment], _FORMATS[form], _ORDERS[order],
         width or None, _CONVENTIONS[convention], _MODELS[model], short or None, int_ or None, long or None, long_long or None,
         float_ or None, double or None, _FORMATS[implied], _FORMATS[written], _FAMILIES[family], is_thumb, is_like_darwin,
-        is_custom, printed, canonical,
+        is_custom, _C_LIBRARIES[library], _FLOAT_ABIS[floats], is_unix, long_double or None, long_double_alignment or None,
+        wchar or None, wchar_alignment or None, printed, canonical,
     ))

@@ -1,7 +1,7 @@
 """The tools whose names of targets are read and written."""
 from __future__ import annotations
 
-from typing import List, Literal, Union
+from typing import List, Literal, Type, Union
 
 from ._named import NamedValue
 
@@ -61,9 +61,31 @@ WRITTEN = [*(it for it in Dialect if it not in ONLY_READ + ONLY_WRITTEN), *ONLY_
 
 def dialect_number(dialect: Union[Dialect, DialectName]) -> int:
     """The number in the library for C of a dialect, given as a member or by its name."""
-    if not isinstance(dialect, str):
-        raise TypeError(f"the dialect must be of type Dialect or str, not {type(dialect).__name__}")
-    names, dialect = list(Dialect), OTHER_NAMES.get(dialect, dialect)
-    if dialect not in names:
-        raise ValueError(f"the dialect must be one of {', '.join(names)}, not {dialect}")
-    return names.index(Dialect(dialect)) + 1
+    return _number(OTHER_NAMES.get(dialect, dialect) if isinstance(dialect, str) else dialect, Dialect, "dialect")
+
+
+class LinuxLibc(NamedValue):
+    """A C library of Linux, which the caller says where a name doesn't state it."""
+
+    #: GNU's C library, which most distributions have.
+    GLIBC = "glibc"
+    #: musl, as Alpine has it.
+    MUSL = "musl"
+
+
+#: The names of the C libraries of Linux.
+LinuxLibcName = Literal["glibc", "musl"]
+
+
+def libc_number(libc: Union[LinuxLibc, LinuxLibcName]) -> int:
+    """The number in the library for C of a C library of Linux, given as a member or by its name."""
+    return _number(libc, LinuxLibc, "C library")
+
+
+def _number(value: str, of: Type[NamedValue], what: str) -> int:
+    if not isinstance(value, str):
+        raise TypeError(f"the {what} must be of type {of.__name__} or str, not {type(value).__name__}")
+    names = list(of)
+    if value not in names:
+        raise ValueError(f"the {what} must be one of {', '.join(names)}, not {value}")
+    return names.index(of(value)) + 1

@@ -28,3 +28,33 @@ class DataModel(NamedValue):
     LLP64 = "LLP64"
     LP64 = "LP64"
     ILP64 = "ILP64"
+
+
+class CLibrary(NamedValue):
+    """The C library that a triple states: by its environment, or by a system that has only one."""
+
+    #: Android's.
+    BIONIC = "bionic"
+    #: The GNU C library.
+    GLIBC = "glibc"
+    #: MinGW, over a library of Windows.
+    MINGW = "mingw"
+    #: Microsoft's Visual C++.
+    MSVC = "msvc"
+    #: musl.
+    MUSL = "musl"
+    #: Newlib, of embedded systems.
+    NEWLIB = "newlib"
+    #: That of Redox.
+    RELIBC = "relibc"
+    #: The system's own, which no other system has.
+    SYSTEM = "system"
+    #: uClibc.
+    UCLIBC = "uclibc"
+
+
+class FloatAbi(NamedValue):
+    """How floating-point arguments are passed: in integer registers, or in floating-point registers."""
+
+    SOFT = "soft"
+    HARD = "hard"

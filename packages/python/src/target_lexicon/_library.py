@@ -29,6 +29,7 @@ TOO_SMALL = 8
 UNKNOWN_NAME = 12
 NAME_WITHOUT_TRIPLE = 13
 TRIPLE_WITHOUT_NAME = 14
+NEEDS_C_LIBRARY = 17
 
 
 class TripleStruct(Structure):
@@ -95,11 +96,27 @@ class FactsStruct(Structure):
     implied_format: int
     object_format: int
     family: int
-    _fields_ = [(name, c_uint8) for name in (
+    c_library: int
+    float_abi: int
+    is_unix: bool
+    long_double_size: int
+    long_double_alignment: int
+    wchar_size: int
+    wchar_alignment: int
+    _fields_ = [(name, c_bool if name.startswith(("is_", "has_")) else c_uint8) for name in (
         "endianness", "pointer_width", "default_calling_convention", "data_model", "short_size", "int_size", "long_size",
-        "long_long_size", "float_size", "double_size",
-    )] + [(name, c_bool) for name in ("is_thumb", "is_like_darwin", "has_custom_vendor")] + [
-        (name, c_uint8) for name in ("implied_format", "object_format", "family")]
+        "long_long_size", "float_size", "double_size", "is_thumb", "is_like_darwin", "has_custom_vendor", "implied_format",
+        "object_format", "family", "c_library", "float_abi", "is_unix", "long_double_size", "long_double_alignment", "wchar_size",
+        "wchar_alignment",
+    )]
+
+
+class ChangeStruct(Structure):
+    """`struct lexicon_change`."""
+
+    start: int
+    end: int
+    _fields_ = [("start", c_size_t), ("end", c_size_t)]
 
 
 # What loads a library, whose calls don't release the interpreter lock. PyPy has only the other one.
@@ -175,6 +192,9 @@ facts = _declare("lexicon_facts", _TRIPLE, POINTER(FactsStruct), c_size_t)
 print_into = _declare("lexicon_print", _TRIPLE, c_void_p, c_size_t, _SIZE)
 read = _declare("lexicon_read", c_uint32, c_char_p, c_size_t, _TRIPLE, _ERROR)
 _write = _declare("lexicon_write", c_uint32, _TRIPLE, c_void_p, c_size_t, _SIZE)
+complete = _declare("lexicon_complete", _TRIPLE, c_uint32)
+_translate = _declare("lexicon_translate", c_uint32, c_char_p, c_size_t, c_uint32, c_uint32, c_void_p, c_size_t, _SIZE, _ERROR)
+_changes = _declare("lexicon_changes", c_char_p, c_size_t, c_size_t, POINTER(ChangeStruct), c_void_p, c_size_t, _SIZE)
 _reason = _declare("lexicon_reason", c_uint32, c_char_p, c_size_t, result=c_char_p)
 _name_suggestion = _declare("lexicon_name_suggestion", c_uint32, c_char_p, c_size_t, result=c_char_p)
 _number = _declare("lexicon_number", c_uint32, c_char_p, c_size_t, POINTER(c_uint32))
@@ -253,6 +273,21 @@ def name_in(dialect: int, triple: TripleStruct) -> Optional[str]:
         return None
     check(status)
     return out.value.decode()
+
+
+def translate(text: bytes, from_dialect: int, libc: int, to_dialect: int) -> Tuple[int, str]:
+    """The status, and the name in another dialect, which has at most 36 bytes, if the status is 0."""
+    out = TextBuffer()
+    return _translate(from_dialect, text, len(text), libc, to_dialect, out, FIRST_SIZE, None, None), out.value.decode()
+
+
+def changes(text: bytes) -> Iterator[Tuple[int, int, str]]:
+    """The range in bytes of each part that is read as other names, and these names."""
+    change, number = ChangeStruct(), 0
+    while _changes(text, len(text), number, change, None, 0, None) == TOO_SMALL:
+        names = text_of(_changes, text, len(text), number, change)
+        yield change.start, change.end, names.decode()
+        number += 1
 
 
 def reason(dialect: int, text: bytes) -> Optional[str]:

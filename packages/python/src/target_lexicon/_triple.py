@@ -8,9 +8,9 @@ from struct import Struct
 from typing import TYPE_CHECKING, Any, Callable, Dict, Iterable, Mapping, Optional, Tuple, Type, Union, final
 
 from . import _library
-from ._dialects import NO_DIALECT, Dialect, DialectName, dialect_number
+from ._dialects import NO_DIALECT, Dialect, DialectName, LinuxLibc, LinuxLibcName, dialect_number, libc_number
 from ._errors import FIELDS, encoded, refusal
-from ._facts import CallingConvention, DataModel, Endianness
+from ._facts import CallingConvention, CLibrary, DataModel, Endianness, FloatAbi
 from ._fields import CustomVendor
 from ._named import members
 from ._values import Architecture, BinaryFormat, Environment, Family, OperatingSystem, Vendor
@@ -31,6 +31,8 @@ _FAMILIES: Tuple[Family, ...] = members(Family)
 _ENDIANNESS: Tuple[Optional[Endianness], ...] = (None, *members(Endianness))
 _CONVENTIONS: Tuple[Optional[CallingConvention], ...] = (None, *members(CallingConvention))
 _MODELS: Tuple[Optional[DataModel], ...] = (None, *members(DataModel))
+_C_LIBRARIES: Tuple[Optional[CLibrary], ...] = (None, *members(CLibrary))
+_FLOAT_ABIS: Tuple[Optional[FloatAbi], ...] = (None, *members(FloatAbi))
 
 for _field, _values in enumerate((_ARCHITECTURES, _VENDORS, _SYSTEMS, _ENVIRONMENTS, _FORMATS)):
     _library.check_names(_field, [str(it) for it in _values])
@@ -312,6 +314,49 @@ class Triple:
         return self._owner is not None
 
     @property
+    def c_library(self) -> Optional[CLibrary]:
+        """The C library that the triple states, or None if it states none.
+
+        >>> Triple("armv7-unknown-linux-musleabihf").c_library, Triple("aarch64-unknown-linux").c_library
+        (CLibrary.MUSL, None)
+        """
+        return _C_LIBRARIES[(self._facts or self._ask()).c_library]
+
+    @property
+    def float_abi(self) -> Optional[FloatAbi]:
+        """How floating-point arguments are passed, or None if the triple doesn't say."""
+        return _FLOAT_ABIS[(self._facts or self._ask()).float_abi]
+
+    @property
+    def is_unix(self) -> bool:
+        """Whether rustc counts the operating system to its family `unix`."""
+        return (self._facts or self._ask()).is_unix
+
+    @property
+    def long_double_size(self) -> Optional[int]:
+        """The bytes of C's `long double`, or None if they aren't known.
+
+        >>> Triple("i686-unknown-linux-gnu").long_double_size, Triple("x86_64-pc-windows-msvc").long_double_size
+        (12, 8)
+        """
+        return (self._facts or self._ask()).long_double_size or None
+
+    @property
+    def long_double_alignment(self) -> Optional[int]:
+        """The alignment of C's `long double` in bytes, or None if it isn't known."""
+        return (self._facts or self._ask()).long_double_alignment or None
+
+    @property
+    def wchar_size(self) -> Optional[int]:
+        """The bytes of C's `wchar_t`, or None if they aren't known."""
+        return (self._facts or self._ask()).wchar_size or None
+
+    @property
+    def wchar_alignment(self) -> Optional[int]:
+        """The alignment of C's `wchar_t` in bytes, or None if it isn't known."""
+        return (self._facts or self._ask()).wchar_alignment or None
+
+    @property
     def canonical(self) -> str:
         """The printed string of the canonical form, which is a key for the target."""
         return str(self.settle())
@@ -337,6 +382,16 @@ class Triple:
         The vendor doesn't matter, nor what the dialect doesn't name.
         """
         return _library.name_in(dialect_number(dialect), self._struct)
+
+    def complete(self, libc: Union[LinuxLibc, LinuxLibcName]) -> Triple:
+        """The triple with the usual environment of a C library, if it is of Linux and states none; any other one as it is.
+
+        >>> Triple.read("linux/arm/v7", "oci").complete("glibc"), Triple("aarch64-unknown-linux").complete(LinuxLibc.MUSL)
+        (Triple('armv7-unknown-linux-gnueabihf'), Triple('aarch64-unknown-linux-musl'))
+        """
+        struct = _library.TripleStruct.from_buffer_copy(self._struct)
+        _library.check(_library.complete(struct, libc_number(libc)))
+        return self if _numbers_of(struct) == _numbers_of(self._struct) else _triple_of(struct, self._owner)
 
     def settle(self) -> Triple:
         """The canonical form of the triple, which comes back. So its string is a key for the target.

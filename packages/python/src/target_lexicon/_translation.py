@@ -1,0 +1,85 @@
+"""From the name of one tool to that of another, and what is read as other names."""
+from typing import List, NamedTuple, Optional, Union
+
+from . import _library
+from ._dialects import NO_DIALECT, Dialect, DialectName, LinuxLibc, LinuxLibcName, dialect_number, libc_number
+from ._errors import encoded, range_in
+from ._triple import Triple
+
+
+class TranslationError(ValueError):
+    """What a name means has no name in another dialect.
+
+    >>> translate("linux/arm64", "oci", "debian")
+    Traceback (most recent call last):
+    target_lexicon.TranslationError: The name in the other dialect depends on the C library: linux/arm64
+
+    `needs_libc` says whether there is one with `libc`. `text` is the name that is read, `source` and `target` are the dialects.
+    """
+
+    # The name by which tracebacks and callers know it.
+    __module__ = "target_lexicon"
+
+    def __init__(self, text: str, source: Optional[str], target: str, needs_libc: bool) -> None:
+        super().__init__(text, source, target, needs_libc)
+        #: The name that is read.
+        self.text = text
+        #: The dialect in which it is read, or None.
+        self.source = source
+        #: The dialect that has no name for it.
+        self.target = target
+        #: Whether it has one with a C library that is said.
+        self.needs_libc = needs_libc
+
+    def __str__(self) -> str:
+        status = _library.NEEDS_C_LIBRARY if self.needs_libc else _library.TRIPLE_WITHOUT_NAME
+        return _library.error_line(status, self.text.encode())
+
+
+def translate(
+    name: str, source: Union[Dialect, DialectName, None], target: Union[Dialect, DialectName],
+    libc: Union[LinuxLibc, LinuxLibcName, None] = None,
+) -> str:
+    """The name in the dialect `target` of what a name of the dialect `source` means.
+
+    >>> translate("linux/arm64/v8", "oci", "rust", "glibc"), translate("arm64", Dialect.DEBIAN, Dialect.OCI)
+    ('aarch64-unknown-linux-gnu', 'linux/arm64')
+
+    Where `source` is None, the string is spelled like a triple. Names of Debian, GNU and rustc state the C library of Linux, and those of
+    Go, container images and Python don't: from one of the latter to one of the former, say `libc`. A name that isn't read raises a
+    `ParseError`, as `Triple.read` does. What has no name in `target`, or only with a C library, raises a `TranslationError`.
+    """
+    from_number = NO_DIALECT if source is None else dialect_number(source)
+    numbers = from_number, 0 if libc is None else libc_number(libc), dialect_number(target)
+    status, translated = _library.translate(encoded(name, "the name of a target"), *numbers)
+    if status == _library.OK:
+        return translated
+    if status not in (_library.TRIPLE_WITHOUT_NAME, _library.NEEDS_C_LIBRARY):
+        Triple.read(name, source)  # which says why it isn't read
+        _library.check(status)
+    raise TranslationError(name, source and str(source), str(target), status == _library.NEEDS_C_LIBRARY)
+
+
+class Change(NamedTuple):
+    """A part of a string that `Triple.read` reads as other names: `text[start:end]`, and the names, with dashes between them."""
+
+    start: int
+    end: int
+    part: str
+    names: str
+
+
+def changes(text: str) -> List[Change]:
+    """What `Triple.read`, without a dialect, reads as other names. A version that is dropped is such a part.
+
+    >>> [f"{it.part} is read as {it.names}" for it in changes("amd64-unknown-freebsd13.2")]
+    ['amd64 is read as x86_64', 'freebsd13.2 is read as freebsd']
+
+    A string that is refused has its changes too.
+    """
+    utf8 = encoded(text, "the text of a triple")
+    found = []
+    for start, end, names in _library.changes(utf8):
+        first, part = range_in(utf8, start, end)
+        found.append(Change(first, first + len(part), part, names))
+    return found
