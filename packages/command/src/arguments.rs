@@ -67,11 +67,10 @@ fn words(dialects: &[Dialect]) -> impl Iterator<Item = PossibleValue> + '_ {
 
 /// An option for one of the dialects.
 fn dialect(name: &'static str, dialects: &[Dialect], help: &'static str) -> Arg {
-    let names = words(dialects);
     Arg::new(name)
         .long(name)
         .value_name("DIALECT")
-        .value_parser(PossibleValuesParser::new(dialects.iter().map(value_of)))
+        .value_parser(PossibleValuesParser::new(words(dialects)))
         .help(help)
 }
 
