@@ -11,7 +11,7 @@ listed here. The status is 1 if an answer differs that docs/TOOL_NAMES.md doesn'
 Python 3.13 that runs this.
 
 Debian's packages: dpkg-dev autotools-dev golang-go golang-github-containerd-containerd-dev esbuild nodejs-doc librust-cc-dev
-python3-packaging clang rpm nix-bin makepkg.
+python3-packaging rpm nix-bin makepkg clang.
 """
 import collections
 import glob

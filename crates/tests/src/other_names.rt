@@ -52,7 +52,6 @@ iso17=
 arm6j=armv6j
 i368=i386
 amd64=x86_64
-armv7hl=armv7
 wasm=
 x86=
 x86_32=

@@ -24,7 +24,6 @@ first_spellings =
     (codes "armv5tejl", codes "armv5tej") ∷
     (codes "armv6l", codes "armv6") ∷
     (codes "armv7l", codes "armv7") ∷
-    (codes "armv7hl", codes "armv7") ∷
     (codes "armv8l", codes "armv8") ∷
     (codes "ppc", codes "powerpc") ∷
     (codes "ppc32", codes "powerpc") ∷

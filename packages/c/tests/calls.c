@@ -391,7 +391,7 @@ static void try_too_large(void) {
     expect(lexicon_read(LEXICON_DIALECT_NONE, text, large, &triple, &errors[2]) == LEXICON_TOO_LARGE, "too large", "read");
     for (size_t j = 0; j < 3; j++)
       expect(errors[j].status == LEXICON_TOO_LARGE && errors[j].start == 0 && errors[j].end == 0, "too large", "error");
-    expect(lexicon_read(99, text, large, &triple, NULL) == LEXICON_TOO_LARGE, "too large", "read, with no dialect");
+    expect(lexicon_read(77, text, large, &triple, NULL) == LEXICON_TOO_LARGE, "too large", "read, with no dialect");
     expect(lexicon_reason(LEXICON_DIALECT_GO, text, large) == NULL, "too large", "reason");
     expect(lexicon_name_suggestion(LEXICON_DIALECT_GO, text, large) == NULL, "too large", "name_suggestion");
     expect(lexicon_suggestion(text, large, &why) == NULL, "too large", "suggestion");
@@ -407,7 +407,7 @@ static void try_too_large(void) {
     expect(lexicon_write(LEXICON_DIALECT_GO, &known, out, large, &length) == LEXICON_TOO_LARGE, "a buffer too large", "write");
     bad.environment = 255;
     expect(lexicon_print(&bad, out, large, &length) == LEXICON_TOO_LARGE, "a buffer too large", "print, of no value");
-    expect(lexicon_write(99, &known, out, large, &length) == LEXICON_TOO_LARGE, "a buffer too large", "write, with no dialect");
+    expect(lexicon_write(77, &known, out, large, &length) == LEXICON_TOO_LARGE, "a buffer too large", "write, with no dialect");
     expect(is_filled(&triple, sizeof triple) && is_filled(out, sizeof out) && length == 77, "too large", "unchanged");
     bad = triple_of("x86_64-acme-linux");
     bad.custom_vendor_size = large;
@@ -543,18 +543,18 @@ static void try_dialects(void) {
   size_t length = 77;
   fill(&triple, sizeof triple);
   fill(out, sizeof out);
-  expect(lexicon_read(99, "avr", 3, &triple, &error) == LEXICON_NO_SUCH_DIALECT && is_filled(&triple, sizeof triple), "no dialect", "99");
-  expect(lexicon_read(99, "avr", 3, &triple, NULL) == LEXICON_NO_SUCH_DIALECT, "no dialect, without an error", "99");
-  expect(error.status == LEXICON_NO_SUCH_DIALECT && error.start == 0 && error.end == 0 && lexicon_reason(~0u, "avr", 3) == NULL, "no dialect", "99");
-  expect(lexicon_name_suggestion(99, "linux/amd46", 11) == NULL && lexicon_name_suggestion(~0u, "amd46", 5) == NULL, "no dialect", "99");
-  expect(lexicon_error_line("avr", 3, &error, out, sizeof out, NULL) == LEXICON_NO_SUCH_VALUE, "no line", "7");
+  expect(lexicon_read(77, "avr", 3, &triple, &error) == LEXICON_NO_SUCH_DIALECT && is_filled(&triple, sizeof triple), "no dialect", "77");
+  expect(lexicon_read(77, "avr", 3, &triple, NULL) == LEXICON_NO_SUCH_DIALECT, "no dialect, without an error", "77");
+  expect(error.status == LEXICON_NO_SUCH_DIALECT && error.start == 0 && error.end == 0 && lexicon_reason(~0u, "avr", 3) == NULL, "no dialect", "77");
+  expect(lexicon_name_suggestion(77, "linux/amd46", 11) == NULL && lexicon_name_suggestion(~0u, "amd46", 5) == NULL, "no dialect", "77");
+  expect(lexicon_error_line("avr", 3, &error, out, sizeof out, NULL) == LEXICON_NO_SUCH_VALUE, "no line", "77");
   triple = triple_of("x86_64-acme-linux-gnu"); /* the vendor doesn't matter */
   dialect_of = LEXICON_DIALECT_DEBIAN;
   try_text(write_name, &triple, "amd64", false);
   dialect_of = LEXICON_DIALECT_GNU;
   try_text(write_name, &triple, "x86_64-linux-gnu", false);
   expect(lexicon_write(LEXICON_DIALECT_NONE, &triple, out, sizeof out, &length) == LEXICON_NO_SUCH_DIALECT, "no dialect", "0");
-  expect(lexicon_write(99, &triple, out, sizeof out, &length) == LEXICON_NO_SUCH_DIALECT, "no dialect", "99");
+  expect(lexicon_write(77, &triple, out, sizeof out, &length) == LEXICON_NO_SUCH_DIALECT, "no dialect", "77");
   triple.custom_vendor_size = 0;
   expect(lexicon_write(LEXICON_DIALECT_GO, &triple, out, sizeof out, &length) == LEXICON_NO_SUCH_VENDOR, "a bad vendor", "write");
   triple.environment = 255;

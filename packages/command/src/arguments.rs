@@ -57,19 +57,21 @@ fn libc() -> Arg {
         .help("The C library of targets on Linux that state none")
 }
 
+/// The names of dialects, with their other names.
+fn words(dialects: &[Dialect]) -> impl Iterator<Item = PossibleValue> + '_ {
+    dialects.iter().map(|dialect| {
+        let others = OTHER_NAMES.iter().filter(|(_, of)| of == dialect);
+        PossibleValue::new(dialect.as_str()).aliases(others.map(|(name, _)| *name))
+    })
+}
+
 /// An option for one of the dialects.
 fn dialect(name: &'static str, dialects: &[Dialect], help: &'static str) -> Arg {
     Arg::new(name)
         .long(name)
         .value_name("DIALECT")
-        .value_parser(PossibleValuesParser::new(dialects.iter().map(value_of)))
+        .value_parser(PossibleValuesParser::new(words(dialects)))
         .help(help)
-}
-
-/// The names of a dialect as a value.
-fn value_of(dialect: &Dialect) -> PossibleValue {
-    let others = OTHER_NAMES.iter().filter(|(_, of)| of == dialect);
-    PossibleValue::new(dialect.as_str()).aliases(others.map(|(name, _)| *name))
 }
 
 fn flag(name: &'static str, help: &'static str) -> Arg {
@@ -173,10 +175,14 @@ pub fn command() -> Command {
             )
             .mut_arg("target", |names| names.value_name("NAME"))
             .arg(
-                dialect("from", &DIALECTS, "The tool whose names are read; `any` writes a line for each that has the name")
-                    .value_parser(PossibleValuesParser::new(
-                        DIALECTS.iter().map(value_of).chain([PossibleValue::new(ANY)]),
-                    )),
+                dialect(
+                    "from",
+                    &DIALECTS[..READ],
+                    "The tool whose names are read; `any` writes a line for each that has the name",
+                )
+                .value_parser(PossibleValuesParser::new(
+                    words(&DIALECTS[..READ]).chain([PossibleValue::new(ANY)]),
+                )),
             )
             .arg(libc())
             .arg(
@@ -196,7 +202,7 @@ pub fn command() -> Command {
                 "Example:\n  $ target-lexicon translate --from oci --to debian --libc glibc linux/arm64",
             )
             .mut_arg("target", |names| names.value_name("NAME"))
-            .arg(dialect("from", &DIALECTS, "The tool whose names are read").required(true))
+            .arg(dialect("from", &DIALECTS[..READ], "The tool whose names are read").required(true))
             .arg(dialect("to", &DIALECTS[ONLY_READ..], "The tool whose names are written").required(true))
             .arg(libc()),
             of_targets(

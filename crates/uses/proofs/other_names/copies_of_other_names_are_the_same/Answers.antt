@@ -15,3 +15,12 @@ returns-clause-spelling c = copies_the_same _ _ c.copies_equal_their_sources.ens
 
 pub returns-clause-change : goal.returns-clause-change
 returns-clause-change c = copies_the_same _ _ c.copies_equal_their_sources.ensures.change
+
+pub returns-clause-c_library : goal.returns-clause-c_library
+returns-clause-c_library c = copies_the_same _ _ c.copies_equal_their_sources.ensures.c_library
+
+pub returns-clause-write_error : goal.returns-clause-write_error
+returns-clause-write_error c = copies_the_same _ _ c.copies_equal_their_sources.ensures.write_error
+
+pub returns-clause-translate_error : goal.returns-clause-translate_error
+returns-clause-translate_error c = copies_the_same _ _ c.copies_equal_their_sources.ensures.translate_error

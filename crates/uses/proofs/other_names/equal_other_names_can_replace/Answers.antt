@@ -1,4 +1,4 @@
-use Rattle.tool_names.specs.ToolNames.{unread_of}
+use Rattle.tool_names.specs.{ToolNames.unread_of, Translation.untranslated_of}
 use Rattle.uses.proofs.Conclusions.{replaceable}
 use Rattle.uses.proofs.other_names.equal_other_names_can_replace.Goals as goal
 
@@ -16,3 +16,12 @@ returns-clause-spelling c = λ x y differ equal. differ (c.values_are_equal_by_v
 
 pub returns-clause-change : goal.returns-clause-change
 returns-clause-change c = λ x y differ equal. differ (c.values_are_equal_by_value.ensures.change x y equal)
+
+pub returns-clause-c_library : goal.returns-clause-c_library
+returns-clause-c_library c = replaceable (λ v. v) _ c.values_are_equal_by_value.ensures.c_library
+
+pub returns-clause-write_error : goal.returns-clause-write_error
+returns-clause-write_error c = replaceable (λ v. v) _ c.values_are_equal_by_value.ensures.write_error
+
+pub returns-clause-translate_error : goal.returns-clause-translate_error
+returns-clause-translate_error c = replaceable untranslated_of _ c.values_are_equal_by_value.ensures.translate_error

@@ -297,7 +297,7 @@ fn is_digit_or_dot(byte: u8) -> bool {
 }
 
 #[rustfmt::skip]
-static FIRST_SPELLINGS: [(&str, &str); 31] = [
+static FIRST_SPELLINGS: [(&str, &str); 30] = [
     ("amd64", "x86_64"),
     ("x64", "x86_64"),
     ("i486", "i386"),
@@ -310,7 +310,6 @@ static FIRST_SPELLINGS: [(&str, &str); 31] = [
     ("armv5tejl", "armv5tej"),
     ("armv6l", "armv6"),
     ("armv7l", "armv7"),
-    ("armv7hl", "armv7"),
     ("armv8l", "armv8"),
     ("ppc", "powerpc"),
     ("ppc32", "powerpc"),
