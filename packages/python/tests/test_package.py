@@ -360,7 +360,7 @@ class Samples(Folder):
         self.assertIn("  pointer_width               16\n  default_calling_convention  -\n", answer("facts", "avr")[0])
         self.assertEqual(answer("--version"), (f"target_lexicon {target_lexicon.LIBRARY_VERSION}\n", "", 0))
         self.assertEqual(answer("check", "x")[2], 2)
-        for words in [], ["write", "x"], ["write", "--to", "docker", "x"], ["read", "--from", "docker", "x"], ["facts", "--yaml", "x"]:
+        for words in [], ["write", "x"], ["write", "--to", "podman", "x"], ["read", "--from", "podman", "x"], ["facts", "--yaml", "x"]:
             self.assertEqual((answer(*words)[0], answer(*words)[2]), ("", 2), words)
 
     @unittest.skipUnless(COMMAND, "no command target-lexicon beside the program")
