@@ -227,8 +227,7 @@ def names_other_tools(page):
     for width in 400, 1280:
         page.size(width, 900)
         same(page.run(shown), ["Debianmusl-linux-arm64; Golinux/arm64; Container imageslinux/arm64; Nodelinux-arm64-musl; GNU prefixaarch64-linux-musl; "
-                               "Pythonlinux_aarch64; Rustaarch64-unknown-linux-musl",
-                               "Debiannone; Gonone; Container imagesnone; Nodenone; GNU prefixnone; Pythonnone; Rustnone"])
+                               "Pythonlinux_aarch64", "Debiannone; Gonone; Container imagesnone; Nodenone; GNU prefixnone; Pythonnone"])
         holds(page.run("document.documentElement.scrollWidth") <= width, f"at {width} pixels the page scrolls sideways")
     typed(page, "arm64\nx86_64-pc-windows-msvc\nx86_64-linx\nwasm32-wasi")
     same(page.run(shown), [""] * 4)
@@ -236,8 +235,7 @@ def names_other_tools(page):
     page.keys(Keys.ENTER)
     page.until("document.querySelectorAll('.names dl > div').length > 0")
     same(page.run("[...document.querySelectorAll('.elsewhere button')].map((it) => it.getAttribute('aria-expanded'))"), ["false", "false", "true", "false"])
-    same(page.run(shown), ["", "", "Debiannone; Gowindows/amd64; Container imageswindows/amd64; Nodewin32-x64; GNU prefixnone; Pythonwin_amd64; "
-                               "Rustx86_64-pc-windows-msvc", ""])
+    same(page.run(shown), ["", "", "Debiannone; Gowindows/amd64; Container imageswindows/amd64; Nodewin32-x64; GNU prefixnone; Pythonwin_amd64", ""])
     # The button is on the line of the target.
     same(page.run(ROWS + "[3].getClientRects().length && [...new Set([" + ROWS + "[3].cells[1], " + ROWS + "[3].cells[10]].map((it) =>"
                          " Math.round(it.getBoundingClientRect().top)))].length"), 1)

@@ -30,7 +30,10 @@ const libraries: Each<NonNullable<Facts["cLibrary"]>> = {
   bionic: true, glibc: true, mingw: true, msvc: true, musl: true, newlib: true, relibc: true, system: true, uclibc: true,
 };
 const origins: Each<Explained<string>["origin"]> = { given: true, alias: true, "not given": true, implied: true };
-const tools: Each<Dialect> = { debian: true, go: true, oci: true, node: true, gnu: true, python: true, rust: true };
+const tools: Each<Dialect> = {
+  debian: true, go: true, oci: true, node: true, gnu: true, python: true, rust: true, uname: true, rpm: true, apk: true, pacman: true,
+  dotnet: true, conda: true, zig: true, nix: true, docker: true, npm: true,
+};
 const parts: Each<Field> = { architecture: true, vendor: true, operatingSystem: true, environment: true, binaryFormat: true };
 
 // `Same` is true only for two types that are the same, so that no answer's type is too wide.
@@ -111,7 +114,7 @@ triple.version.major;
 // @ts-expect-error there may be no name
 triple.nameIn("go").length;
 // @ts-expect-error no dialect has this name
-triple.nameIn("docker");
+triple.nameIn("podman");
 // @ts-expect-error a triple never changes
 triple.vendor = "pc";
 // @ts-expect-error a triple comes from a string or from values

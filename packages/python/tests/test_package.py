@@ -344,7 +344,7 @@ class Samples(Folder):
         self.assertEqual(answer("read", "x86_64-w64-mingw32")[0], "x86_64-pc-windows-gnu\n")
         note = "  note: it is a name of another tool: use `--from go`"
         self.assertTrue(answer("read", "linux/arm64")[1].endswith(f"^\n{note} or `--from oci`\n"))
-        self.assertTrue(answer("read", "js/wasm")[1].endswith(f"^\n{note}\n"))
+        self.assertTrue(answer("read", "js/wasm")[1].endswith(f"^\n{note} or `--from oci`\n"))
         self.assertEqual([answer(*it)[1].count("note") for it in (["read", "linx"], ["settle", "linux/arm64"], ["read", "--from", "debian", "linux/arm64"])],
                          [0, 0, 0])
         self.assertEqual(answer("write", "--to", "go", "arm64-linux", "avr-none"), ("linux/arm64\n", "no name of go for avr-none\n", 1))
@@ -360,7 +360,7 @@ class Samples(Folder):
         self.assertIn("  pointer_width               16\n  default_calling_convention  -\n", answer("facts", "avr")[0])
         self.assertEqual(answer("--version"), (f"target_lexicon {target_lexicon.LIBRARY_VERSION}\n", "", 0))
         self.assertEqual(answer("check", "x")[2], 2)
-        for words in [], ["write", "x"], ["write", "--to", "docker", "x"], ["read", "--from", "docker", "x"], ["facts", "--yaml", "x"]:
+        for words in [], ["write", "x"], ["write", "--to", "podman", "x"], ["read", "--from", "podman", "x"], ["facts", "--yaml", "x"]:
             self.assertEqual((answer(*words)[0], answer(*words)[2]), ("", 2), words)
 
     @unittest.skipUnless(COMMAND, "no command target-lexicon beside the program")
@@ -462,7 +462,7 @@ class Types(unittest.TestCase):
                 f"reveal_type(Triple('x86_64-linux').{it}.value)" for it in values))
             self.assertEqual(ran.stdout.count('"builtins.str"'), len(values), ran.stdout)
             ran = run(*command, "-c", "from target_lexicon import Dialect, Triple\n" + "\n".join(
-                f"Triple.read('x', {it})" for it in ("'docker'", "'npm'", "str()", "'go'", "Dialect.GO", "Dialect(str())")))
+                f"Triple.read('x', {it})" for it in ("'podman'", "'yarn'", "str()", "'go'", "Dialect.GO", "Dialect(str())")))
             self.assertEqual((ran.stdout.count("error: "), ran.stdout.count("expected \"Union[Dialect, Literal[")), (3, 3), ran.stdout)
             for checked in ["-p", "target_lexicon"], [os.path.join(os.path.dirname(os.path.abspath(__file__)), "typed_sample.py")]:
                 ran = run(*command, "--python-version", "3.9", *checked)

@@ -326,7 +326,7 @@ class Texts(unittest.TestCase):
         with self.assertRaises(ParseError) as caught:
             Triple.read("js/wasm", target_lexicon.Dialect.GO)
         self.assertEqual((repr(caught.exception), caught.exception.dialect), ("ParseError('js/wasm', None, 0, 'js/wasm', 'go')", "go"))
-        for arguments in ("x", "cpu"), ("x", None, 2, "x"), ("x", None, -1), ("x", None, 0, "y"), ("x", None, 0, "x", "docker"):
+        for arguments in ("x", "cpu"), ("x", None, 2, "x"), ("x", None, -1), ("x", None, 0, "y"), ("x", None, 0, "x", "podman"):
             self.assertRaises(ValueError, ParseError, *arguments)
         self.assertRaises(TypeError, ParseError, b"x")
 
