@@ -281,7 +281,8 @@ impl Run {
     fn note(&self, target: Target<'_>) -> Option<String> {
         let text = target.text.trim();
         let is_name = matches!(self.call, Call::Read(_) | Call::Translate(..));
-        if !is_name && TripleRef::from_str(text).is_err() {
+        let parses = TripleRef::from_str(text).is_ok();
+        if !is_name && !parses {
             if let Some(meant) = answers::meaning_elsewhere(text) {
                 return Some(format!(
                     "other tools mean `{meant}`, which `target-lexicon read` gives"
@@ -291,6 +292,7 @@ impl Run {
         let command = match self.call {
             Call::Read(From::Triples) => Some(""),
             Call::Read(_) | Call::Translate(..) => None,
+            _ if parses => None,
             _ => Some("target-lexicon read "),
         };
         if let Some(note) = command.and_then(|command| refusal::dialects_note(command, text)) {
