@@ -9,7 +9,7 @@ ghost use Rattle.lexicon_c.specs.Triple.{Answers, AreNumbersOf, OnTriple};
 use crate::error::{TextError, error_of};
 use crate::triple::{Fault, NumberedTriple, numbers_of, triple_in};
 use tool_names::laws::{names_are_canonical, refused_parts_are_in_the_string};
-use tool_names::{LinuxLibc, Dialect, Name, NameError, TranslateError, WriteError};
+use tool_names::{Dialect, LinuxLibc, Name, NameError, TranslateError, WriteError};
 
 /// The dialect with this number. 0 is no dialect: that of strings that are spelled like triples.
 pub fn dialect_at(number: u32) -> Option<Option<Dialect>>

@@ -33,7 +33,7 @@ ghost use Rattle.uses.specs.Conclusions.{AreCopiesTheSame, CanReplace, CanReplac
 
 use target_lexicon::{Architecture, BinaryFormat, Environment, OperatingSystem};
 use tool_names::{
-    LinuxLibc, Change, Dialect, Name, NameError, Spelling, TranslateError, WriteError,
+    Change, Dialect, LinuxLibc, Name, NameError, Spelling, TranslateError, WriteError,
 };
 
 /// The host's name is read as the host, and without a change.
