@@ -150,16 +150,18 @@ fn names_are_translated(rt: HostRuntime) {
         let (Ok(from), Ok(to)) = (Dialect::from_str(from), Dialect::from_str(to)) else {
             panic!(rt; "{row}");
         };
-        let found = from.translate(name, LinuxLibc::from_str(c_library).ok(), to);
-        let is_expected = match found {
-            Ok(name) => name.as_str() == expected,
-            Err(TranslateError::Read(_)) => expected == "isn't read",
-            Err(TranslateError::Write(WriteError::NoName)) => expected == "has no name",
-            Err(TranslateError::Write(WriteError::NeedsCLibrary)) => {
-                expected == "needs a C library"
-            }
-        };
-        assert!(rt; is_expected, "{row}");
+        match from.translate(name, LinuxLibc::from_str(c_library).ok(), to) {
+            Ok(name) => assert!(rt; name.as_str() == expected, "{row}"),
+            Err(error) => assert!(rt; refusal_text(error) == expected, "{row}"),
+        }
+    }
+}
+
+fn refusal_text(error: TranslateError) -> &'static str {
+    match error {
+        TranslateError::Read(_) => "isn't read",
+        TranslateError::Write(WriteError::NoName) => "has no name",
+        TranslateError::Write(WriteError::NeedsCLibrary) => "needs a C library",
     }
 }
 
