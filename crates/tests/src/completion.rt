@@ -2,7 +2,7 @@
 
 use crate::values::{hash_alike, prints};
 use target_lexicon::TripleRef;
-use tool_names::{Dialect, LinuxLibc, TranslateError, WriteError, complete, read};
+use tool_names::{Dialect, LinuxLibc, complete, read};
 
 /// A triple, and what it is with glibc and with musl.
 const COMPLETED: &str = "\
@@ -117,52 +117,6 @@ fn c_libraries_are_named(rt: HostRuntime) {
         assert!(rt; hash_alike(&c_library, &c_library) && c_library != other);
     }
     assert!(rt; LinuxLibc::from_str("gnu") == Err(()));
-}
-
-/// A name, the dialects that it is translated between, the C library, and the name or why there is none.
-const TRANSLATIONS: &str = "\
-oci linux/arm64/v8 debian glibc arm64
-oci linux/arm64/v8 gnu musl aarch64-linux-musl
-oci linux/arm/v7 debian - needs a C library
-oci linux/arm/v7 go - linux/arm
-oci windows/amd64 debian - has no name
-oci windows/amd64 debian glibc has no name
-oci linux/foo debian glibc isn't read
-go linux/mips64 gnu glibc mips64-linux-gnuabi64
-node linux-x64-musl debian glibc musl-linux-amd64
-debian armhf go musl linux/arm
-debian armhf oci musl has no name
-debian armhf node - linux-arm-glibc";
-
-#[test]
-fn names_are_translated(rt: HostRuntime) {
-    for row in TRANSLATIONS.lines() {
-        let mut columns = row.splitn(5, ' ');
-        let (Some(from), Some(name), Some(to), Some(c_library), Some(expected)) = (
-            columns.next(),
-            columns.next(),
-            columns.next(),
-            columns.next(),
-            columns.next(),
-        ) else {
-            panic!(rt; "{row}");
-        };
-        let (Ok(from), Ok(to)) = (Dialect::from_str(from), Dialect::from_str(to)) else {
-            panic!(rt; "{row}");
-        };
-        match from.translate(name, LinuxLibc::from_str(c_library).ok(), to) {
-            Ok(name) => assert!(rt; name.as_str() == expected, "{row}"),
-            Err(error) => assert!(rt; refusal_text(error) == expected, "{row}"),
-        }
-    }
-}
-
-fn refusal_text(error: TranslateError) -> &'static str {
-    match error {
-        TranslateError::Read(_) => "isn't read",
-        TranslateError::Write(WriteError::NoName) => "has no name",
-        TranslateError::Write(WriteError::NeedsCLibrary) => "needs a C library",
-    }
 }
 
 /// Strings as tools print them, and what is read.

@@ -864,3 +864,37 @@ fn values_of_rustc_are_written() {
     assert_eq!(values["target_family"], json!(["windows"]));
     assert_eq!(values["target_pointer_width"], 64);
 }
+
+/// A name, the dialects that it is translated between, the C library, and the name or why there is none.
+const TRANSLATIONS: &str = "\
+oci linux/arm64/v8 debian glibc arm64
+oci linux/arm64/v8 gnu musl aarch64-linux-musl
+oci linux/arm/v7 debian - it depends on the C library
+oci linux/arm/v7 go - linux/arm
+oci windows/amd64 debian - error: no name of debian
+oci windows/amd64 debian glibc error: no name of debian
+oci linux/foo debian glibc error: unknown name of oci
+go linux/mips64 gnu glibc mips64-linux-gnuabi64
+node linux-x64-musl debian glibc musl-linux-amd64
+debian armhf go musl linux/arm
+debian armhf oci musl error: no name of oci
+debian armhf node - linux-arm-glibc";
+
+#[test]
+fn names_are_translated() {
+    for row in TRANSLATIONS.lines() {
+        let columns: Vec<&str> = row.splitn(5, ' ').collect();
+        let [from, name, to, libc, expected] = columns[..] else {
+            panic!("{row}");
+        };
+        let mut words = vec!["translate", "--from", from, "--to", to, name];
+        if libc != "-" {
+            words.extend(["--libc", libc]);
+        }
+        let (out, errors, status) = answers(&words);
+        match status {
+            0 => assert_eq!(out, format!("{expected}\n"), "{row}"),
+            _ => assert!(errors.contains(expected), "{row}: {errors}"),
+        }
+    }
+}
