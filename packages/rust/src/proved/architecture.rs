@@ -119,7 +119,11 @@ pub enum Architecture {
 }
 
 impl Architecture {
-    /// The byte order. `Err` for `Unknown`.
+    /// The byte order.
+    ///
+    /// # Errors
+    ///
+    /// `()` for `Unknown`.
     ///
     /// # Examples
     ///
@@ -177,7 +181,11 @@ impl Architecture {
         }
     }
 
-    /// The width of a pointer, independent of the ABI. `Err` for `Unknown`.
+    /// The width of a pointer, independent of the ABI.
+    ///
+    /// # Errors
+    ///
+    /// `()` for `Unknown`.
     ///
     /// # Examples
     ///
