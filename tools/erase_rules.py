@@ -47,7 +47,8 @@ INLINE = {
     "put", "Refusal::write_to",
 }
 INLINE_MODULES = {
-    "distance", "macos", "misspelling", "nearest", "settle", "settles_as", "spelling", "suggestions",
+    "aarch64", "arm", "clever", "distance", "macos", "mips", "misspelling", "nearest", "queries", "riscv", "settle", "settles_as", "spelling",
+    "suggestions", "x86_32", "z80",
 }
 
 # Calls that constants can use: what `const fn` can have in Rust 1.65.

@@ -22,6 +22,7 @@ impl TripleRef<'_> {
     /// let triple = TripleRef::from_str("s390x-unknown-linux-gnu").unwrap();
     /// assert_eq!(triple.endianness(), Ok(Endianness::Big));
     /// ```
+    #[inline]
     pub const fn endianness(&self) -> Result<Endianness, ()> {
         self.architecture.endianness()
     }
@@ -40,6 +41,7 @@ impl TripleRef<'_> {
     /// let triple = TripleRef::from_str("avr-unknown-none").unwrap();
     /// assert_eq!(triple.pointer_width(), Ok(PointerWidth::U16));
     /// ```
+    #[inline]
     pub const fn pointer_width(&self) -> Result<PointerWidth, ()> {
         match self.environment {
             Environment::Gnux32 | Environment::GnuIlp32 => Ok(PointerWidth::U32),
@@ -61,6 +63,7 @@ impl TripleRef<'_> {
     /// let triple = TripleRef::from_str("x86_64-unknown-linux-gnu").unwrap();
     /// assert_eq!(triple.default_calling_convention(), Ok(CallingConvention::SystemV));
     /// ```
+    #[inline]
     pub const fn default_calling_convention(&self) -> Result<CallingConvention, ()> {
         match self.operating_system {
             OperatingSystem::Darwin(_)
@@ -126,6 +129,7 @@ impl TripleRef<'_> {
     /// let triple = TripleRef::from_str("x86_64-pc-windows-msvc").unwrap();
     /// assert_eq!(triple.data_model(), Ok(CDataModel::LLP64));
     /// ```
+    #[inline]
     pub fn data_model(&self) -> Result<CDataModel, ()> {
         match self.pointer_width()? {
             PointerWidth::U64 => self.data_model_64(),
@@ -135,6 +139,7 @@ impl TripleRef<'_> {
     }
 
     /// The data model for pointers of 64 bits.
+    #[inline]
     fn data_model_64(&self) -> Result<CDataModel, ()> {
         match self.operating_system {
             OperatingSystem::Windows => Ok(CDataModel::LLP64),
@@ -151,6 +156,7 @@ impl TripleRef<'_> {
     }
 
     /// The data model for pointers of 32 bits.
+    #[inline]
     fn data_model_32(&self) -> Result<CDataModel, ()> {
         match self.operating_system {
             OperatingSystem::Windows => Ok(CDataModel::ILP32),
@@ -179,6 +185,7 @@ impl Triple {
     ///
     /// assert_eq!(triple!("s390x-unknown-linux-gnu").endianness(), Ok(Endianness::Big));
     /// ```
+    #[inline]
     pub fn endianness(&self) -> Result<Endianness, ()> {
         self.as_triple_ref().endianness()
     }
@@ -198,6 +205,7 @@ impl Triple {
     /// assert_eq!(triple!("x86_64-unknown-linux-gnu").pointer_width(), Ok(PointerWidth::U64));
     /// assert_eq!(triple!("x86_64-unknown-linux-gnux32").pointer_width(), Ok(PointerWidth::U32));
     /// ```
+    #[inline]
     pub fn pointer_width(&self) -> Result<PointerWidth, ()> {
         self.as_triple_ref().pointer_width()
     }
@@ -218,6 +226,7 @@ impl Triple {
     /// assert_eq!(convention, Ok(CallingConvention::AppleAarch64));
     /// assert_eq!(triple!("wasm32-wasip1").default_calling_convention(), Err(()));
     /// ```
+    #[inline]
     pub fn default_calling_convention(&self) -> Result<CallingConvention, ()> {
         self.as_triple_ref().default_calling_convention()
     }
@@ -237,6 +246,7 @@ impl Triple {
     /// assert_eq!(triple!("x86_64-pc-windows-msvc").data_model(), Ok(CDataModel::LLP64));
     /// assert_eq!(triple!("avr-unknown-none").data_model(), Err(()));
     /// ```
+    #[inline]
     pub fn data_model(&self) -> Result<CDataModel, ()> {
         self.as_triple_ref().data_model()
     }
