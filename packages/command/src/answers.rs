@@ -9,10 +9,11 @@ use target_lexicon::tool_names::{
     TypeLayout,
 };
 use target_lexicon::{
-    default_binary_format, Architecture, CDataModel, Field, Size, Source, TripleRef, VendorRef,
+    default_binary_format, Architecture, CDataModel, CallingConvention, Endianness, Field,
+    PointerWidth, Size, Source, TripleRef, VendorRef,
 };
 
-pub fn canonical<'a>(triple: TripleRef<'a>) -> TripleRef<'a> {
+pub fn canonical(triple: TripleRef<'_>) -> TripleRef<'_> {
     triple.settle().expect("a vendor that was parsed is plain")
 }
 
@@ -200,11 +201,11 @@ pub fn cfg(triple: &TripleRef<'_>) -> Object {
         ("target_vendor", cfg.target_vendor.into()),
         (
             "target_pointer_width",
-            cfg.target_pointer_width.map(|it| it.bits()).into(),
+            cfg.target_pointer_width.map(PointerWidth::bits).into(),
         ),
         (
             "target_endian",
-            cfg.target_endian.map(|it| it.name()).into(),
+            cfg.target_endian.map(Endianness::name).into(),
         ),
     ]
 }
@@ -227,21 +228,21 @@ pub fn facts(triple: &TripleRef<'_>) -> Object {
     members.extend([
         (
             "endianness",
-            triple.endianness().ok().map(|it| it.name()).into(),
+            triple.endianness().ok().map(Endianness::name).into(),
         ),
         (
             "pointer_width",
-            triple.pointer_width().ok().map(|it| it.bits()).into(),
+            triple.pointer_width().ok().map(PointerWidth::bits).into(),
         ),
         (
             "default_calling_convention",
             triple
                 .default_calling_convention()
                 .ok()
-                .map(|it| it.name())
+                .map(CallingConvention::name)
                 .into(),
         ),
-        ("data_model", model.map(|it| it.name()).into()),
+        ("data_model", model.map(CDataModel::name).into()),
         ("short_size", bytes(CDataModel::short_size)),
         ("int_size", bytes(CDataModel::int_size)),
         ("long_size", bytes(CDataModel::long_size)),
@@ -260,8 +261,8 @@ pub fn facts(triple: &TripleRef<'_>) -> Object {
             triple.operating_system.is_like_darwin().into(),
         ),
         ("has_custom_vendor", triple.vendor.is_custom().into()),
-        ("c_library", CLibrary::of(triple).map(|it| it.name()).into()),
-        ("float_abi", FloatAbi::of(triple).map(|it| it.name()).into()),
+        ("c_library", CLibrary::of(triple).map(CLibrary::name).into()),
+        ("float_abi", FloatAbi::of(triple).map(FloatAbi::name).into()),
         ("is_unix", is_unix(triple).into()),
         ("long_double_size", long_double.map(|it| it.size).into()),
         (

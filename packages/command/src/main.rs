@@ -140,9 +140,10 @@ impl Answers for Run {
                     },
                     Found::Read(triple) => {
                         writeln!(out, "{}", answers::canonical(triple))?;
-                        match shows_changes {
-                            true => answers::write_changes(out, target.text),
-                            false => Ok(()),
+                        if shows_changes {
+                            answers::write_changes(out, target.text)
+                        } else {
+                            Ok(())
                         }
                     }
                     Found::Meanings(meanings) => {
@@ -469,9 +470,10 @@ fn usage(error: &clap::Error) -> Result<i32, Fault> {
     let mut outputs = Outputs::plain();
     let text = usage_text(error) + &target_note(error);
     let is_wrong = error.use_stderr();
-    match is_wrong {
-        true => outputs.refuse(|out, _| out.write_all(text.as_bytes()))?,
-        false => outputs.write(|out| out.write_all(text.as_bytes()))?,
+    if is_wrong {
+        outputs.refuse(|out, _| out.write_all(text.as_bytes()))?;
+    } else {
+        outputs.write(|out| out.write_all(text.as_bytes()))?;
     }
     outputs.flush()?;
     Ok(if is_wrong { 2 } else { 0 })

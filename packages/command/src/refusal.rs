@@ -195,9 +195,12 @@ impl Refusal<'_> {
         has_color: bool,
         help: &Help,
     ) -> io::Result<()> {
-        let color = |code: &str, text: &str| match has_color {
-            true => format!("\x1b[{code}m{text}\x1b[0m"),
-            false => text.to_string(),
+        let color = |code: &str, text: &str| {
+            if has_color {
+                format!("\x1b[{code}m{text}\x1b[0m")
+            } else {
+                text.to_string()
+            }
         };
         let (before, after) = (
             &target.text[..self.part.start],
