@@ -184,7 +184,8 @@ static void try_bad(struct lexicon_triple bad, enum lexicon_status status, const
   fill(out, sizeof out);
   fill(&facts, sizeof facts);
   expect(lexicon_print(&bad, out, sizeof out, &length) == status && length == 77 && is_filled(out, sizeof out), "bad print", what);
-  expect(lexicon_facts(&bad, &facts, sizeof facts) == status && is_filled(&facts, sizeof facts), "bad facts", what);
+  for (size_t size = 0; size <= sizeof facts; size++)
+    expect(lexicon_facts(&bad, &facts, size) == status && is_filled(&facts, sizeof facts), "bad facts", what);
   expect(lexicon_settle(&copy) == status && are_same(&copy, &bad), "bad settle", what);
   expect(lexicon_complete(&copy, LEXICON_LINUX_LIBC_GLIBC) == status && are_same(&copy, &bad), "bad complete", what);
   expect(lexicon_comes_back(&bad, &answer) == status && answer, "bad comes_back", what);
