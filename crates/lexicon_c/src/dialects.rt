@@ -1,9 +1,10 @@
 //! Names of targets in other tools.
-ghost use Rattle.std.specs.Prelude.{◌≡◌, option_map, slice_get};
+ghost use Rattle.std.specs.Prelude.{◌≡◌, None, option_map, slice_get};
 ghost use Rattle.tool_names.specs.Completion.{completed};
 ghost use Rattle.tool_names.specs.Spelling.{spelled_reading};
-ghost use Rattle.tool_names.specs.ToolNames.{name_bytes, name_meaning, triple_name, unread_of};
-ghost use Rattle.lexicon_c.specs.Dialects.{GivesTriple, IsNameSuggestion, c_libraries_by_number, dialect_reading, dialects_by_number, name_error, name_or_error, reason_of, text_translation, write_error};
+ghost use Rattle.tool_names.specs.ToolNames.{name_meaning, unread_of};
+ghost use Rattle.tool_names.specs.Translation.{write_outcome, written};
+ghost use Rattle.lexicon_c.specs.Dialects.{GivesTriple, IsNameSuggestion, c_libraries_by_number, dialect_reading, dialects_by_number, name_error, name_or_error, reason_of, text_translation, unwritten_status, write_error};
 ghost use Rattle.lexicon_c.specs.Triple.{Answers, AreNumbersOf, OnTriple};
 
 use crate::error::{TextError, error_of};
@@ -60,13 +61,16 @@ pub fn read(dialect: Option<Dialect>, text: &str) -> Result<NumberedTriple<'_>, 
     }
 }
 
-/// The name of a triple in a dialect, if it has one.
-pub fn name_in(dialect: Dialect, triple: &NumberedTriple<'_>) -> Result<Option<Name>, Fault>
+/// The name of a triple in a dialect; or why it has none.
+pub fn name_in(
+    dialect: Dialect,
+    triple: &NumberedTriple<'_>,
+) -> Result<Result<Name, WriteError>, Fault>
     ensures { OnTriple triple.now (λ t.
-        Answers (λ name. option_map name_bytes name ≡ triple_name dialect t)) result }
+        Answers (λ name. write_outcome name ≡ written dialect None t)) result }
 {
     match triple_in(triple) {
-        Ok(named) => Ok(dialect.write(&named)),
+        Ok(named) => Ok(dialect.write_with(&named, None)),
         Err(fault) => Err(fault),
     }
 }
@@ -166,11 +170,18 @@ fn write_error(error: WriteError, name: &str) -> TextError
     ensures { result ≡ write_error name.now error }
 {
     TextError {
-        status: match error {
-            WriteError::NoName => 14,
-            WriteError::NeedsCLibrary => 17,
-        },
+        status: unwritten_status(error),
         start: 0,
         end: name.len(),
+    }
+}
+
+/// Why a triple isn't written, as a number.
+pub fn unwritten_status(error: WriteError) -> u32
+    ensures { result ≡ unwritten_status error }
+{
+    match error {
+        WriteError::NoName => 14,
+        WriteError::NeedsCLibrary => 17,
     }
 }

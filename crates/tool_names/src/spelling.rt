@@ -362,7 +362,7 @@ fn are_digits_or_dots(bytes: &[u8]) -> bool
     bytes.iter().all(|byte| is_digit_or_dot(*byte))
 }
 
-fn is_digit_or_dot(byte: u8) -> bool
+pub(crate) fn is_digit_or_dot(byte: u8) -> bool
     ensures { result ≡ is_digit_or_dot byte }
 {
     byte.is_ascii_digit() || byte == b'.'

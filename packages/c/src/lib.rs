@@ -31,10 +31,11 @@ use names::{c_name, c_reason};
 use proved::triple::CUSTOM_VENDOR;
 use proved::{
     c_library_at, complete, dialect_at, explain, field_at, first_facts, name_at, name_in, name_suggestion, number_in, parse, print,
-    query_facts, read, reason, same_target, settle, translate, Facts, Fault, FieldSource, FieldSources, FirstFacts, NumberedTriple,
-    QueryFacts, TextError, TripleNumbers,
+    query_facts, read, reason, same_target, settle, translate, unwritten_status, Facts, Fault, FieldSource, FieldSources, FirstFacts,
+    NumberedTriple, QueryFacts, TextError, TripleNumbers,
 };
-use target_lexicon::{tool_names, Field};
+use target_lexicon::tool_names::{self, Suggestion};
+use target_lexicon::Field;
 use text::{shown, write_text, written, Text};
 
 /// `enum lexicon_status`. From 1 to 6 a text is refused, where a value of the first to the fifth field was expected, or none.
@@ -54,6 +55,7 @@ const TOO_LARGE: Status = 16;
 const NEEDS_C_LIBRARY: Status = 17;
 const NO_SUCH_C_LIBRARY: Status = 18;
 const NO_SUCH_CHANGE: Status = 19;
+const NO_SUGGESTION: Status = 20;
 
 /// The greatest size of anything in memory, `PTRDIFF_MAX`. Rust has no slice that is larger.
 const MAX_SIZE: usize = isize::MAX as usize;
@@ -360,7 +362,7 @@ pub unsafe extern "C" fn lexicon_write(
             return Err(TOO_LARGE);
         }
         let dialect = dialect_at(dialect).flatten().ok_or(NO_SUCH_DIALECT)?;
-        name_in(dialect, &unsafe { Triple::read(triple) })?.ok_or(TRIPLE_WITHOUT_NAME)
+        name_in(dialect, &unsafe { Triple::read(triple) })?.map_err(unwritten_status)
     };
     match find() {
         Ok(name) => unsafe { write_text(out, out_size, length, |out| Ok(written(name.as_str(), out))) },
@@ -471,18 +473,33 @@ pub unsafe extern "C" fn lexicon_error_text(
 }
 
 #[no_mangle]
-pub unsafe extern "C" fn lexicon_suggestion(text: *const u8, text_size: usize, error: *const TextError) -> *const u8 {
-    let refused = unsafe { refused_at(text, text_size, error) }.ok();
-    refused.and_then(|(bytes, error)| suggestion(bytes, &error)).map_or(null(), c_name)
+pub unsafe extern "C" fn lexicon_suggestion(
+    text: *const u8,
+    text_size: usize,
+    error: *const TextError,
+    out: *mut u8,
+    out_size: usize,
+    length: *mut usize,
+) -> Status {
+    match unsafe { refused_at(text, text_size, error) } {
+        Err(TOO_LARGE) => TOO_LARGE,
+        refused => unsafe { write_suggestion(refused.ok().and_then(|(bytes, error)| suggestion(bytes, &error)), out, out_size, length) },
+    }
 }
 
 #[no_mangle]
-pub unsafe extern "C" fn lexicon_vendor_suggestion(triple: *const Triple) -> *const u8 {
+pub unsafe extern "C" fn lexicon_vendor_suggestion(triple: *const Triple, out: *mut u8, out_size: usize, length: *mut usize) -> Status {
     let triple = unsafe { Triple::read(triple) };
-    let vendor = str::from_utf8(triple.custom_vendor).unwrap_or("");
-    match vendor {
-        "" => null(),
-        _ => tool_names::suggestion(Field::Vendor, vendor).map_or(null(), c_name),
+    let vendor = str::from_utf8(triple.custom_vendor).ok().filter(|vendor| !vendor.is_empty());
+    unsafe { write_suggestion(vendor.and_then(|vendor| tool_names::suggestion(Field::Vendor, vendor)), out, out_size, length) }
+}
+
+/// Writes a suggestion if there is one.
+unsafe fn write_suggestion(found: Option<Suggestion<'_>>, out: *mut u8, out_size: usize, length: *mut usize) -> Status {
+    match found {
+        _ if out_size > MAX_SIZE => TOO_LARGE,
+        Some(found) => unsafe { write_text(out, out_size, length, |out| Ok(shown(&found, out))) },
+        None => NO_SUGGESTION,
     }
 }
 

@@ -10,7 +10,7 @@ use target_lexicon::tool_names::{
 };
 use target_lexicon::{
     default_binary_format, Architecture, CDataModel, CallingConvention, Endianness, Field,
-    PointerWidth, Size, Source, TripleRef, VendorRef,
+    PointerWidth, Size, Source, Suggestion, TripleRef, VendorRef,
 };
 
 pub fn canonical(triple: TripleRef<'_>) -> TripleRef<'_> {
@@ -70,8 +70,8 @@ fn origin<'a>(explanation: &Parsed<'a>, field: Field) -> (&'static str, Option<&
     }
 }
 
-/// The known name that was perhaps meant by a custom vendor.
-fn suggestion(vendor: VendorRef<'_>) -> Option<&'static str> {
+/// What was perhaps meant by a custom vendor.
+fn suggestion(vendor: VendorRef<'_>) -> Option<Suggestion<'_>> {
     match vendor {
         VendorRef::Custom(text) => tool_names::suggestion(Field::Vendor, text),
         VendorRef::Known(_) => None,
@@ -176,7 +176,8 @@ pub fn explained(explanation: &Parsed<'_>) -> Object {
         }
     }
     members.push(("has_custom_vendor", triple.vendor.is_custom().into()));
-    members.push(("suggestion", suggestion(triple.vendor).into()));
+    let suggestion = suggestion(triple.vendor).map(|it| it.to_string());
+    members.push(("suggestion", suggestion.into()));
     members
 }
 

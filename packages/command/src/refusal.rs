@@ -31,7 +31,7 @@ enum Names<'a> {
 /// What the user may have meant by a target that is refused.
 #[derive(Clone)]
 pub struct Help {
-    pub suggestion: Option<&'static str>,
+    pub suggestion: Option<String>,
     pub note: Option<String>,
 }
 
@@ -177,14 +177,15 @@ fn key_of(field: Field) -> Option<&'static str> {
 }
 
 impl Refusal<'_> {
-    /// The name that is suggested.
-    pub fn suggestion(&self) -> Option<&'static str> {
-        match &self.names {
+    /// What is suggested.
+    pub fn suggestion(&self) -> Option<String> {
+        let found = match &self.names {
             Names::OfParts(refusal) => refusal.suggestion(),
             Names::OfVendors(vendor) => tool_names::suggestion(Field::Vendor, vendor),
-            Names::OfDialect(dialect, name) => dialect.suggestion(name),
+            Names::OfDialect(dialect, name) => return dialect.suggestion(name).map(str::to_string),
             Names::No => None,
-        }
+        };
+        found.map(|it| it.to_string())
     }
 
     /// The place, what is wrong, the target, and carets below the part.
@@ -233,7 +234,7 @@ impl Refusal<'_> {
             " ".repeat(before.chars().count()),
             color("1;31", &carets)
         )?;
-        match (help.suggestion, self.reason) {
+        match (&help.suggestion, self.reason) {
             (Some(name), _) => write!(out, " did you mean `{}`?", color("1;32", name))?,
             (None, Some(reason)) => write!(out, " {reason}")?,
             (None, None) => {}
@@ -260,7 +261,7 @@ impl Refusal<'_> {
             ("start", self.part.start.into()),
             ("end", self.part.range().end.into()),
             ("field", Json::from(self.field.and_then(key_of))),
-            ("suggestion", help.suggestion.into()),
+            ("suggestion", help.suggestion.clone().into()),
         ]
     }
 }

@@ -161,7 +161,7 @@ class Names(unittest.TestCase):
                 self.assertRaisesRegex(TypeError, "the dialect must be of type Dialect or str", call, value)
         self.assertRaises(TypeError, calls[1], None)
         for number in 0, len(Dialect) + 1:
-            self.assertRaises(target_lexicon.LibraryError, _library.name_in, number, Triple("x86_64-linux")._struct)
+            self.assertRaises(target_lexicon.LibraryError, _library.write, number, Triple("x86_64-linux")._struct)
 
     def test_a_c_library_completes(self):
         for text, glibc, musl in (("aarch64-linux", "aarch64-unknown-linux-gnu", "aarch64-unknown-linux-musl"),

@@ -86,6 +86,8 @@ pub use proved::{
     Vendor, VendorRef, X86_32Architecture, Z80Architecture,
 };
 
+pub use proved::tool_names::Suggestion;
+
 #[cfg(feature = "tool_names")]
 pub use proved::tool_names;
 

@@ -381,7 +381,7 @@ class Triple:
 
         The vendor doesn't matter, nor what the dialect doesn't name.
         """
-        return _library.name_in(dialect_number(dialect), self._struct)
+        return _library.write(dialect_number(dialect), self._struct)[1]
 
     def complete(self, libc: Union[LinuxLibc, LinuxLibcName]) -> Triple:
         """The triple with the usual environment of a C library, if it is of Linux and states none; any other one as it is.

@@ -292,7 +292,7 @@ fn are_digits_or_dots(bytes: &[u8]) -> bool {
 }
 
 #[inline]
-fn is_digit_or_dot(byte: u8) -> bool {
+pub(crate) fn is_digit_or_dot(byte: u8) -> bool {
     byte.is_ascii_digit() || byte == b'.'
 }
 
