@@ -363,6 +363,7 @@ arm-buildroot-linux-uclibcgnueabihf=uclibcgnueabihf:uclibceabihf
 armv7-linux-androideabi21=androideabi21:androideabi
 x86_64--linux=:unknown
 x86_64-none-linux=none:unknown
+arm-rtems6-eabihf=rtems6:unknown-rtems6
 x86_64-unknown-linux-gnu=";
 
 #[test]
