@@ -17,6 +17,7 @@ pub use calls::{
 };
 pub use dialects::{
     c_library_at, complete, dialect_at, name_in, name_suggestion, read, reason, translate,
+    versioned_name_in,
 };
 pub use error::{TextError, expected_at};
 pub use numbers::{name_at, number_in};

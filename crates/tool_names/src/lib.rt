@@ -23,6 +23,7 @@ mod reading;
 mod rustc_cfg;
 mod shape;
 mod spelling;
+mod stated_version;
 mod suggestions;
 mod tables;
 mod translation;

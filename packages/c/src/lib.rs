@@ -32,10 +32,11 @@ use proved::triple::{triple_in, CUSTOM_VENDOR};
 use proved::triple_facts::{driver_facts_of, format_facts_of, query_facts_of};
 use proved::{
     c_library_at, complete, dialect_at, explain, field_at, name_at, name_in, name_suggestion, number_in, parse, print, read, reason,
-    same_target, settle, translate, DriverFacts, Fault, FieldSource, FieldSources, FormatFacts, NumberedTriple, QueryFacts, TextError,
+    same_target, settle, translate, versioned_name_in, DriverFacts, Fault, FieldSource, FieldSources, FormatFacts, NumberedTriple, QueryFacts, TextError,
     TripleNumbers,
 };
-use target_lexicon::{tool_names, Field};
+use target_lexicon::tool_names::{self, Dialect, Name};
+use target_lexicon::Field;
 use text::{shown, write_text, written, Text};
 
 /// `enum lexicon_status`. From 1 to 6 a text is refused, where a value of the first to the fifth field was expected, or none.
@@ -383,14 +384,40 @@ pub unsafe extern "C" fn lexicon_write(
     out_size: usize,
     length: *mut usize,
 ) -> Status {
-    let find = || {
+    unsafe { write_name(dialect, triple, name_in, out, out_size, length) }
+}
+
+#[no_mangle]
+pub unsafe extern "C" fn lexicon_write_versioned(
+    dialect: u32,
+    triple: *const Triple,
+    major: u32,
+    minor: u32,
+    out: *mut u8,
+    out_size: usize,
+    length: *mut usize,
+) -> Status {
+    let find = |dialect, triple: &NumberedTriple<'_>| versioned_name_in(dialect, triple, major, minor);
+    unsafe { write_name(dialect, triple, find, out, out_size, length) }
+}
+
+/// Writes the name of a triple that is found in a dialect.
+unsafe fn write_name(
+    dialect: u32,
+    triple: *const Triple,
+    find: impl FnOnce(Dialect, &NumberedTriple<'_>) -> Result<Option<Name>, Fault>,
+    out: *mut u8,
+    out_size: usize,
+    length: *mut usize,
+) -> Status {
+    let named = || {
         if out_size > MAX_SIZE {
             return Err(TOO_LARGE);
         }
         let dialect = dialect_at(dialect).flatten().ok_or(NO_SUCH_DIALECT)?;
-        name_in(dialect, &unsafe { Triple::read(triple) })?.ok_or(TRIPLE_WITHOUT_NAME)
+        find(dialect, &unsafe { Triple::read(triple) })?.ok_or(TRIPLE_WITHOUT_NAME)
     };
-    match find() {
+    match named() {
         Ok(name) => unsafe { write_text(out, out_size, length, |out| Ok(written(name.as_str(), out))) },
         Err(status) => status,
     }

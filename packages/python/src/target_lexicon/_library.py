@@ -192,6 +192,7 @@ facts = _declare("lexicon_facts", _TRIPLE, POINTER(FactsStruct), c_size_t)
 print_into = _declare("lexicon_print", _TRIPLE, c_void_p, c_size_t, _SIZE)
 read = _declare("lexicon_read", c_uint32, c_char_p, c_size_t, _TRIPLE, _ERROR)
 _write = _declare("lexicon_write", c_uint32, _TRIPLE, c_void_p, c_size_t, _SIZE)
+_write_versioned = _declare("lexicon_write_versioned", c_uint32, _TRIPLE, c_uint32, c_uint32, c_void_p, c_size_t, _SIZE)
 complete = _declare("lexicon_complete", _TRIPLE, c_uint32)
 _translate = _declare("lexicon_translate", c_uint32, c_char_p, c_size_t, c_uint32, c_uint32, c_void_p, c_size_t, _SIZE, _ERROR)
 _changes = _declare("lexicon_changes", c_char_p, c_size_t, c_size_t, POINTER(ChangeStruct), c_void_p, c_size_t, _SIZE)
@@ -265,10 +266,13 @@ def vendor_suggestion(triple: TripleStruct) -> Optional[str]:
     return None if found is None else found.decode()
 
 
-def name_in(dialect: int, triple: TripleStruct) -> Optional[str]:
+def name_in(dialect: int, triple: TripleStruct, version: Optional[Tuple[int, int]]) -> Optional[str]:
     """The name of a triple in a dialect, which has at most 36 bytes, or None if there is none."""
     out = TextBuffer()
-    status = _write(dialect, triple, out, FIRST_SIZE, None)
+    if version is None:
+        status = _write(dialect, triple, out, FIRST_SIZE, None)
+    else:
+        status = _write_versioned(dialect, triple, *version, out, FIRST_SIZE, None)
     if status == TRIPLE_WITHOUT_NAME:
         return None
     check(status)
