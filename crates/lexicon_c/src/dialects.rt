@@ -2,9 +2,9 @@
 ghost use Rattle.std.specs.Prelude.{◌≡◌, None, option_map, slice_get};
 ghost use Rattle.tool_names.specs.Completion.{completed};
 ghost use Rattle.tool_names.specs.Spelling.{spelled_reading};
-ghost use Rattle.tool_names.specs.ToolNames.{name_meaning, unread_of};
+ghost use Rattle.tool_names.specs.ToolNames.{name_bytes, name_meaning, unread_of};
 ghost use Rattle.tool_names.specs.Translation.{write_outcome, written};
-ghost use Rattle.lexicon_c.specs.Dialects.{GivesTriple, IsNameSuggestion, c_libraries_by_number, dialect_reading, dialects_by_number, name_error, name_or_error, reason_of, text_translation, unwritten_status, write_error};
+ghost use Rattle.lexicon_c.specs.Dialects.{GivesTriple, IsNameSuggestion, c_libraries_by_number, dialect_reading, dialects_by_number, name_error, name_or_error, name_with_numbers, reason_of, text_translation, unwritten_status, write_error};
 ghost use Rattle.lexicon_c.specs.Triple.{Answers, AreNumbersOf, OnTriple};
 
 use crate::error::{TextError, error_of};
@@ -71,6 +71,25 @@ pub fn name_in(
 {
     match triple_in(triple) {
         Ok(named) => Ok(dialect.write_with(&named, None)),
+        Err(fault) => Err(fault),
+    }
+}
+
+/// The name of a triple in a dialect that states a version, if it has one and each number is in range.
+pub fn versioned_name_in(
+    dialect: Dialect,
+    triple: &NumberedTriple<'_>,
+    major: u32,
+    minor: u32,
+) -> Result<Option<Name>, Fault>
+    ensures { OnTriple triple.now (λ t.
+        Answers (λ name. option_map name_bytes name ≡ name_with_numbers dialect t major minor)) result }
+{
+    match triple_in(triple) {
+        Ok(named) => match (u16::try_from(major), u8::try_from(minor)) {
+            (Ok(major), Ok(minor)) => Ok(dialect.write_versioned(&named, major, minor)),
+            _ => Ok(None),
+        },
         Err(fault) => Err(fault),
     }
 }

@@ -15,7 +15,8 @@ pub use calls::{
     comes_back, equal, explain, facts, first_facts, parse, print, query_facts, same_target, settle,
 };
 pub use dialects::{
-    c_library_at, complete, dialect_at, name_in, name_suggestion, read, reason, translate, unwritten_status,
+    c_library_at, complete, dialect_at, name_in, name_suggestion, read, reason, translate,
+    unwritten_status, versioned_name_in,
 };
 pub use error::{TextError, expected_at};
 pub use numbers::{name_at, number_in};

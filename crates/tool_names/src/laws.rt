@@ -7,6 +7,7 @@ ghost use Rattle.tool_names.specs.Distance.{edit_distance, IsLeastEdits};
 ghost use Rattle.tool_names.specs.Laws.{NamesAreCanonical, NamesKeepAnswers, NamesMeanTheShape, NamesMeanTheirRows, NamesReadBack, NamesWithoutTripleAreRefused, OneNumberIsEnough, ShapesAreFixed, TagsMeanTheSame};
 ghost use Rattle.tool_names.specs.ObjectFormat.{GivenFormatsAreKept};
 ghost use Rattle.tool_names.specs.Spelling.{KnownNamesAreReadAsBefore, ListedPartsAreUnknown, OnceIsEnough, ReadingAgainIsTheSame, RefusalsAreAtTheRefusedName, RefusedPartsAreInTheString};
+ghost use Rattle.tool_names.specs.StatedVersion.{VersionedNamesAreRead};
 ghost use Rattle.tool_names.specs.Suggestion.{SuggestionsHaveAPlace, suggestion_text};
 ghost use Rattle.tool_names.specs.ToolNames.{name_bytes, unread_of};
 ghost use Rattle.tool_names.specs.Translation.{untranslated_of};
@@ -136,6 +137,13 @@ pub fn one_number_is_enough()
 #[tactic(auto, using(crate::proofs::NameLaws::names_mean_shape))]
 pub fn names_mean_the_shape()
     ensures { NamesMeanTheShape }
+{
+    round_is_normal_step();
+}
+
+/// A name with a version, which a caller says, is read: it means the triple, with that version if its system is macOS or iOS.
+pub fn versioned_names_are_read()
+    ensures { VersionedNamesAreRead }
 {
     round_is_normal_step();
 }

@@ -23,6 +23,7 @@ mod reading;
 mod rustc_cfg;
 mod shape;
 mod spelling;
+mod stated_version;
 mod suggested;
 mod suggestions;
 mod tables;

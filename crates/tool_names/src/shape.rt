@@ -1,7 +1,7 @@
 //! The shape of a triple in a dialect.
 ghost use Rattle.std.specs.Prelude.{◌≡◌, option_map};
 ghost use Rattle.target_lexicon.specs.ValuesRef.{values_of_ref};
-ghost use Rattle.tool_names.specs.Shape.{abi_by, abi_on_systems, arm_of_linux, arm_of_order, arm_of_version, arm_of_windows, is_bare_abi, is_dropped_abi, machine_by, machine_of_rustc, shape, system_by, two_numbers, unversioned, unversioned_machine, usual_vendor, with_two_numbers};
+ghost use Rattle.tool_names.specs.Shape.{abi_by, abi_on_systems, arm_of_linux, arm_of_order, arm_of_version, arm_of_windows, is_bare_abi, is_dropped_abi, machine_by, machine_of_rustc, shape, shape_by, system_by, two_numbers, unversioned, unversioned_machine, usual_vendor, with_two_numbers};
 
 use crate::dialect::Dialect;
 use target_lexicon::{
@@ -66,14 +66,22 @@ impl Dialect {
     pub fn shape(self, triple: &TripleRef<'_>) -> TripleRef<'static>
         ensures { values_of_ref result ≡ shape self (values_of_ref triple.now) }
     {
-        let rules = self.rules();
+        self.rules().shape(triple)
+    }
+}
+
+impl Rules {
+    /// The triple without what isn't stated.
+    pub(crate) fn shape(self, triple: &TripleRef<'_>) -> TripleRef<'static>
+        ensures { values_of_ref result ≡ shape_by self (values_of_ref triple.now) }
+    {
         TripleRef {
-            architecture: rules
+            architecture: self
                 .machine
                 .architecture(triple.operating_system, triple.architecture),
             vendor: VendorRef::Known(usual_vendor(triple.operating_system)),
-            operating_system: system_by(rules.versions, triple.operating_system),
-            environment: rules
+            operating_system: system_by(self.versions, triple.operating_system),
+            environment: self
                 .abi
                 .environment(triple.operating_system, triple.environment),
             binary_format: triple.binary_format,
@@ -248,7 +256,7 @@ fn abi_on_systems(operating_system: OperatingSystem, environment: Environment) -
 }
 
 /// The system without a version; macOS has one name.
-fn unversioned(operating_system: OperatingSystem) -> OperatingSystem
+pub(crate) fn unversioned(operating_system: OperatingSystem) -> OperatingSystem
     ensures { result ≡ unversioned operating_system }
 {
     match operating_system {

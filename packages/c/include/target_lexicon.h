@@ -562,6 +562,14 @@ enum lexicon_status lexicon_read(uint32_t dialect, const char *text, size_t text
 LEXICON_CHECKED LEXICON_NONNULL(2)
 enum lexicon_status lexicon_write(uint32_t dialect, const struct lexicon_triple *triple, char *out, size_t out_size, size_t *length);
 
+/* The name of a triple in a dialect that states a version which triples don't have: manylinux_2_17_x86_64 of Python with glibc
+   2.17, musllinux_1_2_aarch64 with musl 1.2, macosx_11_0_arm64 with macOS 11.0, or android_21_x86_64 with Android's API level 21,
+   which has no second number: pass 0. LEXICON_TRIPLE_WITHOUT_NAME if the dialect has no such name, or a number is too large for one:
+   over 65535, or 255 for the second. A buffer that is too small is unchanged. */
+LEXICON_CHECKED LEXICON_NONNULL(2)
+enum lexicon_status lexicon_write_versioned(uint32_t dialect, const struct lexicon_triple *triple, uint32_t major, uint32_t minor,
+                                            char *out, size_t out_size, size_t *length);
+
 /* Gives a triple of Linux, whose environment is unknown, the usual one of a C library: gnueabihf, gnu and so on. Only the
    environment changes; any other triple stays as it is. */
 LEXICON_CHECKED LEXICON_NONNULL(1)

@@ -390,6 +390,15 @@ class Triple {
     return name.empty() ? std::nullopt : std::make_optional(std::move(name));
   }
 
+  // The name in a dialect that states a version which triples don't have, as `lexicon_write_versioned` writes it, if there is one.
+  std::optional<std::string> versioned_name_in(Dialect dialect, std::uint32_t major, std::uint32_t minor = 0) const {
+    lexicon_triple triple = c_triple();
+    std::string name = detail::written([&](char* out, std::size_t size, std::size_t* length) {
+      return lexicon_write_versioned(static_cast<std::uint32_t>(dialect), &triple, major, minor, out, size, length);
+    });
+    return name.empty() ? std::nullopt : std::make_optional(std::move(name));
+  }
+
   // The triple with the usual environment of a C library, if it is of Linux and states none; else this one.
   Triple completed(LinuxLibc libc) const {
     lexicon_triple triple = c_triple();

@@ -31,10 +31,10 @@ use names::{c_name, c_reason};
 use proved::triple::CUSTOM_VENDOR;
 use proved::{
     c_library_at, complete, dialect_at, explain, field_at, first_facts, name_at, name_in, name_suggestion, number_in, parse, print,
-    query_facts, read, reason, same_target, settle, translate, unwritten_status, Facts, Fault, FieldSource, FieldSources, FirstFacts,
-    NumberedTriple, QueryFacts, TextError, TripleNumbers,
+    query_facts, read, reason, same_target, settle, translate, unwritten_status, versioned_name_in, Facts, Fault, FieldSource,
+    FieldSources, FirstFacts, NumberedTriple, QueryFacts, TextError, TripleNumbers,
 };
-use target_lexicon::tool_names::{self, Suggestion};
+use target_lexicon::tool_names::{self, Dialect, Name, Suggestion};
 use target_lexicon::Field;
 use text::{shown, write_text, written, Text};
 
@@ -357,14 +357,42 @@ pub unsafe extern "C" fn lexicon_write(
     out_size: usize,
     length: *mut usize,
 ) -> Status {
-    let find = || {
+    let find = |dialect, triple: &NumberedTriple<'_>| name_in(dialect, triple)?.map_err(unwritten_status);
+    unsafe { write_name(dialect, triple, find, out, out_size, length) }
+}
+
+#[no_mangle]
+pub unsafe extern "C" fn lexicon_write_versioned(
+    dialect: u32,
+    triple: *const Triple,
+    major: u32,
+    minor: u32,
+    out: *mut u8,
+    out_size: usize,
+    length: *mut usize,
+) -> Status {
+    let find =
+        |dialect, triple: &NumberedTriple<'_>| versioned_name_in(dialect, triple, major, minor)?.ok_or(TRIPLE_WITHOUT_NAME);
+    unsafe { write_name(dialect, triple, find, out, out_size, length) }
+}
+
+/// Writes the name of a triple that is found in a dialect.
+unsafe fn write_name(
+    dialect: u32,
+    triple: *const Triple,
+    find: impl FnOnce(Dialect, &NumberedTriple<'_>) -> Result<Name, Status>,
+    out: *mut u8,
+    out_size: usize,
+    length: *mut usize,
+) -> Status {
+    let named = || {
         if out_size > MAX_SIZE {
             return Err(TOO_LARGE);
         }
         let dialect = dialect_at(dialect).flatten().ok_or(NO_SUCH_DIALECT)?;
-        name_in(dialect, &unsafe { Triple::read(triple) })?.map_err(unwritten_status)
+        find(dialect, &unsafe { Triple::read(triple) })
     };
-    match find() {
+    match named() {
         Ok(name) => unsafe { write_text(out, out_size, length, |out| Ok(written(name.as_str(), out))) },
         Err(status) => status,
     }

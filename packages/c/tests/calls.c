@@ -586,6 +586,49 @@ static void try_dialects(void) {
   expect(length == 77 && is_filled(out, sizeof out), "write", "unchanged");
 }
 
+/* A triple, the version that its name of Python states, and the name, if it has one. */
+static const struct { const char *text; uint32_t major, minor; const char *name; } versioned[] = {
+    {"x86_64-acme-linux-gnu", 2, 17, "manylinux_2_17_x86_64"},
+    {"armv7a-unknown-linux-gnueabihf", 2, 35, "manylinux_2_35_armv7l"},
+    {"aarch64-unknown-linux-musl", 1, 2, "musllinux_1_2_aarch64"},
+    {"aarch64-apple-darwin", 11, 0, "macosx_11_0_arm64"},
+    {"aarch64-apple-macosx13.1.2", 11, 0, "macosx_11_0_arm64"},
+    {"x86_64-linux-android", 21, 0, "android_21_x86_64"},
+    {"x86_64-linux-android", 21, 1, NULL},
+    {"x86_64-unknown-linux-gnu", 65535, 255, "manylinux_65535_255_x86_64"},
+    {"x86_64-unknown-linux-gnu", 65536, 0, NULL},
+    {"x86_64-unknown-linux-gnu", 2, 256, NULL},
+    {"armv7-unknown-linux-gnueabi", 2, 17, NULL},
+    {"x86_64-unknown-linux", 2, 17, NULL},
+    {"x86_64-pc-windows-msvc", 10, 0, NULL},
+};
+
+static int version_of;
+
+static enum lexicon_status write_versioned(const void *triple, char *out, size_t size, size_t *length) {
+  return lexicon_write_versioned(LEXICON_DIALECT_PYTHON, (const struct lexicon_triple *)triple, versioned[version_of].major,
+                                 versioned[version_of].minor, out, size, length);
+}
+
+static void try_versioned_names(void) {
+  char out[64];
+  for (version_of = 0; version_of < (int)(sizeof versioned / sizeof *versioned); version_of++) {
+    struct lexicon_triple triple = triple_of(versioned[version_of].text);
+    if (versioned[version_of].name) {
+      try_text(write_versioned, &triple, versioned[version_of].name, false);
+    } else {
+      fill(out, sizeof out);
+      expect(write_versioned(&triple, out, sizeof out, NULL) == LEXICON_TRIPLE_WITHOUT_NAME, "no name", versioned[version_of].text);
+      expect(is_filled(out, sizeof out), "write versioned", "unchanged");
+    }
+  }
+  struct lexicon_triple triple = triple_of("x86_64-unknown-linux-gnu");
+  expect(lexicon_write_versioned(LEXICON_DIALECT_NONE, &triple, 2, 17, out, sizeof out, NULL) == LEXICON_NO_SUCH_DIALECT, "no dialect", "0");
+  expect(lexicon_write_versioned(LEXICON_DIALECT_GO, &triple, 2, 17, out, sizeof out, NULL) == LEXICON_TRIPLE_WITHOUT_NAME, "no version", "go");
+  triple.environment = 255;
+  expect(lexicon_write_versioned(LEXICON_DIALECT_GO, &triple, 2, 17, out, sizeof out, NULL) == LEXICON_NO_SUCH_VALUE, "a bad value", "go");
+}
+
 /* A triple, and what it prints with glibc and with musl. */
 static const struct { const char *text, *glibc, *musl; } completed[] = {
     {"aarch64-unknown-linux", "aarch64-unknown-linux-gnu", "aarch64-unknown-linux-musl"},
@@ -745,6 +788,7 @@ int main(void) {
   try_sources();
   try_names();
   try_dialects();
+  try_versioned_names();
   try_translation();
   try_zero_ended();
   fprintf(stderr, "calls: %u right, %u wrong\n", count - failures, failures);

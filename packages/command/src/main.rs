@@ -12,7 +12,7 @@ mod output;
 mod refusal;
 mod streams;
 
-use arguments::{ANY, FIELDS};
+use arguments::{Version, ANY, FIELDS};
 use clap::error::{ContextKind, ContextValue, ErrorKind};
 use clap::ArgMatches;
 use clap_complete::Shell;
@@ -55,7 +55,8 @@ enum Call {
     Check,
     Matrix,
     Read(From),
-    Write(Dialect),
+    /// The name in a dialect, and the version that it states.
+    Write(Dialect, Option<Version>),
     Translate(Dialect, Dialect),
     Cfg,
     Elsewhere,
@@ -216,8 +217,12 @@ impl Run {
         }
         let explanation = refusal::explanation(text, self.is_strict)?;
         match self.call {
-            Call::Write(dialect) => {
+            Call::Write(dialect, None) => {
                 refusal::name_in(dialect, text, self.libc, &explanation.triple).map(Found::Name)
+            }
+            Call::Write(dialect, Some(version)) => {
+                let triple = self.completed(explanation.triple);
+                refusal::versioned_name_in(dialect, text, version, &triple).map(Found::Name)
             }
             _ => Ok(Found::Parsed(explanation)),
         }
@@ -419,7 +424,7 @@ fn from(arguments: &ArgMatches) -> From {
 }
 
 fn libc(call: Call, arguments: &ArgMatches) -> Option<LinuxLibc> {
-    let has_option = matches!(call, Call::Read(_) | Call::Write(_) | Call::Translate(..));
+    let has_option = matches!(call, Call::Read(_) | Call::Write(..) | Call::Translate(..));
     let requested = has_option.then(|| arguments.get_one::<String>("libc"))??;
     requested.parse().ok()
 }
@@ -438,7 +443,10 @@ fn run(arguments: &ArgMatches) -> Result<i32, Fault> {
             dialect(arguments, "to").expect("a dialect is required"),
         ),
         "cfg" => Call::Cfg,
-        "write" => Call::Write(dialect(arguments, "to").expect("a dialect is required")),
+        "write" => Call::Write(
+            dialect(arguments, "to").expect("a dialect is required"),
+            arguments.get_one("with-version").copied(),
+        ),
         "elsewhere" => Call::Elsewhere,
         _ => {
             let mut outputs = Outputs::plain();

@@ -1,5 +1,5 @@
 //! Why a target is refused.
-use crate::arguments::{DIALECTS, FIELDS};
+use crate::arguments::{Version, DIALECTS, FIELDS};
 use crate::input::{Place, Target};
 use crate::json::{Json, Object};
 use crate::From;
@@ -118,6 +118,18 @@ pub fn name_in<'a>(
     dialect
         .write_with(triple, libc)
         .map_err(|error| Refusal::of_written(text, dialect, error))
+}
+
+/// The name with a version that another tool has for a triple.
+pub fn versioned_name_in<'a>(
+    dialect: Dialect,
+    text: &'a str,
+    (major, minor): Version,
+    triple: &TripleRef<'_>,
+) -> Result<Name, Refusal<'a>> {
+    dialect
+        .write_versioned(triple, major, minor)
+        .ok_or_else(|| Refusal::of_written(text, dialect, WriteError::NoName))
 }
 
 impl<'a> Refusal<'a> {

@@ -409,10 +409,15 @@ export class Triple {
     return this.toString();
   }
 
-  /** The name in a dialect, or null if it has none. */
-  nameIn(dialect) {
+  /** The name in a dialect, which may have to state a version, or null if it has none. */
+  nameIn(dialect, version) {
     const it = instance(), number = dialectOf(dialect), { start, used } = it.triple(this);
-    return it.written("write", used, number, start);
+    if (version === undefined) return it.written("write", used, number, start);
+    const [major, minor = 0, ...others] = version;
+    if (others.length || ![major, minor].every((it) => Number.isInteger(it) && it >= 0 && it <= 0xffffffff)) {
+      throw new RangeError("a version has one or two numbers");
+    }
+    return it.written("write_versioned", used, number, start, major, minor);
   }
 
   /** The triple with the usual environment of a C library, if it is of Linux and states none; any other one as it is. */

@@ -193,6 +193,7 @@ facts = _declare("lexicon_facts", _TRIPLE, POINTER(FactsStruct), c_size_t)
 print_into = _declare("lexicon_print", _TRIPLE, c_void_p, c_size_t, _SIZE)
 read = _declare("lexicon_read", c_uint32, c_char_p, c_size_t, _TRIPLE, _ERROR)
 _write = _declare("lexicon_write", c_uint32, _TRIPLE, c_void_p, c_size_t, _SIZE)
+_write_versioned = _declare("lexicon_write_versioned", c_uint32, _TRIPLE, c_uint32, c_uint32, c_void_p, c_size_t, _SIZE)
 complete = _declare("lexicon_complete", _TRIPLE, c_uint32)
 _translate = _declare("lexicon_translate", c_uint32, c_char_p, c_size_t, c_uint32, c_uint32, c_void_p, c_size_t, _SIZE, _ERROR)
 _changes = _declare("lexicon_changes", c_char_p, c_size_t, c_size_t, POINTER(ChangeStruct), c_void_p, c_size_t, _SIZE)
@@ -270,10 +271,13 @@ def _suggestion_of(call: Callable[..., int], *arguments: object) -> Optional[str
     return text_of(call, *arguments).decode()
 
 
-def write(dialect: int, triple: TripleStruct) -> Tuple[int, Optional[str]]:
+def write(dialect: int, triple: TripleStruct, version: Optional[Tuple[int, int]] = None) -> Tuple[int, Optional[str]]:
     """The status, and the name of a triple in a dialect, which has at most 36 bytes. If it is None, the status says why."""
     out = TextBuffer()
-    status = _write(dialect, triple, out, FIRST_SIZE, None)
+    if version is None:
+        status = _write(dialect, triple, out, FIRST_SIZE, None)
+    else:
+        status = _write_versioned(dialect, triple, *version, out, FIRST_SIZE, None)
     if status in (TRIPLE_WITHOUT_NAME, NEEDS_C_LIBRARY):
         return status, None
     check(status)
