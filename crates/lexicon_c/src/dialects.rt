@@ -83,7 +83,8 @@ pub fn versioned_name_in(
     minor: u32,
 ) -> Result<Option<Name>, Fault>
     ensures { OnTriple triple.now (λ t.
-        Answers (λ name. option_map name_bytes name ≡ name_with_numbers dialect t major minor)) result }
+        Answers (λ name.
+        option_map name_bytes name ≡ name_with_numbers dialect t major minor)) result }
 {
     match triple_in(triple) {
         Ok(named) => match (u16::try_from(major), u8::try_from(minor)) {

@@ -56,6 +56,22 @@ pub fn name_in(
     }
 }
 
+/// The name of a triple in a dialect that states a version, if it has one and each number is in range.
+pub fn versioned_name_in(
+    dialect: Dialect,
+    triple: &NumberedTriple<'_>,
+    major: u32,
+    minor: u32,
+) -> Result<Option<Name>, Fault> {
+    match triple_in(triple) {
+        Ok(named) => match (u16::try_from(major), u8::try_from(minor)) {
+            (Ok(major), Ok(minor)) => Ok(dialect.write_versioned(&named, major, minor)),
+            _ => Ok(None),
+        },
+        Err(fault) => Err(fault),
+    }
+}
+
 /// The C library with this number. 0 is none.
 #[must_use]
 pub fn c_library_at(number: u32) -> Option<Option<LinuxLibc>> {

@@ -15,7 +15,7 @@ pub use calls::{
 };
 pub use dialects::{
     c_library_at, complete, dialect_at, name_in, name_suggestion, read, reason, translate,
-    unwritten_status,
+    unwritten_status, versioned_name_in,
 };
 pub use error::{expected_at, TextError};
 pub use numbers::{name_at, number_in};

@@ -37,6 +37,8 @@ pub(crate) mod rustc_cfg;
 pub(crate) mod shape;
 #[cfg_attr(not(feature = "tool_names"), allow(dead_code, unused_imports))]
 pub(crate) mod spelling;
+#[cfg(feature = "tool_names")]
+pub(crate) mod stated_version;
 pub(crate) mod suggested;
 pub(crate) mod suggestions;
 #[cfg(feature = "tool_names")]
