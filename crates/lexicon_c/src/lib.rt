@@ -16,7 +16,8 @@ pub use calls::{
     same_target, settle,
 };
 pub use dialects::{
-    c_library_at, complete, dialect_at, name_in, name_suggestion, read, reason, translate, unwritten_status,
+    c_library_at, complete, dialect_at, name_in, name_suggestion, read, reason, translate,
+    unwritten_status,
 };
 pub use error::{TextError, expected_at};
 pub use numbers::{name_at, number_in};
