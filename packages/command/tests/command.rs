@@ -527,6 +527,16 @@ fn names_of_other_tools_are_read_and_written() {
         answers(&["read", "--from", "python", "manylinux_2_17_x86_64"]).0,
         "x86_64-unknown-linux-gnu\n"
     );
+    let of_version = |version, libc: &[&str], target| {
+        let options = ["write", "--to", "python", "--with-version", version];
+        answers(&[&options, libc, &[target]].concat())
+    };
+    let (name, _, _) = of_version("2.17", &["--libc", "glibc"], "aarch64-linux");
+    assert_eq!(name, "manylinux_2_17_aarch64\n");
+    assert_eq!(of_version("11", &[], "arm64-apple-darwin").0, "macosx_11_0_arm64\n");
+    assert_eq!(of_version("2.17", &[], "aarch64-linux").2, 1);
+    assert_eq!(of_version("2.17.1", &[], "aarch64-linux-gnu").2, 2);
+    assert_eq!(of_version("2.256", &[], "aarch64-linux-gnu").2, 2);
     assert!(answers(&["read", "--from", "python", "linux_x86_46"])
         .1
         .contains(" did you mean `linux_x86_64`?\n"));
