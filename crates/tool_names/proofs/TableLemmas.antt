@@ -1,7 +1,7 @@
 -- Look-ups in several tables.
-use Rattle.std.proofs.Common.{◌≡◌, ◌∙◌, ℕ, List, [], ◌∷◌, ◌++◌, Option, Some, None, Bool, true, false, Bor, ap, cond, get_or, length, map, refl, sym, take, drop, ◌+◌, ◌<◌}
+use Rattle.std.proofs.Common.{◌≡◌, ◌∙◌, ℕ, List, [], ◌∷◌, ◌++◌, Option, Some, None, Bool, true, false, Bor, ap, cond, get_or, length, map, refl, take, drop, ◌+◌, ◌<◌}
 use Rattle.std.specs.Prelude.{filter, option_map}
-use Rattle.std.specs.{List.flat_map, Option.option_or}
+use Rattle.std.specs.{Option.option_or}
 use Rattle.std.proofs.lemmas.Grind.{flat_map-append}
 use Rattle.std.proofs.lemmas.List.{append-nil, drop_more, map-append, take_more}
 use Rattle.std.proofs.lemmas.List.Elements.{filter-append}

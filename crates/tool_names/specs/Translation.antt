@@ -26,7 +26,7 @@ why_unnamed d None t = if has_name_with d Glibc t || has_name_with d Musl t then
 why_unnamed d (Some c) t = NoName
 
 -- the name of the completed triple, or why there is none
-unfoldable pub written : Dialect → Option LinuxLibc → Values → Result (List ℕ) WriteError
+abbrev pub written : Dialect → Option LinuxLibc → Values → Result (List ℕ) WriteError
 written d c t = ok_or (triple_name d (completed_if c t)) (why_unnamed d c t)
 
 -- which step of a translation fails, and why: the name isn't read, or what it means isn't written
@@ -44,7 +44,7 @@ translated to c (Ok t) = written_or_why (written to c t)
 translated to c (Err why) = Err (IsUnread why)
 
 -- what a name of the first dialect is called in the second
-unfoldable pub translation : Dialect → List ℕ → Option LinuxLibc → Dialect → Result (List ℕ) Untranslated
+abbrev pub translation : Dialect → List ℕ → Option LinuxLibc → Dialect → Result (List ℕ) Untranslated
 translation from name c to = translated to c (name_meaning from name)
 
 -- what results of the code say

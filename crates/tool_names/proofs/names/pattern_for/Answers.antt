@@ -1,7 +1,7 @@
 -- One more table, which has a row for the triple or hasn't.
-use Rattle.std.proofs.Common.{◌<◌, ◌∙◌, ap, arith, length, sym, drop, ◌+◌}
+use Rattle.std.proofs.Common.{◌<◌, ◌∙◌, ap, arith, length, sym}
 use Rattle.std.specs.Prelude.{option_map}
-use Rattle.tool_names.specs.Tables.{Row, row_for, rows_in}
+use Rattle.tool_names.specs.Tables.{Row}
 use Rattle.tool_names.proofs.TableLemmas.{for_more, no_pattern, pattern_of_first}
 use Rattle.tool_names.proofs.names.pattern_for.Goals as goal
 
