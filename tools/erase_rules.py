@@ -11,7 +11,7 @@ PACKAGES = {
     "packages/c": {"lexicon_c": ""},
 }
 # The modules that are compiled only with a feature of their name, and what of each is always compiled: suggestions need it.
-FEATURES = {"tool_names": {"distance", "known_names", "macos", "misspelling", "nearest", "spelling", "suggestions"}}
+FEATURES = {"tool_names": {"distance", "known_names", "macos", "misspelling", "nearest", "spelling", "suggested", "suggestions"}}
 # The modules of which only the names of other tools use all, by the module that they are in; and the public names of those.
 PARTLY = {"": {"decimal", "reading"}, "tool_names": {"spelling"}}
 ONLY_FOR_TOOL_NAMES = {"MAX_DECIMAL_LENGTH", "decimal_text", "Spelling"}
@@ -30,7 +30,7 @@ ITEMS = {
 }
 
 # The enums to which upstream, or a later version, may add variants. The packages of the same repository match on each.
-GROWS = 'cfg_attr(not(feature = "__internals"), non_exhaustive)'
+GROWS = 'cfg_attr(not(lexicon_internal), non_exhaustive)'
 NON_EXHAUSTIVE = set(
     """Architecture ArmArchitecture Aarch64Architecture CleverArchitecture Riscv32Architecture Riscv64Architecture
     X86_32Architecture Mips32Architecture Mips64Architecture Z80Architecture Vendor KnownVendor OperatingSystem Environment BinaryFormat
@@ -47,7 +47,8 @@ INLINE = {
     "put", "Refusal::write_to",
 }
 INLINE_MODULES = {
-    "distance", "macos", "misspelling", "nearest", "settle", "settles_as", "spelling", "suggestions",
+    "aarch64", "arm", "clever", "distance", "macos", "mips", "misspelling", "nearest", "queries", "riscv", "settle", "settles_as", "spelling",
+    "suggested", "suggestions", "x86_32", "z80",
 }
 
 # Calls that constants can use: what `const fn` can have in Rust 1.65.

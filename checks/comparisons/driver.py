@@ -1,4 +1,5 @@
-"""Compares what the Rust crate says of C libraries, floating-point arguments and types of C with what rustc and clang say."""
+"""Compares what the Rust crate says of C libraries, floating-point arguments and types of C with what rustc and clang say, and the
+rules of packages/rust/examples/linkers.rs with rustc's."""
 import concurrent.futures
 import re
 import shutil
@@ -8,6 +9,8 @@ from comparisons.tools import output
 
 # Where clang 14 knows less: visionOS, what `wchar_t` is on UEFI, and that Arm is hard-float by its system or with uClibc.
 LAYOUTS, FLOATS = "visionos|uefi", "freebsd|3ds|uclibceabihf"
+# A compiler of GNU's without GNU's options, and a linker of its own.
+LINKERS = "msp430-none-elf|x86_64-unknown-l4re-uclibc"
 SOURCE = """
 int long_double_size = sizeof(long double), long_double_alignment = _Alignof(long double);
 int wchar_size = sizeof(__WCHAR_TYPE__), wchar_alignment = _Alignof(__WCHAR_TYPE__);
@@ -46,6 +49,10 @@ def check(report, targets, specs):
     arm = {target for target in ours if specs[target]["arch"] == "arm"}
     report.fact("rustc passes floating-point arguments in the same way on Arm", (
         (target, ours[target][1], specs[target].get("llvm-floatabi")) for target in arm if ours[target][1] != "-"))
+    report.fact("rustc's linker has the interface of the example", (
+        (target, it[6], specs[target].get("linker-flavor", "gnu-cc").split("-")[0]) for target, it in ours.items()), LINKERS)
+    report.fact("and its programs have the same names", (
+        (target, it[7], f"program{specs[target].get('exe-suffix', '')}") for target, it in ours.items()))
     if not report.has("clang", shutil.which("clang")):
         return
     with concurrent.futures.ThreadPoolExecutor() as pool:

@@ -1,5 +1,5 @@
 //! Writes the triple of the target that the crate is built for, which the crate's own parser finds.
-#![allow(dead_code, unused_imports, clippy::all)]
+#![allow(dead_code, unexpected_cfgs, unknown_lints, unused_imports, clippy::all)]
 
 extern crate alloc;
 
@@ -58,8 +58,10 @@ use std::{env, fs, mem, path::Path, time::Duration};
 
 fn main() {
     println!("cargo:rerun-if-env-changed=TARGET_LEXICON_HOST");
-    println!("cargo:rerun-if-changed=build.rs");
-    println!("cargo:rustc-check-cfg=cfg(core_error)");
+    println!("cargo:rustc-check-cfg=cfg(core_error, lexicon_internal)");
+    if env::var("CARGO_PKG_NAME").as_deref() == Ok("target-lexicon-internal") {
+        println!("cargo:rustc-cfg=lexicon_internal");
+    }
     if has_core_error() {
         println!("cargo:rustc-cfg=core_error");
     }

@@ -161,9 +161,8 @@ def lists_of_languages(dialects, others):
                                            f"ONLY_READ = [{', '.join(f'Dialect.{it.constant}' for it in dialects if not it.is_written)}]",
                                            f"ONLY_WRITTEN: List[Dialect] = [{', '.join(f'Dialect.{it.constant}' for it in dialects if not it.is_read)}]"],
         "the other names of dialects for JavaScript": [f"const OTHER_NAMES = {{ {', '.join(f'{name}: {chr(34)}{it.name}{chr(34)}' for name, it in others)} }};"],
-        "the dialects for the documentation": ["", "| Dialect | Its names | Read | Written |", "|---|---|---|---|",
-                                               *(f"| {', '.join(f'`{name}`' for name in [it.name, *it.other_names])} | {it.about} | "
-                                                 f"{'yes' if it.is_read else 'no'} | {'yes' if it.is_written else 'no'} |" for it in dialects)],
+        "the dialects for the documentation": ["", "| Dialect | Its names |", "|---|---|",
+                                               *(f"| {', '.join(f'`{name}`' for name in [it.name, *it.other_names])} | {it.about} |" for it in dialects)],
         "the dialects for the page": [f"const {name} = [{', '.join(chr(34) + it.name + chr(34) for it in of)}];" for name, of in (("READ", read), ("WRITTEN", written))],
         "the dialects for JavaScript": [f"export const DIALECTS = Object.freeze([{names}]);"],
         "the type of dialects": ["export type Dialect = " + " | ".join(f'"{it}"' for it in [*words, *(name for name, _ in others)]) + ";"],

@@ -1,6 +1,7 @@
 -- The version of a system, and the system without it.
-use Rattle.std.proofs.Common.{◌≡◌, ℕ, List, Option, Some, None, refl, ◌∙◌, subst, ap, map}
-use Rattle.std.specs.{Prelude.unwrap_or, Prelude.option_and_then, Prelude.slice_get, List.position_or_len, Str.bytes_eq}
+use Rattle.std.proofs.Common.{◌≡◌, ℕ, List, Option, Some, None, refl, sym, ◌∙◌, subst, ap, map}
+use Rattle.std.proofs.lemmas.Option.{same_Some, slice_get-map}
+use Rattle.std.specs.{Prelude.unwrap_or, Prelude.option_and_then, Prelude.option_map, Prelude.slice_get, List.position_or_len, Str.bytes_eq}
 use Rattle.lexicon_fields.specs.{declared.deployment_target.DeploymentTarget.DeploymentTarget, declared.operating_system.OperatingSystem.OperatingSystem, OperatingSystem.operating_system_name, OperatingSystem.system_version}
 use Rattle.lexicon_fields.specs.declared.operating_system.OperatingSystem.TheVariants as operating_system
 use Rattle.lexicon_c.specs.Values.{operating_system_at, operating_system_values, system_with}
@@ -47,3 +48,13 @@ number_and_version n v s is = by_value (slice_get operating_system_values n) ref
     by_value (Some x) found is =
         let parts = system_parts v x s is in
         (at_its_index prefix operating_system_values n x refl found ∙ ap index_of parts.0, parts.1)
+
+-- no value of the list has a version, so without one the value is the system
+with_none : (o : Option OperatingSystem) → option_map (system_with None) o ≡ option_map Some o → option_and_then (system_with None) o ≡ o
+with_none None same = refl
+with_none (Some x) same = same_Some (system_with None x) (Some x) same
+
+pub without_version_at : (n : ℕ) → operating_system_at n None ≡ slice_get operating_system_values n
+without_version_at n =
+    with_none (slice_get operating_system_values n)
+    (sym (slice_get-map (system_with None) operating_system_values n) ∙ slice_get-map Some operating_system_values n)

@@ -1,5 +1,5 @@
 -- Names of targets in other tools, where a dialect is a number.
-use Rattle.std.specs.Prelude.{◌≡◌, ℕ, List, [], ◌∷◌, length, Option, Some, None, Result, Ok, Err}
+use Rattle.std.specs.Prelude.{◌≡◌, ℕ, ◌&&◌, nat_le, List, [], ◌∷◌, length, Option, Some, None, Result, Ok, Err, if◌then◌else◌}
 use Rattle.tool_names.specs.Nearest.{IsNearestOf}
 use Rattle.target_lexicon.specs.Values.{Values}
 use Rattle.tool_names.specs.declared.completion.LinuxLibc.{LinuxLibc}
@@ -7,7 +7,7 @@ use Rattle.tool_names.specs.declared.completion.LinuxLibc.TheVariants.{Glibc, Mu
 use Rattle.tool_names.specs.declared.name.Name.{Name}
 use Rattle.tool_names.specs.declared.translation.WriteError.{WriteError}
 use Rattle.tool_names.specs.declared.translation.WriteError.TheVariants.{NoName, NeedsCLibrary}
-use Rattle.tool_names.specs.{Spelling.spelled_reading, Translation.written, ToolNames.name_bytes, ToolNames.Unread, ToolNames.IsUnknown, ToolNames.HasNoTriple, ToolNames.name_meaning, ToolNames.names_that_are_read}
+use Rattle.tool_names.specs.{Spelling.spelled_reading, StatedVersion.versioned_name, Translation.written, ToolNames.name_bytes, ToolNames.Unread, ToolNames.IsUnknown, ToolNames.HasNoTriple, ToolNames.name_meaning, ToolNames.names_that_are_read}
 use Rattle.tool_names.specs.declared.dialect.Dialect.{Dialect}
 use Rattle.tool_names.specs.declared.dialect.Dialect.TheVariants as dialect
 use Rattle.lexicon_c.specs.{Parsing.refusal_numbers, Triple.AreNumbersOf, declared.error.TextError.TextError, declared.triple.NumberedTriple.NumberedTriple}
@@ -60,6 +60,10 @@ IsSuggestedFor (Ok t) is_suggested found = found ≡ None
 -- what is suggested for a name: for an unknown one the nearest of the names that are read, if it may be a misspelling of that
 abbrev pub IsNameSuggestion : Dialect → List ℕ → Option (List ℕ) → Type 0
 IsNameSuggestion d name found = IsSuggestedFor (name_meaning d name) (IsNearestOf name (names_that_are_read d)) found
+
+-- the name of a triple with a version, if its numbers are in range
+abbrev pub name_with_numbers : Dialect → Values → ℕ → ℕ → Option (List ℕ)
+name_with_numbers d t major minor = if nat_le major 65535 && nat_le minor 255 then versioned_name d t major minor else None
 
 -- the C libraries by number. The first is none
 abbrev pub c_libraries_by_number : List (Option LinuxLibc)

@@ -11,7 +11,7 @@ use Rattle.lexicon_fields.specs.{ArchitectureQueries.is_thumb, BinaryFormat.bina
 use Rattle.lexicon_fields.specs.{declared.endianness.Endianness.Endianness, declared.endianness.Endianness.TheVariants.Little, declared.endianness.Endianness.TheVariants.Big}
 use Rattle.lexicon_c.specs.Values.{family_number}
 use Rattle.tool_names.specs.ObjectFormat.{object_format}
-use Rattle.lexicon_c.specs.{declared.triple_facts.TripleFacts.TripleFacts, declared.triple_facts.TypeSizes.TypeSizes, declared.triple_facts.QueryFacts.QueryFacts, declared.triple_facts.FormatFacts.FormatFacts}
+use Rattle.lexicon_c.specs.{declared.triple_facts.TypeSizes.TypeSizes, declared.triple_facts.QueryFacts.QueryFacts, declared.triple_facts.FormatFacts.FormatFacts}
 use Rattle.lexicon_c.specs.{declared.triple_facts.DriverFacts.DriverFacts, declared.triple_facts.LayoutNumbers.LayoutNumbers}
 use Rattle.tool_names.specs.{declared.driver.CLibrary.CLibrary, declared.driver.FloatAbi.FloatAbi, declared.driver.TypeLayout.TypeLayout}
 use Rattle.tool_names.specs.declared.driver.CLibrary.TheVariants as library
@@ -107,17 +107,3 @@ pub record AreDriverFactsOf (t : Values) (facts : DriverFacts) : Type 0 where
   pub is_unix : facts.is_unix ≡ rustc.is_unix t
   pub long_double : facts.long_double ≡ layout_numbers (driver.long_double t)
   pub wchar : facts.wchar ≡ layout_numbers (driver.wide_character t)
-
--- these are the facts of the first two groups
-pub record AreFactsOf (t : Values) (facts : TripleFacts) : Type 0 where
-  pub endianness : facts.endianness ≡ endianness_number (query.endianness t)
-  pub pointer_width : facts.pointer_width ≡ option_map_or width_bits (query.pointer_width t) 0
-  pub default_calling_convention : facts.default_calling_convention ≡ convention_number (query.calling_convention t)
-  pub data_model : facts.data_model ≡ model_number (query.data_model t)
-  pub sizes : facts.sizes ≡ type_sizes (query.data_model t)
-  pub implied_format : slice_get binary_format_values facts.implied_format ≡ Some (default_binary_format t)
-  pub object_format : slice_get binary_format_values facts.object_format ≡ Some (object_format t)
-  pub family : facts.family ≡ family_number t.architecture
-  pub is_thumb : facts.is_thumb ≡ is_thumb_architecture t.architecture
-  pub is_like_darwin : facts.is_like_darwin ≡ system.is_like_darwin t.operating_system
-  pub has_custom_vendor : facts.has_custom_vendor ≡ is_custom t.vendor

@@ -4,7 +4,7 @@ ghost use Rattle.target_lexicon.specs.FixedPoints.{settled_values};
 ghost use Rattle.target_lexicon.specs.Laws.{ComesBack};
 ghost use Rattle.target_lexicon.specs.Printing.{text_of};
 ghost use Rattle.target_lexicon.specs.Written.{IsWritten};
-ghost use Rattle.lexicon_c.specs.Facts.{AreDriverFactsOf, AreFactsOf, AreFormatFactsOf, AreQueryFactsOf};
+ghost use Rattle.lexicon_c.specs.Facts.{AreDriverFactsOf, AreFormatFactsOf, AreQueryFactsOf};
 ghost use Rattle.lexicon_c.specs.Parsing.{ExplainsTriple, IsErrorAfter, Parses, sources_numbers};
 ghost use Rattle.lexicon_c.specs.Triple.{Answers, AreNumbersOf, OnTriple};
 
@@ -12,8 +12,7 @@ use crate::error::{TextError, error_of};
 use crate::sources::{FieldSources, sources_numbers};
 use crate::triple::{Fault, NumberedTriple, are_equal, numbers_of, triple_in};
 use crate::triple_facts::{
-    DriverFacts, FormatFacts, QueryFacts, TripleFacts, driver_facts_of, facts_of, format_facts_of,
-    query_facts_of,
+    Facts, FirstFacts, QueryFacts, driver_facts_of, format_facts_of, query_facts_of,
 };
 use target_lexicon::TripleRef;
 use target_lexicon::laws::{read_vendors_are_plain, second_step_changes_one};
@@ -119,32 +118,32 @@ pub fn query_facts(triple: &NumberedTriple<'_>) -> Result<QueryFacts, Fault>
     }
 }
 
-/// The binary formats of a triple, and the family of its architecture.
-pub fn format_facts(triple: &NumberedTriple<'_>) -> Result<FormatFacts, Fault>
-    ensures { OnTriple triple.now (λ t. Answers (AreFormatFactsOf t)) result }
+/// The facts of the first two groups: what the queries of a triple answer, its binary formats, and its family.
+pub fn first_facts(triple: &NumberedTriple<'_>) -> Result<FirstFacts, Fault>
+    ensures { OnTriple triple.now (λ t. Answers (λ facts.
+        AreQueryFactsOf t facts.queries × AreFormatFactsOf t facts.formats)) result }
 {
     match triple_in(triple) {
-        Ok(asked) => Ok(format_facts_of(&asked)),
+        Ok(asked) => Ok(FirstFacts {
+            queries: query_facts_of(&asked),
+            formats: format_facts_of(&asked),
+        }),
         Err(fault) => Err(fault),
     }
 }
 
-/// What a compiler's driver asks of a triple.
-pub fn driver_facts(triple: &NumberedTriple<'_>) -> Result<DriverFacts, Fault>
-    ensures { OnTriple triple.now (λ t. Answers (AreDriverFactsOf t)) result }
+/// All facts: those, and what a compiler's driver asks of a triple.
+pub fn facts(triple: &NumberedTriple<'_>) -> Result<Facts, Fault>
+    ensures { OnTriple triple.now (λ t. Answers (λ facts.
+        AreQueryFactsOf t facts.queries × AreFormatFactsOf t facts.formats
+        × AreDriverFactsOf t facts.driver)) result }
 {
     match triple_in(triple) {
-        Ok(asked) => Ok(driver_facts_of(&asked)),
-        Err(fault) => Err(fault),
-    }
-}
-
-/// The facts of the first two groups.
-pub fn facts(triple: &NumberedTriple<'_>) -> Result<TripleFacts, Fault>
-    ensures { OnTriple triple.now (λ t. Answers (AreFactsOf t)) result }
-{
-    match triple_in(triple) {
-        Ok(asked) => Ok(facts_of(&asked)),
+        Ok(asked) => Ok(Facts {
+            queries: query_facts_of(&asked),
+            formats: format_facts_of(&asked),
+            driver: driver_facts_of(&asked),
+        }),
         Err(fault) => Err(fault),
     }
 }

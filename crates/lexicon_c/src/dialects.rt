@@ -1,8 +1,9 @@
 //! Names of targets in other tools.
-ghost use Rattle.std.specs.Prelude.{◌≡◌, option_map, slice_get};
+ghost use Rattle.std.specs.Prelude.{◌≡◌, None, option_map, slice_get};
 ghost use Rattle.tool_names.specs.Completion.{completed};
 ghost use Rattle.tool_names.specs.Spelling.{spelled_reading};
-ghost use Rattle.tool_names.specs.ToolNames.{name_bytes, name_meaning, triple_name, unread_of};
+ghost use Rattle.tool_names.specs.ToolNames.{name_bytes, name_meaning, unread_of};
+ghost use Rattle.tool_names.specs.Translation.{write_outcome, written};
 ghost use Rattle.lexicon_c.specs.Dialects as spec;
 ghost use Rattle.lexicon_c.specs.Triple.{Answers, AreNumbersOf, OnTriple};
 
@@ -60,13 +61,36 @@ pub fn read(dialect: Option<Dialect>, text: &str) -> Result<NumberedTriple<'_>, 
     }
 }
 
-/// The name of a triple in a dialect, if it has one.
-pub fn name_in(dialect: Dialect, triple: &NumberedTriple<'_>) -> Result<Option<Name>, Fault>
+/// The name of a triple in a dialect; or why it has none.
+pub fn name_in(
+    dialect: Dialect,
+    triple: &NumberedTriple<'_>,
+) -> Result<Result<Name, WriteError>, Fault>
     ensures { OnTriple triple.now (λ t.
-        Answers (λ name. option_map name_bytes name ≡ triple_name dialect t)) result }
+        Answers (λ name. write_outcome name ≡ written dialect None t)) result }
 {
     match triple_in(triple) {
-        Ok(named) => Ok(dialect.write(&named)),
+        Ok(named) => Ok(dialect.write_with(&named, None)),
+        Err(fault) => Err(fault),
+    }
+}
+
+/// The name of a triple in a dialect that states a version, if it has one and each number is in range.
+pub fn versioned_name_in(
+    dialect: Dialect,
+    triple: &NumberedTriple<'_>,
+    major: u32,
+    minor: u32,
+) -> Result<Option<Name>, Fault>
+    ensures { OnTriple triple.now (λ t.
+        Answers (λ name.
+        option_map name_bytes name ≡ spec.name_with_numbers dialect t major minor)) result }
+{
+    match triple_in(triple) {
+        Ok(named) => match (u16::try_from(major), u8::try_from(minor)) {
+            (Ok(major), Ok(minor)) => Ok(dialect.write_versioned(&named, major, minor)),
+            _ => Ok(None),
+        },
         Err(fault) => Err(fault),
     }
 }
@@ -164,11 +188,18 @@ fn write_error(error: WriteError, name: &str) -> TextError
     ensures { result ≡ spec.write_error name.now error }
 {
     TextError {
-        status: match error {
-            WriteError::NoName => 14,
-            WriteError::NeedsCLibrary => 17,
-        },
+        status: unwritten_status(error),
         start: 0,
         end: name.len(),
+    }
+}
+
+/// Why a triple isn't written, as a number.
+pub fn unwritten_status(error: WriteError) -> u32
+    ensures { result ≡ spec.unwritten_status error }
+{
+    match error {
+        WriteError::NoName => 14,
+        WriteError::NeedsCLibrary => 17,
     }
 }

@@ -1,5 +1,5 @@
 //! Triples as numbers. Functions that return a wide value are inlined where that saves a hundredth of parsing and
-//! printing.
+//! printing, or of asking.
 ghost use Rattle.std.specs.Prelude.{◌≡◌, ◌↔◌, true, false, Ok, Err, IfOk, IsTrue, MatchOption, MatchResult};
 ghost use Rattle.lexicon_fields.specs.OperatingSystem.{system_version};
 ghost use Rattle.lexicon_fields.specs.Vendor.{is_admitted, is_plain};
@@ -127,6 +127,7 @@ fn custom_vendor(bytes: &[u8]) -> Result<VendorRef<'_>, Fault>
 }
 
 /// The system of these numbers, with its version, if there is one.
+#[inline(always)]
 fn operating_system_in(numbers: &TripleNumbers) -> Option<OperatingSystem>
     ensures { result ≡ spec.operating_system_in numbers.now }
 {

@@ -132,7 +132,11 @@ impl Architecture {
         Self::X86_64
     }
 
-    /// The byte order. `Err` for `Unknown`.
+    /// The byte order.
+    ///
+    /// # Errors
+    ///
+    /// `()` for `Unknown`.
     ///
     /// # Examples
     ///
@@ -189,7 +193,11 @@ impl Architecture {
         }
     }
 
-    /// The width of a pointer, independent of the ABI. `Err` for `Unknown`.
+    /// The width of a pointer, independent of the ABI.
+    ///
+    /// # Errors
+    ///
+    /// `()` for `Unknown`.
     ///
     /// # Examples
     ///

@@ -32,7 +32,11 @@ pub enum VendorRef<'a> {
 
 impl<'a> VendorRef<'a> {
     /// The vendor that the string parses as: a known one, or a custom one that borrows the string, if
-    /// [`Vendor::Custom`] admits it. `Err` for every other string.
+    /// [`Vendor::Custom`] admits it.
+    ///
+    /// # Errors
+    ///
+    /// `()` for every other string.
     ///
     /// # Examples
     ///
@@ -165,7 +169,7 @@ impl Vendor {
     }
 }
 
-impl<'a> fmt::Display for VendorRef<'a> {
+impl fmt::Display for VendorRef<'_> {
     ghost output = { λ it. Some (spec.vendor_name (ref_value it)) };
 
     ghost styled_output = { λ it _. Some (spec.vendor_name (ref_value it)) };

@@ -23,7 +23,7 @@ pub struct TextPart<'a> {
     pub start: usize,
 }
 
-impl<'a> TextPart<'a> {
+impl TextPart<'_> {
     ghost use Rattle.std.specs.Prelude.{◌≡◌, ◌^◌, ◌<◌};
     ghost use Rattle.target_lexicon.specs.Explanation.{part_end, part_value};
 

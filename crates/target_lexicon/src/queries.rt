@@ -14,6 +14,10 @@ use lexicon_fields::{Architecture, Endianness, Environment, OperatingSystem, Poi
 impl TripleRef<'_> {
     /// The byte order, as [`Triple::endianness`] says.
     ///
+    /// # Errors
+    ///
+    /// `()` for the architecture `Unknown`.
+    ///
     /// # Examples
     ///
     /// ```
@@ -30,6 +34,10 @@ impl TripleRef<'_> {
     }
 
     /// The width of a pointer, as [`Triple::pointer_width`] says.
+    ///
+    /// # Errors
+    ///
+    /// `()` if the width is that of the architecture, which is `Unknown`.
     ///
     /// # Examples
     ///
@@ -52,6 +60,10 @@ impl TripleRef<'_> {
     }
 
     /// The calling convention, as [`Triple::default_calling_convention`] says.
+    ///
+    /// # Errors
+    ///
+    /// `()` if no convention is known.
     ///
     /// # Examples
     ///
@@ -116,6 +128,10 @@ impl TripleRef<'_> {
 
     /// The data model of C, as [`Triple::data_model`] says.
     ///
+    /// # Errors
+    ///
+    /// `()` if no model is known.
+    ///
     /// # Examples
     ///
     /// ```
@@ -172,7 +188,11 @@ impl TripleRef<'_> {
 }
 
 impl Triple {
-    /// The byte order of the architecture. `Err` for the architecture `Unknown`.
+    /// The byte order of the architecture.
+    ///
+    /// # Errors
+    ///
+    /// `()` for the architecture `Unknown`.
     ///
     /// # Examples
     ///
@@ -189,7 +209,11 @@ impl Triple {
     }
 
     /// The width of a pointer: 32 bits in the environments `Gnux32` and `GnuIlp32`, in every other environment the
-    /// width of the architecture. `Err` for the architecture `Unknown` in these other environments.
+    /// width of the architecture.
+    ///
+    /// # Errors
+    ///
+    /// `()` if the width is that of the architecture, which is `Unknown`.
     ///
     /// # Examples
     ///
@@ -209,8 +233,11 @@ impl Triple {
     }
 
     /// The calling convention. It depends on the operating system, and on systems like Darwin and those that run
-    /// WebAssembly also on the architecture. `Err` if no convention is known, for instance on `WasiP1`, `WasiP2`,
-    /// `Illumos` and `Cygwin`.
+    /// WebAssembly also on the architecture.
+    ///
+    /// # Errors
+    ///
+    /// `()` if no convention is known, for instance on `WasiP1`, `WasiP2`, `Illumos` and `Cygwin`.
     ///
     /// # Examples
     ///
@@ -228,7 +255,11 @@ impl Triple {
     }
 
     /// The data model of C. It depends on the pointer width, the operating system, the calling convention and the
-    /// architecture. `Err` if no model is known, for instance for pointers of 16 bits.
+    /// architecture.
+    ///
+    /// # Errors
+    ///
+    /// `()` if no model is known, for instance for pointers of 16 bits.
     ///
     /// # Examples
     ///

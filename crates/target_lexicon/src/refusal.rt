@@ -35,7 +35,7 @@ pub struct Refusal<'a> {
     pub part: TextPart<'a>,
 }
 
-impl<'a> Refusal<'a> {
+impl Refusal<'_> {
     ghost use Rattle.std.specs.Prelude.{◌^◌};
     ghost use Rattle.target_lexicon.specs.Explanation.{part_end, part_value};
 

@@ -4,14 +4,15 @@ use Rattle.std.specs.List.{join_with_byte}
 use Rattle.std.specs.Str.{bytes_eq}
 use Rattle.std.proofs.lemmas.Bool.{cases_Bool}
 use Rattle.std.proofs.lemmas.Slice.Eq.{bytes_eq-Decides}
-use Rattle.lexicon_fields.specs.{Architecture.architecture_of, BinaryFormat.binary_format_of, Environment.environment_of, Names.dash, OperatingSystem.fixed_operating_system_of, OperatingSystem.operating_system_of, Vendor.is_custom, Vendor.known_vendor_of}
+use Rattle.lexicon_fields.specs.{Architecture.architecture_of, BinaryFormat.binary_format_of, Environment.environment_of, Names.dash, OperatingSystem.fixed_operating_system_of, OperatingSystem.operating_system_of, Vendor.is_admitted, Vendor.is_custom, Vendor.known_vendor_of, Vendor.vendor_of}
 use Rattle.target_lexicon.proofs.{ComputedReading.reading_computed, PartLemmas.parts_of-are, PartLemmas.parts_of-some}
 use Rattle.target_lexicon.specs.{Explanation.PlacedPart, GreedyReading.reading, GreedyReading.reading_after_architecture, GreedyReading.reading_from_vendor, GreedyReading.reading_of_parts, GreedyReading.reading_unless_special as port_reading, Placement.parts_of, Refusal.Refusal, SpecialTexts.esp_idf, SpecialTexts.esp_idf_text, SpecialTexts.nintendo_3ds, SpecialTexts.nintendo_3ds_text, SpecialTexts.special_values}
 use Rattle.target_lexicon.specs.Values.{Architecture, Values}
 use Rattle.tool_names.specs.declared.change.Position.{Position}
 use Rattle.tool_names.specs.declared.change.Position.TheVariants.{First, Second, Later}
 use Rattle.tool_names.specs.Changes.{KnownNamesStay, PartChange, UnchangedStringsAreReadAsTheyParse, changes, changes_of, is_only, next_position, parts_at, spelling_at}
-use Rattle.tool_names.specs.Spelling.{SpelledName, SpelledPart, first_at_end, first_spelling, later_names, later_parts, later_spelling, later_spellings, listed_spelling, located, name_texts, names_after_first, names_of, other_parts, reading_unless_special, second_spelling, spelled_names, spelled_parts, spelled_reading, unread_names, versioned_spellings}
+use Rattle.tool_names.specs.KnownNames.{known_names}
+use Rattle.tool_names.specs.Spelling.{SpelledName, SpelledPart, first_at_end, first_spelling, is_other_system, later_names, later_parts, later_spelling, later_spellings, listed_spelling, located, name_texts, names_after_first, names_of, other_parts, reading_unless_special, second_spelling, spelled_names, spelled_parts, spelled_reading, unread_names, versioned_spellings}
 use Rattle.tool_names.proofs.SpelledNames.{AllStay, CustomStays, read-stated, vendor-stays}
 
 bytes_eq-same : (part : List ℕ) → bytes_eq part part ≡ true
@@ -31,7 +32,7 @@ module _ (text : List ℕ) (t : Values) (custom : CustomStays t) where
   other-none a [] h = refl
   other-none a (p ∷ ps) h =
       let all = vendor-stays a t (p ∷ ps) h custom in
-      itself text p ps (second_spelling p ps) (later_parts ps) (rw (read-stated a t p ps h) all.0) ∙ later-none text ps all.1
+      itself text p ps (second_spelling p ps) (later_parts ps) (rw (read-stated a t p ps h, all.0.0) all.0.1) ∙ later-none text ps all.1
 
   parts-none : (ps : List (List ℕ)) → reading_of_parts ps ≡ Ok t → changes_of text (spelled_parts ps) ≡ []
   parts-none [] h = refl
@@ -44,11 +45,11 @@ module _ (text : List ℕ) (t : Values) (custom : CustomStays t) where
 -- the special strings have no changes
 
 nintendo-none : changes nintendo_3ds_text ≡ []
-unfolding changes later_spelling listed_spelling later_spellings versioned_spellings architecture_of known_vendor_of operating_system_of fixed_operating_system_of environment_of binary_format_of
+unfolding changes is_other_system known_names later_spelling listed_spelling later_spellings versioned_spellings vendor_of is_admitted architecture_of known_vendor_of operating_system_of fixed_operating_system_of environment_of binary_format_of
 nintendo-none = refl
 
 esp-none : changes esp_idf_text ≡ []
-unfolding changes later_spelling listed_spelling later_spellings versioned_spellings architecture_of known_vendor_of operating_system_of fixed_operating_system_of environment_of binary_format_of
+unfolding changes is_other_system known_names later_spelling listed_spelling later_spellings versioned_spellings vendor_of is_admitted architecture_of known_vendor_of operating_system_of fixed_operating_system_of environment_of binary_format_of
 esp-none = refl
 
 special-none : (text : List ℕ) (t : Values) → special_values text ≡ Some t → changes text ≡ []

@@ -6,7 +6,8 @@
 -- RowChecks, RowLemmas, NameLaws: what the rows pass,
 -- what follows of the row of a name, and the laws. DistanceLemmas: the edit distance is the least number of edits.
 -- NearestLemmas, NearerLemmas: the nearest of a growing list of names, and of two lists. Words: the word that a string begins with.
--- Completions: what completion keeps.
+-- Completions: what completion keeps. SuggestedNames: what is suggested has a place. VersionParts: a part is cut
+-- before its version. StatedVersions: names with a version that a caller says.
 pub mod CfgLines
 pub mod ChangeLemmas
 pub mod Completions
@@ -33,6 +34,9 @@ pub mod ShapeLemmas
 pub mod SpelledNames
 pub mod SpelledOnce
 pub mod SpelledReading
+pub mod StatedVersions
+pub mod SuggestedNames
 pub mod TableLemmas
 pub mod Tags
+pub mod VersionParts
 pub mod Words

@@ -26,7 +26,7 @@ use Rattle.tool_names.specs.Gnu.{as_gnu, gnu_meaning, gnu_system}
 use Rattle.tool_names.specs.Spelling.{spelled_reading}
 use Rattle.tool_names.specs.{ObjectFormat.object_format, Shape.machine_by, Shape.shape, Shape.sparc_of_rustc, Shape.system_by, Shape.unversioned, Shape.with_two_numbers}
 use Rattle.std.specs.Option.{option_or}
-use Rattle.tool_names.specs.Platforms.{Words, normal_words, row_with_words, words_of}
+use Rattle.tool_names.specs.Platforms.{Words, has_words, normal_words, row_with_words, words_of}
 use Rattle.tool_names.specs.Patterns.{all_limits, are_within, filled, fits, star_count, with_star, without_star}
 use Rattle.tool_names.specs.Tables.{Row, is_read_and, is_written, row_named}
 use Rattle.tool_names.specs.ToolNames.{HasNoTriple, Unread, found_meaning, name_meaning, numbers_in, platform_row, read_or_unknown, row_meaning, shape_row, spelled_meaning, system_with, text_without_numbers, triple_name, values_or_unknown, version_of_numbers, with_numbers, without_numbers}
@@ -35,7 +35,7 @@ use Rattle.tool_names.proofs.KeptFormats.{keeps_abi, kept-format}
 use Rattle.tool_names.proofs.ObjectFormats.{given_kept}
 use Rattle.tool_names.proofs.RowChecks.{IsWrittenFor, both_rows, gives_no_special_text, has_canonical, has_form, has_numbers, has_pair, has_triple, is_both, is_canonical, is_canonical_as, is_known_format, is_ordinary, is_ordinary_architecture, is_ordinary_system, is_long_of, is_pair, is_short_of, name_of, plain-back, row-written, rows-apart, rows-canonical, rows-formed, rows-paired, tags-unspelled, versioned-back, written_back}
 use Rattle.tool_names.proofs.ReadAgain.{read-sound}
-use Rattle.tool_names.proofs.RowLemmas.{all-at, any-at, is_only_written, is_refused, named-at, row-found, words-at}
+use Rattle.tool_names.proofs.RowLemmas.{all-at, any-at, is_only_written, is_refused, first-at, named-at, row-found}
 use Rattle.tool_names.proofs.Tags.{named_tag}
 use Rattle.tool_names.proofs.ShapeLemmas.{has_no_special_text, numbers-within, shape-endianness, shape-no_special, shape-width, usual-no_special, with-again, without-range}
 
@@ -75,7 +75,7 @@ canonical-row kept text h = by_reading (reading text) refl h
 
 -- a triple whose vendor has no special string, which isn't of Clever, comes back
 
-no_special-known : (v : VendorValue) → has_no_special_text v ≡ true → (is_plain v ≡ true) × (is_custom v ≡ false)
+pub no_special-known : (v : VendorValue) → has_no_special_text v ≡ true → (is_plain v ≡ true) × (is_custom v ≡ false)
 no_special-known (Known k) no_special = (refl, refl)
 no_special-known (Custom text) no_special = absurd cc
 
@@ -105,7 +105,7 @@ row-canonical round_trip read_plain kept text t row =
     fixed-canonical t back row.known (values_unique (text_of t) (normal_step t) t (round_trip t (read_plain (text_of t) t back)) back)
 
 -- a triple whose vendor has no special string, and whose text is that of a row, parses back from it, and is ordinary
-text-row : RoundIsNormalStep → (every : Bool) (u : Values) → IsPlainTriple u → has_no_special_text u.vendor ≡ true → is_canonical every (text_of u) ≡ true
+pub text-row : RoundIsNormalStep → (every : Bool) (u : Values) → IsPlainTriple u → has_no_special_text u.vendor ≡ true → is_canonical every (text_of u) ≡ true
     → (reading (text_of u) ≡ Ok u) × ((every || is_ordinary u) ≡ true)
 text-row round_trip every u plain no_special canonical =
     let row = canonical-row every (text_of u) canonical in
@@ -182,7 +182,7 @@ form-at d i row at =
     let one = and_parts spaced own two.0 in
     record { spaced = one.0; own = one.1; numbers = two.1 }
 
-named-filled : (d : Dialect) (i : ℕ) (row : Row) (numbers : List ℕ) → slice_get (rows_of d) i ≡ Some row → fits row.pattern numbers ≡ true → IsNamed d row (filled row.pattern numbers) numbers
+pub named-filled : (d : Dialect) (i : ℕ) (row : Row) (numbers : List ℕ) → slice_get (rows_of d) i ≡ Some row → fits row.pattern numbers ≡ true → IsNamed d row (filled row.pattern numbers) numbers
 named-filled d i row numbers at fit =
     let form = form-at d i row at in
     record { place = i; listed = at; has_name = filled_matches (rules_of d).tags row.pattern numbers form.spaced form.own fit }
@@ -237,7 +237,7 @@ names_read_back d i row ns at both fit =
 
 -- one number is enough
 
-one-system : (n : ℕ) (s : OperatingSystem) → system_with (n ∷ []) s ≡ system_with (n ∷ 0 ∷ []) s
+pub one-system : (n : ℕ) (s : OperatingSystem) → system_with (n ∷ []) s ≡ system_with (n ∷ 0 ∷ []) s
 one-system n (operating_system.MacOSX version) = refl
 one-system n (operating_system.IOS version) = refl
 one-system n _ = refl
@@ -307,14 +307,14 @@ triple-canonical : (way : Way) (kept : Bool) (text : List ℕ) (stars : Bool) �
 triple-canonical way kept text stars h is = and_parts _ _ (rw is at h)
 
 -- whether a dialect keeps every environment
-abbrev keeps : Dialect → Bool
+abbrev pub keeps : Dialect → Bool
 keeps d = keeps_abi (rules_of d).abi
 
 -- whether a name needn't be that of an ordinary triple
-abbrev is_free : Dialect → Row → Bool
+abbrev pub is_free : Dialect → Row → Bool
 is_free d row = not (is_written row.way) || keeps d
 
-canonical-at : (d : Dialect) (i : ℕ) (row : Row) → slice_get (rows_of d) i ≡ Some row → has_triple row.way ≡ true → (is_canonical (is_free d row) row.meaning ≡ true) × ((nat_eq (star_count row.pattern) 0 || gives_no_special_text (reading row.meaning)) ≡ true)
+pub canonical-at : (d : Dialect) (i : ℕ) (row : Row) → slice_get (rows_of d) i ≡ Some row → has_triple row.way ≡ true → (is_canonical (is_free d row) row.meaning ≡ true) × ((nat_eq (star_count row.pattern) 0 || gives_no_special_text (reading row.meaning)) ≡ true)
 canonical-at d i row at is = triple-canonical row.way (is_free d row) row.meaning (nat_eq (star_count row.pattern) 0 || gives_no_special_text (reading row.meaning)) (all-at (has_canonical (keeps d)) (rows_of d) i row (rows-canonical d) at) is
 
 -- with numbers the version is in range
@@ -364,7 +364,7 @@ words-canonical round_trip read_plain d words row t is means = by_way row.way re
   where
     by_triple : has_triple row.way ≡ true → with_numbers [] (read_or_unknown (reading row.meaning)) ≡ Ok t → IsCanonical t
     by_triple triple h =
-        let at = words-at (rows_of d) words row is in
+        let at = first-at (has_words words) (rows_of d) row is in
         let it = canonical-row (is_free d row) row.meaning (canonical-at d at.0 row at.1 triple).0 in
         let same : Ok it.0 ≡ Ok t = sym (ap (λ r. with_numbers [] (read_or_unknown r)) it.1.reads) ∙ h in
         numbered-canonical round_trip read_plain (is_free d row) row.meaning [] t it.0 it.1 (λ some. absurd (some refl)) refl cc

@@ -11,30 +11,32 @@ use Rattle.target_lexicon.specs.Values.operating_system
 use Rattle.target_lexicon.specs.Values.environment
 use Rattle.target_lexicon.specs.Field as field
 use Rattle.target_lexicon.proofs.{ComputedReading.reading_computed, ReadValues.special-holds, SettleLemmas.second_changes_none, SettleLemmas.settled_values-comes_back, StepCases.step_cases, Vendors.vendor-plain}
-use Rattle.tool_names.specs.Spelling.{ReadingAgainIsTheSame, SpelledName, first_spelling, is_unstated, later_names, later_spelling, located, name_texts, names_after_first, reading_unless_special, spelled_by, spelled_names, spelled_reading, unread_names}
-use Rattle.tool_names.proofs.{SpelledNames.AllStay, SpelledNames.CustomStays, SpelledNames.custom_vendor-text, SpelledOnce.later-once, SpelledReading.read-stays}
+use Rattle.tool_names.specs.Spelling.{ReadingAgainIsTheSame, SpelledName, first_spelling, is_known_name, is_other_system, is_unstated, later_names, later_spelling, located, name_texts, names_after_first, reading_unless_special, spelled_by, spelled_names, spelled_reading, unread_names}
+use Rattle.tool_names.proofs.{SpelledNames.CustomStays, SpelledNames.SecondStays, SpelledNames.custom_vendor-text, SpelledNames.known-second, SpelledOnce.FirstStays, SpelledOnce.later-first, SpelledReading.read-stays}
 
--- all names that are spelled spell themselves
+-- the first name after the architecture spells itself
 
-appended-stay : (from : List (List ℕ)) (names : List (List ℕ)) (rest : List SpelledName) → AllStay names → AllStay (name_texts rest) → AllStay (name_texts (spelled_by from names ++ rest))
-appended-stay from [] rest all others = others
-appended-stay from (name ∷ names) rest all others = (all.0, appended-stay from names rest all.1 others)
+abbrev BeginStaying : List (List ℕ) → Type 0
+BeginStaying [] = Unit {0}
+BeginStaying (name ∷ names) = SecondStays name
 
-later_names-stay : (parts : List (List ℕ)) → AllStay (name_texts (later_names parts))
-later_names-stay [] = tt
-later_names-stay (part ∷ others) = appended-stay (part ∷ others) (later_spelling part) (later_names others) (later-once part) (later_names-stay others)
+begin-staying : (from : List (List ℕ)) (names : List (List ℕ)) (rest : List SpelledName) → FirstStays names → BeginStaying (name_texts (spelled_by from names ++ rest))
+begin-staying from [] rest first = absurd first
+begin-staying from (name ∷ names) rest first = first
 
-unknown-stays : later_spelling (codes "unknown") ≡ codes "unknown" ∷ []
-unfolding later_spelling architecture_of known_vendor_of operating_system_of fixed_operating_system_of environment_of binary_format_of
-unknown-stays = refl
+unknown-known : is_known_name (codes "unknown") ≡ true
+unfolding architecture_of known_vendor_of operating_system_of fixed_operating_system_of environment_of binary_format_of
+unknown-known = refl
 
-names_after_first-stay : (parts : List (List ℕ)) → AllStay (name_texts (names_after_first parts))
+names_after_first-stay : (parts : List (List ℕ)) → BeginStaying (name_texts (names_after_first parts))
 names_after_first-stay [] = tt
-names_after_first-stay (part ∷ others) = by_test (is_unstated part others)
+names_after_first-stay (part ∷ others) = by_tests (is_unstated part others) (is_other_system part) refl
   where
-    by_test : (b : Bool) → AllStay (name_texts (spelled_by (part ∷ others) (cond b (codes "unknown" ∷ []) (later_spelling part)) ++ later_names others))
-    by_test true = (unknown-stays, later_names-stay others)
-    by_test false = appended-stay (part ∷ others) (later_spelling part) (later_names others) (later-once part) (later_names-stay others)
+    by_tests : (unstated other : Bool) → is_other_system part ≡ other
+        → BeginStaying (name_texts (spelled_by (part ∷ others) (cond unstated (codes "unknown" ∷ []) (cond other (codes "unknown" ∷ part ∷ []) (later_spelling part))) ++ later_names others))
+    by_tests true other is = known-second (codes "unknown") unknown-known
+    by_tests false true is = known-second (codes "unknown") unknown-known
+    by_tests false false is = begin-staying (part ∷ others) (later_spelling part) (later_names others) (later-first part is)
 
 -- what is read from parts is plain, and a custom vendor is the second part
 
@@ -84,17 +86,17 @@ pub record IsSound (t : Values) : Type 0 where
   pub plain : IsPlainTriple t
   pub custom : CustomStays t
 
-known-sound : (v : VendorValue) (t : Values) → is_plain v ≡ true → ((text : List ℕ) → v ≡ Custom text → later_spelling text ≡ text ∷ [])
+known-sound : (v : VendorValue) (t : Values) → is_plain v ≡ true → ((text : List ℕ) → v ≡ Custom text → SecondStays text)
     → (t.vendor ≡ v) × HasVersionInRange t.operating_system → IsSound t
 known-sound v t plain custom (same, range) =
     record { plain = record { vendor = ap is_plain same ∙ plain; version = range }; custom = λ text is. custom text (sym same ∙ is) }
 
-vendor-sound : (a : Architecture) (t : Values) (ps : List (List ℕ)) → reading_from_vendor a ps ≡ Ok t → AllStay ps → IsSound t
-vendor-sound a t [] h all = known-sound (Known Unknown) t refl (λ text is. absurd cc) (system-in_range a (Known Unknown) t field.Architecture [] h)
-vendor-sound a t (p ∷ ps) h all = by_found (vendor_of p) refl h
+vendor-sound : (a : Architecture) (t : Values) (ps : List (List ℕ)) → reading_from_vendor a ps ≡ Ok t → BeginStaying ps → IsSound t
+vendor-sound a t [] h first = known-sound (Known Unknown) t refl (λ text is. absurd cc) (system-in_range a (Known Unknown) t field.Architecture [] h)
+vendor-sound a t (p ∷ ps) h first = by_found (vendor_of p) refl h
   where
-    custom : (v : VendorValue) → vendor_of p ≡ Some v → (text : List ℕ) → v ≡ Custom text → later_spelling text ≡ text ∷ []
-    custom v is text same = subst (λ x. later_spelling x ≡ x ∷ []) (sym (custom_vendor-text p text (is ∙ ap Some same))) all.0
+    custom : (v : VendorValue) → vendor_of p ≡ Some v → (text : List ℕ) → v ≡ Custom text → SecondStays text
+    custom v is text same = subst SecondStays (sym (custom_vendor-text p text (is ∙ ap Some same))) first
 
     by_found : (o : Option VendorValue) → vendor_of p ≡ o
         → (let v = field_reading_by field.Vendor o (Known Unknown) field.Architecture p ps in reading_from_operating_system a v.0 v.1 v.2) ≡ Ok t → IsSound t

@@ -16,11 +16,11 @@ use Rattle.tool_names.specs.declared.tables.Way.{Way}
 use Rattle.tool_names.specs.declared.tables.Way.TheVariants.{Both, Written, NoTriple}
 use Rattle.tool_names.specs.{Dialects.rows_of, Dialects.rules_of, Laws.may_be_long, Laws.may_be_short, Private.is_short_pattern, Shape.shape}
 use Rattle.tool_names.specs.Patterns.{filled, star_count, with_star, without_star}
-use Rattle.tool_names.specs.Tables.{Row, is_read_and, is_written, row_for}
+use Rattle.tool_names.specs.Tables.{Row, is_read_and, is_written, is_written_for, row_for}
 use Rattle.tool_names.specs.ToolNames.{Unread, read_or_unknown, triple_name, with_numbers}
 use Rattle.tool_names.proofs.Filling.{is_own_tag, is_spaced}
 use Rattle.tool_names.proofs.KeptFormats.{keeps_abi}
-use Rattle.tool_names.proofs.RowLemmas.{all-at, all_apart, for-at, is_only_written}
+use Rattle.tool_names.proofs.RowLemmas.{all-at, all_apart, first-at, is_only_written}
 use Rattle.tool_names.proofs.ShapeLemmas.{has_no_special_text}
 
 -- the architectures, systems and formats for which toolchains write the format of the triple
@@ -158,7 +158,7 @@ pub record IsWrittenFor (d : Dialect) (numbers : ℕ) (text : List ℕ) (row : R
 
 pub row-written : (d : Dialect) (numbers : ℕ) (text : List ℕ) (row : Row) → row_for (rows_of d) numbers text ≡ Some row → IsWrittenFor d numbers text row
 row-written d numbers text row is =
-    let found = for-at (rows_of d) numbers text row is in
+    let found = first-at (is_written_for numbers text) (rows_of d) row is in
     let parts = and_parts (is_written row.way && bytes_eq text row.meaning) (nat_eq (star_count row.pattern) numbers) found.2 in
     let first = and_parts (is_written row.way) (bytes_eq text row.meaning) parts.0 in
     let form = and_parts (is_spaced row.pattern && (not (rules_of d).tags || is_own_tag row.pattern) && has_numbers row.way (star_count row.pattern)) (not (is_written row.way) || (is_short_pattern row.pattern && nat_le (length row.meaning) 64)) (all-at (has_form (rules_of d).tags) (rows_of d) found.0 row (rows-formed d) found.1) in

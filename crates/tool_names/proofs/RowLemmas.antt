@@ -5,10 +5,9 @@ use Rattle.std.specs.{Char.is_ascii_digit, List.list_all, List.list_any, List.pr
 use Rattle.std.proofs.lemmas.Bool.{and_parts, eqb-false, eqb-true}
 use Rattle.tool_names.specs.declared.tables.Way.{Way}
 use Rattle.tool_names.specs.declared.tables.Way.TheVariants.{Written, NoTriple}
-use Rattle.tool_names.specs.Platforms.{Words, has_words, row_with_words}
 use Rattle.tool_names.specs.Patterns.{after_digits, all_limits, head_digits, key_by, matched, matched_within, next_number, put_first, rest_of, star}
 use Rattle.tool_names.proofs.Tags.{matched_key}
-use Rattle.tool_names.specs.Tables.{Row, is_written_for, row_for, row_named}
+use Rattle.tool_names.specs.Tables.{Row, first_row, row_named}
 
 -- two patterns that are apart: they differ at a byte, or one has a star where the other has a byte that begins no number
 abbrev pub apart : List ℕ → List ℕ → Bool
@@ -161,25 +160,14 @@ named-at tags (row ∷ rows) name found is = by_match (matched tags row.pattern 
         subst (λ (f : Row × List ℕ). (i : ℕ) × (slice_get (row ∷ rows) i ≡ Some f.0) × (matched tags f.0.pattern name ≡ Some f.1)) same (0, refl, has)
     by_match None none h again = let rest = again h in (suc rest.0, rest.1, rest.2)
 
--- so is the row with the words of a platform
-pub words-at : (rows : List Row) (words : Words) (found : Row) → row_with_words rows words ≡ Some found → (i : ℕ) × (slice_get rows i ≡ Some found)
-words-at [] words found is = absurd cc
-words-at (row ∷ rows) words found is = by_test (has_words words row) is (words-at rows words found)
+-- so is the first row that passes a test
+pub first-at : (p : Row → Bool) (rows : List Row) (found : Row) → first_row p rows ≡ Some found → (i : ℕ) × (slice_get rows i ≡ Some found) × (p found ≡ true)
+first-at p [] found is = absurd cc
+first-at p (row ∷ rows) found is = by_test (p row) refl is (first-at p rows found)
   where
-    by_test : (b : Bool) → cond b (Some row) (row_with_words rows words) ≡ Some found → (row_with_words rows words ≡ Some found → (i : ℕ) × (slice_get rows i ≡ Some found))
-        → (i : ℕ) × (slice_get (row ∷ rows) i ≡ Some found)
-    by_test true is_first again = let same : row ≡ found = cc in subst (λ (r : Row). (i : ℕ) × (slice_get (row ∷ rows) i ≡ Some r)) same (0, refl)
-    by_test false is_later again = let rest = again is_later in (suc rest.0, rest.1)
-
--- so is the one for a triple
-pub for-at : (rows : List Row) (numbers : ℕ) (text : List ℕ) (found : Row) → row_for rows numbers text ≡ Some found → (i : ℕ) × (slice_get rows i ≡ Some found) × (is_written_for numbers text found ≡ true)
-for-at [] numbers text found is = absurd cc
-for-at (row ∷ rows) numbers text found is = by_test (is_written_for numbers text row) refl is (for-at rows numbers text found)
-  where
-    by_test : (b : Bool) → is_written_for numbers text row ≡ b → cond b (Some row) (row_for rows numbers text) ≡ Some found
-        → (row_for rows numbers text ≡ Some found → (i : ℕ) × (slice_get rows i ≡ Some found) × (is_written_for numbers text found ≡ true))
-        → (i : ℕ) × (slice_get (row ∷ rows) i ≡ Some found) × (is_written_for numbers text found ≡ true)
-    by_test true has h again = let same : row ≡ found = cc in subst (λ (r : Row). (i : ℕ) × (slice_get (row ∷ rows) i ≡ Some r) × (is_written_for numbers text r ≡ true)) same (0, refl, has)
+    by_test : (b : Bool) → p row ≡ b → cond b (Some row) (first_row p rows) ≡ Some found
+        → (first_row p rows ≡ Some found → (i : ℕ) × (slice_get rows i ≡ Some found) × (p found ≡ true)) → (i : ℕ) × (slice_get (row ∷ rows) i ≡ Some found) × (p found ≡ true)
+    by_test true has h again = let same : row ≡ found = cc in subst (λ (r : Row). (i : ℕ) × (slice_get (row ∷ rows) i ≡ Some r) × (p r ≡ true)) same (0, refl, has)
     by_test false has h again = let rest = again h in (suc rest.0, rest.1, rest.2)
 
 -- two rows have a name only where the first isn't read and the second is only written

@@ -1,21 +1,22 @@
 -- What parses stays: the names that the parts of a read string spell are the parts, unless its vendor is custom and
 -- spells other names.
 use Rattle.std.proofs.Common.{◌≡◌, ◌∙◌, ℕ, List, [], ◌∷◌, Option, Some, None, Result, Ok, Err, Bool, true, false, cond, refl, sym, ap, subst, inl, inr}
-use Rattle.std.specs.Prelude.{codes, is_some, option_map, ◌||◌, ◌&&◌}
+use Rattle.std.specs.Prelude.{codes, is_none, is_some, option_map, ◌||◌, ◌&&◌}
 use Rattle.std.specs.Str.{bytes_eq}
-use Rattle.std.specs.Option.{option_or}
+use Rattle.std.specs.Option.{option_map_or, option_or}
 use Rattle.std.proofs.lemmas.Bool.{and_parts, cases_Bool}
 use Rattle.std.proofs.lemmas.Slice.Eq.{bytes_eq-Decides}
-use Rattle.lexicon_fields.specs.{Architecture.architecture_of, BinaryFormat.binary_format_of, Environment.environment_of, FixedRow.has_row, OperatingSystem.fixed_operating_system_of, OperatingSystem.operating_system_of, Vendor.is_admitted, Vendor.known_vendor_of, Vendor.vendor_of, Version.version_of}
+use Rattle.lexicon_fields.specs.{Architecture.architecture_of, BinaryFormat.binary_format_of, Environment.environment_of, FixedRow.has_row, OperatingSystem.fixed_operating_system_of, OperatingSystem.operating_system_of, Vendor.has_vendor_form, Vendor.is_admitted, Vendor.is_custom, Vendor.known_vendor_of, Vendor.vendor_of, Version.version_of}
 use Rattle.lexicon_fields.specs.declared.known_vendor.KnownVendor.{KnownVendor}
 use Rattle.lexicon_fields.specs.declared.known_vendor.KnownVendor.TheVariants.{Unknown}
+use Rattle.lexicon_fields.proofs.VendorsReadBack.{row_read, without_row_read}
 use Rattle.target_lexicon.specs.GreedyReading.{field_reading_by, final_reading, reading_from_binary_format, reading_from_environment, reading_from_operating_system, reading_from_vendor, reading_after_architecture, reading_of_parts}
 use Rattle.target_lexicon.specs.{Field.Field, ImpliedFormat.implied_format, Reading.expected_after, Refusal.Refusal, Refusal.refusal_with}
 use Rattle.target_lexicon.specs.Values.{Architecture, OperatingSystem, Environment, BinaryFormat, VendorValue, Known, Custom, Values, values}
 use Rattle.target_lexicon.specs.Values.operating_system
 use Rattle.target_lexicon.specs.Values.environment
 use Rattle.target_lexicon.specs.Field as field
-use Rattle.tool_names.specs.Spelling.{ListedPartsAreUnknown, first_spellings, later_spellings, versioned_spellings, is_known_name, later_spelling, is_unstated, later_names, names_after_first, spelled_names, name_texts}
+use Rattle.tool_names.specs.Spelling.{ListedPartsAreUnknown, first_spellings, later_spellings, versioned_spellings, is_known_name, is_other_system, later_spelling, is_unstated, later_names, names_after_first, spelled_names, name_texts}
 
 -- a later part that spells itself
 abbrev pub Stays : List ℕ → Type 0
@@ -72,6 +73,33 @@ module _ (part : List ℕ) where
   unfolding vendor_of
   custom_vendor-text text is = by_custom (known_vendor_of part) (is_admitted part) text is
 
+-- a second part that spells itself, so that it is no system that isn't known
+abbrev pub SecondStays : List ℕ → Type 0
+SecondStays part = (is_other_system part ≡ false) × Stays part
+
+no_custom-stated : (part : List ℕ) → option_map_or is_custom (vendor_of part) false ≡ false → is_other_system part ≡ false
+unfolding is_other_system
+no_custom-stated part none = rw none refl
+
+-- a known name is no custom vendor
+known-no_custom : (part : List ℕ) → is_known_name part ≡ true → option_map_or is_custom (vendor_of part) false ≡ false
+known-no_custom part known =
+    elim (cases_Bool (has_row part)) [
+      | inl row ↦ rw (sym (row_read part row)) (by_known (known_vendor_of part))
+      | inr none ↦ let system : is_some (operating_system_of part) ≡ true = rw none at known in rw (without_row_read part none) (by_system (operating_system_of part) system)
+    ]
+  where
+    by_known : (o : Option KnownVendor) → option_map_or is_custom (option_map Known o) false ≡ false
+    by_known (Some k) = refl
+    by_known None = refl
+
+    by_system : (o : Option OperatingSystem) → is_some o ≡ true → option_map_or is_custom (cond (is_none o && has_vendor_form part) (Some (Custom part)) None) false ≡ false
+    by_system (Some s) is = refl
+    by_system None is = absurd cc
+
+pub known-second : (part : List ℕ) → is_known_name part ≡ true → SecondStays part
+known-second part known = (no_custom-stated part (known-no_custom part known), known-stays part known)
+
 -- all parts spell themselves
 abbrev pub AllStay : List (List ℕ) → Type 0
 AllStay [] = Unit {0}
@@ -120,21 +148,28 @@ module _ (a : Architecture) (v : VendorValue) (t : Values) where
 
 -- a custom vendor of the triple spells itself
 abbrev pub CustomStays : Values → Type 0
-CustomStays t = (text : List ℕ) → t.vendor ≡ Custom text → Stays text
+CustomStays t = (text : List ℕ) → t.vendor ≡ Custom text → SecondStays text
 
-pub vendor-stays : (a : Architecture) (t : Values) (ps : List (List ℕ)) → reading_from_vendor a ps ≡ Ok t → CustomStays t → AllStay ps
+-- all parts after the first spell themselves
+abbrev pub AllStayAfterFirst : List (List ℕ) → Type 0
+AllStayAfterFirst [] = Unit {0}
+AllStayAfterFirst (part ∷ others) = SecondStays part × AllStay others
+
+pub vendor-stays : (a : Architecture) (t : Values) (ps : List (List ℕ)) → reading_from_vendor a ps ≡ Ok t → CustomStays t → AllStayAfterFirst ps
 vendor-stays a t [] h custom = tt
 vendor-stays a t (p ∷ ps) h custom = by_found (vendor_of p) refl h
   where
-    by_vendor : (v : VendorValue) → vendor_of p ≡ Some v → t.vendor ≡ v → Stays p
-    by_vendor (Known k) is same = known-stays p (known_vendor-known p k is)
-    by_vendor (Custom text) is same = subst Stays (custom_vendor-text p text is) (custom text same)
+    by_vendor : (v : VendorValue) → vendor_of p ≡ Some v → t.vendor ≡ v → SecondStays p
+    by_vendor (Known k) is same = known-second p (known_vendor-known p k is)
+    by_vendor (Custom text) is same = subst SecondStays (custom_vendor-text p text is) (custom text same)
 
     by_found : (o : Option VendorValue) → vendor_of p ≡ o
         → (let v = field_reading_by field.Vendor o (Known Unknown) field.Architecture p ps in reading_from_operating_system a v.0 v.1 v.2) ≡ Ok t
-        → AllStay (p ∷ ps)
+        → AllStayAfterFirst (p ∷ ps)
     by_found (Some v) is h = let rest = system-stays a v t field.Vendor ps h in (by_vendor v is rest.1, rest.0)
-    by_found None is h = (system-stays a (Known Unknown) t field.Architecture (p ∷ ps) h).0
+    by_found None is h =
+        let all = (system-stays a (Known Unknown) t field.Architecture (p ∷ ps) h).0 in
+        ((no_custom-stated p (ap (λ v. option_map_or is_custom v false) is), all.0), all.1)
 
 -- a second part that states no vendor is refused by itself
 
@@ -169,7 +204,7 @@ after_first-stay a t [] h custom = refl
 after_first-stay a t (p ∷ ps) h custom =
     let stated = read-stated a t p ps h in
     let all = vendor-stays a t (p ∷ ps) h custom in
-    rw (stated, all.0) (ap (λ qs. p ∷ qs) (later-stay ps all.1))
+    rw (stated, all.0.0, all.0.1) (ap (λ qs. p ∷ qs) (later-stay ps all.1))
 
 -- so the names are the parts
 pub names-stay : (ps : List (List ℕ)) (t : Values) → reading_of_parts ps ≡ Ok t → CustomStays t → name_texts (spelled_names ps) ≡ ps

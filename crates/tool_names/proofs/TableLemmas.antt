@@ -5,11 +5,17 @@ use Rattle.std.specs.{Option.option_or}
 use Rattle.std.proofs.lemmas.Grind.{flat_map-append}
 use Rattle.std.proofs.lemmas.List.{append-nil, drop_more, map-append, take_more}
 use Rattle.std.proofs.lemmas.List.Elements.{filter-append}
+use Rattle.tool_names.specs.declared.dialect.Dialect.{Dialect}
+use Rattle.tool_names.specs.Dialects.{joined_rows, rows_of, tables_of}
 use Rattle.tool_names.specs.Patterns.{matched}
-use Rattle.tool_names.specs.Platforms.{Words, has_words, row_with_words}
-use Rattle.tool_names.specs.Tables.{Row, has_plain_name, is_written_for, plain_rows, row_for, row_named, rows_in}
+use Rattle.tool_names.specs.Tables.{Row, first_row, has_plain_name, plain_rows, row_named, rows_in}
 use Rattle.tool_names.specs.ToolNames.{plain_names}
 use Rattle.tool_names.proofs.NearestNames.{BorrowedRow}
+
+-- the rows of a dialect are those of its tables
+pub rows-joined : (d : Dialect) → joined_rows (tables_of d) ≡ rows_of d
+unfolding rows_of
+rows-joined d = refl
 
 abbrev pub Table : Type 0
 Table = Bor (List BorrowedRow)
@@ -35,35 +41,20 @@ named_more tags tables i name more =
     ap (λ ts. row_named tags (rows_in ts) name) (drop_more tables i no_table more)
     ∙ named-append tags (plain_rows (get_or tables i no_table).now) (rows_in (drop (i + 1) tables)) name
 
-words-append : (xs ys : List Row) (words : Words) → row_with_words (xs ++ ys) words ≡ option_or (row_with_words xs words) (row_with_words ys words)
-words-append [] ys words = refl
-words-append (x ∷ xs) ys words = by_test (has_words words x) (words-append xs ys words)
+first-append : (p : Row → Bool) (xs ys : List Row) → first_row p (xs ++ ys) ≡ option_or (first_row p xs) (first_row p ys)
+first-append p [] ys = refl
+first-append p (x ∷ xs) ys = by_test (p x) (first-append p xs ys)
   where
-    by_test : (b : Bool) → row_with_words (xs ++ ys) words ≡ option_or (row_with_words xs words) (row_with_words ys words)
-        → cond b (Some x) (row_with_words (xs ++ ys) words) ≡ option_or (cond b (Some x) (row_with_words xs words)) (row_with_words ys words)
+    by_test : (b : Bool) → first_row p (xs ++ ys) ≡ option_or (first_row p xs) (first_row p ys)
+        → cond b (Some x) (first_row p (xs ++ ys)) ≡ option_or (cond b (Some x) (first_row p xs)) (first_row p ys)
     by_test true rest = refl
     by_test false rest = rest
 
-pub words_more : (tables : List Table) (i : ℕ) (words : Words) → i < length tables
-    → row_with_words (rows_in (drop i tables)) words ≡ option_or (row_with_words (plain_rows (get_or tables i no_table).now) words) (row_with_words (rows_in (drop (i + 1) tables)) words)
-words_more tables i words more =
-    ap (λ ts. row_with_words (rows_in ts) words) (drop_more tables i no_table more)
-    ∙ words-append (plain_rows (get_or tables i no_table).now) (rows_in (drop (i + 1) tables)) words
-
-for-append : (xs ys : List Row) (numbers : ℕ) (text : List ℕ) → row_for (xs ++ ys) numbers text ≡ option_or (row_for xs numbers text) (row_for ys numbers text)
-for-append [] ys numbers text = refl
-for-append (x ∷ xs) ys numbers text = by_test (is_written_for numbers text x) (for-append xs ys numbers text)
-  where
-    by_test : (b : Bool) → row_for (xs ++ ys) numbers text ≡ option_or (row_for xs numbers text) (row_for ys numbers text)
-        → cond b (Some x) (row_for (xs ++ ys) numbers text) ≡ option_or (cond b (Some x) (row_for xs numbers text)) (row_for ys numbers text)
-    by_test true rest = refl
-    by_test false rest = rest
-
-pub for_more : (tables : List Table) (i numbers : ℕ) (text : List ℕ) → i < length tables
-    → row_for (rows_in (drop i tables)) numbers text ≡ option_or (row_for (plain_rows (get_or tables i no_table).now) numbers text) (row_for (rows_in (drop (i + 1) tables)) numbers text)
-for_more tables i numbers text more =
-    ap (λ ts. row_for (rows_in ts) numbers text) (drop_more tables i no_table more)
-    ∙ for-append (plain_rows (get_or tables i no_table).now) (rows_in (drop (i + 1) tables)) numbers text
+pub first_more : (p : Row → Bool) (tables : List Table) (i : ℕ) → i < length tables
+    → first_row p (rows_in (drop i tables)) ≡ option_or (first_row p (plain_rows (get_or tables i no_table).now)) (first_row p (rows_in (drop (i + 1) tables)))
+first_more p tables i more =
+    ap (λ ts. first_row p (rows_in ts)) (drop_more tables i no_table more)
+    ∙ first-append p (plain_rows (get_or tables i no_table).now) (rows_in (drop (i + 1) tables))
 
 -- the names of the first tables, and of one more
 

@@ -14,6 +14,7 @@ pub mod Private
 pub mod RustcCfg
 pub mod Shape
 pub mod Spelling
+pub mod StatedVersion
 pub mod Suggestion
 pub mod Tables
 pub mod ToolNames

@@ -2,7 +2,7 @@
 -- go without saying.
 use Rattle.std.specs.Prelude.{ℕ, Bool, not, ◌==◌, ◌&&◌, ◌||◌, List, [], ◌∷◌, codes, take, drop, Option, Some, None, if◌then◌else◌}
 use Rattle.std.specs.{List.prefix_len, Str.str_eq_ignore_ascii_case}
-use Rattle.tool_names.specs.{Patterns.star_count, Tables.Row}
+use Rattle.tool_names.specs.{Patterns.star_count, Tables.Row, Tables.first_row}
 
 -- the words of a platform; that of the variant has the slash before it, and may be empty
 pub record Words : Type 0 where
@@ -83,5 +83,4 @@ has_words words row = star_count row.pattern == 0 && are_same_words (words_of ro
 
 -- the first such row
 abbrev pub row_with_words : List Row → Words → Option Row
-row_with_words [] words = None
-row_with_words (row ∷ rows) words = if has_words words row then Some row else row_with_words rows words
+row_with_words rows words = first_row (has_words words) rows

@@ -2,11 +2,13 @@
 -- known names, and a second part may state no vendor. Each such part gives way to known names, which are parsed as ever.
 use Rattle.std.specs.Prelude.{◌≡◌, ℕ, Bool, true, false, ◌||◌, ◌&&◌, ◌-◌, List, [], ◌∷◌, ◌++◌, codes, length, map, Option, Some, None, is_none, is_some, not, option_map, option_and_then, slice_get, unwrap_or, Result, Ok, Err, if◌then◌else◌, ◌==◌}
 use Rattle.std.specs.Char.{is_ascii_digit}
-use Rattle.std.specs.List.{list_all, join_with_byte}
+use Rattle.std.specs.List.{list_all, list_any, join_with_byte}
 use Rattle.std.specs.Option.{option_or, option_map_or}
 use Rattle.std.specs.Str.{bytes_eq}
 use Rattle.lexicon_fields.specs.{Architecture.architecture_of, BinaryFormat.binary_format_of, Environment.environment_of, FixedRow.has_row, Names.Pair, Names.dash, Names.value_named, OperatingSystem.operating_system_of, OperatingSystem.text_after_prefix, Vendor.is_custom, Vendor.vendor_of, Version.dot, Version.version_of}
+use Rattle.lexicon_fields.specs.declared.field.Field.TheVariants as field
 use Rattle.target_lexicon.specs.{Explanation.IsInText, Explanation.PlacedPart, Explanation.part_from, Field.Field, FixedPoints.canonical_text, FixedPoints.settled_values, GreedyReading.reading_of_parts, Placement.parts_of, Printing.text_of, Reading.IsRefusal, Reading.ReadsAs, Refusal.Refusal, SpecialTexts.special_values, Values.Values, ValuesRef.PlacedRefusal}
+use Rattle.tool_names.specs.KnownNames.{known_names}
 
 -- other spellings of architectures, for the first part
 unfoldable pub first_spellings : List (Pair (List ℕ))
@@ -152,9 +154,33 @@ is_unstated [] others = true
 is_unstated part [] = false
 is_unstated part (next ∷ others) = bytes_eq part (codes "none") && bytes_eq next (codes "linux")
 
+-- names of systems that aren't known names: other spellings, and systems of rustc that have no triple
+abbrev pub other_systems : List (List ℕ)
+other_systems = map codes ("macos" ∷ "netbsdelf" ∷ "nuttx" ∷ "rtems" ∷ "wasip" ∷ [])
+
+-- whether what follows a name may be a version: it is empty, or begins with a digit or a dot
+abbrev pub may_be_version : List ℕ → Bool
+may_be_version [] = true
+may_be_version (c ∷ cs) = is_digit_or_dot c
+
+-- whether a part is this name, or the name with what may be its version
+abbrev pub may_be_versioned : List ℕ → List ℕ → Bool
+may_be_versioned part name = option_map_or may_be_version (text_after_prefix name part) false
+
+-- whether a part is the name of a system, perhaps with a version
+abbrev pub is_like_system : List ℕ → Bool
+is_like_system part = list_any (may_be_versioned part) (known_names field.OperatingSystem) || list_any (may_be_versioned part) other_systems
+
+-- whether a second part parses as a custom vendor but is a system that isn't known
+unfoldable pub is_other_system : List ℕ → Bool
+is_other_system part = option_map_or is_custom (vendor_of part) false && is_none (listed_spelling part) && is_like_system part
+
 -- the names that a second part is, with these after it
 abbrev pub second_spelling : List ℕ → List (List ℕ) → List (List ℕ)
-second_spelling part others = if is_unstated part others then codes "unknown" ∷ [] else later_spelling part
+second_spelling part others =
+    if is_unstated part others then codes "unknown" ∷ []
+    else if is_other_system part then codes "unknown" ∷ part ∷ []
+    else later_spelling part
 
 -- the names that a part of a string spells, and the parts of the string from that one on
 pub record SpelledPart : Type 0 where

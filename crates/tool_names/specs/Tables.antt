@@ -43,10 +43,13 @@ is_written _ = false
 abbrev pub is_written_for : ℕ → List ℕ → Row → Bool
 is_written_for numbers text row = is_written row.way && bytes_eq text row.meaning && star_count row.pattern == numbers
 
--- the first row that is
+-- the first of these rows that passes a test
+abbrev pub first_row : (Row → Bool) → List Row → Option Row
+first_row test [] = None
+first_row test (row ∷ rows) = if test row then Some row else first_row test rows
+
 abbrev pub row_for : List Row → ℕ → List ℕ → Option Row
-row_for [] numbers text = None
-row_for (row ∷ rows) numbers text = if is_written_for numbers text row then Some row else row_for rows numbers text
+row_for rows numbers text = first_row (is_written_for numbers text) rows
 
 -- whether a way is that of names that are read, and are written or aren't
 abbrev pub is_read_and : Bool → Way → Bool

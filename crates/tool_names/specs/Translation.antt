@@ -26,7 +26,7 @@ why_unnamed d None t = if has_name_with d Glibc t || has_name_with d Musl t then
 why_unnamed d (Some c) t = NoName
 
 -- the name of the completed triple, or why there is none
-abbrev pub written : Dialect → Option LinuxLibc → Values → Result (List ℕ) WriteError
+unfoldable pub written : Dialect → Option LinuxLibc → Values → Result (List ℕ) WriteError
 written d c t = ok_or (triple_name d (completed_if c t)) (why_unnamed d c t)
 
 -- which step of a translation fails, and why: the name isn't read, or what it means isn't written

@@ -7,12 +7,15 @@ ghost use Rattle.tool_names.specs.Distance.{edit_distance, IsLeastEdits};
 ghost use Rattle.tool_names.specs.Laws.{NamesAreCanonical, NamesKeepAnswers, NamesMeanTheShape, NamesMeanTheirRows, NamesReadBack, NamesWithoutTripleAreRefused, OneNumberIsEnough, ShapesAreFixed, TagsMeanTheSame};
 ghost use Rattle.tool_names.specs.ObjectFormat.{GivenFormatsAreKept};
 ghost use Rattle.tool_names.specs.Spelling.{KnownNamesAreReadAsBefore, ListedPartsAreUnknown, OnceIsEnough, ReadingAgainIsTheSame, RefusalsAreAtTheRefusedName, RefusedPartsAreInTheString};
+ghost use Rattle.tool_names.specs.StatedVersion.{VersionedNamesAreRead};
+ghost use Rattle.tool_names.specs.Suggestion.{SuggestionsHaveAPlace, suggestion_text};
 ghost use Rattle.tool_names.specs.ToolNames.{name_bytes, unread_of};
 ghost use Rattle.tool_names.specs.Translation.{untranslated_of};
 ghost use Rattle.tool_names.specs.declared.change.Change.{Change};
 ghost use Rattle.tool_names.specs.declared.name.Name.{Name};
 ghost use Rattle.tool_names.specs.declared.names.NameError.{NameError};
 ghost use Rattle.tool_names.specs.declared.spelling.Spelling.{Spelling};
+ghost use Rattle.tool_names.specs.declared.suggested.Suggestion.{Suggestion};
 
 use crate::change::Change;
 use crate::completion::LinuxLibc;
@@ -20,6 +23,7 @@ use crate::dialect::Dialect;
 use crate::name::Name;
 use crate::names::NameError;
 use crate::spelling::Spelling;
+use crate::suggested::Suggestion;
 use crate::translation::{TranslateError, WriteError};
 use target_lexicon::laws::{read_triples_are_plain, round_is_normal_step};
 
@@ -71,6 +75,11 @@ pub fn reading_again_is_the_same()
     round_is_normal_step();
 }
 
+/// What is suggested isn't refused there again: its first name parses as a value of the expected field or of a later one.
+pub fn suggestions_have_a_place()
+    ensures { SuggestionsHaveAPlace }
+{}
+
 /// The object format is the field `binary_format`, with two exceptions: that field is unknown, or it is the implied
 /// format on UEFI, Cygwin or WebAssembly.
 pub fn given_formats_are_kept()
@@ -119,6 +128,13 @@ pub fn names_mean_the_shape()
     round_is_normal_step();
 }
 
+/// A name with a version, which a caller says, is read: it means the triple, with that version if its system is macOS or iOS.
+pub fn versioned_names_are_read()
+    ensures { VersionedNamesAreRead }
+{
+    round_is_normal_step();
+}
+
 /// The shape of a shape is itself, and no vendor changes the shape.
 pub fn shapes_are_fixed()
     ensures { ShapesAreFixed }
@@ -152,7 +168,8 @@ pub fn completion_is_unstated()
 {}
 
 /// Two dialects, two C libraries, or two reasons why a name isn't read, written or translated, are equal exactly if they are
-/// the same. Two names that are equal have the same bytes; two changes that are equal are of the same part, and name the same.
+/// the same. Two names that are equal have the same bytes; two changes that are equal are of the same part, and name the same;
+/// two suggestions that are equal are the same string.
 pub fn values_are_equal_by_value()
     ensures dialect { ComparesByValue ⟦<Dialect as PartialEq>⟧.eq }
     ensures c_library { ComparesByValue ⟦<LinuxLibc as PartialEq>⟧.eq }
@@ -170,6 +187,9 @@ pub fn values_are_equal_by_value()
     ensures change { (x y : Change) →
         IsTrue (⟦<Change<'static> as PartialEq>⟧.eq x y) →
         change_value x ≡ change_value y }
+    ensures suggestion { (x y : Suggestion) →
+        IsTrue (⟦<Suggestion<'static> as PartialEq>⟧.eq x y) →
+        suggestion_text x ≡ suggestion_text y }
 {}
 
 /// A copy of a value is that value, and copying allocates nothing.
@@ -190,6 +210,8 @@ pub fn copies_equal_their_sources()
         ⟦<Spelling<'static> as Clone>⟧.is_infallible }
     ensures change { CopiesEqualTheirSources ⟦<Change<'static> as Clone>⟧.is_clone
         ⟦<Change<'static> as Clone>⟧.is_infallible }
+    ensures suggestion { CopiesEqualTheirSources ⟦<Suggestion<'static> as Clone>⟧.is_clone
+        ⟦<Suggestion<'static> as Clone>⟧.is_infallible }
 {}
 
 /// The edit distance of two strings is the least number of edits that turn the one into the other.

@@ -14,7 +14,7 @@ pub(crate) struct Left<'a> {
     /// The string from the part on.
     pub from: &'a str,
     pub name: Name<'a>,
-    pub others: Option<&'static str>,
+    pub others: Option<&'a str>,
     pub rest: Option<&'a str>,
 }
 

@@ -65,14 +65,22 @@ impl Dialect {
     pub fn shape(self, triple: &TripleRef<'_>) -> TripleRef<'static>
         ensures { values_of_ref result ≡ spec.shape self (values_of_ref triple.now) }
     {
-        let rules = self.rules();
+        self.rules().shape(triple)
+    }
+}
+
+impl Rules {
+    /// The triple without what isn't stated.
+    pub(crate) fn shape(self, triple: &TripleRef<'_>) -> TripleRef<'static>
+        ensures { values_of_ref result ≡ spec.shape_by self (values_of_ref triple.now) }
+    {
         TripleRef {
-            architecture: rules
+            architecture: self
                 .machine
                 .architecture(triple.operating_system, triple.architecture),
             vendor: VendorRef::Known(usual_vendor(triple.operating_system)),
-            operating_system: system_by(rules.versions, triple.operating_system),
-            environment: rules
+            operating_system: system_by(self.versions, triple.operating_system),
+            environment: self
                 .abi
                 .environment(triple.operating_system, triple.environment),
             binary_format: triple.binary_format,
@@ -247,7 +255,7 @@ fn abi_on_systems(operating_system: OperatingSystem, environment: Environment) -
 }
 
 /// The system without a version; macOS has one name.
-fn unversioned(operating_system: OperatingSystem) -> OperatingSystem
+pub(crate) fn unversioned(operating_system: OperatingSystem) -> OperatingSystem
     ensures { result ≡ spec.unversioned operating_system }
 {
     match operating_system {

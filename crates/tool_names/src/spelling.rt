@@ -1,8 +1,10 @@
 //! Other spellings of the parts of a triple.
-ghost use Rattle.std.specs.Prelude.{◌≡◌, ◌∷◌, [], ℕ, List, Err, IfErr, IfOk, Some, option_map};
-ghost use Rattle.std.specs.List.{list_all};
+ghost use Rattle.std.specs.Prelude.{◌≡◌, ◌∷◌, [], ℕ, List, Err, IfErr, IfOk, Some, false, map, option_map};
+ghost use Rattle.std.specs.List.{list_all, list_any};
+ghost use Rattle.std.specs.Option.{option_map_or};
 ghost use Rattle.lexicon_fields.specs.Names.{value_named};
 ghost use Rattle.lexicon_fields.specs.OperatingSystem.{text_after_prefix};
+ghost use Rattle.lexicon_fields.specs.Vendor.{is_custom, vendor_of};
 ghost use Rattle.std.specs.Str.{bytes_eq};
 ghost use Rattle.target_lexicon.specs.Explanation.{part_value};
 ghost use Rattle.target_lexicon.specs.Placement.{parts_after, parts_of};
@@ -11,12 +13,14 @@ ghost use Rattle.target_lexicon.specs.Resumed.{NamedPart, named, resumed, resume
 ghost use Rattle.target_lexicon.specs.ValuesRef.{values_of_ref};
 ghost use Rattle.tool_names.specs.Changes.{is_only, name_text, spelling_names, spelling_text};
 ghost use Rattle.tool_names.specs.Private.{parts_table, table_of};
-ghost use Rattle.tool_names.specs.Spelling.{first_at_end, first_spelling, first_spellings, has_dropped_version, is_digit_or_dot, is_dropped_version, is_known_name, is_unstated, later_spelling, later_spellings, listed_spelling, second_spelling, version_after, version_if_dropped, versioned_spelling, versioned_spellings};
+ghost use Rattle.tool_names.specs.Spelling.{first_at_end, first_spelling, first_spellings, has_dropped_version, is_digit_or_dot, is_dropped_version, is_known_name, is_like_system, is_other_system, is_unstated, later_spelling, later_spellings, listed_spelling, may_be_version, may_be_versioned, second_spelling, version_after, version_if_dropped, versioned_spelling, versioned_spellings};
 
+use crate::known_names::names;
 use crate::macos::{MacOsVersion, macos_version};
 use std::fmt;
 use target_lexicon::{
-    Architecture, OperatingSystem, Reading, Refusal, Steps, TextPart, first_part, fixed_row,
+    Architecture, Field, OperatingSystem, Reading, Refusal, Steps, TextPart, VendorRef, first_part,
+    fixed_row,
 };
 
 /// The first part of the end of a string, and where it begins in the string.
@@ -96,7 +100,7 @@ pub(crate) enum Name<'a> {
 pub struct Spelling<'a> {
     pub(crate) first: Name<'a>,
     /// The others, with dashes between them.
-    pub(crate) others: Option<&'static str>,
+    pub(crate) others: Option<&'a str>,
 }
 
 impl<'a> Name<'a> {
@@ -206,6 +210,11 @@ impl<'a> Spelling<'a> {
     {
         if is_unstated(part, rest) {
             Spelling::of("unknown")
+        } else if is_other_system(part) {
+            Spelling {
+                first: Name::Text("unknown"),
+                others: Some(part),
+            }
         } else {
             Spelling::of_later(part)
         }
@@ -266,6 +275,60 @@ fn is_unstated(part: &str, rest: Option<&str>) -> bool
     match rest {
         Some(rest) => part == "none" && first_part(rest).0 == "linux",
         None => false,
+    }
+}
+
+/// Names of systems that aren't known names: other spellings, and systems of rustc that have no triple.
+const OTHER_SYSTEMS: [&str; 5] = ["macos", "netbsdelf", "nuttx", "rtems", "wasip"];
+
+/// Whether a second part parses as a custom vendor but is a system that isn't known.
+#[tactic(auto, unfolding(crate::specs::Spelling::is_other_system))]
+fn is_other_system(part: &str) -> bool
+    ensures { result ≡ is_other_system part.now }
+{
+    is_custom_vendor(part) && Spelling::of_listed(part).is_none() && is_like_system(part)
+}
+
+fn is_custom_vendor(part: &str) -> bool
+    ensures { result ≡ option_map_or is_custom (vendor_of part.now) false }
+{
+    match VendorRef::from_str(part) {
+        Ok(vendor) => vendor.is_custom(),
+        Err(_) => false,
+    }
+}
+
+/// Whether a part is the name of a system, perhaps with a version.
+fn is_like_system(part: &str) -> bool
+    ensures { result ≡ is_like_system part.now }
+{
+    is_one_of(part, names(Field::OperatingSystem)) || is_one_of(part, &OTHER_SYSTEMS)
+}
+
+/// Whether a part is one of these names, perhaps with a version.
+fn is_one_of(part: &str, names: &[&str]) -> bool
+    ensures { result ≡ list_any (λ name. may_be_versioned part.now name.now) names.now }
+{
+    names.iter().any(|name| may_be_versioned(part, name))
+}
+
+/// Whether a part is this name, or the name with what may be its version.
+fn may_be_versioned(part: &str, name: &str) -> bool
+    ensures { result ≡ may_be_versioned part.now name.now }
+{
+    match part.strip_prefix(name) {
+        Some(version) => may_be_version(version.as_bytes()),
+        None => false,
+    }
+}
+
+/// Whether what follows a name may be a version: it is empty, or begins with a digit or a dot.
+fn may_be_version(text: &[u8]) -> bool
+    ensures { result ≡ may_be_version text.now }
+{
+    match text {
+        [byte, ..] => is_digit_or_dot(*byte),
+        [] => true,
     }
 }
 
@@ -362,7 +425,7 @@ fn are_digits_or_dots(bytes: &[u8]) -> bool
     bytes.iter().all(|byte| is_digit_or_dot(*byte))
 }
 
-fn is_digit_or_dot(byte: u8) -> bool
+pub(crate) fn is_digit_or_dot(byte: u8) -> bool
     ensures { result ≡ is_digit_or_dot byte }
 {
     byte.is_ascii_digit() || byte == b'.'

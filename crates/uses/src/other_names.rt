@@ -1,5 +1,5 @@
 //! Names of other tools: what a caller concludes from each law about them.
-ghost use Rattle.std.specs.Prelude.{◌≡◌, ◌≢◌, ℕ, List, [], ◌∷◌, codes, true, false, is_none, IsTrue, Some, Ok, Err, not, ◌++◌, slice_get};
+ghost use Rattle.std.specs.Prelude.{◌≡◌, ◌≢◌, ◌≤◌, ℕ, List, [], ◌∷◌, codes, true, false, is_none, IsTrue, Some, Ok, Err, not, ◌++◌, slice_get};
 ghost use Rattle.std.specs.List.{AllPass};
 ghost use Rattle.lexicon_fields.specs.Architecture.{architecture_of};
 ghost use Rattle.lexicon_fields.specs.Laws.{HasVersionInRange};
@@ -23,6 +23,7 @@ ghost use Rattle.tool_names.specs.Patterns.{filled, fits, with_star, without_sta
 ghost use Rattle.tool_names.specs.Shape.{shape};
 ghost use Rattle.target_lexicon.specs.ValuesRef.{PlacedRefusal};
 ghost use Rattle.tool_names.specs.Spelling.{first_spelling, first_spellings, is_known_name, later_spelling, later_spellings, name_texts, spelled_names, spelled_reading, versioned_spellings};
+ghost use Rattle.tool_names.specs.StatedVersion.{shape_to_version, versioned_name};
 ghost use Rattle.tool_names.specs.Tables.{Row};
 ghost use Rattle.tool_names.specs.ToolNames.{name_bytes, name_meaning, numbers_in, row_meaning, shape_row, triple_name, unread_of};
 ghost use Rattle.tool_names.specs.Translation.{untranslated_of};
@@ -130,6 +131,18 @@ pub fn meanings_are_keys()
         is_custom t.vendor ≡ false }
 {
     tool_names::laws::names_are_canonical();
+}
+
+/// Triples that share a name with a version are of one architecture.
+pub fn versioned_names_are_of_one_machine()
+    ensures { (d : Dialect) (t u : Values) (major minor : ℕ) (name : List ℕ) →
+        major ≤ 65535 →
+        minor ≤ 255 →
+        versioned_name d t major minor ≡ Some name →
+        versioned_name d u major minor ≡ Some name →
+        (shape_to_version d t).architecture ≡ (shape_to_version d u).architecture }
+{
+    tool_names::laws::versioned_names_are_read();
 }
 
 /// What a name that goes both ways means has that name, whatever its numbers.

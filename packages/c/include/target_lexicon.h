@@ -83,7 +83,8 @@ enum lexicon_status {
   LEXICON_TOO_LARGE = 16,           /* a size is above PTRDIFF_MAX; that of a custom vendor gives LEXICON_NO_SUCH_VENDOR */
   LEXICON_NEEDS_C_LIBRARY = 17,     /* the dialect has a name for it with glibc or musl, and none is said */
   LEXICON_NO_SUCH_C_LIBRARY = 18,   /* the number of a C library of Linux is above 2; for lexicon_complete also 0 */
-  LEXICON_NO_SUCH_CHANGE = 19       /* the string has no change with this number */
+  LEXICON_NO_SUCH_CHANGE = 19,      /* the string has no change with this number */
+  LEXICON_NO_SUGGESTION = 20        /* nothing else may have been meant */
 };
 
 /* A tool, or a group of tools, that names targets in its own way. */
@@ -556,9 +557,18 @@ enum lexicon_status lexicon_read(uint32_t dialect, const char *text, size_t text
                                  struct lexicon_error *error);
 
 /* The name of a triple in a dialect, which has at most 36 bytes. The vendor doesn't matter, nor what the dialect doesn't name;
-   byte order, pointer width and object format do. A buffer that is too small is unchanged. */
+   byte order, pointer width and object format do. Without a name, the status is LEXICON_NEEDS_C_LIBRARY if lexicon_complete gives
+   the triple one, and otherwise LEXICON_TRIPLE_WITHOUT_NAME. A buffer that is too small is unchanged. */
 LEXICON_CHECKED LEXICON_NONNULL(2)
 enum lexicon_status lexicon_write(uint32_t dialect, const struct lexicon_triple *triple, char *out, size_t out_size, size_t *length);
+
+/* The name of a triple in a dialect that states a version which triples don't have: manylinux_2_17_x86_64 of Python with glibc
+   2.17, musllinux_1_2_aarch64 with musl 1.2, macosx_11_0_arm64 with macOS 11.0, or android_21_x86_64 with Android's API level 21,
+   which has no second number: pass 0. LEXICON_TRIPLE_WITHOUT_NAME if the dialect has no such name, or a number is too large for one:
+   over 65535, or 255 for the second. A buffer that is too small is unchanged. */
+LEXICON_CHECKED LEXICON_NONNULL(2)
+enum lexicon_status lexicon_write_versioned(uint32_t dialect, const struct lexicon_triple *triple, uint32_t major, uint32_t minor,
+                                            char *out, size_t out_size, size_t *length);
 
 /* Gives a triple of Linux, whose environment is unknown, the usual one of a C library: gnueabihf, gnu and so on. Only the
    environment changes; any other triple stays as it is. */
@@ -607,13 +617,16 @@ enum lexicon_status lexicon_error_line(const char *text, size_t text_size, const
 enum lexicon_status lexicon_error_text(const char *text, size_t text_size, const struct lexicon_error *error, char *out,
                                        size_t out_size, size_t *length);
 
-/* The name that may have been meant by the refused part, of the expected field or a later one; null if there is none. */
-const char *lexicon_suggestion(const char *text, size_t text_size, const struct lexicon_error *error);
+/* What may have been meant by the refused part, of the expected field or a later one: linux for linx, windows-gnu for mingw32. A
+   version stays if the system may have it: macosx14 for macos14. If there is none, the status is LEXICON_NO_SUGGESTION. A buffer of
+   LEXICON_MAX_GROWTH + 1 bytes more than the part has room. One that is too small is unchanged. */
+LEXICON_CHECKED
+enum lexicon_status lexicon_suggestion(const char *text, size_t text_size, const struct lexicon_error *error, char *out,
+                                       size_t out_size, size_t *length);
 
-/* The name that may have been meant by a custom vendor, of the vendors and the later fields: linux in x86_64-linx. Null if there
-   is none, or no custom vendor. */
-LEXICON_NONNULL(1)
-const char *lexicon_vendor_suggestion(const struct lexicon_triple *triple);
+/* Likewise by a custom vendor, of the vendors and the later fields: linux in x86_64-linx. */
+LEXICON_CHECKED LEXICON_NONNULL(1)
+enum lexicon_status lexicon_vendor_suggestion(const struct lexicon_triple *triple, char *out, size_t out_size, size_t *length);
 
 /* The number of the value that a string names in one field, outside any triple. An alias gives the number of its value, a
    custom vendor LEXICON_VENDOR_CUSTOM, and a version is parsed and dropped. If the string names no value of the field, the
@@ -676,9 +689,10 @@ static inline enum lexicon_status lexicon_error_text_z(const char *text, const s
                                                        size_t *length) {
   return lexicon_error_text(text, strlen(text), error, out, out_size, length);
 }
-LEXICON_NONNULL(1)
-static inline const char *lexicon_suggestion_z(const char *text, const struct lexicon_error *error) {
-  return lexicon_suggestion(text, strlen(text), error);
+LEXICON_CHECKED LEXICON_NONNULL(1)
+static inline enum lexicon_status lexicon_suggestion_z(const char *text, const struct lexicon_error *error, char *out, size_t out_size,
+                                                       size_t *length) {
+  return lexicon_suggestion(text, strlen(text), error, out, out_size, length);
 }
 LEXICON_CHECKED LEXICON_NONNULL(2, 3)
 static inline enum lexicon_status lexicon_number_z(uint32_t field, const char *text, uint32_t *number) {

@@ -390,6 +390,15 @@ class Triple {
     return name.empty() ? std::nullopt : std::make_optional(std::move(name));
   }
 
+  // The name in a dialect that states a version which triples don't have, as `lexicon_write_versioned` writes it, if there is one.
+  std::optional<std::string> versioned_name_in(Dialect dialect, std::uint32_t major, std::uint32_t minor = 0) const {
+    lexicon_triple triple = c_triple();
+    std::string name = detail::written([&](char* out, std::size_t size, std::size_t* length) {
+      return lexicon_write_versioned(static_cast<std::uint32_t>(dialect), &triple, major, minor, out, size, length);
+    });
+    return name.empty() ? std::nullopt : std::make_optional(std::move(name));
+  }
+
   // The triple with the usual environment of a C library, if it is of Linux and states none; else this one.
   Triple completed(LinuxLibc libc) const {
     lexicon_triple triple = c_triple();
@@ -421,10 +430,11 @@ class Triple {
   // The name of the vendor, also of a custom one. It stays as long as the triple.
   std::string_view vendor_name() const { return has_custom_vendor() ? std::string_view(custom_vendor_) : name(vendor()); }
   // The name that may have been meant by a custom vendor; empty if there is none.
-  std::string_view vendor_suggestion() const {
+  std::string vendor_suggestion() const {
     lexicon_triple triple = c_triple();
-    const char* found = lexicon_vendor_suggestion(&triple);
-    return found ? std::string_view(found) : std::string_view();
+    return detail::written([&](char* out, std::size_t size, std::size_t* length) {
+      return lexicon_vendor_suggestion(&triple, out, size, length);
+    });
   }
   std::optional<Version> version() const {
     if (!numbers_.has_version) return std::nullopt;
@@ -622,7 +632,9 @@ class Triple {
     error.text = detail::written([&](char* out, std::size_t size, std::size_t* length) {
       return lexicon_error_text(text.data(), text.size(), &found, out, size, length);
     });
-    if (const char* name = lexicon_suggestion(text.data(), text.size(), &found)) error.suggestion = name;
+    error.suggestion = detail::written([&](char* out, std::size_t size, std::size_t* length) {
+      return lexicon_suggestion(text.data(), text.size(), &found, out, size, length);
+    });
     return error;
   }
 

@@ -4,7 +4,7 @@ use crate::text::Text;
 use crate::{Status, NAME_WITHOUT_TRIPLE, NEEDS_C_LIBRARY, NOT_UTF8, NO_SUCH_VALUE, TRIPLE_WITHOUT_NAME, UNKNOWN_NAME};
 use core::str;
 use target_lexicon::proved::refusal_prefix;
-use target_lexicon::tool_names;
+use target_lexicon::tool_names::{self, Suggestion};
 
 /// What stands for a character that could change what a terminal or a log shows, and for bytes that are no character.
 const REPLACEMENT: char = '\u{fffd}';
@@ -51,16 +51,14 @@ pub(crate) fn line_and_caret(bytes: &[u8], error: &TextError, out: &mut Text) ->
     let (before, part) = (&bytes[..error.start], part(bytes, error)?);
     (0..characters(before).count()).for_each(|_| out.push(" "));
     (0..characters(part).count().max(1)).for_each(|_| out.push("^"));
-    if let Some(name) = suggestion(bytes, error) {
-        out.push(" did you mean `");
-        out.push(name);
-        out.push("`?");
+    if let Some(meant) = suggestion(bytes, error) {
+        [" did you mean `", meant.names, meant.version, "`?"].iter().for_each(|it| out.push(it));
     }
     Ok(())
 }
 
-/// The name that may have been meant.
-pub(crate) fn suggestion(bytes: &[u8], error: &TextError) -> Option<&'static str> {
+/// What may have been meant.
+pub(crate) fn suggestion<'a>(bytes: &'a [u8], error: &TextError) -> Option<Suggestion<'a>> {
     let part = str::from_utf8(part(bytes, error).ok()?).ok()?;
     tool_names::suggestion(expected_at(error.status)??, part)
 }

@@ -1,8 +1,6 @@
 //! The numbers of target_lexicon.h and target_lexicon.hpp are the library's.
 use crate::proved::values::{architecture_at, environment_at, operating_system_at};
-use crate::proved::{
-    c_library_at, dialect_at, driver_facts, expected_at, facts, field_at, name_at, NumberedTriple, TripleNumbers,
-};
+use crate::proved::{c_library_at, dialect_at, expected_at, facts, field_at, name_at, NumberedTriple, TripleNumbers};
 use std::collections::BTreeMap;
 use target_lexicon::tool_names::{CLibrary, FloatAbi};
 use target_lexicon::TripleRef;
@@ -91,7 +89,7 @@ fn the_families_are_the_values() {
     let (found, cpp_found) = (enumerators(HEADER, "LEXICON_FAMILY_"), cpp_enumerators("Family"));
     for number in 0.. {
         let Some(architecture) = architecture_at(number) else { break };
-        let family = facts(&numbered(number, 0)).ok().expect("a triple").family.into();
+        let family = facts(&numbered(number, 0)).ok().expect("a triple").formats.family.into();
         let shown = format!("{architecture:?}");
         let variant = shown.split('(').next().unwrap_or("");
         assert_eq!(found[&family], variant.to_uppercase());
@@ -116,7 +114,7 @@ fn the_conventions_and_models_are_those_of_the_queries() {
     for (number, architecture) in (0..).map_while(|it| Some((it, architecture_at(it)?))) {
         for (system_number, operating_system) in (0..).map_while(|it| Some((it, operating_system_at(it, None)?))) {
             let triple = TripleRef { architecture, operating_system, ..TripleRef::unknown() };
-            let facts = facts(&numbered(number, system_number)).ok().expect("a triple");
+            let facts = facts(&numbered(number, system_number)).ok().expect("a triple").queries;
             let convention = triple.default_calling_convention().map_or("", |it| it.name());
             assert_eq!(conventions[usize::from(facts.default_calling_convention)], convention);
             assert_eq!(models[usize::from(facts.data_model)], triple.data_model().map_or("", |it| it.name()));
@@ -137,7 +135,7 @@ fn the_answers_for_a_driver_are_those_of_the_library() {
             for architecture in [15, 91] {
                 let mut it = numbered(architecture, system);
                 it.numbers.environment = environment;
-                let facts = driver_facts(&it).ok().expect("a triple");
+                let facts = facts(&it).ok().expect("a triple").driver;
                 let triple = TripleRef {
                     architecture: architecture_at(architecture).expect("a value"),
                     operating_system,
@@ -245,7 +243,7 @@ fn the_structs_are_those_of_the_library() {
     let numbers = fields(triple, "TripleNumbers");
     assert_eq!(members("lexicon_triple"), flattened(fields(library, "Triple"), "TripleNumbers", &numbers));
     let sizes: Vec<_> = fields(facts, "TypeSizes").into_iter().map(|(of, name)| (of, name + "_size")).collect();
-    let groups = fields(library, "Facts").into_iter().flat_map(|(of, _)| flattened(fields(facts, &of), "TypeSizes", &sizes));
+    let groups = fields(facts, "Facts").into_iter().flat_map(|(of, _)| flattened(fields(facts, &of), "TypeSizes", &sizes));
     let layout = |it: (String, String)| match &*it.0 {
         "LayoutNumbers" => fields(facts, "LayoutNumbers").into_iter().map(|(of, name)| (of, format!("{}_{name}", it.1))).collect(),
         _ => vec![it],

@@ -22,20 +22,20 @@ mod proved;
 mod runtime;
 mod text;
 
-use core::mem::size_of;
+use core::mem::{size_of, MaybeUninit};
 use core::ptr::{self, addr_of, null};
 use core::{slice, str};
 use error_text::{line, line_and_caret, suggestion};
 use lines::settle_lines;
 use names::{c_name, c_reason};
-use proved::triple::{triple_in, CUSTOM_VENDOR};
-use proved::triple_facts::{driver_facts_of, format_facts_of, query_facts_of};
+use proved::triple::CUSTOM_VENDOR;
 use proved::{
-    c_library_at, complete, dialect_at, explain, field_at, name_at, name_in, name_suggestion, number_in, parse, print, read, reason,
-    same_target, settle, translate, DriverFacts, Fault, FieldSource, FieldSources, FormatFacts, NumberedTriple, QueryFacts, TextError,
-    TripleNumbers,
+    c_library_at, complete, dialect_at, explain, field_at, first_facts, name_at, name_in, name_suggestion, number_in, parse, print,
+    query_facts, read, reason, same_target, settle, translate, unwritten_status, versioned_name_in, Facts, Fault, FieldSource,
+    FieldSources, FirstFacts, NumberedTriple, QueryFacts, TextError, TripleNumbers,
 };
-use target_lexicon::{tool_names, Field};
+use target_lexicon::tool_names::{self, Dialect, Name, Suggestion};
+use target_lexicon::Field;
 use text::{shown, write_text, written, Text};
 
 /// `enum lexicon_status`. From 1 to 6 a text is refused, where a value of the first to the fifth field was expected, or none.
@@ -55,6 +55,7 @@ const TOO_LARGE: Status = 16;
 const NEEDS_C_LIBRARY: Status = 17;
 const NO_SUCH_C_LIBRARY: Status = 18;
 const NO_SUCH_CHANGE: Status = 19;
+const NO_SUGGESTION: Status = 20;
 
 /// The greatest size of anything in memory, `PTRDIFF_MAX`. Rust has no slice that is larger.
 const MAX_SIZE: usize = isize::MAX as usize;
@@ -76,17 +77,10 @@ pub struct Triple {
     custom_vendor_size: usize,
 }
 
-/// `struct lexicon_triple_facts`: the groups of facts. A later version adds one at the end.
-#[repr(C)]
-pub struct Facts {
-    queries: QueryFacts,
-    formats: FormatFacts,
-    driver: DriverFacts,
-}
-
-/// Where the second group begins, and the third.
-const FORMATS: usize = size_of::<QueryFacts>();
-const DRIVER: usize = FORMATS + size_of::<FormatFacts>();
+/// The sizes of `struct lexicon_triple_facts`: of its first group, of its first two, and of all.
+const QUERIES: usize = size_of::<QueryFacts>();
+const FIRST: usize = size_of::<FirstFacts>();
+const ALL: usize = size_of::<Facts>();
 
 /// `struct lexicon_change`.
 #[repr(C)]
@@ -102,7 +96,7 @@ const _: () = {
     assert!(size_of::<Triple>() == if word == 8 { 32 } else { 20 });
     assert!(size_of::<TextError>() == 3 * word);
     assert!(size_of::<FieldSources>() == 15 * word);
-    assert!(size_of::<Facts>() == 23);
+    assert!(ALL == 23);
 };
 
 impl Triple {
@@ -302,52 +296,32 @@ pub unsafe extern "C" fn lexicon_same_target(first: *const Triple, second: *cons
 
 #[no_mangle]
 pub unsafe extern "C" fn lexicon_facts(triple: *const Triple, facts: *mut u8, facts_size: usize) -> Status {
-    if facts_size > MAX_SIZE {
-        return TOO_LARGE;
-    }
-    if facts_size <= FORMATS {
-        unsafe { write_facts::<false>(triple, facts, facts_size) }
-    } else {
-        unsafe { write_facts::<true>(triple, facts, facts_size) }
+    match facts_size {
+        QUERIES => unsafe { write_facts(triple, facts, query_facts) },
+        FIRST => unsafe { write_facts(triple, facts, first_facts) },
+        ALL => unsafe { write_facts(triple, facts, proved::facts) },
+        0..=MAX_SIZE => unsafe { write_facts_of_size(triple, facts, facts_size) },
+        _ => TOO_LARGE,
     }
 }
 
-/// Writes the first group of facts of a triple, and if `MORE` the others, as far as the caller's struct has room. The first
-/// alone takes fewer instructions where it is compiled by itself.
+/// Writes facts of a triple. Each kind is compiled by itself: together, each would save the registers that all need.
 #[inline(never)]
-unsafe fn write_facts<const MORE: bool>(triple: *const Triple, facts: *mut u8, facts_size: usize) -> Status {
-    let numbered = unsafe { Triple::read(triple) };
-    let asked = match triple_in(&numbered) {
-        Ok(asked) => asked,
-        Err(fault) => return fault.into(),
-    };
-    unsafe {
-        write_group(query_facts_of(&asked), facts, facts_size);
-        if !MORE {
-            return OK;
-        }
-        write_group(format_facts_of(&asked), facts.add(FORMATS), facts_size - FORMATS);
-        if facts_size > DRIVER {
-            write_group(driver_facts_of(&asked), facts.add(DRIVER), facts_size - DRIVER);
-        }
-        // What this version doesn't answer has no answer.
-        if facts_size > size_of::<Facts>() {
-            facts.add(size_of::<Facts>()).write_bytes(0, facts_size - size_of::<Facts>());
-        }
-    }
-    OK
+unsafe fn write_facts<T>(triple: *const Triple, facts: *mut u8, ask: impl Fn(&NumberedTriple<'_>) -> Result<T, Fault>) -> Status {
+    unsafe { answer(facts.cast(), ask(&Triple::read(triple))) }
 }
 
-/// Writes a group of facts, or as much of it as the rest of the caller's struct has.
-#[inline(always)]
-unsafe fn write_group<Group>(group: Group, to: *mut u8, size: usize) {
-    // SAFETY: the caller's struct, whose members are bytes.
+/// Writes as many of the facts as a struct of another size has room for. What this version doesn't answer has no answer.
+unsafe fn write_facts_of_size(triple: *const Triple, facts: *mut u8, facts_size: usize) -> Status {
+    let mut all = MaybeUninit::<Facts>::uninit();
     unsafe {
-        if size >= size_of::<Group>() {
-            to.cast::<Group>().write(group);
-        } else {
-            ptr::copy_nonoverlapping(addr_of!(group).cast(), to, size);
+        let status = write_facts(triple, all.as_mut_ptr().cast(), proved::facts);
+        if status == OK {
+            let known = facts_size.min(ALL);
+            ptr::copy_nonoverlapping(all.as_ptr().cast(), facts, known);
+            facts.add(known).write_bytes(0, facts_size - known);
         }
+        status
     }
 }
 
@@ -383,14 +357,42 @@ pub unsafe extern "C" fn lexicon_write(
     out_size: usize,
     length: *mut usize,
 ) -> Status {
-    let find = || {
+    let find = |dialect, triple: &NumberedTriple<'_>| name_in(dialect, triple)?.map_err(unwritten_status);
+    unsafe { write_name(dialect, triple, find, out, out_size, length) }
+}
+
+#[no_mangle]
+pub unsafe extern "C" fn lexicon_write_versioned(
+    dialect: u32,
+    triple: *const Triple,
+    major: u32,
+    minor: u32,
+    out: *mut u8,
+    out_size: usize,
+    length: *mut usize,
+) -> Status {
+    let find =
+        |dialect, triple: &NumberedTriple<'_>| versioned_name_in(dialect, triple, major, minor)?.ok_or(TRIPLE_WITHOUT_NAME);
+    unsafe { write_name(dialect, triple, find, out, out_size, length) }
+}
+
+/// Writes the name of a triple that is found in a dialect.
+unsafe fn write_name(
+    dialect: u32,
+    triple: *const Triple,
+    find: impl FnOnce(Dialect, &NumberedTriple<'_>) -> Result<Name, Status>,
+    out: *mut u8,
+    out_size: usize,
+    length: *mut usize,
+) -> Status {
+    let named = || {
         if out_size > MAX_SIZE {
             return Err(TOO_LARGE);
         }
         let dialect = dialect_at(dialect).flatten().ok_or(NO_SUCH_DIALECT)?;
-        name_in(dialect, &unsafe { Triple::read(triple) })?.ok_or(TRIPLE_WITHOUT_NAME)
+        find(dialect, &unsafe { Triple::read(triple) })
     };
-    match find() {
+    match named() {
         Ok(name) => unsafe { write_text(out, out_size, length, |out| Ok(written(name.as_str(), out))) },
         Err(status) => status,
     }
@@ -499,18 +501,33 @@ pub unsafe extern "C" fn lexicon_error_text(
 }
 
 #[no_mangle]
-pub unsafe extern "C" fn lexicon_suggestion(text: *const u8, text_size: usize, error: *const TextError) -> *const u8 {
-    let refused = unsafe { refused_at(text, text_size, error) }.ok();
-    refused.and_then(|(bytes, error)| suggestion(bytes, &error)).map_or(null(), c_name)
+pub unsafe extern "C" fn lexicon_suggestion(
+    text: *const u8,
+    text_size: usize,
+    error: *const TextError,
+    out: *mut u8,
+    out_size: usize,
+    length: *mut usize,
+) -> Status {
+    match unsafe { refused_at(text, text_size, error) } {
+        Err(TOO_LARGE) => TOO_LARGE,
+        refused => unsafe { write_suggestion(refused.ok().and_then(|(bytes, error)| suggestion(bytes, &error)), out, out_size, length) },
+    }
 }
 
 #[no_mangle]
-pub unsafe extern "C" fn lexicon_vendor_suggestion(triple: *const Triple) -> *const u8 {
+pub unsafe extern "C" fn lexicon_vendor_suggestion(triple: *const Triple, out: *mut u8, out_size: usize, length: *mut usize) -> Status {
     let triple = unsafe { Triple::read(triple) };
-    let vendor = str::from_utf8(triple.custom_vendor).unwrap_or("");
-    match vendor {
-        "" => null(),
-        _ => tool_names::suggestion(Field::Vendor, vendor).map_or(null(), c_name),
+    let vendor = str::from_utf8(triple.custom_vendor).ok().filter(|vendor| !vendor.is_empty());
+    unsafe { write_suggestion(vendor.and_then(|vendor| tool_names::suggestion(Field::Vendor, vendor)), out, out_size, length) }
+}
+
+/// Writes a suggestion if there is one.
+unsafe fn write_suggestion(found: Option<Suggestion<'_>>, out: *mut u8, out_size: usize, length: *mut usize) -> Status {
+    match found {
+        _ if out_size > MAX_SIZE => TOO_LARGE,
+        Some(found) => unsafe { write_text(out, out_size, length, |out| Ok(shown(&found, out))) },
+        None => NO_SUGGESTION,
     }
 }
 

@@ -43,6 +43,10 @@ static const struct { const char *text; enum lexicon_status status; size_t start
     {"avr---", LEXICON_UNRECOGNIZED_VENDOR, 4, 4, "Unrecognized vendor: ", "\n  avr---\n      ^"},
     {"x86_64-pc-linx", LEXICON_UNRECOGNIZED_OPERATING_SYSTEM, 10, 14, "Unrecognized operating system: linx",
      "\n  x86_64-pc-linx\n            ^^^^ did you mean `linux`?"},
+    {"arm64-apple-macos14.2", LEXICON_UNRECOGNIZED_OPERATING_SYSTEM, 12, 21, "Unrecognized operating system: macos14.2",
+     "\n  arm64-apple-macos14.2\n              ^^^^^^^^^ did you mean `macosx14.2`?"},
+    {"x86_64-pc-windows.win10-gnu", LEXICON_UNRECOGNIZED_OPERATING_SYSTEM, 10, 23, "Unrecognized operating system: windows.win10",
+     "\n  x86_64-pc-windows.win10-gnu\n            ^^^^^^^^^^^^^ did you mean `windows`?"},
     {"x86_64-linux-gnuu", LEXICON_UNRECOGNIZED_ENVIRONMENT, 13, 17, "Unrecognized environment: gnuu",
      "\n  x86_64-linux-gnuu\n               ^^^^ did you mean `gnu`?"},
     {"x86_64-linux-gn\xc3\xbc", LEXICON_UNRECOGNIZED_ENVIRONMENT, 13, 17, "Unrecognized environment: gn\xc3\xbc",
@@ -85,6 +89,13 @@ static enum lexicon_status error_text(const void *error, char *out, size_t size,
   return lexicon_error_text(error_of, strlen(error_of), (const struct lexicon_error *)error, out, size, length);
 }
 
+static enum lexicon_status suggestion(const void *error, char *out, size_t size, size_t *length) {
+  return lexicon_suggestion(error_of, strlen(error_of), (const struct lexicon_error *)error, out, size, length);
+}
+static enum lexicon_status vendor_suggestion(const void *triple, char *out, size_t size, size_t *length) {
+  return lexicon_vendor_suggestion((const struct lexicon_triple *)triple, out, size, length);
+}
+
 static void try_refused(void) {
   for (size_t i = 0; i < sizeof refused / sizeof *refused; i++) {
     struct lexicon_triple triple;
@@ -105,12 +116,16 @@ static void try_refused(void) {
     expect((sources.binary_format.origin == LEXICON_ORIGIN_GIVEN) == has_format, "the last source", refused[i].text);
     error_of = refused[i].text;
     try_text(error_line, &error, refused[i].line, true);
-    named = strstr(refused[i].rest, "`");
+    named = strstr(refused[i].rest, " `");
     snprintf(whole, sizeof whole, "%s%s", refused[i].line, refused[i].rest);
     try_text(error_text, &error, whole, true);
-    const char *suggestion = lexicon_suggestion(text, size, &error);
-    expect((suggestion == NULL) == (named == NULL), "whether there is a suggestion", refused[i].text);
-    expect(suggestion == NULL || named == NULL || strncmp(suggestion, named + 1, strlen(suggestion)) == 0, "the suggestion", refused[i].text);
+    if (named == NULL) {
+      expect(lexicon_suggestion(text, size, &error, NULL, 0, NULL) == LEXICON_NO_SUGGESTION, "no suggestion", refused[i].text);
+      continue;
+    }
+    snprintf(whole, sizeof whole, "%.*s", (int)strcspn(named + 2, "`"), named + 2);
+    try_text(suggestion, &error, whole, false);
+    expect(lexicon_suggestion_z(text, &error, NULL, 0, NULL) == LEXICON_TOO_SMALL, "suggestion_z", refused[i].text);
   }
 }
 
@@ -124,7 +139,7 @@ static void try_bad_errors(void) {
     fill(out, sizeof out);
     expect(lexicon_error_line(text, 3, &bad[i], out, sizeof out, &length) == LEXICON_NO_SUCH_VALUE, "a bad error", "line");
     expect(lexicon_error_text(text, 3, &bad[i], out, sizeof out, &length) == LEXICON_NO_SUCH_VALUE, "a bad error", "text");
-    expect(lexicon_suggestion(text, 3, &bad[i]) == NULL, "a bad error", "suggestion");
+    expect(lexicon_suggestion(text, 3, &bad[i], out, sizeof out, &length) == LEXICON_NO_SUGGESTION, "a bad error", "suggestion");
     expect(length == 77 && is_filled(out, sizeof out), "a bad error", "unchanged");
   }
   struct lexicon_error error = {LEXICON_UNRECOGNIZED_ARCHITECTURE, 0, 9};
@@ -132,7 +147,8 @@ static void try_bad_errors(void) {
   fill(out, sizeof out);
   expect(lexicon_error_line(text, 3, NULL, out, sizeof out, NULL) == LEXICON_NO_SUCH_VALUE, "no error", "line");
   expect(lexicon_error_text(text, 3, NULL, out, sizeof out, NULL) == LEXICON_NO_SUCH_VALUE, "no error", "text");
-  expect(lexicon_suggestion(text, 3, NULL) == NULL && is_filled(out, sizeof out), "no error", "suggestion");
+  expect(lexicon_suggestion(text, 3, NULL, out, sizeof out, NULL) == LEXICON_NO_SUGGESTION, "no error", "suggestion");
+  expect(is_filled(out, sizeof out), "no error", "unchanged");
   expect(lexicon_error_text("\x1b[31m\xe2\x80\xae!", 9, &error, out, sizeof out, NULL) == LEXICON_OK, "control characters", "");
   expect(strcmp(out, "Unrecognized architecture: \xef\xbf\xbd[31m\xef\xbf\xbd!\n  \xef\xbf\xbd[31m\xef\xbf\xbd!\n  ^^^^^^^") == 0, out, "replaced");
 }
@@ -184,7 +200,8 @@ static void try_bad(struct lexicon_triple bad, enum lexicon_status status, const
   fill(out, sizeof out);
   fill(&facts, sizeof facts);
   expect(lexicon_print(&bad, out, sizeof out, &length) == status && length == 77 && is_filled(out, sizeof out), "bad print", what);
-  expect(lexicon_facts(&bad, &facts, sizeof facts) == status && is_filled(&facts, sizeof facts), "bad facts", what);
+  for (size_t size = 0; size <= sizeof facts; size++)
+    expect(lexicon_facts(&bad, &facts, size) == status && is_filled(&facts, sizeof facts), "bad facts", what);
   expect(lexicon_settle(&copy) == status && are_same(&copy, &bad), "bad settle", what);
   expect(lexicon_complete(&copy, LEXICON_LINUX_LIBC_GLIBC) == status && are_same(&copy, &bad), "bad complete", what);
   expect(lexicon_comes_back(&bad, &answer) == status && answer, "bad comes_back", what);
@@ -394,7 +411,9 @@ static void try_too_large(void) {
     expect(lexicon_read(77, text, large, &triple, NULL) == LEXICON_TOO_LARGE, "too large", "read, with no dialect");
     expect(lexicon_reason(LEXICON_DIALECT_GO, text, large) == NULL, "too large", "reason");
     expect(lexicon_name_suggestion(LEXICON_DIALECT_GO, text, large) == NULL, "too large", "name_suggestion");
-    expect(lexicon_suggestion(text, large, &why) == NULL, "too large", "suggestion");
+    expect(lexicon_suggestion(text, large, &why, out, sizeof out, &length) == LEXICON_TOO_LARGE, "too large", "suggestion");
+    expect(lexicon_suggestion(text, 5, &why, out, large, &length) == LEXICON_TOO_LARGE, "a buffer too large", "suggestion");
+    expect(lexicon_vendor_suggestion(&known, out, large, &length) == LEXICON_TOO_LARGE, "a buffer too large", "vendor_suggestion");
     expect(lexicon_number(LEXICON_FIELD_VENDOR, text, large, &number) == LEXICON_TOO_LARGE, "too large", "number");
     expect(lexicon_number(5, text, large, &number) == LEXICON_TOO_LARGE && number == 77, "too large", "number, with no field");
     expect(lexicon_error_line(text, large, &why, out, sizeof out, &length) == LEXICON_TOO_LARGE, "too large", "error_line");
@@ -411,7 +430,7 @@ static void try_too_large(void) {
     expect(is_filled(&triple, sizeof triple) && is_filled(out, sizeof out) && length == 77, "too large", "unchanged");
     bad = triple_of("x86_64-acme-linux");
     bad.custom_vendor_size = large;
-    expect(lexicon_vendor_suggestion(&bad) == NULL, "too large", "vendor_suggestion");
+    expect(lexicon_vendor_suggestion(&bad, NULL, 0, NULL) == LEXICON_NO_SUGGESTION, "too large", "vendor_suggestion");
     try_bad(bad, LEXICON_NO_SUCH_VENDOR, "a vendor too large");
   }
 }
@@ -457,10 +476,10 @@ static void try_names(void) {
   expect(strcmp(lexicon_name(LEXICON_FIELD_OPERATING_SYSTEM, LEXICON_OPERATING_SYSTEM_IOS), "ios") == 0, "name", "ios");
   expect(lexicon_name(LEXICON_FIELD_VENDOR, LEXICON_VENDOR_CUSTOM) == NULL && lexicon_name(5, 0) == NULL, "no name", "");
   expect(lexicon_name(LEXICON_FIELD_ARCHITECTURE, 256) == NULL && lexicon_name(LEXICON_FIELD_ARCHITECTURE, ~0u) == NULL, "no name", "");
-  struct lexicon_triple known = triple_of("x86_64-pc-linux"), custom = triple_of("x86_64-linx"), far = triple_of("x86_64-customvendor");
-  const char *meant = lexicon_vendor_suggestion(&custom);
-  expect(meant != NULL && strcmp(meant, "linux") == 0, "what is meant by a vendor", "linx");
-  expect(lexicon_vendor_suggestion(&known) == NULL && lexicon_vendor_suggestion(&far) == NULL, "nothing else is meant", "customvendor");
+  struct lexicon_triple known = triple_of("x86_64-pc-linux"), custom = triple_of("x86_64-iso17.2"), far = triple_of("x86_64-customvendor");
+  try_text(vendor_suggestion, &custom, "ios17.2", false);
+  expect(lexicon_vendor_suggestion(&known, NULL, 0, NULL) == LEXICON_NO_SUGGESTION, "nothing else is meant", "pc");
+  expect(lexicon_vendor_suggestion(&far, NULL, 0, NULL) == LEXICON_NO_SUGGESTION, "nothing else is meant", "customvendor");
   expect(strncmp(lexicon_version(), LEXICON_VERSION, strlen(LEXICON_VERSION)) == 0, "version", lexicon_version());
   expect(LEXICON_VERSION_NUMBER >= 5000 && LEXICON_VERSION_NUMBER % 1000 == LEXICON_VERSION_PATCH, "the version as a number", LEXICON_VERSION);
 }
@@ -562,7 +581,52 @@ static void try_dialects(void) {
   expect(lexicon_write(LEXICON_DIALECT_GO, &triple, out, sizeof out, &length) == LEXICON_NO_SUCH_VALUE, "a bad value", "write");
   triple = triple_of("avr-none");
   expect(lexicon_write(LEXICON_DIALECT_GO, &triple, out, sizeof out, &length) == LEXICON_TRIPLE_WITHOUT_NAME, "no name", "avr");
+  triple = triple_of("x86_64-linux");
+  expect(lexicon_write(LEXICON_DIALECT_DEBIAN, &triple, out, sizeof out, &length) == LEXICON_NEEDS_C_LIBRARY, "no name", "x86_64-linux");
   expect(length == 77 && is_filled(out, sizeof out), "write", "unchanged");
+}
+
+/* A triple, the version that its name of Python states, and the name, if it has one. */
+static const struct { const char *text; uint32_t major, minor; const char *name; } versioned[] = {
+    {"x86_64-acme-linux-gnu", 2, 17, "manylinux_2_17_x86_64"},
+    {"armv7a-unknown-linux-gnueabihf", 2, 35, "manylinux_2_35_armv7l"},
+    {"aarch64-unknown-linux-musl", 1, 2, "musllinux_1_2_aarch64"},
+    {"aarch64-apple-darwin", 11, 0, "macosx_11_0_arm64"},
+    {"aarch64-apple-macosx13.1.2", 11, 0, "macosx_11_0_arm64"},
+    {"x86_64-linux-android", 21, 0, "android_21_x86_64"},
+    {"x86_64-linux-android", 21, 1, NULL},
+    {"x86_64-unknown-linux-gnu", 65535, 255, "manylinux_65535_255_x86_64"},
+    {"x86_64-unknown-linux-gnu", 65536, 0, NULL},
+    {"x86_64-unknown-linux-gnu", 2, 256, NULL},
+    {"armv7-unknown-linux-gnueabi", 2, 17, NULL},
+    {"x86_64-unknown-linux", 2, 17, NULL},
+    {"x86_64-pc-windows-msvc", 10, 0, NULL},
+};
+
+static int version_of;
+
+static enum lexicon_status write_versioned(const void *triple, char *out, size_t size, size_t *length) {
+  return lexicon_write_versioned(LEXICON_DIALECT_PYTHON, (const struct lexicon_triple *)triple, versioned[version_of].major,
+                                 versioned[version_of].minor, out, size, length);
+}
+
+static void try_versioned_names(void) {
+  char out[64];
+  for (version_of = 0; version_of < (int)(sizeof versioned / sizeof *versioned); version_of++) {
+    struct lexicon_triple triple = triple_of(versioned[version_of].text);
+    if (versioned[version_of].name) {
+      try_text(write_versioned, &triple, versioned[version_of].name, false);
+    } else {
+      fill(out, sizeof out);
+      expect(write_versioned(&triple, out, sizeof out, NULL) == LEXICON_TRIPLE_WITHOUT_NAME, "no name", versioned[version_of].text);
+      expect(is_filled(out, sizeof out), "write versioned", "unchanged");
+    }
+  }
+  struct lexicon_triple triple = triple_of("x86_64-unknown-linux-gnu");
+  expect(lexicon_write_versioned(LEXICON_DIALECT_NONE, &triple, 2, 17, out, sizeof out, NULL) == LEXICON_NO_SUCH_DIALECT, "no dialect", "0");
+  expect(lexicon_write_versioned(LEXICON_DIALECT_GO, &triple, 2, 17, out, sizeof out, NULL) == LEXICON_TRIPLE_WITHOUT_NAME, "no version", "go");
+  triple.environment = 255;
+  expect(lexicon_write_versioned(LEXICON_DIALECT_GO, &triple, 2, 17, out, sizeof out, NULL) == LEXICON_NO_SUCH_VALUE, "a bad value", "go");
 }
 
 /* A triple, and what it prints with glibc and with musl. */
@@ -689,7 +753,6 @@ static void try_zero_ended(void) {
     expect(lexicon_error_text_z(text, &error, out, sizeof out, &length) == LEXICON_OK, "error_text_z", text);
     expect(lexicon_error_text(text, size, &error, expected, sizeof expected, &same) == LEXICON_OK, "error_text", text);
     expect(length == same && strcmp(out, expected) == 0, "error_text_z", text);
-    expect(lexicon_suggestion_z(text, &error) == lexicon_suggestion(text, size, &error), "suggestion_z", text);
   }
   for (size_t i = 0; i < sizeof unread / sizeof *unread; i++) {
     struct lexicon_triple triple;
@@ -725,6 +788,7 @@ int main(void) {
   try_sources();
   try_names();
   try_dialects();
+  try_versioned_names();
   try_translation();
   try_zero_ended();
   fprintf(stderr, "calls: %u right, %u wrong\n", count - failures, failures);

@@ -240,6 +240,8 @@ static void try_no_names() {
   ParseError error;
   EXPECT(!Triple::read("amd64", static_cast<Dialect>(99), &error) && error.status == LEXICON_NO_SUCH_DIALECT);
   EXPECT(!parsed("x86_64-linux").name_in(static_cast<Dialect>(99)));
+  EXPECT(parsed("aarch64-linux-android").versioned_name_in(Dialect::Python, 21) == "android_21_arm64_v8a");
+  EXPECT(!parsed("x86_64-linux-gnu").versioned_name_in(Dialect::Debian, 2, 17));
 }
 
 static void try_dialects() {

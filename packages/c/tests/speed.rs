@@ -9,7 +9,8 @@ use std::hint::black_box;
 use std::mem::MaybeUninit;
 use std::time::Instant;
 
-/// struct lexicon_triple, lexicon_error and lexicon_triple_facts, of which this program reads nothing.
+/// struct lexicon_triple, lexicon_error and lexicon_triple_facts, of which this program reads nothing. The facts are in groups:
+/// what upstream's queries answer, then formats and the family, then what a driver asks.
 #[repr(C)]
 #[derive(Clone, Copy)]
 struct Triple([u64; 4]);
@@ -22,7 +23,12 @@ struct Error {
 }
 #[repr(C)]
 #[derive(Clone, Copy)]
-struct Facts([u8; 16]);
+struct Facts([u8; ALL]);
+
+/// How many bytes the first group of facts has, the first two have, and all.
+const QUERIES: usize = 13;
+const FIRST: usize = 16;
+const ALL: usize = 23;
 
 unsafe extern "C" {
     fn lexicon_parse(text: *const u8, size: usize, triple: *mut Triple, error: *mut Error) -> u32;
@@ -49,9 +55,9 @@ fn our_print(triple: &Triple, out: &mut [u8]) {
     black_box(&length);
 }
 
-fn our_facts(triple: &Triple) {
+fn our_facts(triple: &Triple, size: usize) {
     let mut facts = MaybeUninit::uninit();
-    unsafe { lexicon_facts(triple, facts.as_mut_ptr(), std::mem::size_of::<Facts>()) };
+    unsafe { lexicon_facts(triple, facts.as_mut_ptr(), size) };
     black_box(&facts);
 }
 
@@ -61,7 +67,7 @@ fn our_error_line(line: &str, error: &Error, out: &mut [u8]) {
     black_box(&length);
 }
 
-/// Asks what lexicon_facts answers, but for the family, and the format that the others imply, which upstream doesn't export.
+/// Asks what the first group of facts answers.
 fn upstream_facts(triple: &upstream::Triple) {
     use upstream::{Architecture, Vendor};
     let _ = black_box(triple.endianness());
@@ -70,7 +76,6 @@ fn upstream_facts(triple: &upstream::Triple) {
     if let Ok(it) = black_box(triple.data_model()) {
         black_box([it.short_size(), it.int_size(), it.long_size(), it.long_long_size(), it.float_size(), it.double_size()]);
     }
-    black_box(triple.binary_format);
     black_box(triple.operating_system.is_like_darwin());
     black_box(matches!(triple.architecture, Architecture::Arm(it) if it.is_thumb()));
     black_box(matches!(triple.vendor, Vendor::Custom(_)));
@@ -81,7 +86,23 @@ fn copied(text: &str, out: &mut [u8]) {
     black_box(out);
 }
 
-const WHAT: [&str; 4] = ["parse+print", "parse+facts", "facts", "refused"];
+/// `facts` are those of the first group, `known` too, for triples with a known vendor. For more groups upstream is asked what it has.
+const WHAT: [&str; 7] = ["parse+print", "parse+facts", "facts", "known", "two groups", "all facts", "refused"];
+
+/// Lines, and the triples that they parse as.
+struct Lines<'a> {
+    lines: Vec<&'a str>,
+    our: Vec<Triple>,
+    upstream: Vec<upstream::Triple>,
+}
+
+impl Lines<'_> {
+    fn new(lines: Vec<&str>) -> Lines<'_> {
+        let our = lines.iter().filter_map(|it| our_parse(it, &mut MaybeUninit::uninit(), &mut MaybeUninit::uninit()).ok().copied()).collect();
+        let upstream = lines.iter().filter_map(|it| it.parse().ok()).collect();
+        Lines { lines, our, upstream }
+    }
+}
 
 /// Parses a line with the library, then asks more of the triple or of the error.
 fn with_ours(line: &str, triple: impl FnOnce(&Triple), error: impl FnOnce(&Error)) {
@@ -92,12 +113,14 @@ fn with_ours(line: &str, triple: impl FnOnce(&Triple), error: impl FnOnce(&Error
 }
 
 /// Runs one of them over the lines, or the triples that they parse as.
-fn run(ours: bool, what: &str, lines: &[&str], our: &[Triple], upstream: &[upstream::Triple], out: &mut [u8]) {
+fn run(ours: bool, what: &str, Lines { lines, our, upstream }: &Lines<'_>, out: &mut [u8]) {
     match (ours, what) {
-        (true, "facts") => our.iter().for_each(our_facts),
-        (false, "facts") => upstream.iter().for_each(upstream_facts),
+        (true, "facts" | "known") => our.iter().for_each(|it| our_facts(it, QUERIES)),
+        (true, "two groups") => our.iter().for_each(|it| our_facts(it, FIRST)),
+        (true, "all facts") => our.iter().for_each(|it| our_facts(it, ALL)),
+        (false, "facts" | "known" | "two groups" | "all facts") => upstream.iter().for_each(upstream_facts),
         (true, "parse+print") => lines.iter().for_each(|it| with_ours(it, |triple| our_print(triple, out), |_| ())),
-        (true, "parse+facts") => lines.iter().for_each(|it| with_ours(it, our_facts, |_| ())),
+        (true, "parse+facts") => lines.iter().for_each(|it| with_ours(it, |triple| our_facts(triple, QUERIES), |_| ())),
         (true, _) => lines.iter().for_each(|it| with_ours(it, |_| (), |error| our_error_line(it, error, out))),
         (false, _) => lines.iter().for_each(|it| match it.parse::<upstream::Triple>() {
             Ok(triple) if what == "parse+print" => copied(&triple.to_string(), out),
@@ -116,21 +139,26 @@ fn main() {
     let words: Vec<String> = std::env::args().collect();
     let text = std::fs::read_to_string(&words[1]).expect("a file of lines");
     let (read, refused): (Vec<&str>, Vec<&str>) = text.lines().partition(|line| line.parse::<upstream::Triple>().is_ok());
-    let parsed = |line: &&str| our_parse(line, &mut MaybeUninit::uninit(), &mut MaybeUninit::uninit()).ok().copied();
-    let our: Vec<Triple> = read.iter().map(|it| parsed(it).expect("a line that parses")).collect();
-    assert!(refused.iter().all(|it| parsed(it).is_none()));
-    let upstream: Vec<upstream::Triple> = read.iter().map(|it| it.parse().unwrap()).collect();
+    let has_known_vendor = |line: &&str| !matches!(line.parse(), Ok(upstream::Triple { vendor: upstream::Vendor::Custom(_), .. }));
+    let known = Lines::new(read.iter().copied().filter(has_known_vendor).collect());
+    let [read, refused] = [read, refused].map(Lines::new);
+    assert!(read.our.len() == read.lines.len() && refused.our.is_empty());
+    let lines_of = |what: &str| match what {
+        "refused" => &refused,
+        "known" => &known,
+        _ => &read,
+    };
     let mut out = vec![0; 4096];
-    let mut call = |ours, what: &str| run(ours, what, if what == "refused" { &refused } else { &read }, &our, &upstream, &mut out);
+    let mut call = |ours, what: &str| run(ours, what, lines_of(what), &mut out);
     if let [_, _, who, what, times] = words.as_slice() {
         for _ in 0..times.parse().expect("a number") {
             call(who == "ours", what);
         }
-        println!("{}", if what == "refused" { refused.len() } else { read.len() });
+        println!("{}", lines_of(what).lines.len());
         return;
     }
     for what in WHAT {
-        let count = if what == "refused" { refused.len() } else { read.len() } as f64;
+        let count = lines_of(what).lines.len() as f64;
         let mut nanoseconds = |ours| {
             let begin = Instant::now();
             call(ours, what);

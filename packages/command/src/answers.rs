@@ -9,10 +9,11 @@ use target_lexicon::tool_names::{
     TypeLayout,
 };
 use target_lexicon::{
-    default_binary_format, Architecture, CDataModel, Field, Size, Source, TripleRef, VendorRef,
+    default_binary_format, Architecture, CDataModel, CallingConvention, Endianness, Field,
+    PointerWidth, Size, Source, Suggestion, TripleRef, VendorRef,
 };
 
-pub fn canonical<'a>(triple: TripleRef<'a>) -> TripleRef<'a> {
+pub fn canonical(triple: TripleRef<'_>) -> TripleRef<'_> {
     triple.settle().expect("a vendor that was parsed is plain")
 }
 
@@ -69,8 +70,8 @@ fn origin<'a>(explanation: &Parsed<'a>, field: Field) -> (&'static str, Option<&
     }
 }
 
-/// The known name that was perhaps meant by a custom vendor.
-fn suggestion(vendor: VendorRef<'_>) -> Option<&'static str> {
+/// What was perhaps meant by a custom vendor.
+fn suggestion(vendor: VendorRef<'_>) -> Option<Suggestion<'_>> {
     match vendor {
         VendorRef::Custom(text) => tool_names::suggestion(Field::Vendor, text),
         VendorRef::Known(_) => None,
@@ -175,7 +176,8 @@ pub fn explained(explanation: &Parsed<'_>) -> Object {
         }
     }
     members.push(("has_custom_vendor", triple.vendor.is_custom().into()));
-    members.push(("suggestion", suggestion(triple.vendor).into()));
+    let suggestion = suggestion(triple.vendor).map(|it| it.to_string());
+    members.push(("suggestion", suggestion.into()));
     members
 }
 
@@ -200,11 +202,11 @@ pub fn cfg(triple: &TripleRef<'_>) -> Object {
         ("target_vendor", cfg.target_vendor.into()),
         (
             "target_pointer_width",
-            cfg.target_pointer_width.map(|it| it.bits()).into(),
+            cfg.target_pointer_width.map(PointerWidth::bits).into(),
         ),
         (
             "target_endian",
-            cfg.target_endian.map(|it| it.name()).into(),
+            cfg.target_endian.map(Endianness::name).into(),
         ),
     ]
 }
@@ -227,21 +229,21 @@ pub fn facts(triple: &TripleRef<'_>) -> Object {
     members.extend([
         (
             "endianness",
-            triple.endianness().ok().map(|it| it.name()).into(),
+            triple.endianness().ok().map(Endianness::name).into(),
         ),
         (
             "pointer_width",
-            triple.pointer_width().ok().map(|it| it.bits()).into(),
+            triple.pointer_width().ok().map(PointerWidth::bits).into(),
         ),
         (
             "default_calling_convention",
             triple
                 .default_calling_convention()
                 .ok()
-                .map(|it| it.name())
+                .map(CallingConvention::name)
                 .into(),
         ),
-        ("data_model", model.map(|it| it.name()).into()),
+        ("data_model", model.map(CDataModel::name).into()),
         ("short_size", bytes(CDataModel::short_size)),
         ("int_size", bytes(CDataModel::int_size)),
         ("long_size", bytes(CDataModel::long_size)),
@@ -260,8 +262,8 @@ pub fn facts(triple: &TripleRef<'_>) -> Object {
             triple.operating_system.is_like_darwin().into(),
         ),
         ("has_custom_vendor", triple.vendor.is_custom().into()),
-        ("c_library", CLibrary::of(triple).map(|it| it.name()).into()),
-        ("float_abi", FloatAbi::of(triple).map(|it| it.name()).into()),
+        ("c_library", CLibrary::of(triple).map(CLibrary::name).into()),
+        ("float_abi", FloatAbi::of(triple).map(FloatAbi::name).into()),
         ("is_unix", is_unix(triple).into()),
         ("long_double_size", long_double.map(|it| it.size).into()),
         (

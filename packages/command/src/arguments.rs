@@ -1,6 +1,7 @@
 //! The calls of `target-lexicon`, their options and their help.
 use clap::builder::{PossibleValue, PossibleValuesParser};
 use clap::{value_parser, Arg, ArgAction, Command, ValueHint};
+use std::num::ParseIntError;
 use std::path::PathBuf;
 use target_lexicon::tool_names::Dialect;
 use target_lexicon::Field;
@@ -55,6 +56,15 @@ fn libc() -> Arg {
         .value_name("LIBRARY")
         .value_parser(PossibleValuesParser::new(["glibc", "musl"]))
         .help("The C library of targets on Linux that state none")
+}
+
+/// A version that a name states: its two numbers.
+pub type Version = (u16, u8);
+
+/// The version in an argument such as `2.17`, or `21` for 21.0.
+fn version(text: &str) -> Result<Version, ParseIntError> {
+    let (major, minor) = text.split_once('.').unwrap_or((text, "0"));
+    Ok((major.parse()?, minor.parse()?))
 }
 
 /// The names of dialects, with their other names.
@@ -192,10 +202,18 @@ pub fn command() -> Command {
             of_targets(
                 "write",
                 "Write the name that another tool has for each target",
-                "Example:\n  $ target-lexicon write --to debian aarch64-unknown-linux-gnu",
+                "Examples:\n  $ target-lexicon write --to debian aarch64-unknown-linux-gnu\n  \
+                 $ target-lexicon write --to python --with-version 2.17 aarch64-unknown-linux-gnu",
             )
             .arg(dialect("to", &DIALECTS[ONLY_READ..], "The tool whose names are written").required(true))
-            .arg(libc()),
+            .arg(libc())
+            .arg(
+                Arg::new("with-version")
+                    .long("with-version")
+                    .value_name("VERSION")
+                    .value_parser(version)
+                    .help("The version that names state: of glibc, musl, macOS or Android"),
+            ),
             of_targets(
                 "translate",
                 "Write the name that one tool has for what a name of another means",

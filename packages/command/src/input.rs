@@ -73,9 +73,10 @@ pub fn each_target(arguments: &ArgMatches, answers: &mut impl Answers) -> Result
 
 /// What ends a line, and the answer to it.
 pub fn end_of_line(arguments: &ArgMatches) -> u8 {
-    match arguments.get_flag("null") {
-        true => 0,
-        false => b'\n',
+    if arguments.get_flag("null") {
+        0
+    } else {
+        b'\n'
     }
 }
 

@@ -12,7 +12,7 @@ mod output;
 mod refusal;
 mod streams;
 
-use arguments::{ANY, FIELDS};
+use arguments::{Version, ANY, FIELDS};
 use clap::error::{ContextKind, ContextValue, ErrorKind};
 use clap::ArgMatches;
 use clap_complete::Shell;
@@ -55,7 +55,8 @@ enum Call {
     Check,
     Matrix,
     Read(From),
-    Write(Dialect),
+    /// The name in a dialect, and the version that it states.
+    Write(Dialect, Option<Version>),
     Translate(Dialect, Dialect),
     Cfg,
     Elsewhere,
@@ -140,9 +141,10 @@ impl Answers for Run {
                     },
                     Found::Read(triple) => {
                         writeln!(out, "{}", answers::canonical(triple))?;
-                        match shows_changes {
-                            true => answers::write_changes(out, target.text),
-                            false => Ok(()),
+                        if shows_changes {
+                            answers::write_changes(out, target.text)
+                        } else {
+                            Ok(())
                         }
                     }
                     Found::Meanings(meanings) => {
@@ -215,8 +217,12 @@ impl Run {
         }
         let explanation = refusal::explanation(text, self.is_strict)?;
         match self.call {
-            Call::Write(dialect) => {
+            Call::Write(dialect, None) => {
                 refusal::name_in(dialect, text, self.libc, &explanation.triple).map(Found::Name)
+            }
+            Call::Write(dialect, Some(version)) => {
+                let triple = self.completed(explanation.triple);
+                refusal::versioned_name_in(dialect, text, version, &triple).map(Found::Name)
             }
             _ => Ok(Found::Parsed(explanation)),
         }
@@ -418,7 +424,7 @@ fn from(arguments: &ArgMatches) -> From {
 }
 
 fn libc(call: Call, arguments: &ArgMatches) -> Option<LinuxLibc> {
-    let has_option = matches!(call, Call::Read(_) | Call::Write(_) | Call::Translate(..));
+    let has_option = matches!(call, Call::Read(_) | Call::Write(..) | Call::Translate(..));
     let requested = has_option.then(|| arguments.get_one::<String>("libc"))??;
     requested.parse().ok()
 }
@@ -437,7 +443,10 @@ fn run(arguments: &ArgMatches) -> Result<i32, Fault> {
             dialect(arguments, "to").expect("a dialect is required"),
         ),
         "cfg" => Call::Cfg,
-        "write" => Call::Write(dialect(arguments, "to").expect("a dialect is required")),
+        "write" => Call::Write(
+            dialect(arguments, "to").expect("a dialect is required"),
+            arguments.get_one("with-version").copied(),
+        ),
         "elsewhere" => Call::Elsewhere,
         _ => {
             let mut outputs = Outputs::plain();
@@ -469,9 +478,10 @@ fn usage(error: &clap::Error) -> Result<i32, Fault> {
     let mut outputs = Outputs::plain();
     let text = usage_text(error) + &target_note(error);
     let is_wrong = error.use_stderr();
-    match is_wrong {
-        true => outputs.refuse(|out, _| out.write_all(text.as_bytes()))?,
-        false => outputs.write(|out| out.write_all(text.as_bytes()))?,
+    if is_wrong {
+        outputs.refuse(|out, _| out.write_all(text.as_bytes()))?;
+    } else {
+        outputs.write(|out| out.write_all(text.as_bytes()))?;
     }
     outputs.flush()?;
     Ok(if is_wrong { 2 } else { 0 })

@@ -34,6 +34,7 @@ pub struct Outputs {
 }
 
 /// Whether a terminal shows what goes to standard error.
+#[allow(clippy::incompatible_msrv)] // of a version that has the call, the build script says so
 fn is_terminal() -> bool {
     #[cfg(is_terminal)]
     return io::IsTerminal::is_terminal(&io::stderr());
@@ -180,18 +181,19 @@ impl Progress {
         self.next = Some(Instant::now() + Duration::from_secs(1));
         self.is_shown = true;
         let (targets, refused) = (with_commas(self.targets), with_commas(self.refused));
-        self.line(&format!("{targets} targets, {refused} refused"))
+        Self::line(&format!("{targets} targets, {refused} refused"))
     }
 
     /// Clears the line.
     pub fn end(&mut self) -> Result<(), Fault> {
-        match std::mem::take(&mut self.is_shown) {
-            true => self.line(""),
-            false => Ok(()),
+        if std::mem::take(&mut self.is_shown) {
+            Self::line("")
+        } else {
+            Ok(())
         }
     }
 
-    fn line(&self, text: &str) -> Result<(), Fault> {
+    fn line(text: &str) -> Result<(), Fault> {
         io::stderr()
             .write_all(format!("\r\x1b[K{text}").as_bytes())
             .map_err(|why| Fault::of_output("standard error", why))

@@ -1,5 +1,5 @@
 //! Why a target is refused.
-use crate::arguments::{DIALECTS, FIELDS};
+use crate::arguments::{Version, DIALECTS, FIELDS};
 use crate::input::{Place, Target};
 use crate::json::{Json, Object};
 use crate::From;
@@ -31,7 +31,7 @@ enum Names<'a> {
 /// What the user may have meant by a target that is refused.
 #[derive(Clone)]
 pub struct Help {
-    pub suggestion: Option<&'static str>,
+    pub suggestion: Option<String>,
     pub note: Option<String>,
 }
 
@@ -120,6 +120,18 @@ pub fn name_in<'a>(
         .map_err(|error| Refusal::of_written(text, dialect, error))
 }
 
+/// The name with a version that another tool has for a triple.
+pub fn versioned_name_in<'a>(
+    dialect: Dialect,
+    text: &'a str,
+    (major, minor): Version,
+    triple: &TripleRef<'_>,
+) -> Result<Name, Refusal<'a>> {
+    dialect
+        .write_versioned(triple, major, minor)
+        .ok_or_else(|| Refusal::of_written(text, dialect, WriteError::NoName))
+}
+
 impl<'a> Refusal<'a> {
     fn of_part(refusal: target_lexicon::Refusal<'a>) -> Self {
         let name = refusal.expected.and_then(key_of).unwrap_or("field");
@@ -177,14 +189,15 @@ fn key_of(field: Field) -> Option<&'static str> {
 }
 
 impl Refusal<'_> {
-    /// The name that is suggested.
-    pub fn suggestion(&self) -> Option<&'static str> {
-        match &self.names {
+    /// What is suggested.
+    pub fn suggestion(&self) -> Option<String> {
+        let found = match &self.names {
             Names::OfParts(refusal) => refusal.suggestion(),
             Names::OfVendors(vendor) => tool_names::suggestion(Field::Vendor, vendor),
-            Names::OfDialect(dialect, name) => dialect.suggestion(name),
+            Names::OfDialect(dialect, name) => return dialect.suggestion(name).map(str::to_string),
             Names::No => None,
-        }
+        };
+        found.map(|it| it.to_string())
     }
 
     /// The place, what is wrong, the target, and carets below the part.
@@ -195,9 +208,12 @@ impl Refusal<'_> {
         has_color: bool,
         help: &Help,
     ) -> io::Result<()> {
-        let color = |code: &str, text: &str| match has_color {
-            true => format!("\x1b[{code}m{text}\x1b[0m"),
-            false => text.to_string(),
+        let color = |code: &str, text: &str| {
+            if has_color {
+                format!("\x1b[{code}m{text}\x1b[0m")
+            } else {
+                text.to_string()
+            }
         };
         let (before, after) = (
             &target.text[..self.part.start],
@@ -230,7 +246,7 @@ impl Refusal<'_> {
             " ".repeat(before.chars().count()),
             color("1;31", &carets)
         )?;
-        match (help.suggestion, self.reason) {
+        match (&help.suggestion, self.reason) {
             (Some(name), _) => write!(out, " did you mean `{}`?", color("1;32", name))?,
             (None, Some(reason)) => write!(out, " {reason}")?,
             (None, None) => {}
@@ -257,7 +273,7 @@ impl Refusal<'_> {
             ("start", self.part.start.into()),
             ("end", self.part.range().end.into()),
             ("field", Json::from(self.field.and_then(key_of))),
-            ("suggestion", help.suggestion.into()),
+            ("suggestion", help.suggestion.clone().into()),
         ]
     }
 }

@@ -448,6 +448,8 @@ fn names_of_other_tools_are_read_and_written() {
     for (target, name) in [
         ("x86_64-freebsd13.2", "freebsd"),
         ("x86_64-mingw32", "windows-gnu"),
+        ("aarch64-macos14", "macosx14"),
+        ("x86_64-linux5.10", "linux"),
     ] {
         let explained = json_of(&["explain", "--json", target]);
         assert_eq!(explained[0]["suggestion"], json!(name));

@@ -248,9 +248,10 @@ export class Triple {
   toJSON(): string;
   /**
    * The name in a dialect, or null if it has none. The vendor doesn't matter, nor what the dialect doesn't name; byte order, pointer
-   * width and object format do.
+   * width and object format do. With a version, the name states it, as some of Python's do: of glibc, musl, macOS, or Android's
+   * API level. `manylinux_2_17_x86_64` has the version `[2, 17]`.
    */
-  nameIn(dialect: Dialect): string | null;
+  nameIn(dialect: Dialect, version?: [major: number, minor?: number]): string | null;
   /** The triple with the usual environment of a C library, if it is of Linux and states none; any other one as it is. */
   complete(libc: LinuxLibc): Triple;
   /** The canonical form: two canonical triples with the same printed string are equal, so the string is a key. */

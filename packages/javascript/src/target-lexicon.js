@@ -22,7 +22,7 @@ export const DIALECTS = Object.freeze(["debian", "go", "oci", "node", "gnu", "py
 // end of what is written
 
 const OK = 0, REFUSED = 6, TOO_SMALL = 8, NO_SUCH_VALUE = 10, NO_SUCH_VENDOR = 11;
-const UNKNOWN_NAME = 12, NAME_WITHOUT_TRIPLE = 13, TRIPLE_WITHOUT_NAME = 14, NEEDS_C_LIBRARY = 17, NO_SUCH_CHANGE = 19;
+const UNKNOWN_NAME = 12, NAME_WITHOUT_TRIPLE = 13, TRIPLE_WITHOUT_NAME = 14, NEEDS_C_LIBRARY = 17, NO_SUCH_CHANGE = 19, NO_SUGGESTION = 20;
 const CUSTOM = 255; // the number of every vendor that has none of its own
 const ORIGINS = ["not given", "given", "implied", "alias"]; // where a value comes from, by the numbers
 const ENDIANNESS = [null, "little", "big"];
@@ -133,7 +133,7 @@ class Instance {
       const out = this.base + TEXTS + used;
       const status = this.call(name, ...values, out, room, this.base + LENGTH);
       if (status === OK) return this.read(out, this.number(LENGTH));
-      if (status === TRIPLE_WITHOUT_NAME || status === NO_SUCH_CHANGE) return null;
+      if ([TRIPLE_WITHOUT_NAME, NEEDS_C_LIBRARY, NO_SUCH_CHANGE, NO_SUGGESTION].includes(status)) return null;
       if (status !== TOO_SMALL) throw failure(status);
     }
   }
@@ -300,7 +300,7 @@ function rangesAt(it, place, text, size) {
 function errorAt(it, status, text, given, dialect = 0) {
   const [range, [start, end]] = rangesAt(it, RANGE, text, given[1]);
   const line = it.written("error_line", given[1], ...given, it.base + ERROR);
-  const suggestion = it.string(status === UNKNOWN_NAME ? it.call("name_suggestion", dialect, ...given) : it.call("suggestion", ...given, it.base + ERROR));
+  const suggestion = status === UNKNOWN_NAME ? it.string(it.call("name_suggestion", dialect, ...given)) : it.written("suggestion", given[1], ...given, it.base + ERROR);
   const reason = it.string(it.call("reason", dialect, ...given));
   return new ParseError(reason === null ? line : `${line}: ${reason}`, status, range, text, start, end, suggestion, reason);
 }
@@ -358,7 +358,7 @@ export class Triple {
     if (status > REFUSED) throw failure(status);
     const triple = status === OK ? it.tripleAt() : null;
     const fields = Object.fromEntries(FIELDS.map((field, index) => [field, { value: triple && triple[field], ...sourceAt(it, index, text, size) }]));
-    if (triple) return { text, triple, error: null, fields, suggestion: it.string(it.call("vendor_suggestion", it.base + FIRST)) };
+    if (triple) return { text, triple, error: null, fields, suggestion: it.written("vendor_suggestion", size, it.base + FIRST) };
     const error = errorAt(it, status, text, given);
     for (const field of FIELDS) fields[field].value = valueOf(field, fields[field].part);
     return { text, triple, error, fields, suggestion: error.suggestion };
@@ -409,10 +409,15 @@ export class Triple {
     return this.toString();
   }
 
-  /** The name in a dialect, or null if it has none. */
-  nameIn(dialect) {
+  /** The name in a dialect, which may have to state a version, or null if it has none. */
+  nameIn(dialect, version) {
     const it = instance(), number = dialectOf(dialect), { start, used } = it.triple(this);
-    return it.written("write", used, number, start);
+    if (version === undefined) return it.written("write", used, number, start);
+    const [major, minor = 0, ...others] = version;
+    if (others.length || ![major, minor].every((it) => Number.isInteger(it) && it >= 0 && it <= 0xffffffff)) {
+      throw new RangeError("a version has one or two numbers");
+    }
+    return it.written("write_versioned", used, number, start, major, minor);
   }
 
   /** The triple with the usual environment of a C library, if it is of Linux and states none; any other one as it is. */

@@ -134,6 +134,15 @@ const tests = {
     assert.equal(Triple.read("linux/arm64", "docker").nameIn("npm"), "linux-arm64");
     assert.equal(Triple.parse("x86_64-apple-ios65535.255-sim").nameIn("python"), "ios_65535_255_x86_64_iphonesimulator");
   },
+  "a name with a version": () => {
+    for (const [text, version, name] of [
+      ["x86_64-unknown-linux-gnu", [2, 17], "manylinux_2_17_x86_64"], ["aarch64-apple-darwin", [11], "macosx_11_0_arm64"],
+      ["x86_64-linux-android", [21, 1], null], ["x86_64-unknown-linux-gnu", [65536, 0], null], ["x86_64-unknown-linux-gnu", [4294967295], null],
+    ]) assert.equal(Triple.parse(text).nameIn("python", version), name);
+    for (const wrong of [[], [1, 2, 3], [1.5], [-1], [4294967296], ["2", 17]]) {
+      assert.throws(() => Triple.parse("x86_64-linux-gnu").nameIn("python", wrong), RangeError);
+    }
+  },
   "a C library completes a triple of Linux": () => {
     for (const [text, glibc, musl] of [
       ["aarch64-linux", "aarch64-unknown-linux-gnu", "aarch64-unknown-linux-musl"],

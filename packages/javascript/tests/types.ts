@@ -57,7 +57,7 @@ const members: {
   [Name in keyof Triple]: Same<Triple[Name], {
     architecture: Architecture; vendor: Values["vendor"]; operatingSystem: OperatingSystem; environment: Environment; binaryFormat: BinaryFormat;
     version: Version | null; hasCustomVendor: boolean; numbers: Readonly<Record<Field, number>>; with: (values: Given) => Triple;
-    toString: () => string; toJSON: () => string; nameIn: (dialect: Dialect) => string | null; settle: () => Triple; comesBack: () => boolean;
+    toString: () => string; toJSON: () => string; nameIn: (dialect: Dialect, version?: [number, number?]) => string | null; settle: () => Triple; comesBack: () => boolean;
     equals: (other: Triple) => boolean; sameTarget: (other: Triple) => boolean; facts: () => Facts;
     canonical: string; complete: (libc: "glibc" | "musl") => Triple;
   }[Name]>

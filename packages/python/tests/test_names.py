@@ -81,6 +81,13 @@ class Names(unittest.TestCase):
                 self.assertEqual(str(Triple.read(spelled, Dialect.PYTHON)), triple)
             self.assertEqual(Triple(triple).name_in("python"), tag)
         self.assertEqual(Triple("arm64-apple-macosx11.7.10").name_in("python"), "macosx_11_7_arm64")
+        for text, version, name in [("x86_64-pc-linux-gnu", (2, 17), "manylinux_2_17_x86_64"), ("armv7-linux-musleabihf", [1, 2], "musllinux_1_2_armv7l"),
+                                    ("x86_64-apple-darwin", (10, 9), "macosx_10_9_x86_64"), ("aarch64-linux-android", (24,), "android_24_arm64_v8a"),
+                                    ("aarch64-linux-android", (24, 1), None), ("x86_64-linux", (2, 17), None), ("x86_64-pc-windows-msvc", (10,), None)]:
+            self.assertEqual(Triple(text).name_in("python", version), name)
+        for wrong in ((2, 17, 1), (), (1, 2, 3, 4), (2, 256), (-1,), (65536,)):
+            self.assertRaises(ValueError, Triple("x86_64-linux-gnu").name_in, "python", wrong)
+        self.assertRaises(TypeError, Triple("x86_64-linux-gnu").name_in, "python", "2.17")
         for text in "arm64-apple-darwin", "arm64-apple-darwin22.5.0", "arm64-apple-macosx", "x86_64-unknown-freebsd":
             self.assertIsNone(Triple(text).name_in("python"))
         for name in "macosx-14-arm64", "macosx_14_arm64":
@@ -161,7 +168,7 @@ class Names(unittest.TestCase):
                 self.assertRaisesRegex(TypeError, "the dialect must be of type Dialect or str", call, value)
         self.assertRaises(TypeError, calls[1], None)
         for number in 0, len(Dialect) + 1:
-            self.assertRaises(target_lexicon.LibraryError, _library.name_in, number, Triple("x86_64-linux")._struct)
+            self.assertRaises(target_lexicon.LibraryError, _library.write, number, Triple("x86_64-linux")._struct)
 
     def test_a_c_library_completes(self):
         for text, glibc, musl in (("aarch64-linux", "aarch64-unknown-linux-gnu", "aarch64-unknown-linux-musl"),

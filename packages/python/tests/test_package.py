@@ -299,11 +299,11 @@ class Samples(Folder):
 
     @unittest.skipUnless(sys.version_info >= (3, 10), "the page's programs are for Python 3.10 or later")
     def test_programs_of_the_page(self):
-        self.assertEqual(self.commands_run(sys.executable, None), 6)
+        self.assertEqual(self.commands_run(sys.executable, None), 3)
 
     @unittest.skipUnless(HAS_DASK, "no pandas and Dask")
     def test_columns_of_the_page(self):
-        self.assertEqual(self.commands_run(DEBIAN_PYTHON, "pandas"), 3)
+        self.assertEqual(self.commands_run(DEBIAN_PYTHON, "pandas"), 1)
 
     @unittest.skipUnless(run(PATH_PYTHON, "-c", "import pandas, pyarrow").returncode == 0, "no pandas and pyarrow")
     def test_parquet(self):

@@ -45,11 +45,8 @@
 )]
 // docs.rs marks what needs a feature.
 #![cfg_attr(docsrs, feature(doc_cfg))]
-#![cfg_attr(
-    docsrs,
-    doc(auto_cfg(hide(core_error, feature = "std", feature = "__internals")))
-)]
-#![cfg_attr(not(feature = "__internals"), warn(missing_docs))]
+#![cfg_attr(docsrs, doc(auto_cfg(hide(core_error, feature = "std"))))]
+#![cfg_attr(not(lexicon_internal), warn(missing_docs))]
 
 extern crate alloc;
 #[cfg(all(feature = "std", not(core_error)))]
@@ -65,11 +62,10 @@ mod order;
 mod owned;
 mod parse_error;
 mod parse_triple_error;
-#[cfg(not(feature = "__internals"))]
+#[cfg(not(lexicon_internal))]
 mod proved;
-/// The proved crates, for the packages of the same repository.
-#[cfg(feature = "__internals")]
-#[doc(hidden)]
+/// The proved crates, for the package of the folder `internal`.
+#[cfg(lexicon_internal)]
 pub mod proved;
 #[cfg(feature = "tool_names")]
 mod rustc_cfg;
@@ -89,6 +85,8 @@ pub use proved::{
     Riscv32Architecture, Riscv64Architecture, Size, Source, Sources, TextPart, Triple, TripleRef,
     Vendor, VendorRef, X86_32Architecture, Z80Architecture,
 };
+
+pub use proved::tool_names::Suggestion;
 
 #[cfg(feature = "tool_names")]
 pub use proved::tool_names;

@@ -1,5 +1,5 @@
 //! Why a string doesn't parse as a triple, in an error that owns the string and shows the place in it.
-use crate::{Field, ParseError, Refusal, TextPart, Triple, TripleRef};
+use crate::{Field, ParseError, Refusal, Suggestion, TextPart, Triple, TripleRef};
 use alloc::boxed::Box;
 use alloc::string::String;
 use core::fmt::{self, Write as _};
@@ -20,7 +20,7 @@ use core::ops::Range;
 ///
 /// let error = Triple::parse("x86_64-pc-linxu").unwrap_err();
 /// assert_eq!((error.expected(), error.part(), error.range()), (Some(Field::OperatingSystem), "linxu", 10..15));
-/// assert_eq!(error.suggestion(), Some("linux"));
+/// assert_eq!(error.suggestion().unwrap(), "linux");
 /// assert_eq!(
 ///     error.to_string(),
 ///     "Unrecognized operating system: linxu
@@ -53,7 +53,7 @@ impl Triple {
     /// }
     ///
     /// assert_eq!(is_windows("x86_64-pc-windows-msvc".into()), Ok(true));
-    /// assert_eq!(is_windows("x86_64-pc-window".into()).unwrap_err().suggestion(), Some("windows"));
+    /// assert_eq!(is_windows("x86_64-pc-window".into()).unwrap_err().suggestion().unwrap(), "windows");
     /// ```
     #[inline]
     pub fn parse(text: &str) -> Result<Triple, ParseTripleError> {
@@ -186,11 +186,11 @@ impl ParseTripleError {
     ///
     /// ```
     /// let error = target_lexicon::Triple::parse("amd64-linux").unwrap_err();
-    /// assert_eq!(error.suggestion(), Some("x86_64"));
+    /// assert_eq!(error.suggestion().unwrap(), "x86_64");
     /// ```
     #[must_use]
     #[inline]
-    pub fn suggestion(&self) -> Option<&'static str> {
+    pub fn suggestion(&self) -> Option<Suggestion<'_>> {
         self.refusal().suggestion()
     }
 

@@ -30,6 +30,10 @@ impl Triple {
     ///
     /// let triple = triple!("x86_64-apple-darwin");
     /// assert_eq!(triple.rustc_cfg().target_os, "macos");
+    /// // In a build script, this sets `guest_target_os = "macos"`, `guest_unix` and so on.
+    /// for line in triple.rustc_cfg().to_string().lines() {
+    ///     println!("cargo:rustc-cfg=guest_{line}");
+    /// }
     /// ```
     #[must_use]
     pub fn rustc_cfg(&self) -> RustcCfg<'_> {

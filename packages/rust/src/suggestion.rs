@@ -1,6 +1,6 @@
 //! The known names of a field, and the one that was perhaps meant.
 use crate::proved::tool_names;
-use crate::{Field, ParseError, Refusal};
+use crate::{Field, ParseError, Refusal, Suggestion};
 
 impl Field {
     /// The known names of the field, each once. A system like Darwin has its name without a version.
@@ -19,10 +19,10 @@ impl Field {
     }
 }
 
-impl Refusal<'_> {
+impl<'a> Refusal<'a> {
     /// The name that was perhaps meant. If other tools spell a known name as the refused part, it is that name. Otherwise it
     /// is the nearest one of the expected field or of a later one, if the part may be a misspelling of it. It never changes
-    /// the family of the architecture or a digit.
+    /// the family of the architecture or a digit, and a version stays where the system may have it.
     ///
     /// # Examples
     ///
@@ -30,15 +30,31 @@ impl Refusal<'_> {
     /// use target_lexicon::TripleRef;
     ///
     /// let refusal = TripleRef::from_str("x86_64-pc-linxu").unwrap_err();
-    /// assert_eq!(refusal.suggestion(), Some("linux"));
+    /// assert_eq!(refusal.suggestion().unwrap(), "linux");
     ///
-    /// let refusal = TripleRef::from_str("amd64-linux").unwrap_err();
-    /// assert_eq!(refusal.suggestion(), Some("x86_64"));
+    /// let refusal = TripleRef::from_str("aarch64-apple-macos14").unwrap_err();
+    /// assert_eq!(refusal.suggestion().unwrap(), "macosx14");
     /// ```
     #[must_use]
     #[inline]
-    pub fn suggestion(&self) -> Option<&'static str> {
+    pub fn suggestion(&self) -> Option<Suggestion<'a>> {
         tool_names::suggestion(self.expected?, self.part.text)
+    }
+}
+
+impl PartialEq<str> for Suggestion<'_> {
+    /// Whether the suggestion is displayed as this string.
+    #[inline]
+    fn eq(&self, text: &str) -> bool {
+        text.strip_prefix(self.names) == Some(self.version)
+    }
+}
+
+impl PartialEq<&str> for Suggestion<'_> {
+    /// Whether the suggestion is displayed as this string.
+    #[inline]
+    fn eq(&self, text: &&str) -> bool {
+        *self == **text
     }
 }
 
@@ -51,11 +67,11 @@ impl ParseError {
     /// use target_lexicon::Triple;
     ///
     /// let error = "x86_64-pc-linxu".parse::<Triple>().unwrap_err();
-    /// assert_eq!(error.suggestion(), Some("linux"));
+    /// assert_eq!(error.suggestion().unwrap(), "linux");
     /// ```
     #[must_use]
     #[inline]
-    pub fn suggestion(&self) -> Option<&'static str> {
+    pub fn suggestion(&self) -> Option<Suggestion<'_>> {
         tool_names::suggestion(self.expected()?, self.part())
     }
 }

@@ -180,8 +180,6 @@ fn an_error_shows_any_string_in_three_lines() {
 fn a_refusal_of_another_string_is_about_its_part() {
     let refusal = TripleRef::from_str("x86_64-pc-linxu").unwrap_err();
     let error = refusal.in_text("x86_64");
-    assert_eq!(
-        (error.text(), error.range(), error.suggestion()),
-        ("linxu", 0..5, Some("linux"))
-    );
+    assert_eq!((error.text(), error.range()), ("linxu", 0..5));
+    assert_eq!(error.suggestion().unwrap(), "linux");
 }

@@ -5,8 +5,7 @@ use crate::proved::error::{error_of, TextError};
 use crate::proved::sources::{sources_numbers, FieldSources};
 use crate::proved::triple::{are_equal, numbers_of, triple_in, Fault, NumberedTriple};
 use crate::proved::triple_facts::{
-    driver_facts_of, facts_of, format_facts_of, query_facts_of, DriverFacts, FormatFacts,
-    QueryFacts, TripleFacts,
+    driver_facts_of, format_facts_of, query_facts_of, Facts, FirstFacts, QueryFacts,
 };
 use target_lexicon::proved::TripleRef;
 
@@ -85,26 +84,25 @@ pub fn query_facts(triple: &NumberedTriple<'_>) -> Result<QueryFacts, Fault> {
     }
 }
 
-/// The binary formats of a triple, and the family of its architecture.
-pub fn format_facts(triple: &NumberedTriple<'_>) -> Result<FormatFacts, Fault> {
+/// The facts of the first two groups: what the queries of a triple answer, its binary formats, and its family.
+pub fn first_facts(triple: &NumberedTriple<'_>) -> Result<FirstFacts, Fault> {
     match triple_in(triple) {
-        Ok(asked) => Ok(format_facts_of(&asked)),
+        Ok(asked) => Ok(FirstFacts {
+            queries: query_facts_of(&asked),
+            formats: format_facts_of(&asked),
+        }),
         Err(fault) => Err(fault),
     }
 }
 
-/// What a compiler's driver asks of a triple.
-pub fn driver_facts(triple: &NumberedTriple<'_>) -> Result<DriverFacts, Fault> {
+/// All facts: those, and what a compiler's driver asks of a triple.
+pub fn facts(triple: &NumberedTriple<'_>) -> Result<Facts, Fault> {
     match triple_in(triple) {
-        Ok(asked) => Ok(driver_facts_of(&asked)),
-        Err(fault) => Err(fault),
-    }
-}
-
-/// The facts of the first two groups.
-pub fn facts(triple: &NumberedTriple<'_>) -> Result<TripleFacts, Fault> {
-    match triple_in(triple) {
-        Ok(asked) => Ok(facts_of(&asked)),
+        Ok(asked) => Ok(Facts {
+            queries: query_facts_of(&asked),
+            formats: format_facts_of(&asked),
+            driver: driver_facts_of(&asked),
+        }),
         Err(fault) => Err(fault),
     }
 }

@@ -45,10 +45,29 @@ pub fn read(dialect: Option<Dialect>, text: &str) -> Result<NumberedTriple<'_>, 
     }
 }
 
-/// The name of a triple in a dialect, if it has one.
-pub fn name_in(dialect: Dialect, triple: &NumberedTriple<'_>) -> Result<Option<Name>, Fault> {
+/// The name of a triple in a dialect; or why it has none.
+pub fn name_in(
+    dialect: Dialect,
+    triple: &NumberedTriple<'_>,
+) -> Result<Result<Name, WriteError>, Fault> {
     match triple_in(triple) {
-        Ok(named) => Ok(dialect.write(&named)),
+        Ok(named) => Ok(dialect.write_with(&named, None)),
+        Err(fault) => Err(fault),
+    }
+}
+
+/// The name of a triple in a dialect that states a version, if it has one and each number is in range.
+pub fn versioned_name_in(
+    dialect: Dialect,
+    triple: &NumberedTriple<'_>,
+    major: u32,
+    minor: u32,
+) -> Result<Option<Name>, Fault> {
+    match triple_in(triple) {
+        Ok(named) => match (u16::try_from(major), u8::try_from(minor)) {
+            (Ok(major), Ok(minor)) => Ok(dialect.write_versioned(&named, major, minor)),
+            _ => Ok(None),
+        },
         Err(fault) => Err(fault),
     }
 }
@@ -134,11 +153,17 @@ fn name_error(error: NameError, name: &str) -> TextError {
 /// Why what a name means isn't written, as numbers. The range is the whole name.
 fn write_error(error: WriteError, name: &str) -> TextError {
     TextError {
-        status: match error {
-            WriteError::NoName => 14,
-            WriteError::NeedsCLibrary => 17,
-        },
+        status: unwritten_status(error),
         start: 0,
         end: name.len(),
+    }
+}
+
+/// Why a triple isn't written, as a number.
+#[must_use]
+pub fn unwritten_status(error: WriteError) -> u32 {
+    match error {
+        WriteError::NoName => 14,
+        WriteError::NeedsCLibrary => 17,
     }
 }

@@ -11,17 +11,17 @@ pub(crate) mod triple_facts;
 pub(crate) mod values;
 
 pub use calls::{
-    comes_back, driver_facts, equal, explain, facts, format_facts, parse, print, query_facts,
-    same_target, settle,
+    comes_back, equal, explain, facts, first_facts, parse, print, query_facts, same_target, settle,
 };
 pub use dialects::{
     c_library_at, complete, dialect_at, name_in, name_suggestion, read, reason, translate,
+    unwritten_status, versioned_name_in,
 };
 pub use error::{expected_at, TextError};
 pub use numbers::{name_at, number_in};
 pub use sources::{FieldSource, FieldSources};
 pub use triple::{Fault, NumberedTriple, TripleNumbers};
 pub use triple_facts::{
-    DriverFacts, FormatFacts, LayoutNumbers, QueryFacts, TripleFacts, TypeSizes,
+    DriverFacts, Facts, FirstFacts, FormatFacts, LayoutNumbers, QueryFacts, TypeSizes,
 };
 pub use values::field_at;

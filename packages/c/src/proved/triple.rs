@@ -1,6 +1,6 @@
 // Erased from crates/lexicon_c/src/triple.rt by tools/erase. Don't edit it here.
 //! Triples as numbers. Functions that return a wide value are inlined where that saves a hundredth of parsing and
-//! printing.
+//! printing, or of asking.
 
 use crate::proved::values::{
     architecture_at, architecture_number, binary_format_at, binary_format_number, environment_at,
@@ -104,6 +104,7 @@ fn custom_vendor(bytes: &[u8]) -> Result<VendorRef<'_>, Fault> {
 }
 
 /// The system of these numbers, with its version, if there is one.
+#[inline(always)]
 fn operating_system_in(numbers: &TripleNumbers) -> Option<OperatingSystem> {
     let version = match numbers.has_version {
         0 => None,

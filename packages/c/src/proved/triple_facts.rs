@@ -76,47 +76,37 @@ pub struct DriverFacts {
     pub wchar: LayoutNumbers,
 }
 
-/// The facts of the first two groups. Each number is 0 where there is no answer.
+/// The facts of the first two groups.
 #[repr(C)]
 #[derive(Clone, Copy)]
-pub struct TripleFacts {
-    /// The byte order: 1 is little, 2 big.
-    pub endianness: u8,
-    /// The width of a pointer in bits: 16, 32 or 64.
-    pub pointer_width: u8,
-    /// The calling convention: 1 is System V, 2 the C ABI of WebAssembly, 3 Windows Fastcall, 4 Apple's on 64-bit Arm.
-    pub default_calling_convention: u8,
-    /// The data model of C: 1 is LP32, 2 ILP32, 3 LLP64, 4 LP64, 5 ILP64.
-    pub data_model: u8,
-    /// The sizes of C's types.
-    pub sizes: TypeSizes,
-    /// The number of the binary format that the other fields imply.
-    pub implied_format: u8,
-    /// The number of the binary format that toolchains write.
-    pub object_format: u8,
-    /// The number of the architecture's family.
-    pub family: u8,
-    /// Whether the architecture is an Arm one that is Thumb.
-    pub is_thumb: bool,
-    /// Whether the operating system is like Darwin.
-    pub is_like_darwin: bool,
-    /// Whether the vendor is a custom one.
-    pub has_custom_vendor: bool,
+pub struct FirstFacts {
+    pub queries: QueryFacts,
+    pub formats: FormatFacts,
+}
+
+/// All facts. A later version adds a group at the end.
+#[repr(C)]
+#[derive(Clone, Copy)]
+pub struct Facts {
+    pub queries: QueryFacts,
+    pub formats: FormatFacts,
+    pub driver: DriverFacts,
 }
 
 /// What the queries of a triple answer.
 #[inline(always)]
 pub(crate) fn query_facts_of(triple: &TripleRef<'_>) -> QueryFacts {
-    let model = model_of(triple);
+    let model = model_number(model_of(triple));
     QueryFacts {
         endianness: endianness_number(triple),
         pointer_width: pointer_width(triple),
         default_calling_convention: convention_number(triple),
-        data_model: model_number(model),
-        sizes: sizes_of(model),
+        data_model: model,
         is_thumb: is_thumb(triple.architecture),
         is_like_darwin: triple.operating_system.is_like_darwin(),
         has_custom_vendor: triple.vendor.is_custom(),
+        // last, so that they are copied straight into the struct
+        sizes: TYPE_SIZES[usize::from(model)],
     }
 }
 
@@ -139,26 +129,6 @@ pub(crate) fn driver_facts_of(triple: &TripleRef<'_>) -> DriverFacts {
         is_unix: is_unix(triple),
         long_double: layout_numbers(TypeLayout::of_long_double(triple)),
         wchar: layout_numbers(TypeLayout::of_wchar(triple)),
-    }
-}
-
-/// The facts of the first two groups.
-#[inline(always)]
-pub(crate) fn facts_of(triple: &TripleRef<'_>) -> TripleFacts {
-    let queries = query_facts_of(triple);
-    let formats = format_facts_of(triple);
-    TripleFacts {
-        endianness: queries.endianness,
-        pointer_width: queries.pointer_width,
-        default_calling_convention: queries.default_calling_convention,
-        data_model: queries.data_model,
-        sizes: queries.sizes,
-        implied_format: formats.implied_format,
-        object_format: formats.object_format,
-        family: formats.family,
-        is_thumb: queries.is_thumb,
-        is_like_darwin: queries.is_like_darwin,
-        has_custom_vendor: queries.has_custom_vendor,
     }
 }
 
@@ -251,27 +221,16 @@ fn model_number(model: Option<CDataModel>) -> u8 {
     }
 }
 
-/// The sizes of C's types in a data model; all 0 without one.
-fn sizes_of(model: Option<CDataModel>) -> TypeSizes {
-    match model {
-        Some(model) => TypeSizes {
-            short: model.short_size().bytes(),
-            int: model.int_size().bytes(),
-            long: model.long_size().bytes(),
-            long_long: model.long_long_size().bytes(),
-            float: model.float_size().bytes(),
-            double: model.double_size().bytes(),
-        },
-        None => TypeSizes {
-            short: 0,
-            int: 0,
-            long: 0,
-            long_long: 0,
-            float: 0,
-            double: 0,
-        },
-    }
-}
+#[rustfmt::skip]
+/// The sizes of C's types by the number of the data model; all 0 without one.
+static TYPE_SIZES: [TypeSizes; 6] = [
+    TypeSizes { short: 0, int: 0, long: 0, long_long: 0, float: 0, double: 0 },
+    TypeSizes { short: 2, int: 2, long: 4, long_long: 8, float: 4, double: 8 },
+    TypeSizes { short: 2, int: 4, long: 4, long_long: 8, float: 4, double: 8 },
+    TypeSizes { short: 2, int: 4, long: 4, long_long: 8, float: 4, double: 8 },
+    TypeSizes { short: 2, int: 4, long: 8, long_long: 8, float: 4, double: 8 },
+    TypeSizes { short: 2, int: 8, long: 8, long_long: 8, float: 4, double: 8 },
+];
 
 /// Whether an architecture is an Arm one that is Thumb.
 fn is_thumb(architecture: Architecture) -> bool {

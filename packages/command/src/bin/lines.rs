@@ -4,6 +4,9 @@
 
 #[path = "../../../../checks/comparisons/lines.rs"]
 mod lines;
+#[allow(dead_code)] // its main
+#[path = "../../../rust/examples/linkers.rs"]
+mod linkers;
 
 use serde_json::Value;
 use std::fmt::Write as _;
@@ -40,15 +43,17 @@ fn each(show: fn(&TripleRef) -> String, end: &str) -> io::Result<()> {
 }
 
 /// The C library, how floating-point arguments are passed, and the size and alignment of `long double` and `wchar_t`; `-`
-/// where there is no answer.
+/// where there is no answer. Then how the target is linked.
 fn driver(triple: &TripleRef) -> String {
     let layout = |it: Option<TypeLayout>| it.map_or("- -".to_string(), |it| format!("{} {}", it.size, it.alignment));
     format!(
-        "{} {} {} {}\n",
+        "{} {} {} {} {} program{}\n",
         CLibrary::of(triple).map_or("-", CLibrary::name),
         FloatAbi::of(triple).map_or("-", FloatAbi::name),
         layout(TypeLayout::of_long_double(triple)),
         layout(TypeLayout::of_wchar(triple)),
+        linkers::linker(triple),
+        linkers::program_suffix(triple),
     )
 }
 

@@ -12,8 +12,8 @@ import sys
 from contextlib import suppress
 from typing import Any, Dict, Iterator, List, Optional, Tuple
 
-from . import LIBRARY_VERSION, Dialect, LinuxLibc, ParseError, Triple, explain
-from ._dialects import OTHER_NAMES, READ, WRITTEN
+from . import LIBRARY_VERSION, Dialect, LinuxLibc, ParseError, Triple, _library, explain
+from ._dialects import OTHER_NAMES, READ, WRITTEN, dialect_number
 from ._named import members
 from ._triple import _version_text
 
@@ -66,11 +66,11 @@ def _answer(command: str, dialect: Optional[Dialect], libc: Optional[LinuxLibc],
         return {str(dialect): triple.name_in(dialect) for dialect in WRITTEN}
     if dialect is None:
         return {"canonical": triple.canonical}
-    name = triple.name_in(dialect)
+    status, name = _library.write(dialect_number(dialect), triple._struct)
     if name is not None:
         return {"name": name}
-    needs_libc = libc is None and any(triple.complete(it).name_in(dialect) for it in members(LinuxLibc))
-    return _refused(f"no name of {dialect} for" + (f" it: {_NEEDS_LIBC}" if needs_libc else ""), target)
+    reason = f" it: {_NEEDS_LIBC}" if status == _library.NEEDS_C_LIBRARY else ""
+    return _refused(f"no name of {dialect} for{reason}", target)
 
 
 def _completed(triple: Triple, libc: Optional[LinuxLibc]) -> Triple:

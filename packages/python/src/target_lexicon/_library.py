@@ -30,6 +30,7 @@ UNKNOWN_NAME = 12
 NAME_WITHOUT_TRIPLE = 13
 TRIPLE_WITHOUT_NAME = 14
 NEEDS_C_LIBRARY = 17
+NO_SUGGESTION = 20
 
 
 class TripleStruct(Structure):
@@ -192,6 +193,7 @@ facts = _declare("lexicon_facts", _TRIPLE, POINTER(FactsStruct), c_size_t)
 print_into = _declare("lexicon_print", _TRIPLE, c_void_p, c_size_t, _SIZE)
 read = _declare("lexicon_read", c_uint32, c_char_p, c_size_t, _TRIPLE, _ERROR)
 _write = _declare("lexicon_write", c_uint32, _TRIPLE, c_void_p, c_size_t, _SIZE)
+_write_versioned = _declare("lexicon_write_versioned", c_uint32, _TRIPLE, c_uint32, c_uint32, c_void_p, c_size_t, _SIZE)
 complete = _declare("lexicon_complete", _TRIPLE, c_uint32)
 _translate = _declare("lexicon_translate", c_uint32, c_char_p, c_size_t, c_uint32, c_uint32, c_void_p, c_size_t, _SIZE, _ERROR)
 _changes = _declare("lexicon_changes", c_char_p, c_size_t, c_size_t, POINTER(ChangeStruct), c_void_p, c_size_t, _SIZE)
@@ -199,8 +201,8 @@ _reason = _declare("lexicon_reason", c_uint32, c_char_p, c_size_t, result=c_char
 _name_suggestion = _declare("lexicon_name_suggestion", c_uint32, c_char_p, c_size_t, result=c_char_p)
 _number = _declare("lexicon_number", c_uint32, c_char_p, c_size_t, POINTER(c_uint32))
 _error_line = _declare("lexicon_error_line", c_char_p, c_size_t, _ERROR, c_void_p, c_size_t, _SIZE)
-_suggestion = _declare("lexicon_suggestion", c_char_p, c_size_t, _ERROR, result=c_char_p)
-_vendor_suggestion = _declare("lexicon_vendor_suggestion", _TRIPLE, result=c_char_p)
+_suggestion = _declare("lexicon_suggestion", c_char_p, c_size_t, _ERROR, c_void_p, c_size_t, _SIZE)
+_vendor_suggestion = _declare("lexicon_vendor_suggestion", _TRIPLE, c_void_p, c_size_t, _SIZE)
 _name = _declare("lexicon_name", c_uint32, c_uint32, result=c_char_p)
 
 #: The version of the library, and the commit that it was built from if that is known.
@@ -254,25 +256,32 @@ def error_line(status: int, part: bytes) -> str:
 
 
 def suggestion(status: int, part: bytes) -> Optional[str]:
-    """The name that may have been meant by a part that is refused with this status."""
-    found: Optional[bytes] = _suggestion(part, len(part), ErrorStruct(status, 0, len(part)))
-    return None if found is None else found.decode()
+    """What may have been meant by a part that is refused with this status."""
+    return _suggestion_of(_suggestion, part, len(part), ErrorStruct(status, 0, len(part)))
 
 
 def vendor_suggestion(triple: TripleStruct) -> Optional[str]:
-    """The name that may have been meant by a custom vendor."""
-    found: Optional[bytes] = _vendor_suggestion(triple)
-    return None if found is None else found.decode()
+    """What may have been meant by a custom vendor."""
+    return _suggestion_of(_vendor_suggestion, triple)
 
 
-def name_in(dialect: int, triple: TripleStruct) -> Optional[str]:
-    """The name of a triple in a dialect, which has at most 36 bytes, or None if there is none."""
-    out = TextBuffer()
-    status = _write(dialect, triple, out, FIRST_SIZE, None)
-    if status == TRIPLE_WITHOUT_NAME:
+def _suggestion_of(call: Callable[..., int], *arguments: object) -> Optional[str]:
+    if call(*arguments, None, 0, None) == NO_SUGGESTION:
         return None
+    return text_of(call, *arguments).decode()
+
+
+def write(dialect: int, triple: TripleStruct, version: Optional[Tuple[int, int]] = None) -> Tuple[int, Optional[str]]:
+    """The status, and the name of a triple in a dialect, which has at most 36 bytes. If it is None, the status says why."""
+    out = TextBuffer()
+    if version is None:
+        status = _write(dialect, triple, out, FIRST_SIZE, None)
+    else:
+        status = _write_versioned(dialect, triple, *version, out, FIRST_SIZE, None)
+    if status in (TRIPLE_WITHOUT_NAME, NEEDS_C_LIBRARY):
+        return status, None
     check(status)
-    return out.value.decode()
+    return status, out.value.decode()
 
 
 def translate(text: bytes, from_dialect: int, libc: int, to_dialect: int) -> Tuple[int, str]:

@@ -372,16 +372,22 @@ class Triple:
 
         return facts_of(self)._asdict()
 
-    def name_in(self, dialect: Union[Dialect, DialectName]) -> Optional[str]:
+    def name_in(self, dialect: Union[Dialect, DialectName], version: Optional[Iterable[int]] = None) -> Optional[str]:
         """The name that another tool has for the target, or None if it has none. The tool is a `Dialect`, or its name.
 
         >>> triple = Triple("aarch64-unknown-linux-gnu")
         >>> triple.name_in(Dialect.DEBIAN), triple.name_in("oci"), Triple("avr-unknown-unknown").name_in("go")
         ('arm64', 'linux/arm64', None)
+        >>> triple.name_in("python", version=(2, 17)), Triple("aarch64-apple-darwin").name_in("python", (11, 0))
+        ('manylinux_2_17_aarch64', 'macosx_11_0_arm64')
 
-        The vendor doesn't matter, nor what the dialect doesn't name.
+        The vendor doesn't matter, nor what the dialect doesn't name. A version, of one or two numbers, is that of glibc, musl,
+        macOS or Android's API level, which names of Python state; with it, names without one are not written.
         """
-        return _library.name_in(dialect_number(dialect), self._struct)
+        full = _full_version(version)
+        if full and full[2]:
+            raise ValueError(f"a name states at most two numbers of a version, not {full}")
+        return _library.write(dialect_number(dialect), self._struct, full and full[:2])[1]
 
     def complete(self, libc: Union[LinuxLibc, LinuxLibcName]) -> Triple:
         """The triple with the usual environment of a C library, if it is of Linux and states none; any other one as it is.

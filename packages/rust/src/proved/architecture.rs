@@ -39,7 +39,7 @@ pub use z80::Z80Architecture;
 /// };
 /// assert_eq!(registers, 8);
 /// ```
-#[cfg_attr(not(feature = "__internals"), non_exhaustive)]
+#[cfg_attr(not(lexicon_internal), non_exhaustive)]
 #[derive(Clone, Copy, Debug, PartialEq, Eq, Hash)]
 pub enum Architecture {
     /// An architecture that the string doesn't say.
@@ -119,7 +119,11 @@ pub enum Architecture {
 }
 
 impl Architecture {
-    /// The byte order. `Err` for `Unknown`.
+    /// The byte order.
+    ///
+    /// # Errors
+    ///
+    /// `()` for `Unknown`.
     ///
     /// # Examples
     ///
@@ -177,7 +181,11 @@ impl Architecture {
         }
     }
 
-    /// The width of a pointer, independent of the ABI. `Err` for `Unknown`.
+    /// The width of a pointer, independent of the ABI.
+    ///
+    /// # Errors
+    ///
+    /// `()` for `Unknown`.
     ///
     /// # Examples
     ///

@@ -16,7 +16,7 @@ use core::str::FromStr;
 /// let triple: Triple = "x86_64-pc-windows-gnu".parse().unwrap();
 /// assert_eq!(triple.binary_format, BinaryFormat::Coff);
 /// ```
-#[cfg_attr(not(feature = "__internals"), non_exhaustive)]
+#[cfg_attr(not(lexicon_internal), non_exhaustive)]
 #[derive(Clone, Copy, Debug, PartialEq, Eq, Hash)]
 pub enum BinaryFormat {
     /// A format that isn't known.

@@ -24,7 +24,7 @@ pub struct TextPart<'a> {
     pub start: usize,
 }
 
-impl<'a> TextPart<'a> {
+impl TextPart<'_> {
     /// The range of the part in the string, in bytes.
     ///
     /// # Examples

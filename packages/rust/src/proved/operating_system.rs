@@ -20,7 +20,7 @@ use core::str::FromStr;
 ///     other => panic!("{other}"),
 /// }
 /// ```
-#[cfg_attr(not(feature = "__internals"), non_exhaustive)]
+#[cfg_attr(not(lexicon_internal), non_exhaustive)]
 #[derive(Clone, Copy, Debug, PartialEq, Eq, Hash)]
 pub enum OperatingSystem {
     /// A system that the string doesn't say.

@@ -10,6 +10,10 @@ use crate::proved::{Architecture, Endianness, Environment, OperatingSystem, Poin
 impl TripleRef<'_> {
     /// The byte order, as [`Triple::endianness`] says.
     ///
+    /// # Errors
+    ///
+    /// `()` for the architecture `Unknown`.
+    ///
     /// # Examples
     ///
     /// ```
@@ -18,11 +22,16 @@ impl TripleRef<'_> {
     /// let triple = TripleRef::from_str("s390x-unknown-linux-gnu").unwrap();
     /// assert_eq!(triple.endianness(), Ok(Endianness::Big));
     /// ```
+    #[inline]
     pub const fn endianness(&self) -> Result<Endianness, ()> {
         self.architecture.endianness()
     }
 
     /// The width of a pointer, as [`Triple::pointer_width`] says.
+    ///
+    /// # Errors
+    ///
+    /// `()` if the width is that of the architecture, which is `Unknown`.
     ///
     /// # Examples
     ///
@@ -32,6 +41,7 @@ impl TripleRef<'_> {
     /// let triple = TripleRef::from_str("avr-unknown-none").unwrap();
     /// assert_eq!(triple.pointer_width(), Ok(PointerWidth::U16));
     /// ```
+    #[inline]
     pub const fn pointer_width(&self) -> Result<PointerWidth, ()> {
         match self.environment {
             Environment::Gnux32 | Environment::GnuIlp32 => Ok(PointerWidth::U32),
@@ -41,6 +51,10 @@ impl TripleRef<'_> {
 
     /// The calling convention, as [`Triple::default_calling_convention`] says.
     ///
+    /// # Errors
+    ///
+    /// `()` if no convention is known.
+    ///
     /// # Examples
     ///
     /// ```
@@ -49,6 +63,7 @@ impl TripleRef<'_> {
     /// let triple = TripleRef::from_str("x86_64-unknown-linux-gnu").unwrap();
     /// assert_eq!(triple.default_calling_convention(), Ok(CallingConvention::SystemV));
     /// ```
+    #[inline]
     pub const fn default_calling_convention(&self) -> Result<CallingConvention, ()> {
         match self.operating_system {
             OperatingSystem::Darwin(_)
@@ -102,6 +117,10 @@ impl TripleRef<'_> {
 
     /// The data model of C, as [`Triple::data_model`] says.
     ///
+    /// # Errors
+    ///
+    /// `()` if no model is known.
+    ///
     /// # Examples
     ///
     /// ```
@@ -110,6 +129,7 @@ impl TripleRef<'_> {
     /// let triple = TripleRef::from_str("x86_64-pc-windows-msvc").unwrap();
     /// assert_eq!(triple.data_model(), Ok(CDataModel::LLP64));
     /// ```
+    #[inline]
     pub fn data_model(&self) -> Result<CDataModel, ()> {
         match self.pointer_width()? {
             PointerWidth::U64 => self.data_model_64(),
@@ -119,6 +139,7 @@ impl TripleRef<'_> {
     }
 
     /// The data model for pointers of 64 bits.
+    #[inline]
     fn data_model_64(&self) -> Result<CDataModel, ()> {
         match self.operating_system {
             OperatingSystem::Windows => Ok(CDataModel::LLP64),
@@ -135,6 +156,7 @@ impl TripleRef<'_> {
     }
 
     /// The data model for pointers of 32 bits.
+    #[inline]
     fn data_model_32(&self) -> Result<CDataModel, ()> {
         match self.operating_system {
             OperatingSystem::Windows => Ok(CDataModel::ILP32),
@@ -150,7 +172,11 @@ impl TripleRef<'_> {
 }
 
 impl Triple {
-    /// The byte order of the architecture. `Err` for the architecture `Unknown`.
+    /// The byte order of the architecture.
+    ///
+    /// # Errors
+    ///
+    /// `()` for the architecture `Unknown`.
     ///
     /// # Examples
     ///
@@ -159,12 +185,17 @@ impl Triple {
     ///
     /// assert_eq!(triple!("s390x-unknown-linux-gnu").endianness(), Ok(Endianness::Big));
     /// ```
+    #[inline]
     pub fn endianness(&self) -> Result<Endianness, ()> {
         self.as_triple_ref().endianness()
     }
 
     /// The width of a pointer: 32 bits in the environments `Gnux32` and `GnuIlp32`, in every other environment the
-    /// width of the architecture. `Err` for the architecture `Unknown` in these other environments.
+    /// width of the architecture.
+    ///
+    /// # Errors
+    ///
+    /// `()` if the width is that of the architecture, which is `Unknown`.
     ///
     /// # Examples
     ///
@@ -174,13 +205,17 @@ impl Triple {
     /// assert_eq!(triple!("x86_64-unknown-linux-gnu").pointer_width(), Ok(PointerWidth::U64));
     /// assert_eq!(triple!("x86_64-unknown-linux-gnux32").pointer_width(), Ok(PointerWidth::U32));
     /// ```
+    #[inline]
     pub fn pointer_width(&self) -> Result<PointerWidth, ()> {
         self.as_triple_ref().pointer_width()
     }
 
     /// The calling convention. It depends on the operating system, and on systems like Darwin and those that run
-    /// WebAssembly also on the architecture. `Err` if no convention is known, for instance on `WasiP1`, `WasiP2`,
-    /// `Illumos` and `Cygwin`.
+    /// WebAssembly also on the architecture.
+    ///
+    /// # Errors
+    ///
+    /// `()` if no convention is known, for instance on `WasiP1`, `WasiP2`, `Illumos` and `Cygwin`.
     ///
     /// # Examples
     ///
@@ -191,12 +226,17 @@ impl Triple {
     /// assert_eq!(convention, Ok(CallingConvention::AppleAarch64));
     /// assert_eq!(triple!("wasm32-wasip1").default_calling_convention(), Err(()));
     /// ```
+    #[inline]
     pub fn default_calling_convention(&self) -> Result<CallingConvention, ()> {
         self.as_triple_ref().default_calling_convention()
     }
 
     /// The data model of C. It depends on the pointer width, the operating system, the calling convention and the
-    /// architecture. `Err` if no model is known, for instance for pointers of 16 bits.
+    /// architecture.
+    ///
+    /// # Errors
+    ///
+    /// `()` if no model is known, for instance for pointers of 16 bits.
     ///
     /// # Examples
     ///
@@ -206,6 +246,7 @@ impl Triple {
     /// assert_eq!(triple!("x86_64-pc-windows-msvc").data_model(), Ok(CDataModel::LLP64));
     /// assert_eq!(triple!("avr-unknown-none").data_model(), Err(()));
     /// ```
+    #[inline]
     pub fn data_model(&self) -> Result<CDataModel, ()> {
         self.as_triple_ref().data_model()
     }

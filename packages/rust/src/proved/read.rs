@@ -69,9 +69,12 @@ pub fn explain(text: &str) -> Explanation<'_> {
 }
 
 impl<'a> TripleRef<'a> {
-    /// The triple that a string parses as, as `Triple::from_str` says; or why it is refused, and the refused part. A
-    /// custom vendor and a refused part borrow from the string, so nothing is allocated. `explain` answers this too,
-    /// and where each field comes from.
+    /// The triple that a string parses as, as `Triple::from_str` says. A custom vendor and a refused part borrow from
+    /// the string, so nothing is allocated. `explain` answers this too, and where each field comes from.
+    ///
+    /// # Errors
+    ///
+    /// Why the string is refused, and the refused part.
     ///
     /// # Examples
     ///

@@ -29,7 +29,7 @@ pub struct Refusal<'a> {
     pub part: TextPart<'a>,
 }
 
-impl<'a> Refusal<'a> {
+impl Refusal<'_> {
     /// The range of the refused part in the string, in bytes.
     ///
     /// # Examples

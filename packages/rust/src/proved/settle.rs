@@ -70,6 +70,7 @@ impl<'a> TripleRef<'a> {
 
     /// The normal step of any triple. If the vendor is plain, it is the canonical form.
     #[doc(hidden)]
+    #[must_use]
     #[inline]
     pub fn step(mut self) -> TripleRef<'a> {
         if self.prints_as_special() {

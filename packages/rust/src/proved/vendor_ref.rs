@@ -26,7 +26,11 @@ pub enum VendorRef<'a> {
 
 impl<'a> VendorRef<'a> {
     /// The vendor that the string parses as: a known one, or a custom one that borrows the string, if
-    /// [`Vendor::Custom`] admits it. `Err` for every other string.
+    /// [`Vendor::Custom`] admits it.
+    ///
+    /// # Errors
+    ///
+    /// `()` for every other string.
     ///
     /// # Examples
     ///
@@ -137,7 +141,7 @@ impl Vendor {
     }
 }
 
-impl<'a> fmt::Display for VendorRef<'a> {
+impl fmt::Display for VendorRef<'_> {
     fn fmt(&self, f: &mut fmt::Formatter<'_>) -> fmt::Result {
         f.write_str(self.as_str())
     }

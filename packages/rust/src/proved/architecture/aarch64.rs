@@ -18,7 +18,7 @@ use core::str::FromStr;
 /// let architecture: Architecture = "aarch64_be".parse().unwrap();
 /// assert_eq!(architecture, Architecture::Aarch64(Aarch64Architecture::Aarch64be));
 /// ```
-#[cfg_attr(not(feature = "__internals"), non_exhaustive)]
+#[cfg_attr(not(lexicon_internal), non_exhaustive)]
 #[derive(Clone, Copy, Debug, PartialEq, Eq, Hash)]
 pub enum Aarch64Architecture {
     /// Little-endian.
@@ -36,6 +36,7 @@ impl Aarch64Architecture {
     /// assert!(!target_lexicon::Aarch64Architecture::Aarch64.is_thumb());
     /// ```
     #[must_use]
+    #[inline]
     pub const fn is_thumb(self) -> bool {
         false
     }
@@ -50,6 +51,7 @@ impl Aarch64Architecture {
     /// assert_eq!(Aarch64Architecture::Aarch64.pointer_width(), PointerWidth::U64);
     /// ```
     #[must_use]
+    #[inline]
     pub const fn pointer_width(self) -> PointerWidth {
         PointerWidth::U64
     }
@@ -64,6 +66,7 @@ impl Aarch64Architecture {
     /// assert_eq!(Aarch64Architecture::Aarch64be.endianness(), Endianness::Big);
     /// ```
     #[must_use]
+    #[inline]
     pub const fn endianness(self) -> Endianness {
         match self {
             Aarch64Architecture::Aarch64 => Endianness::Little,
@@ -72,6 +75,7 @@ impl Aarch64Architecture {
     }
 
     /// The value with this name; `arm64` is an alias of `aarch64`. `Err` for every other string.
+    #[inline]
     pub(crate) fn from_str(s: &str) -> Result<Self, ()> {
         match Architecture::from_str(s) {
             Ok(Architecture::Aarch64(sub)) => Ok(sub),
@@ -87,10 +91,12 @@ impl Aarch64Architecture {
     /// assert_eq!(target_lexicon::Aarch64Architecture::Aarch64be.into_str(), "aarch64_be");
     /// ```
     #[must_use]
+    #[inline]
     pub fn into_str(self) -> Cow<'static, str> {
         Cow::Borrowed(self.name())
     }
 
+    #[inline]
     pub(crate) const fn name(self) -> &'static str {
         match self {
             Aarch64Architecture::Aarch64 => "aarch64",
@@ -102,12 +108,14 @@ impl Aarch64Architecture {
 impl FromStr for Aarch64Architecture {
     type Err = ();
 
+    #[inline]
     fn from_str(s: &str) -> Result<Aarch64Architecture, ()> {
         Aarch64Architecture::from_str(s)
     }
 }
 
 impl fmt::Display for Aarch64Architecture {
+    #[inline]
     fn fmt(&self, f: &mut fmt::Formatter<'_>) -> fmt::Result {
         f.write_str(self.name())
     }

@@ -18,7 +18,7 @@ use core::str::FromStr;
 /// let architecture: Architecture = "thumbv7em".parse().unwrap();
 /// assert_eq!(architecture, Architecture::Arm(ArmArchitecture::Thumbv7em));
 /// ```
-#[cfg_attr(not(feature = "__internals"), non_exhaustive)]
+#[cfg_attr(not(lexicon_internal), non_exhaustive)]
 #[derive(Clone, Copy, Debug, PartialEq, Eq, Hash)]
 pub enum ArmArchitecture {
     /// Arm of no stated version.
@@ -119,6 +119,7 @@ impl ArmArchitecture {
     /// assert!(!ArmArchitecture::Armv7a.is_thumb());
     /// ```
     #[must_use]
+    #[inline]
     pub const fn is_thumb(self) -> bool {
         matches!(
             self,
@@ -145,6 +146,7 @@ impl ArmArchitecture {
     /// assert_eq!(ArmArchitecture::Armv7a.pointer_width(), PointerWidth::U32);
     /// ```
     #[must_use]
+    #[inline]
     pub const fn pointer_width(self) -> PointerWidth {
         PointerWidth::U32
     }
@@ -159,6 +161,7 @@ impl ArmArchitecture {
     /// assert_eq!(ArmArchitecture::Armeb.endianness(), Endianness::Big);
     /// ```
     #[must_use]
+    #[inline]
     pub const fn endianness(self) -> Endianness {
         match self {
             ArmArchitecture::Armeb | ArmArchitecture::Armebv7r | ArmArchitecture::Thumbeb => {
@@ -207,6 +210,7 @@ impl ArmArchitecture {
     }
 
     /// The sub-architecture with the name `s`; `Err` if there is none.
+    #[inline]
     pub(crate) fn from_str(s: &str) -> Result<Self, ()> {
         match Architecture::from_str(s) {
             Ok(Architecture::Arm(sub)) => Ok(sub),
@@ -222,10 +226,12 @@ impl ArmArchitecture {
     /// assert_eq!(target_lexicon::ArmArchitecture::Thumbv7em.into_str(), "thumbv7em");
     /// ```
     #[must_use]
+    #[inline]
     pub fn into_str(self) -> Cow<'static, str> {
         Cow::Borrowed(self.name())
     }
 
+    #[inline]
     pub(crate) const fn name(self) -> &'static str {
         match self {
             ArmArchitecture::Arm => "arm",
@@ -277,12 +283,14 @@ impl ArmArchitecture {
 impl FromStr for ArmArchitecture {
     type Err = ();
 
+    #[inline]
     fn from_str(s: &str) -> Result<ArmArchitecture, ()> {
         ArmArchitecture::from_str(s)
     }
 }
 
 impl fmt::Display for ArmArchitecture {
+    #[inline]
     fn fmt(&self, f: &mut fmt::Formatter<'_>) -> fmt::Result {
         f.write_str(self.name())
     }

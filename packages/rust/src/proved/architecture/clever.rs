@@ -16,7 +16,7 @@ use core::str::FromStr;
 /// let architecture: Architecture = "clever1.0".parse().unwrap();
 /// assert_eq!(architecture, Architecture::Clever(CleverArchitecture::Clever1_0));
 /// ```
-#[cfg_attr(not(feature = "__internals"), non_exhaustive)]
+#[cfg_attr(not(lexicon_internal), non_exhaustive)]
 #[derive(Clone, Copy, Debug, PartialEq, Eq, Hash)]
 pub enum CleverArchitecture {
     /// No stated version.
@@ -27,6 +27,7 @@ pub enum CleverArchitecture {
 
 impl CleverArchitecture {
     /// The sub-architecture with the name `s`; `Err` if there is none.
+    #[inline]
     pub(crate) fn from_str(s: &str) -> Result<Self, ()> {
         match Architecture::from_str(s) {
             Ok(Architecture::Clever(sub)) => Ok(sub),
@@ -42,10 +43,12 @@ impl CleverArchitecture {
     /// assert_eq!(target_lexicon::CleverArchitecture::Clever1_0.into_str(), "clever1.0");
     /// ```
     #[must_use]
+    #[inline]
     pub fn into_str(self) -> Cow<'static, str> {
         Cow::Borrowed(self.name())
     }
 
+    #[inline]
     pub(crate) const fn name(self) -> &'static str {
         match self {
             CleverArchitecture::Clever => "clever",
@@ -57,12 +60,14 @@ impl CleverArchitecture {
 impl FromStr for CleverArchitecture {
     type Err = ();
 
+    #[inline]
     fn from_str(s: &str) -> Result<CleverArchitecture, ()> {
         CleverArchitecture::from_str(s)
     }
 }
 
 impl fmt::Display for CleverArchitecture {
+    #[inline]
     fn fmt(&self, f: &mut fmt::Formatter<'_>) -> fmt::Result {
         f.write_str(self.name())
     }

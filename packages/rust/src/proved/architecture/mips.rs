@@ -16,7 +16,7 @@ use core::str::FromStr;
 /// let architecture: Architecture = "mipsel".parse().unwrap();
 /// assert_eq!(architecture, Architecture::Mips32(Mips32Architecture::Mipsel));
 /// ```
-#[cfg_attr(not(feature = "__internals"), non_exhaustive)]
+#[cfg_attr(not(lexicon_internal), non_exhaustive)]
 #[derive(Clone, Copy, Debug, PartialEq, Eq, Hash)]
 pub enum Mips32Architecture {
     /// Big-endian.
@@ -31,6 +31,7 @@ pub enum Mips32Architecture {
 
 impl Mips32Architecture {
     /// The sub-architecture with the name `s`; `Err` if there is none.
+    #[inline]
     pub(crate) fn from_str(s: &str) -> Result<Self, ()> {
         match Architecture::from_str(s) {
             Ok(Architecture::Mips32(sub)) => Ok(sub),
@@ -46,10 +47,12 @@ impl Mips32Architecture {
     /// assert_eq!(target_lexicon::Mips32Architecture::Mipsel.into_str(), "mipsel");
     /// ```
     #[must_use]
+    #[inline]
     pub fn into_str(self) -> Cow<'static, str> {
         Cow::Borrowed(self.name())
     }
 
+    #[inline]
     pub(crate) const fn name(self) -> &'static str {
         match self {
             Mips32Architecture::Mips => "mips",
@@ -63,12 +66,14 @@ impl Mips32Architecture {
 impl FromStr for Mips32Architecture {
     type Err = ();
 
+    #[inline]
     fn from_str(s: &str) -> Result<Mips32Architecture, ()> {
         Mips32Architecture::from_str(s)
     }
 }
 
 impl fmt::Display for Mips32Architecture {
+    #[inline]
     fn fmt(&self, f: &mut fmt::Formatter<'_>) -> fmt::Result {
         f.write_str(self.name())
     }
@@ -84,7 +89,7 @@ impl fmt::Display for Mips32Architecture {
 /// let architecture: Architecture = "mips64el".parse().unwrap();
 /// assert_eq!(architecture, Architecture::Mips64(Mips64Architecture::Mips64el));
 /// ```
-#[cfg_attr(not(feature = "__internals"), non_exhaustive)]
+#[cfg_attr(not(lexicon_internal), non_exhaustive)]
 #[derive(Clone, Copy, Debug, PartialEq, Eq, Hash)]
 pub enum Mips64Architecture {
     /// Big-endian.
@@ -99,6 +104,7 @@ pub enum Mips64Architecture {
 
 impl Mips64Architecture {
     /// The sub-architecture with the name `s`; `Err` if there is none.
+    #[inline]
     pub(crate) fn from_str(s: &str) -> Result<Self, ()> {
         match Architecture::from_str(s) {
             Ok(Architecture::Mips64(sub)) => Ok(sub),
@@ -114,10 +120,12 @@ impl Mips64Architecture {
     /// assert_eq!(target_lexicon::Mips64Architecture::Mips64el.into_str(), "mips64el");
     /// ```
     #[must_use]
+    #[inline]
     pub fn into_str(self) -> Cow<'static, str> {
         Cow::Borrowed(self.name())
     }
 
+    #[inline]
     pub(crate) const fn name(self) -> &'static str {
         match self {
             Mips64Architecture::Mips64 => "mips64",
@@ -131,12 +139,14 @@ impl Mips64Architecture {
 impl FromStr for Mips64Architecture {
     type Err = ();
 
+    #[inline]
     fn from_str(s: &str) -> Result<Mips64Architecture, ()> {
         Mips64Architecture::from_str(s)
     }
 }
 
 impl fmt::Display for Mips64Architecture {
+    #[inline]
     fn fmt(&self, f: &mut fmt::Formatter<'_>) -> fmt::Result {
         f.write_str(self.name())
     }

@@ -16,7 +16,7 @@ use core::str::FromStr;
 /// let architecture: Architecture = "riscv32imac".parse().unwrap();
 /// assert_eq!(architecture, Architecture::Riscv32(Riscv32Architecture::Riscv32imac));
 /// ```
-#[cfg_attr(not(feature = "__internals"), non_exhaustive)]
+#[cfg_attr(not(lexicon_internal), non_exhaustive)]
 #[derive(Clone, Copy, Debug, PartialEq, Eq, Hash)]
 pub enum Riscv32Architecture {
     /// No stated extensions.
@@ -39,6 +39,7 @@ pub enum Riscv32Architecture {
 
 impl Riscv32Architecture {
     /// The sub-architecture with the name `s`; `Err` if there is none.
+    #[inline]
     pub(crate) fn from_str(s: &str) -> Result<Self, ()> {
         match Architecture::from_str(s) {
             Ok(Architecture::Riscv32(sub)) => Ok(sub),
@@ -54,10 +55,12 @@ impl Riscv32Architecture {
     /// assert_eq!(target_lexicon::Riscv32Architecture::Riscv32imac.into_str(), "riscv32imac");
     /// ```
     #[must_use]
+    #[inline]
     pub fn into_str(self) -> Cow<'static, str> {
         Cow::Borrowed(self.name())
     }
 
+    #[inline]
     pub(crate) const fn name(self) -> &'static str {
         match self {
             Riscv32Architecture::Riscv32 => "riscv32",
@@ -75,12 +78,14 @@ impl Riscv32Architecture {
 impl FromStr for Riscv32Architecture {
     type Err = ();
 
+    #[inline]
     fn from_str(s: &str) -> Result<Riscv32Architecture, ()> {
         Riscv32Architecture::from_str(s)
     }
 }
 
 impl fmt::Display for Riscv32Architecture {
+    #[inline]
     fn fmt(&self, f: &mut fmt::Formatter<'_>) -> fmt::Result {
         f.write_str(self.name())
     }
@@ -96,7 +101,7 @@ impl fmt::Display for Riscv32Architecture {
 /// let architecture: Architecture = "riscv64gc".parse().unwrap();
 /// assert_eq!(architecture, Architecture::Riscv64(Riscv64Architecture::Riscv64gc));
 /// ```
-#[cfg_attr(not(feature = "__internals"), non_exhaustive)]
+#[cfg_attr(not(lexicon_internal), non_exhaustive)]
 #[derive(Clone, Copy, Debug, PartialEq, Eq, Hash)]
 pub enum Riscv64Architecture {
     /// No stated extensions.
@@ -111,6 +116,7 @@ pub enum Riscv64Architecture {
 
 impl Riscv64Architecture {
     /// The sub-architecture with the name `s`; `Err` if there is none.
+    #[inline]
     pub(crate) fn from_str(s: &str) -> Result<Self, ()> {
         match Architecture::from_str(s) {
             Ok(Architecture::Riscv64(sub)) => Ok(sub),
@@ -126,10 +132,12 @@ impl Riscv64Architecture {
     /// assert_eq!(target_lexicon::Riscv64Architecture::Riscv64gc.into_str(), "riscv64gc");
     /// ```
     #[must_use]
+    #[inline]
     pub fn into_str(self) -> Cow<'static, str> {
         Cow::Borrowed(self.name())
     }
 
+    #[inline]
     pub(crate) const fn name(self) -> &'static str {
         match self {
             Riscv64Architecture::Riscv64 => "riscv64",
@@ -143,12 +151,14 @@ impl Riscv64Architecture {
 impl FromStr for Riscv64Architecture {
     type Err = ();
 
+    #[inline]
     fn from_str(s: &str) -> Result<Riscv64Architecture, ()> {
         Riscv64Architecture::from_str(s)
     }
 }
 
 impl fmt::Display for Riscv64Architecture {
+    #[inline]
     fn fmt(&self, f: &mut fmt::Formatter<'_>) -> fmt::Result {
         f.write_str(self.name())
     }

@@ -16,7 +16,7 @@ use core::str::FromStr;
 /// let architecture: Architecture = "i686".parse().unwrap();
 /// assert_eq!(architecture, Architecture::X86_32(X86_32Architecture::I686));
 /// ```
-#[cfg_attr(not(feature = "__internals"), non_exhaustive)]
+#[cfg_attr(not(lexicon_internal), non_exhaustive)]
 #[derive(Clone, Copy, Debug, PartialEq, Eq, Hash)]
 pub enum X86_32Architecture {
     /// Intel's 80386 and later.
@@ -29,6 +29,7 @@ pub enum X86_32Architecture {
 
 impl X86_32Architecture {
     /// The sub-architecture with the name `s`; `Err` if there is none.
+    #[inline]
     pub(crate) fn from_str(s: &str) -> Result<Self, ()> {
         match Architecture::from_str(s) {
             Ok(Architecture::X86_32(sub)) => Ok(sub),
@@ -44,10 +45,12 @@ impl X86_32Architecture {
     /// assert_eq!(target_lexicon::X86_32Architecture::I686.into_str(), "i686");
     /// ```
     #[must_use]
+    #[inline]
     pub fn into_str(self) -> Cow<'static, str> {
         Cow::Borrowed(self.name())
     }
 
+    #[inline]
     pub(crate) const fn name(self) -> &'static str {
         match self {
             X86_32Architecture::I386 => "i386",
@@ -60,12 +63,14 @@ impl X86_32Architecture {
 impl FromStr for X86_32Architecture {
     type Err = ();
 
+    #[inline]
     fn from_str(s: &str) -> Result<X86_32Architecture, ()> {
         X86_32Architecture::from_str(s)
     }
 }
 
 impl fmt::Display for X86_32Architecture {
+    #[inline]
     fn fmt(&self, f: &mut fmt::Formatter<'_>) -> fmt::Result {
         f.write_str(self.name())
     }

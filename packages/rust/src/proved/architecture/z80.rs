@@ -16,7 +16,7 @@ use core::str::FromStr;
 /// let architecture: Architecture = "z180".parse().unwrap();
 /// assert_eq!(architecture, Architecture::Z80(Z80Architecture::Z180));
 /// ```
-#[cfg_attr(not(feature = "__internals"), non_exhaustive)]
+#[cfg_attr(not(lexicon_internal), non_exhaustive)]
 #[derive(Clone, Copy, Debug, PartialEq, Eq, Hash)]
 pub enum Z80Architecture {
     /// Zilog's Z80.
@@ -43,6 +43,7 @@ pub enum Z80Architecture {
 
 impl Z80Architecture {
     /// The sub-architecture with the name `s`; `Err` if there is none.
+    #[inline]
     pub(crate) fn from_str(s: &str) -> Result<Self, ()> {
         match Architecture::from_str(s) {
             Ok(Architecture::Z80(sub)) => Ok(sub),
@@ -58,10 +59,12 @@ impl Z80Architecture {
     /// assert_eq!(target_lexicon::Z80Architecture::Z180.into_str(), "z180");
     /// ```
     #[must_use]
+    #[inline]
     pub fn into_str(self) -> Cow<'static, str> {
         Cow::Borrowed(self.name())
     }
 
+    #[inline]
     pub(crate) const fn name(self) -> &'static str {
         match self {
             Z80Architecture::Z80 => "z80",
@@ -81,12 +84,14 @@ impl Z80Architecture {
 impl FromStr for Z80Architecture {
     type Err = ();
 
+    #[inline]
     fn from_str(s: &str) -> Result<Z80Architecture, ()> {
         Z80Architecture::from_str(s)
     }
 }
 
 impl fmt::Display for Z80Architecture {
+    #[inline]
     fn fmt(&self, f: &mut fmt::Formatter<'_>) -> fmt::Result {
         f.write_str(self.name())
     }

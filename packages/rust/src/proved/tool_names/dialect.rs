@@ -16,7 +16,7 @@ use core::str::FromStr;
 /// assert_eq!(Dialect::Debian.write(&triple).unwrap().as_str(), "amd64");
 /// assert_eq!("go".parse(), Ok(Dialect::Go));
 /// ```
-#[cfg_attr(not(feature = "__internals"), non_exhaustive)]
+#[cfg_attr(not(lexicon_internal), non_exhaustive)]
 #[derive(Clone, Copy, Debug, PartialEq, Eq, Hash)]
 pub enum Dialect {
     /// Debian's architectures, as `dpkg` names them: `amd64`, `armhf`, `musl-linux-arm64`.

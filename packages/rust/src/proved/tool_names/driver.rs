@@ -15,7 +15,7 @@ use core::fmt;
 /// let triple = TripleRef::from_str("armv7-unknown-linux-musleabihf").unwrap();
 /// assert_eq!(CLibrary::of(&triple), Some(CLibrary::Musl));
 /// ```
-#[cfg_attr(not(feature = "__internals"), non_exhaustive)]
+#[cfg_attr(not(lexicon_internal), non_exhaustive)]
 #[derive(Clone, Copy, Debug, PartialEq, Eq, Hash)]
 pub enum CLibrary {
     /// Android's.

@@ -37,6 +37,9 @@ pub(crate) mod rustc_cfg;
 pub(crate) mod shape;
 #[cfg_attr(not(feature = "tool_names"), allow(dead_code, unused_imports))]
 pub(crate) mod spelling;
+#[cfg(feature = "tool_names")]
+pub(crate) mod stated_version;
+pub(crate) mod suggested;
 pub(crate) mod suggestions;
 #[cfg(feature = "tool_names")]
 pub(crate) mod tables;
@@ -63,6 +66,7 @@ pub use reading::read;
 pub use rustc_cfg::{is_unix, RustcCfg};
 #[cfg(feature = "tool_names")]
 pub use spelling::Spelling;
+pub use suggested::Suggestion;
 pub use suggestions::suggestion;
 #[cfg(feature = "tool_names")]
 pub use translation::{TranslateError, WriteError};

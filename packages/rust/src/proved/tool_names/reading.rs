@@ -13,6 +13,9 @@ use crate::proved::{first_part, Reading, Refusal, TripleRef};
 /// An empty second part is `unknown`, and so is `none` before `linux`. A known name is never another spelling, so what
 /// parses without a custom vendor means the same here.
 ///
+/// A second part that is a system which isn't known, such as `macos.11.0`, `linux5.10` or `nuttx`, is no vendor: it is
+/// refused, since a triple without its system would be another target.
+///
 /// # Errors
 ///
 /// The first part that has no place, as it is in the string, and what was expected there.

@@ -62,14 +62,20 @@ impl Dialect {
     /// ```
     #[must_use]
     pub fn shape(self, triple: &TripleRef<'_>) -> TripleRef<'static> {
-        let rules = self.rules();
+        self.rules().shape(triple)
+    }
+}
+
+impl Rules {
+    /// The triple without what isn't stated.
+    pub(crate) fn shape(self, triple: &TripleRef<'_>) -> TripleRef<'static> {
         TripleRef {
-            architecture: rules
+            architecture: self
                 .machine
                 .architecture(triple.operating_system, triple.architecture),
             vendor: VendorRef::Known(usual_vendor(triple.operating_system)),
-            operating_system: system_by(rules.versions, triple.operating_system),
-            environment: rules
+            operating_system: system_by(self.versions, triple.operating_system),
+            environment: self
                 .abi
                 .environment(triple.operating_system, triple.environment),
             binary_format: triple.binary_format,
@@ -228,7 +234,7 @@ fn abi_on_systems(operating_system: OperatingSystem, environment: Environment) -
 }
 
 /// The system without a version; macOS has one name.
-fn unversioned(operating_system: OperatingSystem) -> OperatingSystem {
+pub(crate) fn unversioned(operating_system: OperatingSystem) -> OperatingSystem {
     match operating_system {
         OperatingSystem::Darwin(_) | OperatingSystem::MacOSX(_) => OperatingSystem::Darwin(None),
         OperatingSystem::IOS(_) => OperatingSystem::IOS(None),

@@ -1,9 +1,11 @@
 // Erased from crates/tool_names/src/spelling.rt by tools/erase. Don't edit it here.
 //! Other spellings of the parts of a triple.
 
+use crate::proved::tool_names::known_names::names;
 use crate::proved::tool_names::macos::{macos_version, MacOsVersion};
 use crate::proved::{
-    first_part, fixed_row, Architecture, OperatingSystem, Reading, Refusal, TextPart,
+    first_part, fixed_row, Architecture, Field, OperatingSystem, Reading, Refusal, TextPart,
+    VendorRef,
 };
 use core::fmt;
 
@@ -77,7 +79,7 @@ pub(crate) enum Name<'a> {
 pub struct Spelling<'a> {
     pub(crate) first: Name<'a>,
     /// The others, with dashes between them.
-    pub(crate) others: Option<&'static str>,
+    pub(crate) others: Option<&'a str>,
 }
 
 impl<'a> Name<'a> {
@@ -159,6 +161,11 @@ impl<'a> Spelling<'a> {
     pub(crate) fn of_second(part: &'a str, rest: Option<&str>) -> Spelling<'a> {
         if is_unstated(part, rest) {
             Spelling::of("unknown")
+        } else if is_other_system(part) {
+            Spelling {
+                first: Name::Text("unknown"),
+                others: Some(part),
+            }
         } else {
             Spelling::of_later(part)
         }
@@ -213,6 +220,53 @@ fn is_unstated(part: &str, rest: Option<&str>) -> bool {
     match rest {
         Some(rest) => part == "none" && first_part(rest).0 == "linux",
         None => false,
+    }
+}
+
+/// Names of systems that aren't known names: other spellings, and systems of rustc that have no triple.
+const OTHER_SYSTEMS: [&str; 5] = ["macos", "netbsdelf", "nuttx", "rtems", "wasip"];
+
+/// Whether a second part parses as a custom vendor but is a system that isn't known.
+#[inline]
+fn is_other_system(part: &str) -> bool {
+    is_custom_vendor(part) && Spelling::of_listed(part).is_none() && is_like_system(part)
+}
+
+#[inline]
+fn is_custom_vendor(part: &str) -> bool {
+    match VendorRef::from_str(part) {
+        Ok(vendor) => vendor.is_custom(),
+        Err(_) => false,
+    }
+}
+
+/// Whether a part is the name of a system, perhaps with a version.
+#[inline]
+fn is_like_system(part: &str) -> bool {
+    is_one_of(part, names(Field::OperatingSystem)) || is_one_of(part, &OTHER_SYSTEMS)
+}
+
+/// Whether a part is one of these names, perhaps with a version.
+#[inline]
+fn is_one_of(part: &str, names: &[&str]) -> bool {
+    names.iter().any(|name| may_be_versioned(part, name))
+}
+
+/// Whether a part is this name, or the name with what may be its version.
+#[inline]
+fn may_be_versioned(part: &str, name: &str) -> bool {
+    match part.strip_prefix(name) {
+        Some(version) => may_be_version(version.as_bytes()),
+        None => false,
+    }
+}
+
+/// Whether what follows a name may be a version: it is empty, or begins with a digit or a dot.
+#[inline]
+fn may_be_version(text: &[u8]) -> bool {
+    match text {
+        [byte, ..] => is_digit_or_dot(*byte),
+        [] => true,
     }
 }
 
@@ -292,7 +346,7 @@ fn are_digits_or_dots(bytes: &[u8]) -> bool {
 }
 
 #[inline]
-fn is_digit_or_dot(byte: u8) -> bool {
+pub(crate) fn is_digit_or_dot(byte: u8) -> bool {
     byte.is_ascii_digit() || byte == b'.'
 }
 

@@ -1,19 +1,14 @@
-use Rattle.std.proofs.Common.{◌≡◌, ◌∙◌, ◌<◌, arith, length, refl}
+use Rattle.std.proofs.Common.{◌∙◌, ◌<◌, arith, length, refl}
 use Rattle.std.proofs.lemmas.Grind.{common_steps}
 use Rattle.target_lexicon.specs.Printing.{text_of}
 use Rattle.target_lexicon.specs.ValuesRef.{values_of_ref}
-use Rattle.tool_names.specs.{declared.dialect.Dialect.Dialect, Dialects.joined_rows, Dialects.rows_of, Dialects.tables_of}
-use Rattle.tool_names.proofs.RowChecks.{long-unnamed}
+use Rattle.tool_names.proofs.{RowChecks.long-unnamed, TableLemmas.rows-joined}
 use Rattle.tool_names.proofs.dialect.Dialect.pattern_for.Goals as goal
 
 pub returns-then-length-gt-MAX_LENGTH : goal.returns-then-length-gt-MAX_LENGTH
 returns-then-length-gt-MAX_LENGTH c =
     let long : 64 < length (text_of (values_of_ref c.args.triple.now)) = omega (arith, c.write_to-length.ensures.counted, c.if-length-gt-MAX_LENGTH.true) in
     rw (long-unnamed c.args.self c.args.numbers _ long) refl
-
-rows-joined : (d : Dialect) → joined_rows (tables_of d) ≡ rows_of d
-unfolding rows_of
-rows-joined d = refl
 
 pub returns : goal.returns
 returns c =

@@ -1,0 +1,21 @@
+-- One more table, which has such a name or hasn't.
+use Rattle.std.proofs.Common.{◌<◌, ◌∙◌, ap, arith, length, sym, drop, ◌+◌}
+use Rattle.std.specs.Prelude.{option_map}
+use Rattle.tool_names.specs.StatedVersion.{is_versioned_for}
+use Rattle.tool_names.specs.Tables.{Row}
+use Rattle.tool_names.proofs.TableLemmas.{first_more, no_pattern, pattern_of_first}
+use Rattle.tool_names.proofs.stated_version.versioned_pattern.Goals as goal
+
+pub returns-in-Some : goal.returns-in-Some
+returns-in-Some c =
+    let more : c.loop-rows.rows-index < length c.args.tables.now = omega (arith, c.loop-rows-test.true) in
+    pattern_of_first _ _ c.in-Some.pattern.now c.in-Some.ensures
+    ∙ sym (ap (option_map (λ (row : Row). row.pattern)) (first_more (is_versioned_for c.args.minor c.args.text.now) c.args.tables.now c.loop-rows.rows-index more))
+    ∙ ap (option_map (λ (row : Row). row.pattern)) c.loop-rows.invariant
+
+pub loop-rows-preserved : goal.loop-rows-preserved
+loop-rows-preserved c =
+    let more : c.loop-rows.rows-index < length c.args.tables.now = omega (arith, c.loop-rows-test.true) in
+    no_pattern _ _ c.in_default.ensures
+    ∙ sym (first_more (is_versioned_for c.args.minor c.args.text.now) c.args.tables.now c.loop-rows.rows-index more)
+    ∙ c.loop-rows.invariant
