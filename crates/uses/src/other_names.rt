@@ -1,5 +1,5 @@
 //! Names of other tools: what a caller concludes from each law about them.
-ghost use Rattle.std.specs.Prelude.{◌≡◌, ◌≢◌, ◌≤◌, ℕ, List, [], ◌∷◌, codes, true, false, is_none, IsTrue, Some, Ok, Err, not, ◌++◌, slice_get};
+ghost use Rattle.std.specs.Prelude.{◌≡◌, ◌≢◌, ◌≤◌, ℕ, List, [], ◌∷◌, codes, true, false, is_none, IfSome, IsTrue, Some, Ok, Err, not, ◌++◌, slice_get};
 ghost use Rattle.std.specs.List.{AllPass};
 ghost use Rattle.lexicon_fields.specs.Architecture.{architecture_of};
 ghost use Rattle.lexicon_fields.specs.Laws.{HasVersionInRange};
@@ -24,17 +24,19 @@ ghost use Rattle.tool_names.specs.Shape.{shape};
 ghost use Rattle.target_lexicon.specs.ValuesRef.{PlacedRefusal};
 ghost use Rattle.tool_names.specs.Spelling.{first_spelling, first_spellings, is_known_name, later_spelling, later_spellings, name_texts, spelled_names, spelled_reading, versioned_spellings};
 ghost use Rattle.tool_names.specs.StatedVersion.{shape_to_version, versioned_name};
+ghost use Rattle.tool_names.specs.Suggestion.{HasPlace, suggestion_text};
 ghost use Rattle.tool_names.specs.Tables.{Row};
 ghost use Rattle.tool_names.specs.ToolNames.{name_bytes, name_meaning, numbers_in, row_meaning, shape_row, triple_name, unread_of};
 ghost use Rattle.tool_names.specs.Translation.{untranslated_of};
 ghost use Rattle.tool_names.specs.declared.change.Change.{Change};
 ghost use Rattle.tool_names.specs.declared.name.Name.{Name};
 ghost use Rattle.tool_names.specs.declared.spelling.Spelling.{Spelling};
+ghost use Rattle.tool_names.specs.declared.suggested.Suggestion.{Suggestion};
 ghost use Rattle.uses.specs.Conclusions.{AreCopiesTheSame, CanReplace, CanReplaceEqual};
 
-use target_lexicon::{Architecture, BinaryFormat, Environment, OperatingSystem};
+use target_lexicon::{Architecture, BinaryFormat, Environment, Field, OperatingSystem};
 use tool_names::{
-    Change, Dialect, LinuxLibc, Name, NameError, Spelling, TranslateError, WriteError,
+    Change, Dialect, LinuxLibc, Name, NameError, Spelling, Suggestion, TranslateError, WriteError,
 };
 
 /// The host's name is read as the host, and without a change.
@@ -86,6 +88,14 @@ pub fn listed_spellings_are_no_names()
         versioned_spellings }
 {
     tool_names::laws::listed_parts_are_unknown();
+}
+
+/// What is suggested for a part, whose first name isn't refused there.
+pub fn placed_suggestion(expected: Field, part: &str) -> Option<Suggestion<'_>>
+    ensures { IfSome result (λ it. HasPlace expected (suggestion_text it)) }
+{
+    tool_names::laws::suggestions_have_a_place();
+    tool_names::suggestion(expected, part)
 }
 
 /// A third rewriting of a first part, and a second one of the first name of a later part, change nothing.
@@ -311,7 +321,8 @@ pub fn platforms_have_no_c_library()
     tool_names::laws::completion_is_unstated();
 }
 
-/// Equal dialects, C libraries and reasons can stand for one another; equal names, spellings and changes are read alike.
+/// Equal dialects, C libraries and reasons can stand for one another; equal names, spellings and changes are read alike, and
+/// equal suggestions are one string.
 pub fn equal_other_names_can_replace()
     ensures dialect { CanReplaceEqual ⟦<Dialect as PartialEq>⟧.eq }
     ensures c_library { CanReplaceEqual ⟦<LinuxLibc as PartialEq>⟧.eq }
@@ -329,6 +340,10 @@ pub fn equal_other_names_can_replace()
     ensures change { (x y : Change) →
         change_value x ≢ change_value y →
         IsTrue (⟦<Change<'static> as PartialEq>⟧.eq x y) →
+        ⊥ }
+    ensures suggestion { (x y : Suggestion) →
+        suggestion_text x ≢ suggestion_text y →
+        IsTrue (⟦<Suggestion<'static> as PartialEq>⟧.eq x y) →
         ⊥ }
 {
     tool_names::laws::values_are_equal_by_value();
@@ -352,6 +367,8 @@ pub fn copies_of_other_names_are_the_same()
         ⟦<Spelling<'static> as Clone>⟧.is_infallible }
     ensures change { AreCopiesTheSame ⟦<Change<'static> as Clone>⟧.is_clone
         ⟦<Change<'static> as Clone>⟧.is_infallible }
+    ensures suggestion { AreCopiesTheSame ⟦<Suggestion<'static> as Clone>⟧.is_clone
+        ⟦<Suggestion<'static> as Clone>⟧.is_infallible }
 {
     tool_names::laws::copies_equal_their_sources();
 }

@@ -62,6 +62,7 @@ const tests = {
     for (const [text, field, part, start, suggestion] of [
       ["", "architecture", "", 0, null], ["arm64e-linux", "architecture", "arm64e", 0, null], ["amr64-linux", "architecture", "amr64", 0, "arm64"], ["x86_64--linux", "vendor", "", 7, null],
       ["x86_64-foo-bar", "operatingSystem", "bar", 11, null], ["x86_64-linux-gnuu", "environment", "gnuu", 13, "gnu"],
+      ["arm64-apple-macos14.2", "operatingSystem", "macos14.2", 12, "macosx14.2"], ["x86_64-pc-linux5.10", "operatingSystem", "linux5.10", 10, "linux"],
       ["x86_64-gnu-linux", "binaryFormat", "linux", 11, null], ["x86_64-elf-linux", null, "linux", 11, null],
       ["x86_64-\u{1f600}-b", "vendor", "\u{1f600}", 7, null], ["\ufeffx86_64", "architecture", "\ufeffx86_64", 0, null],
       ["x86_64-linux-gnu-中文-中", "binaryFormat", "中文", 17, null], ["x86_64-linux-\0", "environment", "\0", 13, null],
@@ -192,6 +193,7 @@ const tests = {
       environment: { value: "unknown", origin: "not given", part: null },
       binaryFormat: { value: "macho", origin: "implied", part: null },
     });
+    assert.equal(Triple.explain("arm64-iso17").suggestion, "ios17");
     const refused = Triple.explain("arm64-acme-\u{1f600}-x");
     assert.deepEqual([refused.triple, refused.error.start, refused.error.end, refused.suggestion], [null, 11, 13, null]);
     assert.deepEqual(refused.fields.architecture, { value: "aarch64", origin: "alias", part: "arm64", start: 0, end: 5 });

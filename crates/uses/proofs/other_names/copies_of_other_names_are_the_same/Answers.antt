@@ -16,6 +16,9 @@ returns-clause-spelling c = copies_the_same _ _ c.copies_equal_their_sources.ens
 pub returns-clause-change : goal.returns-clause-change
 returns-clause-change c = copies_the_same _ _ c.copies_equal_their_sources.ensures.change
 
+pub returns-clause-suggestion : goal.returns-clause-suggestion
+returns-clause-suggestion c = copies_the_same _ _ c.copies_equal_their_sources.ensures.suggestion
+
 pub returns-clause-c_library : goal.returns-clause-c_library
 returns-clause-c_library c = copies_the_same _ _ c.copies_equal_their_sources.ensures.c_library
 

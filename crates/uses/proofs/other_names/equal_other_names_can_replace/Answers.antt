@@ -17,6 +17,9 @@ returns-clause-spelling c = λ x y differ equal. differ (c.values_are_equal_by_v
 pub returns-clause-change : goal.returns-clause-change
 returns-clause-change c = λ x y differ equal. differ (c.values_are_equal_by_value.ensures.change x y equal)
 
+pub returns-clause-suggestion : goal.returns-clause-suggestion
+returns-clause-suggestion c = λ x y differ equal. differ (c.values_are_equal_by_value.ensures.suggestion x y equal)
+
 pub returns-clause-c_library : goal.returns-clause-c_library
 returns-clause-c_library c = replaceable (λ v. v) _ c.values_are_equal_by_value.ensures.c_library
 
