@@ -59,8 +59,8 @@ CONST = set(
     CleverArchitecture::name Mips32Architecture::name Mips64Architecture::name Riscv32Architecture::name
     Riscv64Architecture::name X86_32Architecture::name Z80Architecture::name BinaryFormat::name CallingConvention::name
     CDataModel::double_size CDataModel::float_size CDataModel::int_size CDataModel::long_long_size CDataModel::long_size
-    CDataModel::name CDataModel::pointer_width CDataModel::short_size CLibrary::name Dialect::as_str Endianness::name
-    Environment::name FloatAbi::name KnownVendor::as_str KnownVendor::to_vendor OperatingSystem::is_like_darwin OperatingSystem::prefix
+    CDataModel::name CDataModel::pointer_width CDataModel::short_size CLibrary::name Dialect::name Endianness::name
+    Environment::name FloatAbi::name KnownVendor::name KnownVendor::to_vendor OperatingSystem::is_like_darwin OperatingSystem::prefix
     OperatingSystem::version PointerWidth::bits PointerWidth::bytes PointerWidth::name Refusal::range Size::bits Size::bytes
     TextPart::range Triple::unknown TripleRef::default_binary_format TripleRef::default_calling_convention
     TripleRef::endianness TripleRef::pointer_width TripleRef::unknown VendorRef::as_str VendorRef::is_custom""".split())

@@ -46,7 +46,7 @@ class Dialect:
     def tables(self):
         """The name of each table, and its rows."""
         starts = range(0, len(self.rows), TABLE_ROWS)
-        return [(f"{self.name}_{number}" if number > 1 else self.name, self.rows[start:start + TABLE_ROWS]) for number, start in enumerate(starts, 1)]
+        return [(f"rows_{number}" if number > 1 else "rows", self.rows[start:start + TABLE_ROWS]) for number, start in enumerate(starts, 1)]
 
 
 @dataclass
@@ -130,9 +130,9 @@ def rust_lists(tables):
                                       for it in dialects],
         "the most tables of a dialect": [f"const TABLE_COUNT: usize = {table_count(dialects)};"],
         "the tables of each dialect": [
-            f"Dialect::{it.variant} => [{', '.join([f'{name}()' for name, _ in it.tables] + ['&[]'] * (table_count(dialects) - len(it.tables)))}],"
+            f"Dialect::{it.variant} => [{', '.join([f'{it.name}::{name}()' for name, _ in it.tables] + ['&[]'] * (table_count(dialects) - len(it.tables)))}],"
             for it in dialects],
-        "the tables of the dialects": "\n".join(line for it in dialects for name, rows in it.tables for line in table(name, rows)).strip("\n").split("\n"),
+        "the modules of the dialects": [f"mod {name};" for name in sorted(tables.dialects)],
         **lists_of_languages(list(dialects), other_names(tables)),
         "the dialects by number": [f"{number} => Some(Some(Dialect::{it.variant}))," for number, it in enumerate(dialects, 1)],
     }
@@ -178,11 +178,21 @@ def table_count(dialects):
     return max(len(it.tables) for it in dialects)
 
 
-def table(name, rows):
-    constant = name.upper()
-    return ["", f"fn {name}() -> &'static [Row]", f"    ensures {{ plain_rows result.now ≡ constant_rows {constant} }}", "{", f"    &{constant}", "}",
-            "", "#[rattlefmt::skip]", f"static {constant}: [(&str, &str, Way); {len(rows)}] = [",
-            *(f'    ("{name}", "{meaning}", {way}),' for name, meaning, way in rows), "];"]
+def files(tables):
+    """The file of each dialect's rows."""
+    return {f"crates/tool_names/src/tables/{it.name}.rt": "\n".join([*file_of(it), ""]) for it in tables.dialects.values()}
+
+
+def file_of(it):
+    ways = sorted({way for _, _, way in it.rows})
+    ways = f"{{{', '.join(ways)}}}" if ways[1:] else ways[0]
+    yield from [f"//! {it.about} Written by tools/names/write.", "ghost use Rattle.std.specs.Prelude.{◌≡◌};", "ghost use Rattle.tool_names.specs.Tables.{constant_rows, plain_rows};",
+                "", f"use crate::tables::Way::{ways};", "use crate::tables::{Row, Way};"]
+    for name, rows in it.tables:
+        constant = name.upper()
+        yield from ["", f"pub(crate) fn {name}() -> &'static [Row]", f"    ensures {{ plain_rows result.now ≡ constant_rows {constant} }}", "{", f"    &{constant}", "}",
+                    "", "#[rattlefmt::skip]", f"static {constant}: [(&str, &str, Way); {len(rows)}] = [",
+                    *(f'    ("{name}", "{meaning}", {way}),' for name, meaning, way in rows), "];"]
 
 
 def array(name, rows):
@@ -208,6 +218,7 @@ def antt_lists(tables):
         "rules_of": [f"rules_of dialect.{it.variant} = record {{ "
                      + "; ".join(f"{name} = {value}" for name, value in rules(it, lambda value: value.replace("AbiRule::", "abi.").replace("MachineRule::", "machine."))) + " }"
                      for it in dialects],
-        "tables_of": [f"tables_of dialect.{it.variant} = {' ∷ '.join([*(f'constant_rows table.{name.upper()}' for name, _ in it.tables), '[]'])}"
+        "tables_of": [f"tables_of dialect.{it.variant} = {' ∷ '.join([*(f'constant_rows {it.name}.{name.upper()}' for name, _ in it.tables), '[]'])}"
                       for it in dialects],
+        "the rows of each dialect": [f"use Rattle.tool_names.specs.declared.tables.{it.name}.TheConstants as {it.name}" for it in dialects],
     }

@@ -4,7 +4,7 @@ ghost use Rattle.tool_names.specs.Completion.{completed};
 ghost use Rattle.tool_names.specs.Spelling.{spelled_reading};
 ghost use Rattle.tool_names.specs.ToolNames.{name_bytes, name_meaning, unread_of};
 ghost use Rattle.tool_names.specs.Translation.{write_outcome, written};
-ghost use Rattle.lexicon_c.specs.Dialects.{GivesTriple, IsNameSuggestion, c_libraries_by_number, dialect_reading, dialects_by_number, name_error, name_or_error, name_with_numbers, reason_of, text_translation, unwritten_status, write_error};
+ghost use Rattle.lexicon_c.specs.Dialects as spec;
 ghost use Rattle.lexicon_c.specs.Triple.{Answers, AreNumbersOf, OnTriple};
 
 use crate::error::{TextError, error_of};
@@ -14,7 +14,7 @@ use tool_names::{Dialect, LinuxLibc, Name, NameError, TranslateError, WriteError
 
 /// The dialect with this number. 0 is no dialect: that of strings that are spelled like triples.
 pub fn dialect_at(number: u32) -> Option<Option<Dialect>>
-    ensures { result ≡ slice_get dialects_by_number number }
+    ensures { result ≡ slice_get spec.dialects_by_number number }
 {
     match number {
         0 => Some(None),
@@ -41,7 +41,7 @@ pub fn dialect_at(number: u32) -> Option<Option<Dialect>>
 
 /// The triple that a name of a dialect means, or a string that is spelled like a triple; or why there is none.
 pub fn read(dialect: Option<Dialect>, text: &str) -> Result<NumberedTriple<'_>, TextError>
-    ensures { GivesTriple (dialect_reading dialect text.entry.now) result }
+    ensures { spec.GivesTriple (spec.dialect_reading dialect text.entry.now) result }
 {
     match dialect {
         Some(dialect) => {
@@ -84,7 +84,7 @@ pub fn versioned_name_in(
 ) -> Result<Option<Name>, Fault>
     ensures { OnTriple triple.now (λ t.
         Answers (λ name.
-        option_map name_bytes name ≡ name_with_numbers dialect t major minor)) result }
+        option_map name_bytes name ≡ spec.name_with_numbers dialect t major minor)) result }
 {
     match triple_in(triple) {
         Ok(named) => match (u16::try_from(major), u8::try_from(minor)) {
@@ -97,7 +97,7 @@ pub fn versioned_name_in(
 
 /// The C library with this number. 0 is none.
 pub fn c_library_at(number: u32) -> Option<Option<LinuxLibc>>
-    ensures { result ≡ slice_get c_libraries_by_number number }
+    ensures { result ≡ slice_get spec.c_libraries_by_number number }
 {
     match number {
         0 => Some(None),
@@ -108,7 +108,6 @@ pub fn c_library_at(number: u32) -> Option<Option<LinuxLibc>>
 }
 
 /// The triple with the usual environment of a C library, if it is of Linux and states none.
-#[tactic(auto, unfolding(tool_names::specs::Completion::completed))]
 pub fn complete<'a>(
     triple: &NumberedTriple<'a>,
     c_library: LinuxLibc,
@@ -123,14 +122,13 @@ pub fn complete<'a>(
 
 /// The name in a dialect of what a name of another one means, or a string that is spelled like a triple, with a C library
 /// if one is said; or why there is none.
-#[tactic(auto, unfolding(tool_names::specs::Translation::translation))]
 pub fn translate(
     from: Option<Dialect>,
     text: &str,
     c_library: Option<LinuxLibc>,
     to: Dialect,
 ) -> Result<Name, TextError>
-    ensures { name_or_error result ≡ text_translation from text.now c_library to }
+    ensures { spec.name_or_error result ≡ spec.text_translation from text.now c_library to }
 {
     match from {
         Some(from) => match from.translate(text, c_library, to) {
@@ -153,7 +151,7 @@ pub fn translate(
 
 /// Why a name of a dialect has no triple, if it is a name and has none.
 pub fn reason(dialect: Dialect, name: &str) -> Option<&'static str>
-    ensures { option_map (λ why. why.now) result ≡ reason_of (name_meaning dialect name.now) }
+    ensures { option_map (λ why. why.now) result ≡ spec.reason_of (name_meaning dialect name.now) }
 {
     match dialect.read(name) {
         Err(NameError::WithoutTriple(why)) => Some(why),
@@ -163,7 +161,7 @@ pub fn reason(dialect: Dialect, name: &str) -> Option<&'static str>
 
 /// The name of a dialect that is suggested for an unknown one, if there is one.
 pub fn name_suggestion(dialect: Dialect, name: &str) -> Option<&'static str>
-    ensures { IsNameSuggestion dialect name.now (option_map (λ found. found.now) result) }
+    ensures { spec.IsNameSuggestion dialect name.now (option_map (λ found. found.now) result) }
 {
     match dialect.read(name) {
         Err(NameError::Unknown) => dialect.suggestion(name),
@@ -173,7 +171,7 @@ pub fn name_suggestion(dialect: Dialect, name: &str) -> Option<&'static str>
 
 /// Why a name isn't read, as numbers. The range is the whole name.
 fn name_error(error: NameError, name: &str) -> TextError
-    ensures { result ≡ name_error name.now (unread_of error) }
+    ensures { result ≡ spec.name_error name.now (unread_of error) }
 {
     TextError {
         status: match error {
@@ -187,7 +185,7 @@ fn name_error(error: NameError, name: &str) -> TextError
 
 /// Why what a name means isn't written, as numbers. The range is the whole name.
 fn write_error(error: WriteError, name: &str) -> TextError
-    ensures { result ≡ write_error name.now error }
+    ensures { result ≡ spec.write_error name.now error }
 {
     TextError {
         status: unwritten_status(error),
@@ -198,7 +196,7 @@ fn write_error(error: WriteError, name: &str) -> TextError
 
 /// Why a triple isn't written, as a number.
 pub fn unwritten_status(error: WriteError) -> u32
-    ensures { result ≡ unwritten_status error }
+    ensures { result ≡ spec.unwritten_status error }
 {
     match error {
         WriteError::NoName => 14,

@@ -3,7 +3,7 @@ ghost use Rattle.std.specs.Prelude.{◌≡◌, false, MatchOption, option_map};
 ghost use Rattle.std.specs.Str.{bytes_eq};
 ghost use Rattle.lexicon_fields.specs.OperatingSystem.{operating_system_name, system_version, version_suffix};
 ghost use Rattle.target_lexicon.specs.Field.{parses_as};
-ghost use Rattle.lexicon_c.specs.Numbers.{IsNumberIn, is_name_in, name_at};
+ghost use Rattle.lexicon_c.specs.Numbers as spec;
 
 use crate::triple::vendor_number;
 use crate::values::{
@@ -16,10 +16,9 @@ use target_lexicon::{
 };
 
 /// The number of the value that the string is in the field.
-#[tactic(auto, unfolding(target_lexicon::specs::Field::parses_as))]
 pub fn number_in(field: Field, text: &str) -> Option<u32>
     ensures { MatchOption result (parses_as field text.now ≡ false)
-        (IsNumberIn field text.now) }
+        (spec.IsNumberIn field text.now) }
 {
     match field {
         Field::Architecture => match Architecture::from_str(text) {
@@ -47,7 +46,7 @@ pub fn number_in(field: Field, text: &str) -> Option<u32>
 
 /// The name of the field's value with this number, if there is one.
 pub fn name_at(field: Field, number: u32) -> Option<&'static str>
-    ensures { option_map (λ name. name.now) result ≡ name_at field number }
+    ensures { option_map (λ name. name.now) result ≡ spec.name_at field number }
 {
     let Ok(number) = u8::try_from(number) else {
         return None;
@@ -58,7 +57,7 @@ pub fn name_at(field: Field, number: u32) -> Option<&'static str>
             None => None,
         },
         Field::Vendor => match known_vendor_at(number) {
-            Some(value) => Some(value.as_str()),
+            Some(value) => Some(value.name()),
             None => None,
         },
         Field::OperatingSystem => match operating_system_at(number, None) {
@@ -98,7 +97,7 @@ fn is_version_of_system(text: &str, system: OperatingSystem) -> bool
 
 /// Whether a string is the name of the value that it is in a field.
 pub(crate) fn is_name_in(field: Field, text: &str) -> bool
-    ensures { result ≡ is_name_in field text.now }
+    ensures { result ≡ spec.is_name_in field text.now }
 {
     match field {
         Field::Architecture => match Architecture::from_str(text) {

@@ -1,7 +1,7 @@
 //! Where the fields of a triple come from in the string, as numbers.
 ghost use Rattle.std.specs.Prelude.{◌≡◌};
 ghost use Rattle.target_lexicon.specs.Explanation.{source_value, sources_of};
-ghost use Rattle.lexicon_c.specs.Parsing.{HasRange, HaveRanges, source_numbers, sources_numbers};
+ghost use Rattle.lexicon_c.specs.Parsing as spec;
 
 use crate::numbers::is_name_in;
 use target_lexicon::{Field, Source, Sources};
@@ -29,8 +29,8 @@ pub struct FieldSources {
 
 /// The source of a field as numbers.
 fn source_numbers(field: Field, source: Source<'_>) -> FieldSource
-    requires { HasRange (source_value source) }
-    ensures { result ≡ source_numbers field (source_value source.entry) }
+    requires { spec.HasRange (source_value source) }
+    ensures { result ≡ spec.source_numbers field (source_value source.entry) }
 {
     match source {
         Source::NotGiven => FieldSource {
@@ -56,8 +56,8 @@ fn source_numbers(field: Field, source: Source<'_>) -> FieldSource
 
 /// The sources of a triple as numbers.
 pub(crate) fn sources_numbers(sources: &Sources<'_>) -> FieldSources
-    requires { HaveRanges (sources_of sources.now) }
-    ensures { result ≡ sources_numbers (sources_of sources.now) }
+    requires { spec.HaveRanges (sources_of sources.now) }
+    ensures { result ≡ spec.sources_numbers (sources_of sources.now) }
 {
     FieldSources {
         architecture: source_numbers(Field::Architecture, sources.architecture),

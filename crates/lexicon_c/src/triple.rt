@@ -7,7 +7,7 @@ ghost use Rattle.lexicon_fields.specs.VendorRef.{ref_value};
 ghost use Rattle.target_lexicon.specs.ValuesRef.{values_of_ref};
 ghost use Rattle.target_lexicon.specs.Values.{Custom};
 ghost use Rattle.lexicon_c.specs.declared.triple.Fault.TheVariants.{NoSuchVendor};
-ghost use Rattle.lexicon_c.specs.Triple.{AreNumbersOf, no_version, triple_in, operating_system_in, vendor_text, vendor_with, version_in};
+ghost use Rattle.lexicon_c.specs.Triple as spec;
 
 use crate::values::{
     architecture_at, architecture_number, binary_format_at, binary_format_number, environment_at,
@@ -59,8 +59,8 @@ pub enum Fault {
 #[inline(always)]
 pub(crate) fn triple_in<'a>(triple: &NumberedTriple<'a>) -> Result<TripleRef<'a>, Fault>
     ensures triple { MatchResult result
-        (λ t. triple_in triple.now.numbers triple.now.custom_vendor.now ≡ Ok (values_of_ref t))
-        (λ fault. triple_in triple.now.numbers triple.now.custom_vendor.now ≡ Err fault) }
+        (λ t. spec.triple_in triple.now.numbers triple.now.custom_vendor.now ≡ Ok (values_of_ref t))
+        (λ fault. spec.triple_in triple.now.numbers triple.now.custom_vendor.now ≡ Err fault) }
     ensures plain { IfOk result (λ t. is_plain (ref_value t.vendor) ≡ true) }
 {
     let numbers = &triple.numbers;
@@ -92,8 +92,8 @@ pub(crate) fn triple_in<'a>(triple: &NumberedTriple<'a>) -> Result<TripleRef<'a>
 /// The vendor of a number, where a custom one has this string.
 fn vendor_with<'a>(number: u8, text: &'a [u8]) -> Result<VendorRef<'a>, Fault>
     ensures vendor { MatchResult result
-        (λ v. vendor_with number text.entry.now ≡ Ok (ref_value v))
-        (λ fault. vendor_with number text.entry.now ≡ Err fault) }
+        (λ v. spec.vendor_with number text.entry.now ≡ Ok (ref_value v))
+        (λ fault. spec.vendor_with number text.entry.now ≡ Err fault) }
     ensures plain { IfOk result (λ v. is_plain (ref_value v) ≡ true) }
 {
     if number == CUSTOM_VENDOR {
@@ -129,7 +129,7 @@ fn custom_vendor(bytes: &[u8]) -> Result<VendorRef<'_>, Fault>
 /// The system of these numbers, with its version, if there is one.
 #[inline(always)]
 fn operating_system_in(numbers: &TripleNumbers) -> Option<OperatingSystem>
-    ensures { result ≡ operating_system_in numbers.now }
+    ensures { result ≡ spec.operating_system_in numbers.now }
 {
     let version = match numbers.has_version {
         0 => None,
@@ -147,7 +147,7 @@ fn operating_system_in(numbers: &TripleNumbers) -> Option<OperatingSystem>
 #[inline(always)]
 pub(crate) fn numbers_of<'a>(triple: &TripleRef<'a>) -> NumberedTriple<'a>
     requires { is_plain (ref_value triple.now.vendor) ≡ true }
-    ensures { AreNumbersOf (values_of_ref triple.now) result }
+    ensures { spec.AreNumbersOf (values_of_ref triple.now) result }
 {
     match triple.operating_system.version() {
         Some(version) => numbers_with(triple, 1, version),
@@ -170,9 +170,9 @@ fn numbers_with<'a>(
 ) -> NumberedTriple<'a>
     requires plain { is_plain (ref_value triple.now.vendor) ≡ true }
     requires version { MatchOption (system_version triple.now.operating_system)
-        ((has_version ≡ 0) × (version ≡ no_version))
+        ((has_version ≡ 0) × (version ≡ spec.no_version))
         (λ v. (has_version ≡ 1) × (version ≡ v)) }
-    ensures { AreNumbersOf (values_of_ref triple.now) result }
+    ensures { spec.AreNumbersOf (values_of_ref triple.now) result }
 {
     let numbers = TripleNumbers {
         architecture: architecture_number(triple.architecture),
@@ -194,7 +194,7 @@ fn numbers_with<'a>(
 /// The number of a vendor.
 pub(crate) fn vendor_number(vendor: VendorRef<'_>) -> u8
     requires { is_plain (ref_value vendor) ≡ true }
-    ensures { vendor_with result (vendor_text (ref_value vendor.entry))
+    ensures { spec.vendor_with result (spec.vendor_text (ref_value vendor.entry))
         ≡ Ok (ref_value vendor.entry) }
 {
     match vendor {
@@ -205,7 +205,7 @@ pub(crate) fn vendor_number(vendor: VendorRef<'_>) -> u8
 
 /// The string of a custom vendor; the empty one for a known vendor.
 fn vendor_text<'a>(vendor: VendorRef<'a>) -> &'a [u8]
-    ensures { result.now ≡ vendor_text (ref_value vendor.entry) }
+    ensures { result.now ≡ spec.vendor_text (ref_value vendor.entry) }
 {
     match vendor {
         VendorRef::Known(_) => b"",

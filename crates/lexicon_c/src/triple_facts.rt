@@ -3,9 +3,9 @@
 ghost use Rattle.std.specs.Prelude.{◌≡◌, Option};
 ghost use Rattle.std.specs.Option.{option_map_or};
 ghost use Rattle.lexicon_fields.specs.PointerWidth.{width_bits};
-ghost use Rattle.target_lexicon.specs.Queries.{endianness, pointer_width, calling_convention, data_model};
+ghost use Rattle.target_lexicon.specs.Queries as queries;
 ghost use Rattle.target_lexicon.specs.ValuesRef.{values_of_ref};
-ghost use Rattle.lexicon_c.specs.Facts.{AreDriverFactsOf, AreFormatFactsOf, AreQueryFactsOf, convention_number, endianness_number, float_abi_number, is_thumb_architecture, layout_numbers, library_number, model_number};
+ghost use Rattle.lexicon_c.specs.Facts as spec;
 
 use crate::values::{binary_format_number, family_number};
 use target_lexicon::{Architecture, CDataModel, CallingConvention, Endianness, TripleRef};
@@ -101,7 +101,7 @@ pub struct Facts {
 /// What the queries of a triple answer.
 #[inline(always)]
 pub(crate) fn query_facts_of(triple: &TripleRef<'_>) -> QueryFacts
-    ensures { AreQueryFactsOf (values_of_ref triple.now) result }
+    ensures { spec.AreQueryFactsOf (values_of_ref triple.now) result }
 {
     let model = model_number(model_of(triple));
     QueryFacts {
@@ -120,7 +120,7 @@ pub(crate) fn query_facts_of(triple: &TripleRef<'_>) -> QueryFacts
 /// The binary formats of a triple, and the family of its architecture.
 #[inline(always)]
 pub(crate) fn format_facts_of(triple: &TripleRef<'_>) -> FormatFacts
-    ensures { AreFormatFactsOf (values_of_ref triple.now) result }
+    ensures { spec.AreFormatFactsOf (values_of_ref triple.now) result }
 {
     FormatFacts {
         implied_format: binary_format_number(triple.default_binary_format()),
@@ -132,7 +132,7 @@ pub(crate) fn format_facts_of(triple: &TripleRef<'_>) -> FormatFacts
 /// What a compiler's driver asks of a triple.
 #[inline(always)]
 pub(crate) fn driver_facts_of(triple: &TripleRef<'_>) -> DriverFacts
-    ensures { AreDriverFactsOf (values_of_ref triple.now) result }
+    ensures { spec.AreDriverFactsOf (values_of_ref triple.now) result }
 {
     DriverFacts {
         c_library: library_number(CLibrary::of(triple)),
@@ -145,7 +145,7 @@ pub(crate) fn driver_facts_of(triple: &TripleRef<'_>) -> DriverFacts
 
 /// The number of a C library, or 0 if there is none.
 fn library_number(library: Option<CLibrary>) -> u8
-    ensures { result ≡ library_number library }
+    ensures { result ≡ spec.library_number library }
 {
     match library {
         Some(CLibrary::Bionic) => 1,
@@ -163,7 +163,7 @@ fn library_number(library: Option<CLibrary>) -> u8
 
 /// The number of a way to pass floating-point arguments, or 0 if there is none.
 fn float_abi_number(floats: Option<FloatAbi>) -> u8
-    ensures { result ≡ float_abi_number floats }
+    ensures { result ≡ spec.float_abi_number floats }
 {
     match floats {
         Some(FloatAbi::Soft) => 1,
@@ -174,7 +174,7 @@ fn float_abi_number(floats: Option<FloatAbi>) -> u8
 
 /// The numbers of a layout; both are 0 if there is none.
 fn layout_numbers(layout: Option<TypeLayout>) -> LayoutNumbers
-    ensures { result ≡ layout_numbers layout }
+    ensures { result ≡ spec.layout_numbers layout }
 {
     match layout {
         Some(layout) => LayoutNumbers {
@@ -190,7 +190,7 @@ fn layout_numbers(layout: Option<TypeLayout>) -> LayoutNumbers
 
 /// 1 if the triple is little-endian, 2 if it is big-endian, and 0 if the query has no answer.
 fn endianness_number(triple: &TripleRef<'_>) -> u8
-    ensures { result ≡ endianness_number (endianness (values_of_ref triple.now)) }
+    ensures { result ≡ spec.endianness_number (queries.endianness (values_of_ref triple.now)) }
 {
     match triple.endianness() {
         Ok(Endianness::Little) => 1,
@@ -201,7 +201,8 @@ fn endianness_number(triple: &TripleRef<'_>) -> u8
 
 /// The width of a pointer in bits, or 0 if the query has no answer.
 fn pointer_width(triple: &TripleRef<'_>) -> u8
-    ensures { result ≡ option_map_or width_bits (pointer_width (values_of_ref triple.now)) 0 }
+    ensures { result
+        ≡ option_map_or width_bits (queries.pointer_width (values_of_ref triple.now)) 0 }
 {
     match triple.pointer_width() {
         Ok(width) => width.bits(),
@@ -211,7 +212,8 @@ fn pointer_width(triple: &TripleRef<'_>) -> u8
 
 /// The number of the calling convention, or 0 if the query has no answer.
 fn convention_number(triple: &TripleRef<'_>) -> u8
-    ensures { result ≡ convention_number (calling_convention (values_of_ref triple.now)) }
+    ensures { result
+        ≡ spec.convention_number (queries.calling_convention (values_of_ref triple.now)) }
 {
     match triple.default_calling_convention() {
         Ok(CallingConvention::SystemV) => 1,
@@ -225,7 +227,7 @@ fn convention_number(triple: &TripleRef<'_>) -> u8
 
 /// The data model of C, if there is one.
 fn model_of(triple: &TripleRef<'_>) -> Option<CDataModel>
-    ensures { result ≡ data_model (values_of_ref triple.now) }
+    ensures { result ≡ queries.data_model (values_of_ref triple.now) }
 {
     match triple.data_model() {
         Ok(model) => Some(model),
@@ -235,7 +237,7 @@ fn model_of(triple: &TripleRef<'_>) -> Option<CDataModel>
 
 /// The number of the data model of C, or 0 if there is none.
 fn model_number(model: Option<CDataModel>) -> u8
-    ensures { result ≡ model_number model }
+    ensures { result ≡ spec.model_number model }
 {
     match model {
         Some(CDataModel::LP32) => 1,
@@ -261,7 +263,7 @@ static TYPE_SIZES: [TypeSizes; 6] = [
 
 /// Whether an architecture is an Arm one that is Thumb.
 fn is_thumb(architecture: Architecture) -> bool
-    ensures { result ≡ is_thumb_architecture architecture }
+    ensures { result ≡ spec.is_thumb_architecture architecture }
 {
     match architecture {
         Architecture::Arm(sub) => sub.is_thumb(),

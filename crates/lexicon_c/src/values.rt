@@ -6,7 +6,7 @@ ghost use Rattle.lexicon_fields.specs.BinaryFormat.{binary_format_values};
 ghost use Rattle.lexicon_fields.specs.Environment.{environment_values};
 ghost use Rattle.lexicon_fields.specs.OperatingSystem.{system_version};
 ghost use Rattle.lexicon_fields.specs.Vendor.{known_vendors};
-ghost use Rattle.lexicon_c.specs.Values.{family_number, field_at, operating_system_at, operating_system_values, system_with};
+ghost use Rattle.lexicon_c.specs.Values as spec;
 
 use lexicon_fields::{
     Aarch64Architecture, Architecture, ArmArchitecture, BinaryFormat, CleverArchitecture,
@@ -16,7 +16,7 @@ use lexicon_fields::{
 
 /// The field of this number.
 pub fn field_at(number: u32) -> Option<Field>
-    ensures { result ≡ field_at number }
+    ensures { result ≡ spec.field_at number }
 {
     match number {
         0 => Some(Field::Architecture),
@@ -154,7 +154,7 @@ pub fn architecture_at(number: u16) -> Option<Architecture>
 
 /// The number of an architecture's family: the index among all architectures without a family and all families.
 pub fn family_number(architecture: Architecture) -> u8
-    ensures { result ≡ family_number architecture }
+    ensures { result ≡ spec.family_number architecture }
 {
     match architecture {
         // written by tools/names/write: the number of each family
@@ -294,7 +294,7 @@ static KNOWN_VENDORS: [KnownVendor; 15] = [
 
 /// The number of an operating system, whatever its version.
 pub fn operating_system_number(system: OperatingSystem) -> u8
-    ensures { operating_system_at result (system_version system) ≡ Some system }
+    ensures { spec.operating_system_at result (system_version system) ≡ Some system }
 {
     match system {
         // written by tools/names/write: the number of each OperatingSystem
@@ -346,7 +346,7 @@ pub fn operating_system_number(system: OperatingSystem) -> u8
 /// It is inlined since it returns a wide value: the facts of a triple take a fifth fewer instructions.
 #[inline(always)]
 pub fn operating_system_at(number: u8, version: Option<DeploymentTarget>) -> Option<OperatingSystem>
-    ensures { result ≡ operating_system_at number version }
+    ensures { result ≡ spec.operating_system_at number version }
 {
     let Some(system) = value_at(&OPERATING_SYSTEMS, usize::from(number)) else {
         return None;
@@ -363,7 +363,7 @@ fn system_with(
     version: Option<DeploymentTarget>,
     system: OperatingSystem,
 ) -> Option<OperatingSystem>
-    ensures { result ≡ system_with version system }
+    ensures { result ≡ spec.system_with version system }
 {
     match system {
         // written by tools/names/write: each system with a version

@@ -88,9 +88,9 @@ impl KnownVendor {
     /// # Examples
     ///
     /// ```
-    /// assert_eq!(target_lexicon::KnownVendor::Pc.as_str(), "pc");
+    /// assert_eq!(target_lexicon::KnownVendor::Pc.name(), "pc");
     /// ```
-    pub fn as_str(self) -> &'static str
+    pub fn name(self) -> &'static str
         ensures { result.now ≡ known_vendor_name self }
     {
         match self {

@@ -76,7 +76,7 @@ impl<'a> VendorRef<'a> {
         ensures { result.now ≡ spec.vendor_name (ref_value self.now) }
     {
         match *self {
-            VendorRef::Known(known) => known.as_str(),
+            VendorRef::Known(known) => known.name(),
             VendorRef::Custom(text) => text,
         }
     }

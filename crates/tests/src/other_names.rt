@@ -455,8 +455,8 @@ fn values_of_other_names_are_compared_and_displayed(rt: HostRuntime) {
     ];
     assert!(rt; are_distinct(&dialects));
     for dialect in dialects {
-        assert!(rt; hash_alike(&dialect, &dialect) && prints(&dialect, dialect.as_str()));
-        assert!(rt; dialect.as_str().parse() == Ok(dialect));
+        assert!(rt; hash_alike(&dialect, &dialect) && prints(&dialect, dialect.name()));
+        assert!(rt; dialect.name().parse() == Ok(dialect));
     }
     assert!(rt; "docker".parse() == Ok(Dialect::Oci) && "npm".parse() == Ok(Dialect::Node));
     match (

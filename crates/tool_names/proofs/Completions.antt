@@ -9,8 +9,8 @@ use Rattle.target_lexicon.specs.Values.operating_system
 use Rattle.target_lexicon.specs.Values.environment
 use Rattle.tool_names.specs.declared.completion.LinuxLibc.{LinuxLibc}
 use Rattle.tool_names.specs.declared.completion.LinuxLibc.TheVariants.{Glibc, Musl}
-use Rattle.tool_names.specs.Completion.{CompletedTriplesStay, CompletionFillsOnlyAGap, CompletionIsUnstated, CompletionKeepsAnswers, arm_environment, completed, environment_with, usual_environment}
-use Rattle.tool_names.specs.{ObjectFormat.object_format, Shape.arm_of_version, Shape.is_dropped_abi, Shape.shape, Shape.unknown_if, ToolNames.triple_name}
+use Rattle.tool_names.specs.Completion.{CompletedTriplesStay, CompletionFillsOnlyAGap, CompletionIsUnstated, CompletionKeepsAnswers, arm_environment, environment_with, usual_environment}
+use Rattle.tool_names.specs.{Shape.arm_of_version, Shape.is_dropped_abi, Shape.shape, Shape.unknown_if, ToolNames.triple_name}
 
 -- what holds of the eight environments holds of the usual one
 
@@ -74,7 +74,6 @@ gap-filled c a environment.Unknown = usual-known c a
 gap-filled c a _ = λ h. cc
 
 pub fills_only_a_gap : CompletionFillsOnlyAGap
-unfolding completed
 fills_only_a_gap = record {
   only = λ c t. refl;
   known = λ c t known. ap (λ e. record t { environment = e }) (known-stays c t.architecture t.operating_system t.environment known);
@@ -88,7 +87,6 @@ again c other a operating_system.Linux _ = refl
 again c other a _ e = refl
 
 pub completed_stay : CompletedTriplesStay
-unfolding completed
 completed_stay c other t = ap (λ e. record t { environment = e }) (again c other t.architecture t.operating_system t.environment)
 
 wide : (c : LinuxLibc) (a : Architecture) (s : OperatingSystem) (e : Environment) → is_ilp32 (environment_with c a s e) ≡ is_ilp32 e
@@ -111,7 +109,7 @@ same-format c a operating_system.Linux e = refl
 same-format c a _ e = refl
 
 pub keeps_answers : CompletionKeepsAnswers
-unfolding completed pointer_width object_format
+unfolding pointer_width
 keeps_answers = record {
   endianness = λ c t. refl;
   pointer_width = λ c t. rw (wide c t.architecture t.operating_system t.environment) refl;
@@ -134,7 +132,7 @@ unstated c a operating_system.Linux _ = refl
 unstated c a _ e = refl
 
 pub is_unstated : CompletionIsUnstated
-unfolding completed shape triple_name
+unfolding shape triple_name
 is_unstated = record {
   shape = λ d c t dropped. rw (dropped, unstated c t.architecture t.operating_system t.environment) refl;
   name = λ d c t dropped. rw (dropped, unstated c t.architecture t.operating_system t.environment) refl;

@@ -1,5 +1,5 @@
 -- A dialect that keeps every environment keeps the object format.
-use Rattle.std.proofs.Common.{◌≡◌, ◌∙◌, Bool, true, false, ap, cond, refl}
+use Rattle.std.proofs.Common.{◌≡◌, Bool, true, false, ap, cond, refl}
 use Rattle.target_lexicon.specs.ImpliedFormat.{default_binary_format, implied_format, non_darwin_format, wasm_or_elf}
 use Rattle.target_lexicon.specs.Values.{Architecture, BinaryFormat, Environment, OperatingSystem, Values}
 use Rattle.target_lexicon.specs.Values.architecture
@@ -14,8 +14,8 @@ use Rattle.tool_names.specs.declared.shape.AbiRule.TheVariants.{Kept}
 use Rattle.tool_names.specs.declared.shape.MachineRule.{MachineRule}
 use Rattle.tool_names.specs.declared.shape.MachineRule.TheVariants.{Order, Version, Rustc}
 use Rattle.tool_names.specs.Dialects.{rules_of}
-use Rattle.tool_names.specs.ObjectFormat.{instead_of_elf, instead_of_unknown, leaves_format_open, object_format, toolchain_format, wasm_or}
-use Rattle.tool_names.specs.Shape.{abi_by, machine_by, shape, sparc_of_rustc, system_by, unversioned, with_two_numbers}
+use Rattle.tool_names.specs.ObjectFormat.{instead_of_elf, instead_of_unknown, object_format, toolchain_format, wasm_or}
+use Rattle.tool_names.specs.Shape.{abi_by, machine_by, shape, sparc_of_rustc, system_by}
 
 -- all that formats depend on of the architecture is whether it is WebAssembly, or unknown
 
@@ -101,7 +101,6 @@ module _ (a b : Architecture) (wasm : is_wasm a ≡ is_wasm b) (known : is_unkno
   alike-elf _ = alike-wasm_or binary_format.Elf
 
   alike-toolchain : (s : OperatingSystem) (f : BinaryFormat) → toolchain_format a s f ≡ toolchain_format b s f
-  unfolding toolchain_format
   alike-toolchain s binary_format.Elf = alike-elf s
   alike-toolchain s binary_format.Unknown = alike-unknown
   alike-toolchain s _ = refl
@@ -122,7 +121,6 @@ system-elf false a operating_system.Linux = refl
 system-elf false a _ = refl
 
 system-toolchain : (b : Bool) (a : Architecture) (s : OperatingSystem) (f : BinaryFormat) → toolchain_format a (system_by b s) f ≡ toolchain_format a s f
-unfolding toolchain_format
 system-toolchain b a s binary_format.Elf = system-elf b a s
 system-toolchain b a s _ = refl
 
@@ -135,7 +133,7 @@ abi-kept Kept s e kept = refl
 abi-kept _ s e kept = absurd cc
 
 pub kept-format : (d : Dialect) (t : Values) → keeps_abi (rules_of d).abi ≡ true → object_format (shape d t) ≡ object_format t
-unfolding object_format shape
+unfolding shape
 kept-format d t kept =
     let rules = rules_of d in
     let machine = machine_by rules.machine t.operating_system t.architecture in

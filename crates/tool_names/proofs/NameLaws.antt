@@ -22,7 +22,7 @@ use Rattle.tool_names.specs.declared.tables.Way.{Way}
 use Rattle.tool_names.specs.declared.tables.Way.TheVariants.{Both, Read, Written, NoTriple}
 use Rattle.tool_names.specs.{Dialects.rows_of, Dialects.rules_of, Private.is_short_pattern}
 use Rattle.tool_names.specs.{Laws.IsCanonical, Laws.IsNamed, Laws.NamesAreCanonical, Laws.NamesKeepAnswers, Laws.NamesMeanTheShape, Laws.NamesMeanTheirRows, Laws.MeansTheShape, Laws.ReadsBack, Laws.NamesReadBack, Laws.NamesWithoutTripleAreRefused, Laws.OneNumberIsEnough, Laws.TagsMeanTheSame, Laws.may_be_long, Laws.may_be_short}
-use Rattle.tool_names.specs.Gnu.{as_gnu, gnu_meaning, gnu_reading, gnu_system}
+use Rattle.tool_names.specs.Gnu.{as_gnu, gnu_meaning, gnu_system}
 use Rattle.tool_names.specs.Spelling.{spelled_reading}
 use Rattle.tool_names.specs.{ObjectFormat.object_format, Shape.machine_by, Shape.shape, Shape.sparc_of_rustc, Shape.system_by, Shape.unversioned, Shape.with_two_numbers}
 use Rattle.std.specs.Option.{option_or}
@@ -389,7 +389,6 @@ gnu-canonical round_trip u plain other =
     (record { vendor = (no_special-known (as_gnu u).vendor usual).0; version = system-range u.operating_system u.environment plain.version }) usual other
 
 spelled-canonical : RoundIsNormalStep → (name : List ℕ) (t : Values) → spelled_meaning true name ≡ Ok t → IsCanonical t
-unfolding gnu_reading
 spelled-canonical round_trip name t means = by_reading (spelled_reading name) refl means
   where
     by_clever : (u : Values) → spelled_reading name ≡ Ok u → (b : Bool) → is_clever u.architecture ≡ b → values_or_unknown (cond b None (Some (as_gnu u))) ≡ Ok t → IsCanonical t

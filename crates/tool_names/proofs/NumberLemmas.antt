@@ -6,15 +6,15 @@ use Rattle.std.proofs.lemmas.Fmt.{IsAscii-from_digits, decimal_digit, decimal_is
 use Rattle.std.proofs.lemmas.Str.{IsUtf8-from_ascii}
 use Rattle.lexicon_fields.specs.Version.{number_within, piece_number_within}
 use Rattle.lexicon_fields.proofs.{LookUpLemmas.test_apart, VersionsReadBack.digits_model}
-use Rattle.tool_names.specs.Patterns.{is_plain, plain_number}
+use Rattle.tool_names.specs.Patterns.{begins_as_number, plain_number}
 
 -- plain numbers and decimals
 
-plain-from : (ds : List ℕ) → 0 < length ds → list_all is_ascii_digit ds ≡ true → (get_or ds 0 0 ≡ 48 → length ds ≡ 1) → is_plain ds ≡ true
+plain-from : (ds : List ℕ) → 0 < length ds → list_all is_ascii_digit ds ≡ true → (get_or ds 0 0 ≡ 48 → length ds ≡ 1) → begins_as_number ds ≡ true
 plain-from [] some digits lead = absurd (omega arith)
 plain-from (c ∷ cs) some digits lead = by_test (nat_eq c 48) refl
   where
-    by_test : (b : Bool) → nat_eq c 48 ≡ b → is_plain (c ∷ cs) ≡ true
+    by_test : (b : Bool) → nat_eq c 48 ≡ b → begins_as_number (c ∷ cs) ≡ true
     by_test true is =
         let alone : length (c ∷ cs) ≡ 1 = lead (eqb-true c 48 is) in
         rw ((and_parts (is_ascii_digit c) (list_all is_ascii_digit cs) digits).0, is, alone) refl
@@ -32,7 +32,7 @@ plain_number-decimal limit n within small =
     lead (suc m) small zero_first = absurd (omega (arith, first_decimal (suc m) (omega arith) small, zero_first))
 
 pub plain_number-within : (limit : ℕ) (text : List ℕ) (n : ℕ) → plain_number limit text ≡ Some n → nat_le n limit ≡ true
-plain_number-within limit text n h = by_plain (is_plain text) h
+plain_number-within limit text n h = by_plain (begins_as_number text) h
   where
     by_test : (b : Bool) → (nat_lt 0 (length text) && list_all is_ascii_digit text && nat_le (digits_value 10 text) limit) ≡ b → cond b (Some (digits_value 10 text)) None ≡ Some n → nat_le n limit ≡ true
     by_test false is h = absurd cc
@@ -46,18 +46,18 @@ plain_number-within limit text n h = by_plain (is_plain text) h
 
 -- a plain number has no plus
 
-plain-plus : (text : List ℕ) → is_plain text ≡ true → without_leading_plus text ≡ text
+plain-plus : (text : List ℕ) → begins_as_number text ≡ true → without_leading_plus text ≡ text
 plain-plus [] h = refl
 plain-plus (c ∷ cs) h =
     let digit = (and_parts (is_ascii_digit c) (not (nat_eq c 48) || nat_eq (length (c ∷ cs)) 1) h).0 in
     rw (test_apart is_ascii_digit c 43 refl digit) refl
 
-pub plain_number-piece : (limit : ℕ) (text : List ℕ) → is_plain text ≡ true → piece_number_within limit text ≡ plain_number limit text
+pub plain_number-piece : (limit : ℕ) (text : List ℕ) → begins_as_number text ≡ true → piece_number_within limit text ≡ plain_number limit text
 plain_number-piece limit text h = ap (number_within limit) (plain-plus text h) ∙ ap (λ b. cond b (number_within limit text) None) (sym h)
 
 -- what is not UTF-8 is no number
 pub not_utf8-none : (limit : ℕ) (text : List ℕ) → (IsUtf8 text → ⊥) → plain_number limit text ≡ None
-not_utf8-none limit text bad = by_plain (is_plain text) refl
+not_utf8-none limit text bad = by_plain (begins_as_number text) refl
   where
     by_some : (b : Bool) → cond (b && false && nat_le (digits_value 10 text) limit) (Some (digits_value 10 text)) None ≡ None
     by_some true = refl
@@ -67,6 +67,6 @@ not_utf8-none limit text bad = by_plain (is_plain text) refl
     by_digits true is = absurd (bad (IsUtf8-from_ascii text (IsAscii-from_digits text (digits_model.to text is))))
     by_digits false is = by_some (nat_lt 0 (length text))
 
-    by_plain : (b : Bool) → is_plain text ≡ b → plain_number limit text ≡ None
+    by_plain : (b : Bool) → begins_as_number text ≡ b → plain_number limit text ≡ None
     by_plain false is = rw is refl
     by_plain true is = rw is (by_digits (list_all is_ascii_digit text) refl)

@@ -6,7 +6,7 @@ use Rattle.target_lexicon.specs.Values.{Architecture, OperatingSystem, BinaryFor
 use Rattle.target_lexicon.specs.Values.architecture
 use Rattle.target_lexicon.specs.Values.operating_system
 use Rattle.target_lexicon.specs.Values.binary_format
-use Rattle.tool_names.specs.ObjectFormat.{toolchain_format, object_format, wasm_or, instead_of_elf, IsImpliedOtherwise, GivenFormatsAreKept}
+use Rattle.tool_names.specs.ObjectFormat.{toolchain_format, wasm_or, instead_of_elf, IsImpliedOtherwise, GivenFormatsAreKept}
 
 -- two formats that test as the same are the same
 same_format : (f g : BinaryFormat) → is_same_format f g ≡ true → f ≡ g
@@ -34,7 +34,6 @@ elf-or a s = wasm-or s a binary_format.Elf
 
 -- the toolchain's format is the implied one, or that is unknown, or toolchains write another
 toolchain-or : (a : Architecture) (s : OperatingSystem) (f : BinaryFormat) → (toolchain_format a s f ≡ f) ⊎ ((f ≡ binary_format.Unknown) ⊎ IsOther a s)
-unfolding toolchain_format
 toolchain-or a s binary_format.Elf = elim (elf-or a s) [ inl same ↦ inl same | inr other ↦ inr (inr other) ]
 toolchain-or a s binary_format.Unknown = inr (inl refl)
 toolchain-or a s _ = inl refl
@@ -52,5 +51,4 @@ by_tests t false true e i =
     ]
 
 pub given_kept : GivenFormatsAreKept
-unfolding object_format
 given_kept t = by_tests t (is_same_format t.binary_format binary_format.Unknown) (is_same_format t.binary_format (default_binary_format t)) refl refl

@@ -1,14 +1,21 @@
 -- Look-ups in several tables.
-use Rattle.std.proofs.Common.{◌≡◌, ◌∙◌, ℕ, List, [], ◌∷◌, ◌++◌, Option, Some, None, Bool, true, false, Bor, ap, cond, get_or, length, map, refl, sym, take, drop, ◌+◌, ◌<◌}
+use Rattle.std.proofs.Common.{◌≡◌, ◌∙◌, ℕ, List, [], ◌∷◌, ◌++◌, Option, Some, None, Bool, true, false, Bor, ap, cond, get_or, length, map, refl, take, drop, ◌+◌, ◌<◌}
 use Rattle.std.specs.Prelude.{filter, option_map}
-use Rattle.std.specs.{List.flat_map, Option.option_or}
+use Rattle.std.specs.{Option.option_or}
 use Rattle.std.proofs.lemmas.Grind.{flat_map-append}
 use Rattle.std.proofs.lemmas.List.{append-nil, drop_more, map-append, take_more}
 use Rattle.std.proofs.lemmas.List.Elements.{filter-append}
+use Rattle.tool_names.specs.declared.dialect.Dialect.{Dialect}
+use Rattle.tool_names.specs.Dialects.{joined_rows, rows_of, tables_of}
 use Rattle.tool_names.specs.Patterns.{matched}
 use Rattle.tool_names.specs.Tables.{Row, first_row, has_plain_name, plain_rows, row_named, rows_in}
 use Rattle.tool_names.specs.ToolNames.{plain_names}
 use Rattle.tool_names.proofs.NearestNames.{BorrowedRow}
+
+-- the rows of a dialect are those of its tables
+pub rows-joined : (d : Dialect) → joined_rows (tables_of d) ≡ rows_of d
+unfolding rows_of
+rows-joined d = refl
 
 abbrev pub Table : Type 0
 Table = Bor (List BorrowedRow)

@@ -35,7 +35,7 @@ unfoldable pub changes : List ℕ → List PartChange
 changes text = changes_of text (spelled_parts (parts_of text))
 
 -- the version that a part loses, at the end of the part
-unfoldable pub dropped_version : PlacedPart → Option PlacedPart
+abbrev pub dropped_version : PlacedPart → Option PlacedPart
 dropped_version part = option_map (λ version. part_from (part_end part - length version) version) (version_after versioned_spellings part.text)
 
 -- a string that parses without a custom vendor has no changes

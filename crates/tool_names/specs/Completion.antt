@@ -19,7 +19,7 @@ c_library_name Glibc = codes "glibc"
 c_library_name Musl = codes "musl"
 
 -- the C library with this name
-unfoldable pub c_library_of : List ℕ → Option LinuxLibc
+abbrev pub c_library_of : List ℕ → Option LinuxLibc
 c_library_of name = value_named (named_values c_library_name (Glibc ∷ Musl ∷ [])) name
 
 -- the environment of a C library on an Arm, which is taken by its version. Floating-point numbers are passed in registers of
@@ -52,7 +52,7 @@ environment_with c a operating_system.Linux environment.Unknown = usual_environm
 environment_with c a s e = e
 
 -- a triple with the usual environment of a C library, if it is of Linux and has none
-unfoldable pub completed : LinuxLibc → Values → Values
+abbrev pub completed : LinuxLibc → Values → Values
 completed c t = record t { environment = environment_with c t.architecture t.operating_system t.environment }
 
 -- completion changes only the environment, and only an unknown one on Linux; that it makes known

@@ -7,8 +7,25 @@ use Rattle.tool_names.specs.declared.dialect.Dialect.TheVariants as dialect
 use Rattle.tool_names.specs.declared.shape.AbiRule.TheVariants as abi
 use Rattle.tool_names.specs.declared.shape.MachineRule.TheVariants as machine
 use Rattle.tool_names.specs.declared.shape.Rules.{Rules}
-use Rattle.tool_names.specs.declared.tables.TheConstants as table
 use Rattle.tool_names.specs.Tables.{Row, constant_rows}
+-- written by tools/names/write: the rows of each dialect
+use Rattle.tool_names.specs.declared.tables.debian.TheConstants as debian
+use Rattle.tool_names.specs.declared.tables.go.TheConstants as go
+use Rattle.tool_names.specs.declared.tables.oci.TheConstants as oci
+use Rattle.tool_names.specs.declared.tables.node.TheConstants as node
+use Rattle.tool_names.specs.declared.tables.gnu.TheConstants as gnu
+use Rattle.tool_names.specs.declared.tables.python.TheConstants as python
+use Rattle.tool_names.specs.declared.tables.rust.TheConstants as rust
+use Rattle.tool_names.specs.declared.tables.uname.TheConstants as uname
+use Rattle.tool_names.specs.declared.tables.rpm.TheConstants as rpm
+use Rattle.tool_names.specs.declared.tables.apk.TheConstants as apk
+use Rattle.tool_names.specs.declared.tables.pacman.TheConstants as pacman
+use Rattle.tool_names.specs.declared.tables.dotnet.TheConstants as dotnet
+use Rattle.tool_names.specs.declared.tables.conda.TheConstants as conda
+use Rattle.tool_names.specs.declared.tables.zig.TheConstants as zig
+use Rattle.tool_names.specs.declared.tables.nix.TheConstants as nix
+
+-- end of what is written
 
 -- the name of a dialect
 abbrev pub dialect_name : Dialect → List ℕ
@@ -45,7 +62,7 @@ other_dialect_names = (codes "docker", dialect.Oci) ∷ (codes "npm", dialect.No
 -- end of what is written
 
 -- the dialect with this name, or with this other name
-unfoldable pub dialect_of : List ℕ → Option Dialect
+abbrev pub dialect_of : List ℕ → Option Dialect
 dialect_of name = value_named (named_values dialect_name dialects ++ other_dialect_names) name
 
 -- what names state in a dialect
@@ -72,24 +89,28 @@ rules_of dialect.Nix = record { machine = machine.Version; abi = abi.Dropped; ve
 -- the tables of a dialect, in the order in which they are tried
 abbrev pub tables_of : Dialect → List (List Row)
 -- written by tools/names/write: tables_of
-tables_of dialect.Debian = constant_rows table.DEBIAN ∷ constant_rows table.DEBIAN_2 ∷ []
-tables_of dialect.Go = constant_rows table.GO ∷ []
-tables_of dialect.Oci = constant_rows table.OCI ∷ []
-tables_of dialect.Node = constant_rows table.NODE ∷ constant_rows table.NODE_2 ∷ []
-tables_of dialect.Gnu = constant_rows table.GNU ∷ []
-tables_of dialect.Python = constant_rows table.PYTHON ∷ constant_rows table.PYTHON_2 ∷ []
-tables_of dialect.Rust = constant_rows table.RUST ∷ constant_rows table.RUST_2 ∷ constant_rows table.RUST_3 ∷ constant_rows table.RUST_4 ∷ []
-tables_of dialect.Uname = constant_rows table.UNAME ∷ []
-tables_of dialect.Rpm = constant_rows table.RPM ∷ []
-tables_of dialect.Apk = constant_rows table.APK ∷ []
-tables_of dialect.Pacman = constant_rows table.PACMAN ∷ []
-tables_of dialect.Dotnet = constant_rows table.DOTNET ∷ []
-tables_of dialect.Conda = constant_rows table.CONDA ∷ []
-tables_of dialect.Zig = constant_rows table.ZIG ∷ []
-tables_of dialect.Nix = constant_rows table.NIX ∷ []
+tables_of dialect.Debian = constant_rows debian.ROWS ∷ constant_rows debian.ROWS_2 ∷ []
+tables_of dialect.Go = constant_rows go.ROWS ∷ []
+tables_of dialect.Oci = constant_rows oci.ROWS ∷ []
+tables_of dialect.Node = constant_rows node.ROWS ∷ constant_rows node.ROWS_2 ∷ []
+tables_of dialect.Gnu = constant_rows gnu.ROWS ∷ []
+tables_of dialect.Python = constant_rows python.ROWS ∷ constant_rows python.ROWS_2 ∷ []
+tables_of dialect.Rust = constant_rows rust.ROWS ∷ constant_rows rust.ROWS_2 ∷ constant_rows rust.ROWS_3 ∷ constant_rows rust.ROWS_4 ∷ []
+tables_of dialect.Uname = constant_rows uname.ROWS ∷ []
+tables_of dialect.Rpm = constant_rows rpm.ROWS ∷ []
+tables_of dialect.Apk = constant_rows apk.ROWS ∷ []
+tables_of dialect.Pacman = constant_rows pacman.ROWS ∷ []
+tables_of dialect.Dotnet = constant_rows dotnet.ROWS ∷ []
+tables_of dialect.Conda = constant_rows conda.ROWS ∷ []
+tables_of dialect.Zig = constant_rows zig.ROWS ∷ []
+tables_of dialect.Nix = constant_rows nix.ROWS ∷ []
 
 -- end of what is written
 
+-- the rows of several tables, one table after the other
+abbrev pub joined_rows : List (List Row) → List Row
+joined_rows tables = flat_map (λ (rows : List Row). rows) tables
+
 -- the rows of a dialect
 unfoldable pub rows_of : Dialect → List Row
-rows_of d = flat_map (λ (rows : List Row). rows) (tables_of d)
+rows_of d = joined_rows (tables_of d)

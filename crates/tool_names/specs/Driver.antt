@@ -92,7 +92,7 @@ abbrev pub library_of_system : VendorValue → OperatingSystem → Option CLibra
 library_of_system v s = option_map_or unlisted_library (unlisted_system v s) (system_library s)
 
 -- the C library of a triple, if it states one
-unfoldable pub c_library : Values → Option CLibrary
+abbrev pub c_library : Values → Option CLibrary
 c_library t = option_or (environment_library t.operating_system t.environment) (library_of_system t.vendor t.operating_system)
 
 -- the names of the ways to pass floating-point numbers
@@ -129,7 +129,7 @@ floats_on (architecture.Arm _) s e = arm_floats s e
 floats_on _ _ e = other_floats e
 
 -- whether floating-point arguments are passed in floating-point registers, if it is stated
-unfoldable pub float_abi : Values → Option FloatAbi
+abbrev pub float_abi : Values → Option FloatAbi
 float_abi t = floats_on t.architecture t.operating_system t.environment
 
 -- a size and an alignment, in bytes
@@ -225,7 +225,7 @@ long_double_on _ operating_system.VxWorks _ = None
 long_double_on a operating_system.Windows e = windows_long_double a e
 long_double_on a s e = if is_like_darwin s then darwin_long_double a else usual_long_double a s e
 
-unfoldable pub long_double : Values → Option TypeLayout
+abbrev pub long_double : Values → Option TypeLayout
 long_double t = long_double_on t.architecture t.operating_system t.environment
 
 -- `wchar_t` of a system that isn't Windows
@@ -262,5 +262,5 @@ wide_character_on _ operating_system.Aix = None
 wide_character_on _ operating_system.VxWorks = None
 wide_character_on a _ = usual_wide_character a
 
-unfoldable pub wide_character : Values → Option TypeLayout
+abbrev pub wide_character : Values → Option TypeLayout
 wide_character t = wide_character_on t.architecture t.operating_system

@@ -47,5 +47,5 @@ abbrev pub gnu_meaning : Result Values PlacedRefusal → Option Values
 gnu_meaning (Ok t) = if is_clever t.architecture then None else Some (as_gnu t)
 gnu_meaning (Err _) = None
 
-unfoldable pub gnu_reading : List ℕ → Option Values
+abbrev pub gnu_reading : List ℕ → Option Values
 gnu_reading text = gnu_meaning (spelled_reading text)

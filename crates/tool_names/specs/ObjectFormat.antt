@@ -24,7 +24,7 @@ instead_of_unknown architecture.Unknown = binary_format.Unknown
 instead_of_unknown a = wasm_or binary_format.Elf a
 
 -- the format that toolchains write where upstream implies this one
-unfoldable pub toolchain_format : Architecture → OperatingSystem → BinaryFormat → BinaryFormat
+abbrev pub toolchain_format : Architecture → OperatingSystem → BinaryFormat → BinaryFormat
 toolchain_format a s binary_format.Elf = instead_of_elf a s
 toolchain_format a s binary_format.Unknown = instead_of_unknown a
 toolchain_format a s implied = implied
@@ -34,7 +34,7 @@ abbrev pub leaves_format_open : BinaryFormat → BinaryFormat → Bool
 leaves_format_open f implied = is_same_format f binary_format.Unknown || is_same_format f implied
 
 -- the format that toolchains write for a triple; another format than the implied one was given, and is kept
-unfoldable pub object_format : Values → BinaryFormat
+abbrev pub object_format : Values → BinaryFormat
 object_format t =
     if leaves_format_open t.binary_format (default_binary_format t)
     then toolchain_format t.architecture t.operating_system (default_binary_format t) else t.binary_format

@@ -66,13 +66,13 @@ abbrev pub after_digits : List ℕ → List ℕ
 after_digits text = drop (digit_count text) text
 
 -- whether a text begins with a digit, which is a zero only if nothing follows it
-abbrev pub is_plain : List ℕ → Bool
-is_plain [] = false
-is_plain (c ∷ cs) = is_ascii_digit c && (not (c == zero_digit) || length (c ∷ cs) == 1)
+abbrev pub begins_as_number : List ℕ → Bool
+begins_as_number [] = false
+begins_as_number (c ∷ cs) = is_ascii_digit c && (not (c == zero_digit) || length (c ∷ cs) == 1)
 
 -- the number whose digits a text is, if it is within the limit
 abbrev pub plain_number : ℕ → List ℕ → Option ℕ
-plain_number limit text = if is_plain text then number_within limit text else None
+plain_number limit text = if begins_as_number text then number_within limit text else None
 
 -- the number of a star, if the limits allow one more
 abbrev pub next_number : List ℕ → List ℕ → Option ℕ

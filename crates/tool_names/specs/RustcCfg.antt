@@ -67,7 +67,7 @@ mips64_arch mips64.Mips64el = codes "mips64"
 mips64_arch mips64.Mipsisa64r6 = codes "mips64r6"
 mips64_arch mips64.Mipsisa64r6el = codes "mips64r6"
 
-unfoldable pub target_arch : Architecture → List ℕ
+abbrev pub target_arch : Architecture → List ℕ
 target_arch (architecture.Arm _) = codes "arm"
 -- rustc's name is that of LLVM's back end
 target_arch architecture.AmdGcn = codes "amdgpu"
@@ -107,7 +107,7 @@ unlisted_os unlisted.Nuttx = codes "nuttx"
 unlisted_os unlisted.Rtems = codes "rtems"
 unlisted_os unlisted.WasiP3 = codes "wasi"
 
-unfoldable pub target_os : Values → List ℕ
+abbrev pub target_os : Values → List ℕ
 target_os t = option_map_or unlisted_os (unlisted_system t.vendor t.operating_system) (listed_os t.operating_system t.environment)
 
 -- whether Apple's devices have this system. None of them has an x86, on which it is the simulator
@@ -171,7 +171,7 @@ unlisted_env unlisted.WasiP3 = codes "p3"
 abbrev pub system_env : Values → List ℕ
 system_env t = option_map_or unlisted_env (unlisted_system t.vendor t.operating_system) (listed_env t.architecture t.operating_system)
 
-unfoldable pub target_env : Values → List ℕ
+abbrev pub target_env : Values → List ℕ
 target_env t = option_map_or (λ (env : List ℕ). env) (environment_env t.environment) (system_env t)
 
 -- vendors that are ABIs: apps of Windows, and enclaves
@@ -242,7 +242,7 @@ usual_abi architecture.Powerpc64 s e = powerpc64_abi s e
 usual_abi architecture.Powerpc64le _ _ = codes "elfv2"
 usual_abi a s _ = if is_simulator a s then codes "sim" else []
 
-unfoldable pub target_abi : Values → List ℕ
+abbrev pub target_abi : Values → List ℕ
 target_abi t =
     option_map_or (λ (abi : List ℕ). abi)
     (option_or (vendor_abi t.vendor t.operating_system t.environment) (environment_abi t.environment))
@@ -284,7 +284,7 @@ is_unix_unlisted unlisted.Rtems = true
 is_unix_unlisted unlisted.WasiP3 = false
 
 -- whether the system is like Unix
-unfoldable pub is_unix : Values → Bool
+abbrev pub is_unix : Values → Bool
 is_unix t = option_map_or is_unix_unlisted (unlisted_system t.vendor t.operating_system) (is_unix_system t.operating_system)
 
 abbrev pub unix_or_none : Bool → List (List ℕ)
@@ -302,7 +302,7 @@ families architecture.Wasm64 _ unix = wasm_or_both unix
 families _ operating_system.Windows _ = codes "windows" ∷ []
 families _ _ unix = unix_or_none unix
 
-unfoldable pub target_family : Values → List (List ℕ)
+abbrev pub target_family : Values → List (List ℕ)
 target_family t = families t.architecture t.operating_system (is_unix t)
 
 -- custom vendors that rustc names otherwise: boards of Espressif, and Linux's interface for WebAssembly, which is none
@@ -319,11 +319,11 @@ listed_vendor (Known known) = known_vendor_name known
 listed_vendor (Custom text) = custom_vendor text
 
 -- an unlisted system is in the place of the vendor
-unfoldable pub target_vendor : Values → List ℕ
+abbrev pub target_vendor : Values → List ℕ
 target_vendor t = option_map_or (λ (_ : UnlistedSystem). codes "unknown") (unlisted_system t.vendor t.operating_system) (listed_vendor t.vendor)
 
 -- rustc's cfg values of a triple; byte order and pointer width have no value where the query has no answer
-unfoldable pub rustc_cfg : Values → CfgValues
+abbrev pub rustc_cfg : Values → CfgValues
 rustc_cfg t = record {
   target_arch = target_arch t.architecture;
   target_os = target_os t;

@@ -44,7 +44,7 @@ translated to c (Ok t) = written_or_why (written to c t)
 translated to c (Err why) = Err (IsUnread why)
 
 -- what a name of the first dialect is called in the second
-unfoldable pub translation : Dialect → List ℕ → Option LinuxLibc → Dialect → Result (List ℕ) Untranslated
+abbrev pub translation : Dialect → List ℕ → Option LinuxLibc → Dialect → Result (List ℕ) Untranslated
 translation from name c to = translated to c (name_meaning from name)
 
 -- what results of the code say

@@ -3,7 +3,7 @@ ghost use Rattle.std.specs.Prelude.{◌≡◌, ◌^◌, ◌<◌, option_map};
 ghost use Rattle.target_lexicon.specs.Explanation.{part_end, part_value};
 ghost use Rattle.target_lexicon.specs.Placement.{parts_after};
 ghost use Rattle.tool_names.specs.Spelling.{version_after, versioned_spellings};
-ghost use Rattle.tool_names.specs.Changes.{change_value, changes, changes_left, dropped_version, next_position, spelling_at, spelling_names};
+ghost use Rattle.tool_names.specs.Changes as spec;
 
 use crate::spelling::{Spelling, dropped_version, first_at_end, first_spelling};
 use target_lexicon::{TextPart, first_part};
@@ -41,12 +41,11 @@ impl<'a> Change<'a> {
     /// assert_eq!((version.text, version.range()), ("21", 26..28));
     /// assert_eq!(changes("x86_64-w64-mingw32").last().unwrap().dropped_version(), None);
     /// ```
-    #[tactic(auto, unfolding(crate::specs::Changes::dropped_version))]
     pub fn dropped_version(&self) -> Option<TextPart<'a>>
         ensures text { option_map (λ version. version.text.now) result
             ≡ version_after versioned_spellings self.now.part.text.now }
         ensures part { part_end (part_value self.now.part) < 2 ^ 64
-            → option_map part_value result ≡ dropped_version (part_value self.now.part) }
+            → option_map part_value result ≡ spec.dropped_version (part_value self.now.part) }
     {
         match dropped_version(self.part.text) {
             Some(version) => Some(TextPart {
@@ -69,8 +68,8 @@ enum Position {
 impl Position {
     /// The names that a part at this position spells, with this after its dash.
     fn spelling<'a>(self, part: &'a str, rest: Option<&str>) -> Spelling<'a>
-        ensures { spelling_names result
-            ≡ spelling_at self part.entry.now (parts_after rest.entry) }
+        ensures { spec.spelling_names result
+            ≡ spec.spelling_at self part.entry.now (parts_after rest.entry) }
     {
         match self {
             Position::First => Spelling::of(first_spelling(part)),
@@ -81,7 +80,7 @@ impl Position {
 
     /// The position of the part after one at this position.
     fn next(self) -> Position
-        ensures { result ≡ next_position self }
+        ensures { result ≡ spec.next_position self }
     {
         match self {
             Position::First => Position::Second,
@@ -125,7 +124,7 @@ pub struct ChangedParts<'a> {
 /// assert!(shown("x86_64-unknown-freebsd").is_empty());
 /// ```
 pub fn changes(text: &str) -> ChangedParts<'_>
-    ensures { changes_left result ≡ changes text.entry.now }
+    ensures { spec.changes_left result ≡ spec.changes text.entry.now }
 {
     ChangedParts {
         text,
@@ -139,9 +138,9 @@ impl<'a> Iterator for ChangedParts<'a> {
 
     type Item = Change<'a>;
 
-    ghost next_gives = { YieldsFirstBy change_value changes_left };
+    ghost next_gives = { YieldsFirstBy spec.change_value spec.changes_left };
 
-    ghost remaining = { item_count changes_left };
+    ghost remaining = { item_count spec.changes_left };
 
     fn next(&mut self) -> Option<Change<'a>> {
         while let Some(end) = self.rest {

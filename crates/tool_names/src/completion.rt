@@ -2,7 +2,7 @@
 ghost use Rattle.std.specs.Prelude.{◌≡◌, Some};
 ghost use Rattle.lexicon_fields.specs.Names.{MatchesLookup};
 ghost use Rattle.target_lexicon.specs.ValuesRef.{values_of_ref};
-ghost use Rattle.tool_names.specs.Completion.{arm_environment, c_library_name, c_library_of, completed, environment_with, usual_environment};
+ghost use Rattle.tool_names.specs.Completion as spec;
 
 use crate::shape::arm_of_version;
 use crate::spelling::look_up;
@@ -34,10 +34,10 @@ impl LinuxLibc {
     /// # Examples
     ///
     /// ```
-    /// assert_eq!(target_lexicon::tool_names::LinuxLibc::Musl.as_str(), "musl");
+    /// assert_eq!(target_lexicon::tool_names::LinuxLibc::Musl.name(), "musl");
     /// ```
-    pub fn as_str(self) -> &'static str
-        ensures { result.now ≡ c_library_name self }
+    pub fn name(self) -> &'static str
+        ensures { result.now ≡ spec.c_library_name self }
     {
         match self {
             LinuxLibc::Glibc => "glibc",
@@ -46,16 +46,15 @@ impl LinuxLibc {
     }
 
     /// The C library with this name. `Err` for every other text.
-    #[tactic(auto, unfolding(crate::specs::Completion::c_library_of))]
     pub fn from_str(name: &str) -> Result<Self, ()>
-        ensures { MatchesLookup (c_library_of name.now) result }
+        ensures { MatchesLookup (spec.c_library_of name.now) result }
     {
         look_up(&C_LIBRARIES, name).ok_or(())
     }
 
     /// The usual environment on an architecture.
     fn environment(self, architecture: Architecture) -> Environment
-        ensures { result ≡ usual_environment self architecture }
+        ensures { result ≡ spec.usual_environment self architecture }
     {
         match (self, architecture) {
             (_, Architecture::Arm(arm)) => self.arm_environment(arm_of_version(arm)),
@@ -68,7 +67,7 @@ impl LinuxLibc {
 
     /// The usual environment on an Arm, which is taken by its version.
     fn arm_environment(self, arm: ArmArchitecture) -> Environment
-        ensures { result ≡ arm_environment self arm }
+        ensures { result ≡ spec.arm_environment self arm }
     {
         match arm {
             ArmArchitecture::Arm
@@ -98,7 +97,7 @@ static C_LIBRARIES: [(&str, LinuxLibc); 2] = [
 impl FromStr for LinuxLibc {
     type Err = ();
 
-    ghost from_str_gives = { λ name. MatchesLookup (c_library_of name) };
+    ghost from_str_gives = { λ name. MatchesLookup (spec.c_library_of name) };
 
     fn from_str(name: &str) -> Result<LinuxLibc, ()> {
         LinuxLibc::from_str(name)
@@ -106,12 +105,12 @@ impl FromStr for LinuxLibc {
 }
 
 impl fmt::Display for LinuxLibc {
-    ghost output = { λ it. Some (c_library_name it) };
+    ghost output = { λ it. Some (spec.c_library_name it) };
 
-    ghost styled_output = { λ it _. Some (c_library_name it) };
+    ghost styled_output = { λ it _. Some (spec.c_library_name it) };
 
     fn fmt<W: fmt::Write>(&self, f: &mut fmt::Formatter<W>) -> fmt::Result {
-        f.write_str(self.as_str())
+        f.write_str(self.name())
     }
 }
 
@@ -135,9 +134,8 @@ impl fmt::Display for LinuxLibc {
 /// assert_eq!(triple.to_string(), "armv7-unknown-linux-gnueabihf");
 /// assert_eq!(Dialect::Debian.write(&triple).unwrap().as_str(), "armhf");
 /// ```
-#[tactic(auto, unfolding(crate::specs::Completion::completed))]
 pub fn complete<'a>(triple: &TripleRef<'a>, c_library: LinuxLibc) -> TripleRef<'a>
-    ensures { values_of_ref result ≡ completed c_library (values_of_ref triple.now) }
+    ensures { values_of_ref result ≡ spec.completed c_library (values_of_ref triple.now) }
 {
     TripleRef {
         environment: completed_environment(
@@ -157,7 +155,7 @@ fn completed_environment(
     operating_system: OperatingSystem,
     environment: Environment,
 ) -> Environment
-    ensures { result ≡ environment_with c_library architecture operating_system environment }
+    ensures { result ≡ spec.environment_with c_library architecture operating_system environment }
 {
     match (operating_system, environment) {
         (OperatingSystem::Linux, Environment::Unknown) => c_library.environment(architecture),

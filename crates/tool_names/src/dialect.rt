@@ -1,7 +1,7 @@
 //! The dialects: whose names are read and written.
 ghost use Rattle.std.specs.Prelude.{◌≡◌, Some};
 ghost use Rattle.lexicon_fields.specs.Names.{MatchesLookup};
-ghost use Rattle.tool_names.specs.Dialects.{dialect_name, dialect_of};
+ghost use Rattle.tool_names.specs.Dialects as spec;
 
 use crate::spelling::look_up;
 use std::fmt;
@@ -60,10 +60,10 @@ impl Dialect {
     /// # Examples
     ///
     /// ```
-    /// assert_eq!(target_lexicon::tool_names::Dialect::Go.as_str(), "go");
+    /// assert_eq!(target_lexicon::tool_names::Dialect::Go.name(), "go");
     /// ```
-    pub fn as_str(self) -> &'static str
-        ensures { result.now ≡ dialect_name self }
+    pub fn name(self) -> &'static str
+        ensures { result.now ≡ spec.dialect_name self }
     {
         match self {
             // written by tools/names/write: the names of the dialects
@@ -87,9 +87,8 @@ impl Dialect {
     }
 
     /// The dialect with this name. `Err` for every other text.
-    #[tactic(auto, unfolding(crate::specs::Dialects::dialect_of))]
     pub fn from_str(name: &str) -> Result<Self, ()>
-        ensures { MatchesLookup (dialect_of name.now) result }
+        ensures { MatchesLookup (spec.dialect_of name.now) result }
     {
         look_up(&DIALECTS, name).ok_or(())
     }
@@ -120,7 +119,7 @@ static DIALECTS: [(&str, Dialect); 17] = [
 impl FromStr for Dialect {
     type Err = ();
 
-    ghost from_str_gives = { λ name. MatchesLookup (dialect_of name) };
+    ghost from_str_gives = { λ name. MatchesLookup (spec.dialect_of name) };
 
     fn from_str(name: &str) -> Result<Dialect, ()> {
         Dialect::from_str(name)
@@ -128,11 +127,11 @@ impl FromStr for Dialect {
 }
 
 impl fmt::Display for Dialect {
-    ghost output = { λ it. Some (dialect_name it) };
+    ghost output = { λ it. Some (spec.dialect_name it) };
 
-    ghost styled_output = { λ it _. Some (dialect_name it) };
+    ghost styled_output = { λ it _. Some (spec.dialect_name it) };
 
     fn fmt<W: fmt::Write>(&self, f: &mut fmt::Formatter<W>) -> fmt::Result {
-        f.write_str(self.as_str())
+        f.write_str(self.name())
     }
 }

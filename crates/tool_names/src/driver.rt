@@ -2,7 +2,7 @@
 ghost use Rattle.std.specs.Prelude.{◌≡◌, Some};
 ghost use Rattle.lexicon_fields.specs.VendorRef.{ref_value};
 ghost use Rattle.target_lexicon.specs.ValuesRef.{values_of_ref};
-ghost use Rattle.tool_names.specs.Driver.{arm_floats, c_library, darwin_long_double, environment_library, float_abi, float_abi_name, gnu_library, layout, library_name, library_of_system, long_double, mingw_long_double, msvc_long_double, powerpc_long_double, system_library, usual_long_double, usual_wide_character, wide_character, windows_long_double};
+ghost use Rattle.tool_names.specs.Driver as spec;
 
 use crate::rustc_cfg::UnlistedSystem;
 use std::fmt;
@@ -96,9 +96,8 @@ impl CLibrary {
     ///     assert_eq!(CLibrary::of(&TripleRef::from_str(string).unwrap()), library, "{string}");
     /// }
     /// ```
-    #[tactic(auto, unfolding(crate::specs::Driver::c_library))]
     pub fn of(triple: &TripleRef<'_>) -> Option<CLibrary>
-        ensures { result ≡ c_library (values_of_ref triple.now) }
+        ensures { result ≡ spec.c_library (values_of_ref triple.now) }
     {
         match environment_library(triple.operating_system, triple.environment) {
             Some(library) => Some(library),
@@ -114,7 +113,7 @@ impl CLibrary {
     /// assert_eq!(target_lexicon::tool_names::CLibrary::Glibc.name(), "glibc");
     /// ```
     pub fn name(self) -> &'static str
-        ensures { result.now ≡ library_name self }
+        ensures { result.now ≡ spec.library_name self }
     {
         match self {
             CLibrary::Bionic => "bionic",
@@ -131,9 +130,9 @@ impl CLibrary {
 }
 
 impl fmt::Display for CLibrary {
-    ghost output = { λ it. Some (library_name it) };
+    ghost output = { λ it. Some (spec.library_name it) };
 
-    ghost styled_output = { λ it _. Some (library_name it) };
+    ghost styled_output = { λ it _. Some (spec.library_name it) };
 
     fn fmt<W: fmt::Write>(&self, f: &mut fmt::Formatter<W>) -> fmt::Result {
         f.write_str(self.name())
@@ -141,7 +140,7 @@ impl fmt::Display for CLibrary {
 }
 
 fn environment_library(system: OperatingSystem, environment: Environment) -> Option<CLibrary>
-    ensures { result ≡ environment_library system environment }
+    ensures { result ≡ spec.environment_library system environment }
 {
     match environment {
         Environment::Android | Environment::Androideabi => Some(CLibrary::Bionic),
@@ -169,7 +168,7 @@ fn environment_library(system: OperatingSystem, environment: Environment) -> Opt
 
 /// What `gnu` is on a system.
 fn gnu_library(system: OperatingSystem) -> Option<CLibrary>
-    ensures { result ≡ gnu_library system }
+    ensures { result ≡ spec.gnu_library system }
 {
     match system {
         OperatingSystem::Hurd | OperatingSystem::Linux => Some(CLibrary::Glibc),
@@ -180,7 +179,7 @@ fn gnu_library(system: OperatingSystem) -> Option<CLibrary>
 
 /// The library of a system that has only one.
 fn library_of_system(vendor: VendorRef<'_>, system: OperatingSystem) -> Option<CLibrary>
-    ensures { result ≡ library_of_system (ref_value vendor.entry) system }
+    ensures { result ≡ spec.library_of_system (ref_value vendor.entry) system }
 {
     match UnlistedSystem::of(vendor, system) {
         Some(UnlistedSystem::Nuttx) => Some(CLibrary::System),
@@ -191,7 +190,7 @@ fn library_of_system(vendor: VendorRef<'_>, system: OperatingSystem) -> Option<C
 }
 
 fn system_library(system: OperatingSystem) -> Option<CLibrary>
-    ensures { result ≡ system_library system }
+    ensures { result ≡ spec.system_library system }
 {
     match system {
         OperatingSystem::Espidf | OperatingSystem::Horizon => Some(CLibrary::Newlib),
@@ -239,9 +238,8 @@ impl FloatAbi {
     ///     assert_eq!(FloatAbi::of(&TripleRef::from_str(string).unwrap()), floats, "{string}");
     /// }
     /// ```
-    #[tactic(auto, unfolding(crate::specs::Driver::float_abi))]
     pub fn of(triple: &TripleRef<'_>) -> Option<FloatAbi>
-        ensures { result ≡ float_abi (values_of_ref triple.now) }
+        ensures { result ≡ spec.float_abi (values_of_ref triple.now) }
     {
         match triple.architecture {
             Architecture::Arm(_) => arm_floats(triple.operating_system, triple.environment),
@@ -260,7 +258,7 @@ impl FloatAbi {
     /// assert_eq!(target_lexicon::tool_names::FloatAbi::Hard.name(), "hard");
     /// ```
     pub fn name(self) -> &'static str
-        ensures { result.now ≡ float_abi_name self }
+        ensures { result.now ≡ spec.float_abi_name self }
     {
         match self {
             FloatAbi::Soft => "soft",
@@ -270,9 +268,9 @@ impl FloatAbi {
 }
 
 impl fmt::Display for FloatAbi {
-    ghost output = { λ it. Some (float_abi_name it) };
+    ghost output = { λ it. Some (spec.float_abi_name it) };
 
-    ghost styled_output = { λ it _. Some (float_abi_name it) };
+    ghost styled_output = { λ it _. Some (spec.float_abi_name it) };
 
     fn fmt<W: fmt::Write>(&self, f: &mut fmt::Formatter<W>) -> fmt::Result {
         f.write_str(self.name())
@@ -280,7 +278,7 @@ impl fmt::Display for FloatAbi {
 }
 
 fn arm_floats(system: OperatingSystem, environment: Environment) -> Option<FloatAbi>
-    ensures { result ≡ arm_floats system environment }
+    ensures { result ≡ spec.arm_floats system environment }
 {
     match environment {
         Environment::Eabi
@@ -320,9 +318,8 @@ impl TypeLayout {
     /// assert_eq!(size("x86_64-pc-windows-msvc"), Some(8));
     /// assert_eq!(size("x86_64-unknown-uefi"), None);
     /// ```
-    #[tactic(auto, unfolding(crate::specs::Driver::long_double))]
     pub fn of_long_double(triple: &TripleRef<'_>) -> Option<TypeLayout>
-        ensures { result ≡ long_double (values_of_ref triple.now) }
+        ensures { result ≡ spec.long_double (values_of_ref triple.now) }
     {
         match triple.operating_system {
             OperatingSystem::Uefi | OperatingSystem::VxWorks => None,
@@ -353,9 +350,8 @@ impl TypeLayout {
     /// assert_eq!(size("x86_64-pc-windows-msvc"), Some(2));
     /// assert_eq!(size("powerpc64-ibm-aix"), None);
     /// ```
-    #[tactic(auto, unfolding(crate::specs::Driver::wide_character))]
     pub fn of_wchar(triple: &TripleRef<'_>) -> Option<TypeLayout>
-        ensures { result ≡ wide_character (values_of_ref triple.now) }
+        ensures { result ≡ spec.wide_character (values_of_ref triple.now) }
     {
         match triple.operating_system {
             OperatingSystem::Windows | OperatingSystem::Cygwin | OperatingSystem::Uefi => {
@@ -368,13 +364,13 @@ impl TypeLayout {
 }
 
 fn layout(size: u8, alignment: u8) -> Option<TypeLayout>
-    ensures { result ≡ layout size alignment }
+    ensures { result ≡ spec.layout size alignment }
 {
     Some(TypeLayout { size, alignment })
 }
 
 fn windows_long_double(architecture: Architecture, environment: Environment) -> Option<TypeLayout>
-    ensures { result ≡ windows_long_double architecture environment }
+    ensures { result ≡ spec.windows_long_double architecture environment }
 {
     match environment {
         Environment::Msvc => msvc_long_double(architecture),
@@ -384,7 +380,7 @@ fn windows_long_double(architecture: Architecture, environment: Environment) -> 
 }
 
 fn msvc_long_double(architecture: Architecture) -> Option<TypeLayout>
-    ensures { result ≡ msvc_long_double architecture }
+    ensures { result ≡ spec.msvc_long_double architecture }
 {
     match architecture {
         Architecture::Arm(_)
@@ -396,7 +392,7 @@ fn msvc_long_double(architecture: Architecture) -> Option<TypeLayout>
 }
 
 fn mingw_long_double(architecture: Architecture) -> Option<TypeLayout>
-    ensures { result ≡ mingw_long_double architecture }
+    ensures { result ≡ spec.mingw_long_double architecture }
 {
     match architecture {
         Architecture::Arm(_) | Architecture::Aarch64(_) => layout(8, 8),
@@ -407,7 +403,7 @@ fn mingw_long_double(architecture: Architecture) -> Option<TypeLayout>
 }
 
 fn darwin_long_double(architecture: Architecture) -> Option<TypeLayout>
-    ensures { result ≡ darwin_long_double architecture }
+    ensures { result ≡ spec.darwin_long_double architecture }
 {
     match architecture {
         Architecture::Aarch64(_) => layout(8, 8),
@@ -421,7 +417,7 @@ fn usual_long_double(
     system: OperatingSystem,
     environment: Environment,
 ) -> Option<TypeLayout>
-    ensures { result ≡ usual_long_double architecture system environment }
+    ensures { result ≡ spec.usual_long_double architecture system environment }
 {
     match architecture {
         Architecture::Arm(_) | Architecture::Hexagon | Architecture::Mips32(_) => layout(8, 8),
@@ -455,7 +451,7 @@ fn usual_long_double(
 }
 
 fn powerpc_long_double(system: OperatingSystem, environment: Environment) -> Option<TypeLayout>
-    ensures { result ≡ powerpc_long_double system environment }
+    ensures { result ≡ spec.powerpc_long_double system environment }
 {
     match system {
         OperatingSystem::Linux => match environment {
@@ -471,7 +467,7 @@ fn powerpc_long_double(system: OperatingSystem, environment: Environment) -> Opt
 }
 
 fn usual_wide_character(architecture: Architecture) -> Option<TypeLayout>
-    ensures { result ≡ usual_wide_character architecture }
+    ensures { result ≡ spec.usual_wide_character architecture }
 {
     match architecture {
         Architecture::Msp430 => layout(2, 2),

@@ -1,7 +1,7 @@
 //! The object format that toolchains write.
 ghost use Rattle.std.specs.Prelude.{◌≡◌};
 ghost use Rattle.target_lexicon.specs.ValuesRef.{values_of_ref};
-ghost use Rattle.tool_names.specs.ObjectFormat.{leaves_format_open, object_format, toolchain_format, wasm_or};
+ghost use Rattle.tool_names.specs.ObjectFormat as spec;
 
 use target_lexicon::{Architecture, BinaryFormat, OperatingSystem, TripleRef};
 
@@ -34,9 +34,8 @@ use target_lexicon::{Architecture, BinaryFormat, OperatingSystem, TripleRef};
 /// }
 /// ```
 #[inline(always)]
-#[tactic(auto, unfolding(crate::specs::ObjectFormat::object_format))]
 pub fn object_format(triple: &TripleRef<'_>) -> BinaryFormat
-    ensures { result ≡ object_format (values_of_ref triple.now) }
+    ensures { result ≡ spec.object_format (values_of_ref triple.now) }
 {
     let implied = triple.default_binary_format();
     if leaves_format_open(triple.binary_format, implied) {
@@ -48,7 +47,7 @@ pub fn object_format(triple: &TripleRef<'_>) -> BinaryFormat
 
 /// Whether a format is unknown or the implied one.
 fn leaves_format_open(format: BinaryFormat, implied: BinaryFormat) -> bool
-    ensures { result ≡ leaves_format_open format implied }
+    ensures { result ≡ spec.leaves_format_open format implied }
 {
     match (format, implied) {
         (BinaryFormat::Unknown, _)
@@ -62,13 +61,12 @@ fn leaves_format_open(format: BinaryFormat, implied: BinaryFormat) -> bool
 }
 
 /// The format that toolchains write where upstream implies this one.
-#[tactic(auto, unfolding(crate::specs::ObjectFormat::toolchain_format))]
 fn toolchain_format(
     architecture: Architecture,
     operating_system: OperatingSystem,
     implied: BinaryFormat,
 ) -> BinaryFormat
-    ensures { result ≡ toolchain_format architecture operating_system implied }
+    ensures { result ≡ spec.toolchain_format architecture operating_system implied }
 {
     match implied {
         BinaryFormat::Elf => match operating_system {
@@ -85,7 +83,7 @@ fn toolchain_format(
 
 /// The format of WebAssembly on its architectures, elsewhere this one.
 pub(crate) fn wasm_or(format: BinaryFormat, architecture: Architecture) -> BinaryFormat
-    ensures { result ≡ wasm_or format architecture }
+    ensures { result ≡ spec.wasm_or format architecture }
 {
     match architecture {
         Architecture::Wasm32 | Architecture::Wasm64 => BinaryFormat::Wasm,

@@ -1,7 +1,7 @@
 //! Strings that are spelled like triples, as GNU's config.sub completes them.
 ghost use Rattle.std.specs.Prelude.{◌≡◌, option_map};
 ghost use Rattle.target_lexicon.specs.ValuesRef.{values_of_ref};
-ghost use Rattle.tool_names.specs.Gnu.{as_gnu, gnu_reading};
+ghost use Rattle.tool_names.specs.Gnu as spec;
 
 use crate::formats::wasm_or;
 use crate::reading::read;
@@ -9,9 +9,8 @@ use crate::shape::usual_vendor;
 use target_lexicon::{BinaryFormat, Environment, OperatingSystem, TripleRef, VendorRef};
 
 /// The triple that a string means to config.sub. `None` if it isn't spelled like a triple of known names.
-#[tactic(auto, unfolding(crate::specs::Gnu::gnu_reading))]
 pub(crate) fn read_as_gnu(text: &str) -> Option<TripleRef<'static>>
-    ensures { option_map values_of_ref result ≡ gnu_reading text.now }
+    ensures { option_map values_of_ref result ≡ spec.gnu_reading text.now }
 {
     match read(text) {
         Ok(triple) => {
@@ -27,7 +26,7 @@ pub(crate) fn read_as_gnu(text: &str) -> Option<TripleRef<'static>>
 
 /// The triple with what is missing, and the usual vendor.
 fn as_gnu(triple: &TripleRef<'_>) -> TripleRef<'static>
-    ensures { values_of_ref result ≡ as_gnu (values_of_ref triple.now) }
+    ensures { values_of_ref result ≡ spec.as_gnu (values_of_ref triple.now) }
 {
     let operating_system = match triple.operating_system {
         OperatingSystem::Unknown => match triple.environment {

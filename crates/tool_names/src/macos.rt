@@ -1,7 +1,7 @@
 //! The version of macOS after `macos`.
 ghost use Rattle.std.specs.Prelude.{◌≡◌, Some, option_map};
 ghost use Rattle.lexicon_fields.specs.Version.{version_of};
-ghost use Rattle.tool_names.specs.Spelling.{macos_version};
+ghost use Rattle.tool_names.specs.Spelling as spec;
 
 use target_lexicon::DeploymentTarget;
 
@@ -15,7 +15,7 @@ pub(crate) struct MacOsVersion<'a> {
 
 /// The version of a part that is `macos` with a version.
 pub(crate) fn macos_version(part: &str) -> Option<MacOsVersion<'_>>
-    ensures { option_map (λ version. version.text.now) result ≡ macos_version part.entry.now }
+    ensures { option_map (λ version. version.text.now) result ≡ spec.macos_version part.entry.now }
 {
     match part.strip_prefix("macos") {
         Some(text) => match DeploymentTarget::from_text(text) {

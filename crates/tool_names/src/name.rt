@@ -1,7 +1,7 @@
 //! A name of a target in a dialect.
 ghost use Rattle.std.specs.Prelude.{◌≡◌, ◌+◌, ◌≤◌, length, take, IsUtf8, Some, true};
 ghost use Rattle.lexicon_fields.specs.Put.{Puts};
-ghost use Rattle.tool_names.specs.Patterns.{filled, first_text};
+ghost use Rattle.tool_names.specs.Patterns as spec;
 ghost use Rattle.tool_names.specs.Private.{AreInRange, is_short_pattern, numbers_of};
 
 use crate::pattern::Numbers;
@@ -57,7 +57,7 @@ impl Name {
     pub(crate) fn filled(pattern: &str, numbers: Numbers) -> Name
         requires short { is_short_pattern pattern.now ≡ true }
         requires in_range { AreInRange numbers }
-        ensures { name_bytes result ≡ filled pattern.now (numbers_of numbers) }
+        ensures { name_bytes result ≡ spec.filled pattern.now (numbers_of numbers) }
     {
         let mut bytes = [0; MAX_NAME_LENGTH];
         let mut length = 0;
@@ -76,8 +76,8 @@ impl Name {
 
 /// Writes the first number after what ends at `at`, if there is one. Returns the end.
 fn put_first(out: &mut [u8], at: usize, numbers: Numbers) -> usize
-    requires { at + length (first_text (numbers_of numbers)) ≤ length out.old }
-    ensures { Puts (first_text (numbers_of numbers)) out.old at out.new result }
+    requires { at + length (spec.first_text (numbers_of numbers)) ≤ length out.old }
+    ensures { Puts (spec.first_text (numbers_of numbers)) out.old at out.new result }
 {
     match numbers {
         Numbers::NoNumber => at,

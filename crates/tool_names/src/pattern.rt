@@ -1,6 +1,6 @@
 //! Names with numbers: a star in the name of a row is a number.
 ghost use Rattle.std.specs.Prelude.{◌≡◌, length, option_map, if◌then◌else◌};
-ghost use Rattle.tool_names.specs.Patterns.{after_byte, digit_count, is_plain, matched, plain_number, rest_of, star_count, tag_byte};
+ghost use Rattle.tool_names.specs.Patterns as spec;
 ghost use Rattle.tool_names.specs.Private.{AreInRange, numbers_of, with_number};
 
 use std::str::from_utf8;
@@ -15,7 +15,7 @@ pub(crate) enum Numbers {
 
 /// The numbers that a name, or its tag, has where a pattern has stars. `None` if it doesn't have the pattern.
 pub(crate) fn matched(pattern: &[u8], name: &[u8], tags: bool) -> Option<Numbers>
-    ensures { option_map numbers_of result ≡ matched tags pattern.now name.now }
+    ensures { option_map numbers_of result ≡ spec.matched tags pattern.now name.now }
 {
     let mut numbers = Numbers::NoNumber;
     let mut rest = name;
@@ -33,7 +33,7 @@ pub(crate) fn matched(pattern: &[u8], name: &[u8], tags: bool) -> Option<Numbers
 
 /// What follows a byte, which of a tag may be a separator.
 fn after_byte(text: &[u8], byte: u8, tags: bool) -> Option<&[u8]>
-    ensures { option_map (λ rest. rest.now) result ≡ after_byte tags byte text.entry.now }
+    ensures { option_map (λ rest. rest.now) result ≡ spec.after_byte tags byte text.entry.now }
 {
     match text {
         [first, rest @ ..] if byte == key_byte(*first, tags) => Some(rest),
@@ -43,7 +43,7 @@ fn after_byte(text: &[u8], byte: u8, tags: bool) -> Option<&[u8]>
 
 /// How many stars a pattern has.
 pub(crate) fn star_count(pattern: &[u8]) -> usize
-    ensures { result ≡ star_count pattern.now }
+    ensures { result ≡ spec.star_count pattern.now }
 {
     let mut count = 0;
     for byte in pattern {
@@ -69,7 +69,7 @@ impl Numbers {
 
     /// The numbers after the first.
     pub(crate) fn rest(self) -> Numbers
-        ensures { numbers_of result ≡ rest_of (numbers_of self) }
+        ensures { numbers_of result ≡ spec.rest_of (numbers_of self) }
     {
         match self {
             Numbers::NoNumber | Numbers::One(_) => Numbers::NoNumber,
@@ -91,7 +91,7 @@ impl Numbers {
 
 /// The byte by which a name is looked up: in a tag `_` for each separator.
 fn key_byte(byte: u8, tags: bool) -> u8
-    ensures { result ≡ (if tags then tag_byte byte else byte) }
+    ensures { result ≡ (if tags then spec.tag_byte byte else byte) }
 {
     if tags && (byte == b'-' || byte == b'.') {
         b'_'
@@ -102,7 +102,7 @@ fn key_byte(byte: u8, tags: bool) -> u8
 
 /// How many digits a text begins with.
 fn digit_count(text: &[u8]) -> usize
-    ensures { result ≡ digit_count text.now }
+    ensures { result ≡ spec.digit_count text.now }
 {
     let mut end = 0;
     while end < text.len() && text[end].is_ascii_digit() {
@@ -112,9 +112,9 @@ fn digit_count(text: &[u8]) -> usize
 }
 
 fn major_number(digits: &[u8]) -> Option<u16>
-    ensures { result ≡ plain_number 65535 digits.now }
+    ensures { result ≡ spec.plain_number 65535 digits.now }
 {
-    if is_plain(digits) {
+    if begins_as_number(digits) {
         match from_utf8(digits) {
             Ok(text) => text.parse::<u16>().ok(),
             // Digits are UTF-8.
@@ -126,9 +126,9 @@ fn major_number(digits: &[u8]) -> Option<u16>
 }
 
 fn minor_number(digits: &[u8]) -> Option<u8>
-    ensures { result ≡ plain_number 255 digits.now }
+    ensures { result ≡ spec.plain_number 255 digits.now }
 {
-    if is_plain(digits) {
+    if begins_as_number(digits) {
         match from_utf8(digits) {
             Ok(text) => text.parse::<u8>().ok(),
             // Digits are UTF-8.
@@ -140,8 +140,8 @@ fn minor_number(digits: &[u8]) -> Option<u8>
 }
 
 /// Whether a text begins with a digit, which is a zero only if nothing follows it.
-fn is_plain(text: &[u8]) -> bool
-    ensures { result ≡ is_plain text.now }
+fn begins_as_number(text: &[u8]) -> bool
+    ensures { result ≡ spec.begins_as_number text.now }
 {
     match text.first() {
         Some(first) => first.is_ascii_digit() && (*first != b'0' || text.len() == 1),

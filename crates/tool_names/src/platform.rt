@@ -1,7 +1,7 @@
 //! Platforms of container images, as containerd normalises them.
 ghost use Rattle.std.specs.Prelude.{◌≡◌, ◌≤◌, length, option_map};
 ghost use Rattle.std.specs.Str.{str_eq_ignore_ascii_case};
-ghost use Rattle.tool_names.specs.Platforms.{aarch64_variant, are_same_words, arm_variant, is_aarch64, is_x86_64, normal_machine, normal_system, normal_words, row_with_words, word_length, words_of, x86_64_variant};
+ghost use Rattle.tool_names.specs.Platforms as spec;
 ghost use Rattle.tool_names.specs.Private.{platform_words};
 ghost use Rattle.tool_names.specs.Tables.{plain_row, plain_rows, rows_in};
 
@@ -19,7 +19,7 @@ pub(crate) struct Platform<'a> {
 impl<'a> Platform<'a> {
     /// The words of a name.
     fn of(name: &'a [u8]) -> Platform<'a>
-        ensures { platform_words result ≡ words_of name.entry.now }
+        ensures { platform_words result ≡ spec.words_of name.entry.now }
     {
         let (system, rest) = name.split_at(word_length(name));
         let rest = match rest {
@@ -36,7 +36,7 @@ impl<'a> Platform<'a> {
 
     /// The words of the normal form.
     fn normal(self) -> Platform<'a>
-        ensures { platform_words result ≡ normal_words (platform_words self.entry) }
+        ensures { platform_words result ≡ spec.normal_words (platform_words self.entry) }
     {
         let (machine, variant) = normal_machine(self.machine, self.variant);
         Platform {
@@ -48,7 +48,8 @@ impl<'a> Platform<'a> {
 
     /// Whether the words are the same, in any case.
     fn is(self, other: Platform<'_>) -> bool
-        ensures { result ≡ are_same_words (platform_words self.entry) (platform_words other.entry) }
+        ensures { result
+            ≡ spec.are_same_words (platform_words self.entry) (platform_words other.entry) }
     {
         is_word(self.system, other.system)
             && is_word(self.machine, other.machine)
@@ -59,7 +60,7 @@ impl<'a> Platform<'a> {
 /// The first row without a number whose name has the words of a platform's normal form.
 pub(crate) fn row_of_platform(tables: &[&'static [Row]], name: &str) -> Option<Row>
     ensures { option_map plain_row result
-        ≡ row_with_words (rows_in tables.now) (normal_words (words_of name.now)) }
+        ≡ spec.row_with_words (rows_in tables.now) (spec.normal_words (spec.words_of name.now)) }
 {
     row_in_tables(tables, Platform::of(name.as_bytes()).normal())
 }
@@ -67,7 +68,7 @@ pub(crate) fn row_of_platform(tables: &[&'static [Row]], name: &str) -> Option<R
 /// The first such row of several tables.
 fn row_in_tables(tables: &[&'static [Row]], platform: Platform<'_>) -> Option<Row>
     ensures { option_map plain_row result
-        ≡ row_with_words (rows_in tables.now) (platform_words platform.entry) }
+        ≡ spec.row_with_words (rows_in tables.now) (platform_words platform.entry) }
 {
     for rows in tables {
         if let Some(row) = row_with_words(rows, platform) {
@@ -80,7 +81,7 @@ fn row_in_tables(tables: &[&'static [Row]], platform: Platform<'_>) -> Option<Ro
 /// That row of one table.
 fn row_with_words(rows: &[Row], platform: Platform<'_>) -> Option<Row>
     ensures { option_map plain_row result
-        ≡ row_with_words (plain_rows rows.now) (platform_words platform.entry) }
+        ≡ spec.row_with_words (plain_rows rows.now) (platform_words platform.entry) }
 {
     for row in rows {
         let pattern = row.0.as_bytes();
@@ -93,7 +94,7 @@ fn row_with_words(rows: &[Row], platform: Platform<'_>) -> Option<Row>
 
 /// How many bytes come before the first slash.
 fn word_length(text: &[u8]) -> usize
-    ensures counted { result ≡ word_length text.now }
+    ensures counted { result ≡ spec.word_length text.now }
     ensures within { result ≤ length text.now }
 {
     let mut end = 0;
@@ -110,7 +111,7 @@ fn is_word(text: &[u8], word: &[u8]) -> bool
 }
 
 fn normal_system(system: &[u8]) -> &[u8]
-    ensures { result.now ≡ normal_system system.entry.now }
+    ensures { result.now ≡ spec.normal_system system.entry.now }
 {
     if is_word(system, b"macos") {
         b"darwin"
@@ -120,21 +121,21 @@ fn normal_system(system: &[u8]) -> &[u8]
 }
 
 fn is_x86_64(machine: &[u8]) -> bool
-    ensures { result ≡ is_x86_64 machine.now }
+    ensures { result ≡ spec.is_x86_64 machine.now }
 {
     is_word(machine, b"amd64") || is_word(machine, b"x86_64") || is_word(machine, b"x86-64")
 }
 
 fn is_aarch64(machine: &[u8]) -> bool
-    ensures { result ≡ is_aarch64 machine.now }
+    ensures { result ≡ spec.is_aarch64 machine.now }
 {
     is_word(machine, b"arm64") || is_word(machine, b"aarch64")
 }
 
 /// The machine, and its variant.
 fn normal_machine<'a>(machine: &'a [u8], variant: &'a [u8]) -> (&'a [u8], &'a [u8])
-    ensures machine { result.0.now ≡ (normal_machine machine.entry.now variant.entry.now).0 }
-    ensures variant { result.1.now ≡ (normal_machine machine.entry.now variant.entry.now).1 }
+    ensures machine { result.0.now ≡ (spec.normal_machine machine.entry.now variant.entry.now).0 }
+    ensures variant { result.1.now ≡ (spec.normal_machine machine.entry.now variant.entry.now).1 }
 {
     if is_word(machine, b"i386") {
         (b"386", b"")
@@ -154,7 +155,7 @@ fn normal_machine<'a>(machine: &'a [u8], variant: &'a [u8]) -> (&'a [u8], &'a [u
 }
 
 fn x86_64_variant(variant: &[u8]) -> &[u8]
-    ensures { result.now ≡ x86_64_variant variant.entry.now }
+    ensures { result.now ≡ spec.x86_64_variant variant.entry.now }
 {
     if is_word(variant, b"/v1") {
         b""
@@ -164,7 +165,7 @@ fn x86_64_variant(variant: &[u8]) -> &[u8]
 }
 
 fn aarch64_variant(variant: &[u8]) -> &[u8]
-    ensures { result.now ≡ aarch64_variant variant.entry.now }
+    ensures { result.now ≡ spec.aarch64_variant variant.entry.now }
 {
     if is_word(variant, b"/v8") || is_word(variant, b"/8") {
         b""
@@ -174,7 +175,7 @@ fn aarch64_variant(variant: &[u8]) -> &[u8]
 }
 
 fn arm_variant(variant: &[u8]) -> &[u8]
-    ensures { result.now ≡ arm_variant variant.entry.now }
+    ensures { result.now ≡ spec.arm_variant variant.entry.now }
 {
     if is_word(variant, b"") || is_word(variant, b"/7") {
         b"/v7"

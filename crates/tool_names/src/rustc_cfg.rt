@@ -1,9 +1,9 @@
 //! The values of rustc's cfg options for a triple.
 ghost use Rattle.std.specs.Prelude.{◌≡◌, [], List, Some, option_map, ℕ};
 ghost use Rattle.lexicon_fields.specs.VendorRef.{ref_value};
-ghost use Rattle.target_lexicon.specs.Queries.{endianness, pointer_width};
+ghost use Rattle.target_lexicon.specs.Queries as queries;
 ghost use Rattle.target_lexicon.specs.ValuesRef.{values_of_ref};
-ghost use Rattle.tool_names.specs.RustcCfg.{arm_abi, cfg_values, custom_vendor, environment_abi, environment_env, is_musl, is_simulator, is_unix, is_unix_system, listed_env, listed_os, mips32_arch, mips64_abi, mips64_arch, name_line, powerpc64_abi, rustc_cfg, target_abi, target_arch, target_env, target_family, target_os, target_vendor, texts_of, unlisted_system, usual_abi, vendor_abi};
+ghost use Rattle.tool_names.specs.RustcCfg as spec;
 
 use std::fmt;
 use target_lexicon::{
@@ -78,9 +78,8 @@ impl<'a> RustcCfg<'a> {
     ///     assert_eq!(values, (os, env, abi, vendor), "{string}");
     /// }
     /// ```
-    #[tactic(auto, unfolding(crate::specs::RustcCfg::rustc_cfg))]
     pub fn of(triple: &TripleRef<'a>) -> RustcCfg<'a>
-        ensures { cfg_values result ≡ rustc_cfg (values_of_ref triple.now) }
+        ensures { spec.cfg_values result ≡ spec.rustc_cfg (values_of_ref triple.now) }
     {
         RustcCfg {
             target_arch: target_arch(triple.architecture),
@@ -96,11 +95,9 @@ impl<'a> RustcCfg<'a> {
 }
 
 impl fmt::Display for RustcCfg<'_> {
-    ghost use Rattle.tool_names.specs.RustcCfg.{cfg_text};
+    ghost output = { λ it. Some (spec.cfg_text (spec.cfg_values it)) };
 
-    ghost output = { λ it. Some (cfg_text (cfg_values it)) };
-
-    ghost styled_output = { λ it _. Some (cfg_text (cfg_values it)) };
+    ghost styled_output = { λ it _. Some (spec.cfg_text (spec.cfg_values it)) };
 
     fn fmt<W: fmt::Write>(&self, f: &mut fmt::Formatter<W>) -> fmt::Result {
         Line::of("target_abi", self.target_abi).fmt(f)?;
@@ -123,11 +120,10 @@ struct Line<'a> {
 }
 
 impl<'a> Line<'a> {
-    ghost use Rattle.tool_names.specs.RustcCfg.{endian_line, option_line, width_line};
     ghost use Rattle.tool_names.specs.Private.{line_text};
 
     fn of(key: &'static str, value: &'a str) -> Line<'a>
-        ensures { line_text result ≡ option_line key.now value.entry.now }
+        ensures { line_text result ≡ spec.option_line key.now value.entry.now }
     {
         Line {
             key,
@@ -136,7 +132,7 @@ impl<'a> Line<'a> {
     }
 
     fn of_endianness(endianness: Option<Endianness>) -> Line<'a>
-        ensures { line_text result ≡ endian_line endianness }
+        ensures { line_text result ≡ spec.endian_line endianness }
     {
         match endianness {
             Some(endianness) => Line::of("target_endian", endianness.name()),
@@ -145,7 +141,7 @@ impl<'a> Line<'a> {
     }
 
     fn of_width(width: Option<PointerWidth>) -> Line<'a>
-        ensures { line_text result ≡ width_line width }
+        ensures { line_text result ≡ spec.width_line width }
     {
         match width {
             Some(width) => Line::of("target_pointer_width", width.name()),
@@ -188,11 +184,9 @@ impl fmt::Display for Line<'_> {
 struct FamilyLines(&'static [&'static str]);
 
 impl fmt::Display for FamilyLines {
-    ghost use Rattle.tool_names.specs.RustcCfg.{family_lines, texts_of};
+    ghost output = { λ it. Some (spec.family_lines (spec.texts_of it.0.now)) };
 
-    ghost output = { λ it. Some (family_lines (texts_of it.0.now)) };
-
-    ghost styled_output = { λ it _. Some (family_lines (texts_of it.0.now)) };
+    ghost styled_output = { λ it _. Some (spec.family_lines (spec.texts_of it.0.now)) };
 
     fn fmt<W: fmt::Write>(&self, f: &mut fmt::Formatter<W>) -> fmt::Result {
         for family in self.0 {
@@ -207,11 +201,9 @@ impl fmt::Display for FamilyLines {
 struct FamilyNames(&'static [&'static str]);
 
 impl fmt::Display for FamilyNames {
-    ghost use Rattle.tool_names.specs.RustcCfg.{family_names, texts_of};
+    ghost output = { λ it. Some (spec.family_names (spec.texts_of it.0.now)) };
 
-    ghost output = { λ it. Some (family_names (texts_of it.0.now)) };
-
-    ghost styled_output = { λ it _. Some (family_names (texts_of it.0.now)) };
+    ghost styled_output = { λ it _. Some (spec.family_names (spec.texts_of it.0.now)) };
 
     fn fmt<W: fmt::Write>(&self, f: &mut fmt::Formatter<W>) -> fmt::Result {
         for family in self.0 {
@@ -223,7 +215,7 @@ impl fmt::Display for FamilyNames {
 
 /// The line of a family that is an option itself; nothing for any other.
 fn name_line(family: &str) -> &'static str
-    ensures { result.now ≡ name_line family.now }
+    ensures { result.now ≡ spec.name_line family.now }
 {
     match family {
         "unix" => "unix\n",
@@ -233,7 +225,7 @@ fn name_line(family: &str) -> &'static str
 }
 
 fn pointer_width(triple: &TripleRef<'_>) -> Option<PointerWidth>
-    ensures { result ≡ pointer_width (values_of_ref triple.now) }
+    ensures { result ≡ queries.pointer_width (values_of_ref triple.now) }
 {
     match triple.pointer_width() {
         Ok(width) => Some(width),
@@ -242,7 +234,7 @@ fn pointer_width(triple: &TripleRef<'_>) -> Option<PointerWidth>
 }
 
 fn endianness(triple: &TripleRef<'_>) -> Option<Endianness>
-    ensures { result ≡ endianness (values_of_ref triple.now) }
+    ensures { result ≡ queries.endianness (values_of_ref triple.now) }
 {
     match triple.endianness() {
         Ok(endianness) => Some(endianness),
@@ -251,11 +243,9 @@ fn endianness(triple: &TripleRef<'_>) -> Option<Endianness>
 }
 
 impl UnlistedSystem {
-    ghost use Rattle.tool_names.specs.RustcCfg.{is_unix_unlisted, unlisted_env, unlisted_os};
-
     /// The unlisted system of a triple with these fields.
     pub(crate) fn of(vendor: VendorRef<'_>, system: OperatingSystem) -> Option<UnlistedSystem>
-        ensures { result ≡ unlisted_system (ref_value vendor.entry) system }
+        ensures { result ≡ spec.unlisted_system (ref_value vendor.entry) system }
     {
         match (vendor, system) {
             (VendorRef::Custom(text), OperatingSystem::Unknown) => match text {
@@ -269,7 +259,7 @@ impl UnlistedSystem {
     }
 
     fn os(self) -> &'static str
-        ensures { result.now ≡ unlisted_os self }
+        ensures { result.now ≡ spec.unlisted_os self }
     {
         match self {
             UnlistedSystem::Nuttx => "nuttx",
@@ -279,7 +269,7 @@ impl UnlistedSystem {
     }
 
     fn env(self) -> &'static str
-        ensures { result.now ≡ unlisted_env self }
+        ensures { result.now ≡ spec.unlisted_env self }
     {
         match self {
             UnlistedSystem::Nuttx => "",
@@ -289,7 +279,7 @@ impl UnlistedSystem {
     }
 
     fn is_unix(self) -> bool
-        ensures { result ≡ is_unix_unlisted self }
+        ensures { result ≡ spec.is_unix_unlisted self }
     {
         match self {
             UnlistedSystem::Nuttx | UnlistedSystem::Rtems => true,
@@ -298,9 +288,8 @@ impl UnlistedSystem {
     }
 }
 
-#[tactic(auto, unfolding(crate::specs::RustcCfg::target_arch))]
 fn target_arch(architecture: Architecture) -> &'static str
-    ensures { result.now ≡ target_arch architecture }
+    ensures { result.now ≡ spec.target_arch architecture }
 {
     match architecture {
         Architecture::Arm(_) => "arm",
@@ -320,7 +309,7 @@ fn target_arch(architecture: Architecture) -> &'static str
 }
 
 fn mips32_arch(sub: Mips32Architecture) -> &'static str
-    ensures { result.now ≡ mips32_arch sub }
+    ensures { result.now ≡ spec.mips32_arch sub }
 {
     match sub {
         Mips32Architecture::Mips | Mips32Architecture::Mipsel => "mips",
@@ -329,7 +318,7 @@ fn mips32_arch(sub: Mips32Architecture) -> &'static str
 }
 
 fn mips64_arch(sub: Mips64Architecture) -> &'static str
-    ensures { result.now ≡ mips64_arch sub }
+    ensures { result.now ≡ spec.mips64_arch sub }
 {
     match sub {
         Mips64Architecture::Mips64 | Mips64Architecture::Mips64el => "mips64",
@@ -337,9 +326,8 @@ fn mips64_arch(sub: Mips64Architecture) -> &'static str
     }
 }
 
-#[tactic(auto, unfolding(crate::specs::RustcCfg::target_os))]
 fn target_os(triple: &TripleRef<'_>) -> &'static str
-    ensures { result.now ≡ target_os (values_of_ref triple.now) }
+    ensures { result.now ≡ spec.target_os (values_of_ref triple.now) }
 {
     match UnlistedSystem::of(triple.vendor, triple.operating_system) {
         Some(system) => system.os(),
@@ -348,7 +336,7 @@ fn target_os(triple: &TripleRef<'_>) -> &'static str
 }
 
 fn listed_os(system: OperatingSystem, environment: Environment) -> &'static str
-    ensures { result.now ≡ listed_os system environment }
+    ensures { result.now ≡ spec.listed_os system environment }
 {
     match (system, environment) {
         (OperatingSystem::Linux, Environment::Android | Environment::Androideabi) => "android",
@@ -362,9 +350,8 @@ fn listed_os(system: OperatingSystem, environment: Environment) -> &'static str
     }
 }
 
-#[tactic(auto, unfolding(crate::specs::RustcCfg::target_env))]
 fn target_env(triple: &TripleRef<'_>) -> &'static str
-    ensures { result.now ≡ target_env (values_of_ref triple.now) }
+    ensures { result.now ≡ spec.target_env (values_of_ref triple.now) }
 {
     if let Some(env) = environment_env(triple.environment) {
         return env;
@@ -377,7 +364,7 @@ fn target_env(triple: &TripleRef<'_>) -> &'static str
 
 /// The value that an environment states.
 fn environment_env(environment: Environment) -> Option<&'static str>
-    ensures { option_map (λ env. env.now) result ≡ environment_env environment }
+    ensures { option_map (λ env. env.now) result ≡ spec.environment_env environment }
 {
     match environment {
         Environment::Gnu
@@ -405,7 +392,7 @@ fn environment_env(environment: Environment) -> Option<&'static str>
 
 /// The value of a system where the environment states none.
 fn listed_env(architecture: Architecture, system: OperatingSystem) -> &'static str
-    ensures { result.now ≡ listed_env architecture system }
+    ensures { result.now ≡ spec.listed_env architecture system }
 {
     match system {
         OperatingSystem::Espidf | OperatingSystem::Horizon => "newlib",
@@ -425,7 +412,7 @@ fn listed_env(architecture: Architecture, system: OperatingSystem) -> &'static s
 
 /// Whether this is a system of Apple's devices on x86, which only simulators have.
 fn is_simulator(architecture: Architecture, system: OperatingSystem) -> bool
-    ensures { result ≡ is_simulator architecture system }
+    ensures { result ≡ spec.is_simulator architecture system }
 {
     match architecture {
         Architecture::X86_32(_) | Architecture::X86_64 | Architecture::X86_64h => matches!(
@@ -440,9 +427,8 @@ fn is_simulator(architecture: Architecture, system: OperatingSystem) -> bool
     }
 }
 
-#[tactic(auto, unfolding(crate::specs::RustcCfg::target_abi))]
 fn target_abi(triple: &TripleRef<'_>) -> &'static str
-    ensures { result.now ≡ target_abi (values_of_ref triple.now) }
+    ensures { result.now ≡ spec.target_abi (values_of_ref triple.now) }
 {
     if let Some(abi) = vendor_abi(triple) {
         return abi;
@@ -460,7 +446,7 @@ fn target_abi(triple: &TripleRef<'_>) -> &'static str
 /// The ABI that a vendor states.
 fn vendor_abi(triple: &TripleRef<'_>) -> Option<&'static str>
     ensures { option_map {U = List ℕ} (λ abi. abi.now) result
-        ≡ vendor_abi (ref_value triple.now.vendor) triple.now.operating_system
+        ≡ spec.vendor_abi (ref_value triple.now.vendor) triple.now.operating_system
         triple.now.environment }
 {
     match (triple.vendor, triple.operating_system, triple.environment) {
@@ -472,7 +458,7 @@ fn vendor_abi(triple: &TripleRef<'_>) -> Option<&'static str>
 
 /// The ABI that an environment states.
 fn environment_abi(environment: Environment) -> Option<&'static str>
-    ensures { option_map (λ abi. abi.now) result ≡ environment_abi environment }
+    ensures { option_map (λ abi. abi.now) result ≡ spec.environment_abi environment }
 {
     match environment {
         Environment::Androideabi
@@ -502,7 +488,7 @@ fn usual_abi(
     system: OperatingSystem,
     environment: Environment,
 ) -> &'static str
-    ensures { result.now ≡ usual_abi architecture system environment }
+    ensures { result.now ≡ spec.usual_abi architecture system environment }
 {
     match architecture {
         Architecture::Arm(_) => arm_abi(system, environment),
@@ -520,7 +506,7 @@ fn usual_abi(
 }
 
 fn arm_abi(system: OperatingSystem, environment: Environment) -> &'static str
-    ensures { result.now ≡ arm_abi system environment }
+    ensures { result.now ≡ spec.arm_abi system environment }
 {
     match (system, environment) {
         (OperatingSystem::Freebsd | OperatingSystem::Horizon, _) => "eabihf",
@@ -530,7 +516,7 @@ fn arm_abi(system: OperatingSystem, environment: Environment) -> &'static str
 }
 
 fn mips64_abi(system: OperatingSystem) -> &'static str
-    ensures { result.now ≡ mips64_abi system }
+    ensures { result.now ≡ spec.mips64_abi system }
 {
     match system {
         OperatingSystem::Linux => "abi64",
@@ -539,7 +525,7 @@ fn mips64_abi(system: OperatingSystem) -> &'static str
 }
 
 fn powerpc64_abi(system: OperatingSystem, environment: Environment) -> &'static str
-    ensures { result.now ≡ powerpc64_abi system environment }
+    ensures { result.now ≡ spec.powerpc64_abi system environment }
 {
     match system {
         OperatingSystem::Aix => "vec-extabi",
@@ -557,7 +543,7 @@ fn powerpc64_abi(system: OperatingSystem, environment: Environment) -> &'static 
 }
 
 fn is_musl(environment: Environment) -> bool
-    ensures { result ≡ is_musl environment }
+    ensures { result ≡ spec.is_musl environment }
 {
     matches!(
         environment,
@@ -565,10 +551,9 @@ fn is_musl(environment: Environment) -> bool
     )
 }
 
-#[tactic(auto, unfolding(crate::specs::RustcCfg::target_family))]
 fn target_family(triple: &TripleRef<'_>) -> &'static [&'static str]
-    ensures { texts_of result.now
-        ≡ target_family (values_of_ref triple.now) }
+    ensures { spec.texts_of result.now
+        ≡ spec.target_family (values_of_ref triple.now) }
 {
     let is_unix = is_unix(triple);
     match (triple.architecture, triple.operating_system) {
@@ -594,9 +579,8 @@ fn target_family(triple: &TripleRef<'_>) -> &'static [&'static str]
 /// assert!(is_unix(&TripleRef::from_str("x86_64-pc-cygwin").unwrap()));
 /// assert!(!is_unix(&TripleRef::from_str("wasm32-wasip1").unwrap()));
 /// ```
-#[tactic(auto, unfolding(crate::specs::RustcCfg::is_unix))]
 pub fn is_unix(triple: &TripleRef<'_>) -> bool
-    ensures { result ≡ is_unix (values_of_ref triple.now) }
+    ensures { result ≡ spec.is_unix (values_of_ref triple.now) }
 {
     match UnlistedSystem::of(triple.vendor, triple.operating_system) {
         Some(system) => system.is_unix(),
@@ -605,7 +589,7 @@ pub fn is_unix(triple: &TripleRef<'_>) -> bool
 }
 
 fn is_unix_system(system: OperatingSystem) -> bool
-    ensures { result ≡ is_unix_system system }
+    ensures { result ≡ spec.is_unix_system system }
 {
     match system {
         OperatingSystem::Aix
@@ -651,14 +635,13 @@ fn is_unix_system(system: OperatingSystem) -> bool
     }
 }
 
-#[tactic(auto, unfolding(crate::specs::RustcCfg::target_vendor))]
 fn target_vendor<'a>(triple: &TripleRef<'a>) -> &'a str
-    ensures { result.now ≡ target_vendor (values_of_ref triple.now) }
+    ensures { result.now ≡ spec.target_vendor (values_of_ref triple.now) }
 {
     match UnlistedSystem::of(triple.vendor, triple.operating_system) {
         Some(_) => "unknown",
         None => match triple.vendor {
-            VendorRef::Known(known) => known.as_str(),
+            VendorRef::Known(known) => known.name(),
             VendorRef::Custom(text) => custom_vendor(text),
         },
     }
@@ -666,7 +649,7 @@ fn target_vendor<'a>(triple: &TripleRef<'a>) -> &'a str
 
 /// The vendor that a custom one is for rustc.
 fn custom_vendor(text: &str) -> &str
-    ensures { result.now ≡ custom_vendor text.entry.now }
+    ensures { result.now ≡ spec.custom_vendor text.entry.now }
 {
     match text {
         "esp" | "esp32" | "esp32s2" | "esp32s3" => "espressif",

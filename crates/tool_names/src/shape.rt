@@ -1,7 +1,7 @@
 //! The shape of a triple in a dialect.
 ghost use Rattle.std.specs.Prelude.{◌≡◌, option_map};
 ghost use Rattle.target_lexicon.specs.ValuesRef.{values_of_ref};
-ghost use Rattle.tool_names.specs.Shape.{abi_by, abi_on_systems, arm_of_linux, arm_of_order, arm_of_version, arm_of_windows, is_bare_abi, is_dropped_abi, machine_by, machine_of_rustc, shape, shape_by, system_by, two_numbers, unversioned, unversioned_machine, usual_vendor, with_two_numbers};
+ghost use Rattle.tool_names.specs.Shape as spec;
 
 use crate::dialect::Dialect;
 use target_lexicon::{
@@ -62,9 +62,8 @@ impl Dialect {
     /// let triple = TripleRef::from_str("x86_64-acme-linux-musl").unwrap();
     /// assert_eq!(Dialect::Go.shape(&triple).to_string(), "x86_64-unknown-linux");
     /// ```
-    #[tactic(auto, unfolding(crate::specs::Shape::shape))]
     pub fn shape(self, triple: &TripleRef<'_>) -> TripleRef<'static>
-        ensures { values_of_ref result ≡ shape self (values_of_ref triple.now) }
+        ensures { values_of_ref result ≡ spec.shape self (values_of_ref triple.now) }
     {
         self.rules().shape(triple)
     }
@@ -73,7 +72,7 @@ impl Dialect {
 impl Rules {
     /// The triple without what isn't stated.
     pub(crate) fn shape(self, triple: &TripleRef<'_>) -> TripleRef<'static>
-        ensures { values_of_ref result ≡ shape_by self (values_of_ref triple.now) }
+        ensures { values_of_ref result ≡ spec.shape_by self (values_of_ref triple.now) }
     {
         TripleRef {
             architecture: self
@@ -92,7 +91,7 @@ impl Rules {
 impl AbiRule {
     /// The environment without an ABI that isn't stated.
     fn environment(self, operating_system: OperatingSystem, environment: Environment) -> Environment
-        ensures { result ≡ abi_by self operating_system environment }
+        ensures { result ≡ spec.abi_by self operating_system environment }
     {
         let forgotten = match self {
             AbiRule::Kept => false,
@@ -118,7 +117,7 @@ impl MachineRule {
         operating_system: OperatingSystem,
         architecture: Architecture,
     ) -> Architecture
-        ensures { result ≡ machine_by self operating_system architecture }
+        ensures { result ≡ spec.machine_by self operating_system architecture }
     {
         match self {
             MachineRule::Order => match architecture {
@@ -136,7 +135,7 @@ impl MachineRule {
 
 /// The architecture without a version. Arm stays.
 fn unversioned_machine(architecture: Architecture) -> Architecture
-    ensures { result ≡ unversioned_machine architecture }
+    ensures { result ≡ spec.unversioned_machine architecture }
 {
     match architecture {
         Architecture::X86_32(_) => Architecture::X86_32(X86_32Architecture::I686),
@@ -150,7 +149,7 @@ fn unversioned_machine(architecture: Architecture) -> Architecture
 
 /// The architecture by which rustc names a target.
 fn machine_of_rustc(operating_system: OperatingSystem, architecture: Architecture) -> Architecture
-    ensures { result ≡ machine_of_rustc operating_system architecture }
+    ensures { result ≡ spec.machine_of_rustc operating_system architecture }
 {
     match architecture {
         Architecture::Arm(arm) => Architecture::Arm(match operating_system {
@@ -174,7 +173,7 @@ fn machine_of_rustc(operating_system: OperatingSystem, architecture: Architectur
 
 /// The Arm by which rustc names a target of Linux: `arm` is Armv6, and Armv8 in 32 bits runs programs of Armv7.
 fn arm_of_linux(arm: ArmArchitecture) -> ArmArchitecture
-    ensures { result ≡ arm_of_linux arm }
+    ensures { result ≡ spec.arm_of_linux arm }
 {
     match arm {
         ArmArchitecture::Armv6
@@ -193,7 +192,7 @@ fn arm_of_linux(arm: ArmArchitecture) -> ArmArchitecture
 
 /// The Arm by which rustc names a target of Windows, which has needed Armv7 from the first.
 fn arm_of_windows(arm: ArmArchitecture) -> ArmArchitecture
-    ensures { result ≡ arm_of_windows arm }
+    ensures { result ≡ spec.arm_of_windows arm }
 {
     match arm {
         ArmArchitecture::Arm | ArmArchitecture::Armv7 | ArmArchitecture::Armv7a => {
@@ -204,7 +203,7 @@ fn arm_of_windows(arm: ArmArchitecture) -> ArmArchitecture
 }
 
 fn system_by(versions: bool, operating_system: OperatingSystem) -> OperatingSystem
-    ensures { result ≡ system_by versions operating_system }
+    ensures { result ≡ spec.system_by versions operating_system }
 {
     if versions {
         with_two_numbers(operating_system)
@@ -215,7 +214,7 @@ fn system_by(versions: bool, operating_system: OperatingSystem) -> OperatingSyst
 
 /// One Arm for each byte order.
 fn arm_of_order(arm: ArmArchitecture) -> ArmArchitecture
-    ensures { result ≡ arm_of_order arm }
+    ensures { result ≡ spec.arm_of_order arm }
 {
     match arm {
         ArmArchitecture::Armeb | ArmArchitecture::Armebv7r | ArmArchitecture::Thumbeb => {
@@ -227,7 +226,7 @@ fn arm_of_order(arm: ArmArchitecture) -> ArmArchitecture
 
 /// The versions 5, 6, 7 and 8 of Arm for applications; every other Arm is itself.
 pub(crate) fn arm_of_version(arm: ArmArchitecture) -> ArmArchitecture
-    ensures { result ≡ arm_of_version arm }
+    ensures { result ≡ spec.arm_of_version arm }
 {
     match arm {
         ArmArchitecture::Armv5t | ArmArchitecture::Armv5tej => ArmArchitecture::Armv5te,
@@ -247,7 +246,7 @@ pub(crate) fn arm_of_version(arm: ArmArchitecture) -> ArmArchitecture
 
 /// The environment; without a system the two embedded ABIs are one.
 fn abi_on_systems(operating_system: OperatingSystem, environment: Environment) -> Environment
-    ensures { result ≡ abi_on_systems operating_system environment }
+    ensures { result ≡ spec.abi_on_systems operating_system environment }
 {
     match (operating_system, environment) {
         (OperatingSystem::None_, Environment::Eabihf) => Environment::Eabi,
@@ -257,7 +256,7 @@ fn abi_on_systems(operating_system: OperatingSystem, environment: Environment) -
 
 /// The system without a version; macOS has one name.
 pub(crate) fn unversioned(operating_system: OperatingSystem) -> OperatingSystem
-    ensures { result ≡ unversioned operating_system }
+    ensures { result ≡ spec.unversioned operating_system }
 {
     match operating_system {
         OperatingSystem::Darwin(_) | OperatingSystem::MacOSX(_) => OperatingSystem::Darwin(None),
@@ -272,7 +271,7 @@ pub(crate) fn unversioned(operating_system: OperatingSystem) -> OperatingSystem
 
 /// The system without a version, except that macOS and iOS have two numbers of it.
 fn with_two_numbers(operating_system: OperatingSystem) -> OperatingSystem
-    ensures { result ≡ with_two_numbers operating_system }
+    ensures { result ≡ spec.with_two_numbers operating_system }
 {
     match operating_system {
         OperatingSystem::MacOSX(version) => OperatingSystem::MacOSX(two_numbers_of(version)),
@@ -283,7 +282,7 @@ fn with_two_numbers(operating_system: OperatingSystem) -> OperatingSystem
 
 /// A version without its third number.
 fn two_numbers_of(version: Option<DeploymentTarget>) -> Option<DeploymentTarget>
-    ensures { result ≡ option_map two_numbers version }
+    ensures { result ≡ option_map spec.two_numbers version }
 {
     match version {
         Some(version) => Some(DeploymentTarget {
@@ -296,7 +295,7 @@ fn two_numbers_of(version: Option<DeploymentTarget>) -> Option<DeploymentTarget>
 
 /// The vendor that triples on a system usually have.
 pub(crate) fn usual_vendor(operating_system: OperatingSystem) -> KnownVendor
-    ensures { result ≡ usual_vendor operating_system }
+    ensures { result ≡ spec.usual_vendor operating_system }
 {
     match operating_system {
         OperatingSystem::Darwin(_)
@@ -316,7 +315,7 @@ pub(crate) fn usual_vendor(operating_system: OperatingSystem) -> KnownVendor
 
 /// Whether an environment states only an embedded ABI, or none.
 fn is_bare_abi(environment: Environment) -> bool
-    ensures { result ≡ is_bare_abi environment }
+    ensures { result ≡ spec.is_bare_abi environment }
 {
     matches!(
         environment,
@@ -326,7 +325,7 @@ fn is_bare_abi(environment: Environment) -> bool
 
 /// Whether an environment states a C library, or how floating-point numbers are passed.
 fn is_dropped_abi(environment: Environment) -> bool
-    ensures { result ≡ is_dropped_abi environment }
+    ensures { result ≡ spec.is_dropped_abi environment }
 {
     match environment {
         Environment::Gnu

@@ -1,7 +1,7 @@
 //! From a name in one dialect to the name in another.
 ghost use Rattle.std.specs.Prelude.{◌≡◌};
 ghost use Rattle.target_lexicon.specs.ValuesRef.{values_of_ref};
-ghost use Rattle.tool_names.specs.Translation.{completed_if, has_name_with, translate_outcome, translation, why_unnamed, write_outcome, written};
+ghost use Rattle.tool_names.specs.Translation as spec;
 
 use crate::completion::{LinuxLibc, complete};
 use crate::dialect::Dialect;
@@ -64,13 +64,13 @@ impl Dialect {
     /// let name = Dialect::Node.write_with(&triple, Some(LinuxLibc::Musl)).unwrap();
     /// assert_eq!(name.as_str(), "linux-arm64-musl");
     /// ```
-    #[tactic(auto, unfolding(crate::specs::Translation::written))]
     pub fn write_with(
         self,
         triple: &TripleRef<'_>,
         c_library: Option<LinuxLibc>,
     ) -> Result<Name, WriteError>
-        ensures { write_outcome result ≡ written self c_library (values_of_ref triple.now) }
+        ensures { spec.write_outcome result
+            ≡ spec.written self c_library (values_of_ref triple.now) }
     {
         match self.write(&completed_if(triple, c_library)) {
             Some(name) => Ok(name),
@@ -99,14 +99,13 @@ impl Dialect {
     /// let name = Dialect::Debian.translate("arm64", None, Dialect::Oci);
     /// assert_eq!(name.unwrap().as_str(), "linux/arm64");
     /// ```
-    #[tactic(auto, unfolding(crate::specs::Translation::translation))]
     pub fn translate(
         self,
         name: &str,
         c_library: Option<LinuxLibc>,
         to: Dialect,
     ) -> Result<Name, TranslateError>
-        ensures { translate_outcome result ≡ translation self name.now c_library to }
+        ensures { spec.translate_outcome result ≡ spec.translation self name.now c_library to }
     {
         match self.read(name) {
             Ok(triple) => match to.write_with(&triple, c_library) {
@@ -119,7 +118,7 @@ impl Dialect {
 
     /// Why a triple without a name has none.
     fn why_unnamed(self, triple: &TripleRef<'_>, c_library: Option<LinuxLibc>) -> WriteError
-        ensures { result ≡ why_unnamed self c_library (values_of_ref triple.now) }
+        ensures { result ≡ spec.why_unnamed self c_library (values_of_ref triple.now) }
     {
         match c_library {
             None => {
@@ -137,7 +136,7 @@ impl Dialect {
 
     /// Whether a triple has a name with this C library.
     fn has_name_with(self, triple: &TripleRef<'_>, c_library: LinuxLibc) -> bool
-        ensures { result ≡ has_name_with self c_library (values_of_ref triple.now) }
+        ensures { result ≡ spec.has_name_with self c_library (values_of_ref triple.now) }
     {
         self.write(&complete(triple, c_library)).is_some()
     }
@@ -145,7 +144,7 @@ impl Dialect {
 
 /// The triple with the C library that is said, if one is.
 fn completed_if<'a>(triple: &TripleRef<'a>, c_library: Option<LinuxLibc>) -> TripleRef<'a>
-    ensures { values_of_ref result ≡ completed_if c_library (values_of_ref triple.now) }
+    ensures { values_of_ref result ≡ spec.completed_if c_library (values_of_ref triple.now) }
 {
     match c_library {
         Some(c_library) => complete(triple, c_library),

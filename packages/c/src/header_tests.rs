@@ -53,7 +53,7 @@ fn the_enumerators_are_the_values() {
 #[test]
 fn the_dialects_are_those_of_the_library() {
     let (found, cpp_found) = (enumerators(HEADER, "LEXICON_DIALECT_"), cpp_names("Dialect"));
-    let names: Vec<_> = (0..).map_while(dialect_at).map(|it| it.map_or("none", |it| it.as_str())).collect();
+    let names: Vec<_> = (0..).map_while(dialect_at).map(|it| it.map_or("none", |it| it.name())).collect();
     assert_eq!(found.len(), names.len());
     assert_eq!(cpp_found[1..], names[1..]);
     for (number, name) in (0..).zip(names) {
@@ -149,7 +149,7 @@ fn the_answers_for_a_driver_are_those_of_the_library() {
         }
     }
     assert_eq!((libraries.len(), seen), (10, [true; 10]));
-    let found: Vec<_> = (0..).map_while(c_library_at).map(|it| it.map_or("", |it| it.as_str())).collect();
+    let found: Vec<_> = (0..).map_while(c_library_at).map(|it| it.map_or("", |it| it.name())).collect();
     assert_eq!(said, found);
 }
 

@@ -287,7 +287,7 @@ pub fn elsewhere(triple: &TripleRef<'_>) -> Object {
     let name = |dialect: Dialect| dialect.write(triple).map(|name| name.to_string());
     DIALECTS[ONLY_READ..]
         .iter()
-        .map(|dialect| (dialect.as_str(), name(*dialect).into()))
+        .map(|dialect| (dialect.name(), name(*dialect).into()))
         .collect()
 }
 

@@ -71,7 +71,7 @@ fn version(text: &str) -> Result<Version, ParseIntError> {
 fn words(dialects: &[Dialect]) -> impl Iterator<Item = PossibleValue> + '_ {
     dialects.iter().map(|dialect| {
         let others = OTHER_NAMES.iter().filter(|(_, of)| of == dialect);
-        PossibleValue::new(dialect.as_str()).aliases(others.map(|(name, _)| *name))
+        PossibleValue::new(dialect.name()).aliases(others.map(|(name, _)| *name))
     })
 }
 

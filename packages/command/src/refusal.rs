@@ -72,7 +72,7 @@ pub fn read(text: &str, from: From) -> Result<TripleRef<'_>, Refusal<'_>> {
 
 /// What a name means in each dialect that has it, and as a string that is spelled like a triple.
 pub fn meanings(text: &str) -> Result<Vec<(&'static str, TripleRef<'_>)>, Refusal<'_>> {
-    let of_dialect = |dialect: Dialect| Some((dialect.as_str(), dialect.read(text).ok()?));
+    let of_dialect = |dialect: Dialect| Some((dialect.name(), dialect.read(text).ok()?));
     let mut meanings: Vec<_> = DIALECTS.into_iter().filter_map(of_dialect).collect();
     if let Ok(triple) = tool_names::read(text) {
         meanings.insert(0, ("triple", triple));

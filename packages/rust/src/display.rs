@@ -5,19 +5,19 @@ use crate::{
 };
 use core::fmt;
 
-/// `Display` as the string that a method returns.
+/// `Display` as the name.
 macro_rules! display {
-    ($($name:ident: $method:ident),*) => {$(
-        impl fmt::Display for $name {
+    ($($value:ident),*) => {$(
+        impl fmt::Display for $value {
             #[inline]
             fn fmt(&self, f: &mut fmt::Formatter<'_>) -> fmt::Result {
-                f.pad(self.$method())
+                f.pad(self.name())
             }
         }
     )*};
 }
 
-display!(CDataModel: name, CallingConvention: name, Endianness: name, KnownVendor: as_str, PointerWidth: name);
+display!(CDataModel, CallingConvention, Endianness, KnownVendor, PointerWidth);
 
 impl fmt::Display for Field {
     /// The words for the field in errors, such as `operating system`.

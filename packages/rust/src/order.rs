@@ -30,7 +30,7 @@ macro_rules! order {
 
 order! {
     Architecture, it => it.name();
-    KnownVendor, it => it.as_str();
+    KnownVendor, it => it.name();
     CustomVendor, it => it.as_str();
     VendorRef<'_>, it => (it.as_str(), it.is_custom());
     Vendor, it => it.as_vendor_ref();

@@ -51,7 +51,7 @@ pub fn name_at(field: Field, number: u32) -> Option<&'static str> {
             None => None,
         },
         Field::Vendor => match known_vendor_at(number) {
-            Some(value) => Some(value.as_str()),
+            Some(value) => Some(value.name()),
             None => None,
         },
         Field::OperatingSystem => match operating_system_at(number, None) {

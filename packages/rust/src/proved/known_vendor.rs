@@ -83,10 +83,10 @@ impl KnownVendor {
     /// # Examples
     ///
     /// ```
-    /// assert_eq!(target_lexicon::KnownVendor::Pc.as_str(), "pc");
+    /// assert_eq!(target_lexicon::KnownVendor::Pc.name(), "pc");
     /// ```
     #[must_use]
-    pub const fn as_str(self) -> &'static str {
+    pub const fn name(self) -> &'static str {
         match self {
             KnownVendor::Unknown => "unknown",
             KnownVendor::Amd => "amd",

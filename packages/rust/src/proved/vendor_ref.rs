@@ -65,7 +65,7 @@ impl<'a> VendorRef<'a> {
     #[must_use]
     pub const fn as_str(&self) -> &'a str {
         match *self {
-            VendorRef::Known(known) => known.as_str(),
+            VendorRef::Known(known) => known.name(),
             VendorRef::Custom(text) => text,
         }
     }

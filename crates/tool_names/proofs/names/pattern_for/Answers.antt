@@ -1,5 +1,5 @@
 -- One more table, which has a row for the triple or hasn't.
-use Rattle.std.proofs.Common.{◌<◌, ◌∙◌, ap, arith, length, sym, drop, ◌+◌}
+use Rattle.std.proofs.Common.{◌<◌, ◌∙◌, ap, arith, length, sym}
 use Rattle.std.specs.Prelude.{option_map}
 use Rattle.tool_names.specs.Tables.{Row, is_written_for}
 use Rattle.tool_names.proofs.TableLemmas.{first_more, no_pattern, pattern_of_first}

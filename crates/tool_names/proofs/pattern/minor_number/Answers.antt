@@ -7,7 +7,7 @@ use Rattle.tool_names.proofs.pattern.minor_number.Goals as goal
 pub returns-in-Ok : goal.returns-in-Ok
 returns-in-Ok c =
     c.ok.ensures.value ∙ sym (number_read 8 255 c.in-Ok.text.now _ _ refl c.parse.ensures.value.0 refl) ∙ ap (piece_number_within 255) c.in-Ok.ensures.cases.0
-    ∙ plain_number-piece 255 c.args.digits.now (sym c.is_plain.ensures ∙ c.if-is_plain.true)
+    ∙ plain_number-piece 255 c.args.digits.now (sym c.begins_as_number.ensures ∙ c.if-begins_as_number.true)
 
 pub returns-in-Err : goal.returns-in-Err
 returns-in-Err c = sym (not_utf8-none 255 c.args.digits.now c.in-Err.ensures.cases.0)

@@ -31,10 +31,10 @@ impl LinuxLibc {
     /// # Examples
     ///
     /// ```
-    /// assert_eq!(target_lexicon::tool_names::LinuxLibc::Musl.as_str(), "musl");
+    /// assert_eq!(target_lexicon::tool_names::LinuxLibc::Musl.name(), "musl");
     /// ```
     #[must_use]
-    pub fn as_str(self) -> &'static str {
+    pub fn name(self) -> &'static str {
         match self {
             LinuxLibc::Glibc => "glibc",
             LinuxLibc::Musl => "musl",
@@ -92,7 +92,7 @@ impl FromStr for LinuxLibc {
 
 impl fmt::Display for LinuxLibc {
     fn fmt(&self, f: &mut fmt::Formatter<'_>) -> fmt::Result {
-        f.write_str(self.as_str())
+        f.write_str(self.name())
     }
 }
 

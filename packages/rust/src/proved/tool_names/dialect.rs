@@ -57,10 +57,10 @@ impl Dialect {
     /// # Examples
     ///
     /// ```
-    /// assert_eq!(target_lexicon::tool_names::Dialect::Go.as_str(), "go");
+    /// assert_eq!(target_lexicon::tool_names::Dialect::Go.name(), "go");
     /// ```
     #[must_use]
-    pub const fn as_str(self) -> &'static str {
+    pub const fn name(self) -> &'static str {
         match self {
             Dialect::Debian => "debian",
             Dialect::Go => "go",
@@ -116,6 +116,6 @@ impl FromStr for Dialect {
 
 impl fmt::Display for Dialect {
     fn fmt(&self, f: &mut fmt::Formatter<'_>) -> fmt::Result {
-        f.write_str(self.as_str())
+        f.write_str(self.name())
     }
 }

@@ -97,7 +97,7 @@ fn digit_count(text: &[u8]) -> usize {
 }
 
 fn major_number(digits: &[u8]) -> Option<u16> {
-    if is_plain(digits) {
+    if begins_as_number(digits) {
         match from_utf8(digits) {
             Ok(text) => text.parse::<u16>().ok(),
             // Digits are UTF-8.
@@ -109,7 +109,7 @@ fn major_number(digits: &[u8]) -> Option<u16> {
 }
 
 fn minor_number(digits: &[u8]) -> Option<u8> {
-    if is_plain(digits) {
+    if begins_as_number(digits) {
         match from_utf8(digits) {
             Ok(text) => text.parse::<u8>().ok(),
             // Digits are UTF-8.
@@ -121,7 +121,7 @@ fn minor_number(digits: &[u8]) -> Option<u8> {
 }
 
 /// Whether a text begins with a digit, which is a zero only if nothing follows it.
-fn is_plain(text: &[u8]) -> bool {
+fn begins_as_number(text: &[u8]) -> bool {
     match text.first() {
         Some(first) => first.is_ascii_digit() && (*first != b'0' || text.len() == 1),
         None => false,

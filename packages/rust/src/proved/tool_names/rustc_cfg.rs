@@ -559,7 +559,7 @@ fn target_vendor<'a>(triple: &TripleRef<'a>) -> &'a str {
     match UnlistedSystem::of(triple.vendor, triple.operating_system) {
         Some(_) => "unknown",
         None => match triple.vendor {
-            VendorRef::Known(known) => known.as_str(),
+            VendorRef::Known(known) => known.name(),
             VendorRef::Custom(text) => custom_vendor(text),
         },
     }

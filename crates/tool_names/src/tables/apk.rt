@@ -1,0 +1,31 @@
+//! Architectures of Alpine's packages, which has musl: `x86_64`, `armhf`. Written by tools/names/write.
+ghost use Rattle.std.specs.Prelude.{◌≡◌};
+ghost use Rattle.tool_names.specs.Tables.{constant_rows, plain_rows};
+
+use crate::tables::Way::{Both, NoTriple};
+use crate::tables::{Row, Way};
+
+pub(crate) fn rows() -> &'static [Row]
+    ensures { plain_rows result.now ≡ constant_rows ROWS }
+{
+    &ROWS
+}
+
+#[rattlefmt::skip]
+static ROWS: [(&str, &str, Way); 15] = [
+    ("x86_64", "x86_64-unknown-linux-musl", Both),
+    ("x86", "i686-unknown-linux-musl", Both),
+    ("aarch64", "aarch64-unknown-linux-musl", Both),
+    ("armv7", "armv7-unknown-linux-musleabihf", Both),
+    ("armhf", "armv6-unknown-linux-musleabihf", Both),
+    ("armel", "armv5te-unknown-linux-musleabi", Both),
+    ("loongarch64", "loongarch64-unknown-linux-musl", Both),
+    ("mips64", "mips64-unknown-linux-muslabi64", Both),
+    ("ppc", "powerpc-unknown-linux-musl", Both),
+    ("ppc64", "powerpc64-unknown-linux-musl", Both),
+    ("ppc64le", "powerpc64le-unknown-linux-musl", Both),
+    ("riscv64", "riscv64-unknown-linux-musl", Both),
+    ("s390x", "s390x-unknown-linux-musl", Both),
+    ("noarch", "no machine", NoTriple),
+    ("all", "no machine", NoTriple),
+];

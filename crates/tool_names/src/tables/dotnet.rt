@@ -1,0 +1,85 @@
+//! Identifiers of .NET's runtimes, in its portable list: `linux-x64`, `win-arm64`. Written by tools/names/write.
+ghost use Rattle.std.specs.Prelude.{◌≡◌};
+ghost use Rattle.tool_names.specs.Tables.{constant_rows, plain_rows};
+
+use crate::tables::Way::{Both, NoTriple, Read};
+use crate::tables::{Row, Way};
+
+pub(crate) fn rows() -> &'static [Row]
+    ensures { plain_rows result.now ≡ constant_rows ROWS }
+{
+    &ROWS
+}
+
+#[rattlefmt::skip]
+static ROWS: [(&str, &str, Way); 69] = [
+    ("linux-x64", "x86_64-unknown-linux-gnu", Both),
+    ("linux-x86", "i686-unknown-linux-gnu", Both),
+    ("linux-arm64", "aarch64-unknown-linux-gnu", Both),
+    ("linux-s390x", "s390x-unknown-linux-gnu", Both),
+    ("linux-ppc64le", "powerpc64le-unknown-linux-gnu", Both),
+    ("linux-riscv64", "riscv64-unknown-linux-gnu", Both),
+    ("linux-loongarch64", "loongarch64-unknown-linux-gnu", Both),
+    ("linux-arm", "armv7-unknown-linux-gnueabihf", Both),
+    ("linux-armv6", "armv6-unknown-linux-gnueabihf", Both),
+    ("linux-armel", "armv7-unknown-linux-gnueabi", Both),
+    ("linux-musl-x64", "x86_64-unknown-linux-musl", Both),
+    ("linux-musl-x86", "i686-unknown-linux-musl", Both),
+    ("linux-musl-arm64", "aarch64-unknown-linux-musl", Both),
+    ("linux-musl-s390x", "s390x-unknown-linux-musl", Both),
+    ("linux-musl-ppc64le", "powerpc64le-unknown-linux-musl", Both),
+    ("linux-musl-riscv64", "riscv64-unknown-linux-musl", Both),
+    ("linux-musl-loongarch64", "loongarch64-unknown-linux-musl", Both),
+    ("linux-musl-arm", "armv7-unknown-linux-musleabihf", Both),
+    ("alpine-x64", "x86_64-unknown-linux-musl", Read),
+    ("alpine.*.*-x64", "x86_64-unknown-linux-musl", Read),
+    ("linux-bionic-x64", "x86_64-linux-android", Read),
+    ("alpine-arm64", "aarch64-unknown-linux-musl", Read),
+    ("alpine.*.*-arm64", "aarch64-unknown-linux-musl", Read),
+    ("linux-bionic-arm64", "aarch64-linux-android", Read),
+    ("android-x64", "x86_64-linux-android", Both),
+    ("android-x86", "i686-linux-android", Both),
+    ("android-arm64", "aarch64-linux-android", Both),
+    ("android-arm", "armv7-linux-androideabi", Both),
+    ("win-x64", "x86_64-pc-windows", Both),
+    ("win10-x64", "x86_64-pc-windows", Read),
+    ("win7-x64", "x86_64-pc-windows", Read),
+    ("win8-x64", "x86_64-pc-windows", Read),
+    ("win81-x64", "x86_64-pc-windows", Read),
+    ("win-x86", "i686-pc-windows", Both),
+    ("win10-x86", "i686-pc-windows", Read),
+    ("win7-x86", "i686-pc-windows", Read),
+    ("win8-x86", "i686-pc-windows", Read),
+    ("win81-x86", "i686-pc-windows", Read),
+    ("win-arm64", "aarch64-pc-windows", Both),
+    ("win10-arm64", "aarch64-pc-windows", Read),
+    ("win-arm", "armv7-pc-windows", Both),
+    ("win10-arm", "armv7-pc-windows", Read),
+    ("win8-arm", "armv7-pc-windows", Read),
+    ("win81-arm", "armv7-pc-windows", Read),
+    ("osx-x64", "x86_64-apple-darwin", Both),
+    ("osx.*.*-x64", "x86_64-apple-macosx", Read),
+    ("maccatalyst-x64", "x86_64-apple-ios-macabi", Both),
+    ("iossimulator-x64", "x86_64-apple-ios-sim", Both),
+    ("tvossimulator-x64", "x86_64-apple-tvos-sim", Both),
+    ("freebsd-x64", "x86_64-unknown-freebsd", Both),
+    ("osx-arm64", "aarch64-apple-darwin", Both),
+    ("osx.*.*-arm64", "aarch64-apple-macosx", Read),
+    ("maccatalyst-arm64", "aarch64-apple-ios-macabi", Both),
+    ("iossimulator-arm64", "aarch64-apple-ios-sim", Both),
+    ("tvossimulator-arm64", "aarch64-apple-tvos-sim", Both),
+    ("freebsd-arm64", "aarch64-unknown-freebsd", Both),
+    ("ios-arm64", "aarch64-apple-ios", Both),
+    ("tvos-arm64", "aarch64-apple-tvos", Both),
+    ("illumos-x64", "x86_64-unknown-illumos", Both),
+    ("solaris-x64", "x86_64-pc-solaris", Both),
+    ("haiku-x64", "x86_64-unknown-haiku", Both),
+    ("browser-wasm", "wasm32-unknown-emscripten", Read),
+    ("wasi-wasm", "wasm32-wasi", Read),
+    ("any", "no machine", NoTriple),
+    ("linux", "no machine", NoTriple),
+    ("linux-musl", "no machine", NoTriple),
+    ("osx", "no machine", NoTriple),
+    ("unix", "no machine", NoTriple),
+    ("win", "no machine", NoTriple),
+];
