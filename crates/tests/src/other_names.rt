@@ -39,7 +39,6 @@ macos14=macosx14
 macos14.=macosx
 macos.11.0=macosx
 macosx.11.0=macosx
-macosx11-=
 iso17x=
 ios17x=ios
 ios17é=ios
