@@ -154,32 +154,34 @@ fn strings_of_tools_are_read(rt: HostRuntime) {
     }
 }
 
-/// Strings whose second part is a system that isn't known.
+/// Strings whose second part is a system that isn't known, and that part.
 const OTHER_SYSTEMS: &str = "\
-x86_64-macos.11.0
-x86_64-macosx.11-gnu
-x86_64-windows.win10
-x86_64-linux5.10
-x86_64-linux5.10-gnu
-x86_64-darwin23.0.0.0
-x86_64-freebsd14.0_beta
-x86_64-netbsdelf10.0_beta
-arm-nuttx-eabi
-arm-rtems6-eabihf
-arm-rtems
-wasm32-wasip3
-wasm32-wasip1.5";
+x86_64-macos.11.0=macos.11.0
+x86_64-macosx.11-gnu=macosx.11
+x86_64-windows.win10=windows.win10
+x86_64-linux5.10=linux5.10
+x86_64-linux5.10-gnu=linux5.10
+x86_64-darwin23.0.0.0=darwin23.0.0.0
+x86_64-freebsd14.0_beta=freebsd14.0_beta
+x86_64-netbsdelf10.0_beta=netbsdelf10.0_beta
+arm-nuttx-eabi=nuttx
+arm-rtems6-eabihf=rtems6
+arm-rtems=rtems
+wasm32-wasip3=wasip3
+wasm32-wasip1.5=wasip1.5";
 
 #[test]
 fn other_systems_are_no_vendors(rt: HostRuntime) {
-    for text in OTHER_SYSTEMS.lines() {
-        match read(text) {
-            Ok(_) => panic!(rt; "{text}"),
-            Err(refusal) => assert!(rt;
-                refusal.expected == Some(Field::OperatingSystem)
-                    && text.split('-').nth(1) == Some(refusal.part.text),
-                "{text}"
-            ),
+    for row in OTHER_SYSTEMS.lines() {
+        match row.split_once('=') {
+            Some((text, part)) => match read(text) {
+                Ok(_) => panic!(rt; "{row}"),
+                Err(refusal) => {
+                    assert!(rt; refusal.expected == Some(Field::OperatingSystem), "{row}");
+                    assert!(rt; refusal.part.text == part, "{row}");
+                }
+            },
+            None => panic!(rt; "{row}"),
         }
     }
 }
