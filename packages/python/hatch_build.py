@@ -21,7 +21,8 @@ CARGO_FAILED = "the shared library of this package isn't built: cargo ended with
 
 LICENCES = ("LICENSE", "COPYRIGHT")
 # What an sdist has of the repository, below `native`: what cargo builds the library from, what the tests read, and the licence.
-SOURCES = ("Cargo.toml", "Cargo.lock", *(f"packages/{package}/{name}" for package in ("c", "rust") for name in ("Cargo.toml", "build.rs", "src")))
+SOURCES = ("Cargo.toml", "Cargo.lock", "packages/rust/internal",
+           *(f"packages/{package}/{name}" for package in ("c", "rust") for name in ("Cargo.toml", "build.rs", "src")))
 LISTS = ("packages/c/include", "tools/names/names.tsv", "tools/names/elsewhere.tsv", "checks/known_triples.txt", "checks/target_lines.py",
          "checks/failing_allocator.c", "crates/tests/src")
 
