@@ -13,7 +13,7 @@ use Rattle.tool_names.specs.declared.tables.Way.{Way}
 use Rattle.tool_names.specs.declared.tables.Way.TheVariants.{Both, Read, Written, NoTriple}
 use Rattle.tool_names.specs.{Dialects.rows_of, Private.is_short_pattern, Tables.Row}
 use Rattle.tool_names.specs.Patterns.{all_limits, are_within, filled, first_text, rest_of, star, star_count}
-use Rattle.tool_names.specs.StatedVersion.{VersionedNamesAreRead, has_version, is_read, is_versioned_for, shape_to_version, system_to_version, versioned_name, versioned_row}
+use Rattle.tool_names.specs.StatedVersion.{VersionedNamesAreRead, has_version, is_read, is_versioned_for, shape_to_version, system_to_version, versioned_row}
 use Rattle.tool_names.specs.ToolNames.{name_meaning, read_or_unknown, row_meaning, system_with, with_numbers}
 use Rattle.tool_names.proofs.Filling.{counted_fits}
 use Rattle.tool_names.proofs.NameLaws.{canonical-at, is_free, named-filled, names_mean_rows, no_special-known, one-system, text-row}

@@ -5,9 +5,9 @@ use Rattle.std.specs.List.{join_with_byte}
 use Rattle.std.specs.Str.{bytes_eq}
 use Rattle.lexicon_fields.specs.{Names.dash, Vendor.is_custom}
 use Rattle.target_lexicon.specs.{Explanation.IsInText, Explanation.PlacedPart, Explanation.part_end, Explanation.part_from, Explanation.part_value, Placement.parts_after, Placement.parts_of, Reading.ReadsAs, Values.Values}
-use Rattle.tool_names.specs.{declared.change.Change.Change, declared.change.ChangedParts.ChangedParts, declared.change.Position.Position, declared.spelling.Name.Name, declared.spelling.Spelling.Spelling}
+use Rattle.tool_names.specs.{declared.change.Change.Change, declared.change.ChangedParts.ChangedParts, declared.change.Position.Position, declared.spelling.TripleName.TripleName, declared.spelling.Spelling.Spelling}
 use Rattle.tool_names.specs.declared.change.Position.TheVariants.{First, Second, Later}
-use Rattle.tool_names.specs.declared.spelling.Name.TheVariants.{Text, MacOs}
+use Rattle.tool_names.specs.declared.spelling.TripleName.TheVariants.{Text, MacOs}
 use Rattle.tool_names.specs.Spelling.{SpelledPart, first_at_end, first_spelling, later_parts, later_spelling, macosx_name, other_parts, second_spelling, spelled_parts, spelled_reading, version_after, versioned_spellings}
 
 -- a part of a string, and the names that are read instead
@@ -54,7 +54,7 @@ AreInTheString text (it ∷ others) = IsInText text it.part × AreInTheString te
 abbrev pub ChangedPartsAreInTheString : Type 0
 ChangedPartsAreInTheString = (text : List ℕ) → AreInTheString text (changes text)
 
-abbrev pub name_text : Name → List ℕ
+abbrev pub name_text : TripleName → List ℕ
 name_text (Text text) = text.now
 name_text (MacOs version) = macosx_name version.text.now
 

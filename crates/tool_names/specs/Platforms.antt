@@ -1,6 +1,6 @@
 -- Platforms of container images by containerd's rule: words in any case, other names of systems and machines, and variants that
 -- go without saying.
-use Rattle.std.specs.Prelude.{ℕ, Bool, not, ◌==◌, ◌&&◌, ◌||◌, List, [], ◌∷◌, codes, take, drop, Option, Some, None, if◌then◌else◌}
+use Rattle.std.specs.Prelude.{ℕ, Bool, not, ◌==◌, ◌&&◌, ◌||◌, List, [], codes, take, drop, Option, if◌then◌else◌}
 use Rattle.std.specs.{List.prefix_len, Str.str_eq_ignore_ascii_case}
 use Rattle.tool_names.specs.{Patterns.star_count, Tables.Row, Tables.first_row}
 

@@ -1,5 +1,5 @@
 -- Names that state a version which triples don't have, and which a caller says: of a C library, of Android or of macOS.
-use Rattle.std.specs.Prelude.{◌≡◌, ◌≤◌, ℕ, ◌==◌, ◌&&◌, ◌||◌, Bool, true, false, List, [], ◌∷◌, None, Ok, Option, Some, option_map, if◌then◌else◌}
+use Rattle.std.specs.Prelude.{◌≡◌, ◌≤◌, ℕ, ◌==◌, ◌&&◌, ◌||◌, Bool, true, false, List, [], ◌∷◌, None, Ok, Option, Some, option_map}
 use Rattle.std.specs.Str.{bytes_eq}
 use Rattle.target_lexicon.specs.{Printing.text_of, Values.OperatingSystem, Values.Values}
 use Rattle.target_lexicon.specs.Values.operating_system

@@ -5,7 +5,7 @@ ghost use Rattle.target_lexicon.specs.Placement.{parts_after};
 ghost use Rattle.tool_names.specs.Private.{left_names};
 ghost use Rattle.tool_names.specs.Spelling.{later_names, names_after_first, spelled_by};
 
-use crate::spelling::{Name, Spelling};
+use crate::spelling::{Spelling, TripleName};
 use target_lexicon::first_part;
 
 /// The first name that is left, the others of its part, and what follows the part.
@@ -13,7 +13,7 @@ use target_lexicon::first_part;
 pub(crate) struct Left<'a> {
     /// The string from the part on.
     pub from: &'a str,
-    pub name: Name<'a>,
+    pub name: TripleName<'a>,
     pub others: Option<&'a str>,
     pub rest: Option<&'a str>,
 }
@@ -58,7 +58,7 @@ impl<'a> Left<'a> {
                 let (name, others) = first_part(names);
                 Some(Left {
                     from: self.from,
-                    name: Name::Text(name),
+                    name: TripleName::Text(name),
                     others,
                     rest: self.rest,
                 })

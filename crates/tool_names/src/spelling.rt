@@ -13,7 +13,7 @@ ghost use Rattle.target_lexicon.specs.Resumed.{NamedPart, named, resumed, resume
 ghost use Rattle.target_lexicon.specs.ValuesRef.{values_of_ref};
 ghost use Rattle.tool_names.specs.Changes.{is_only, name_text, spelling_names, spelling_text};
 ghost use Rattle.tool_names.specs.Private.{parts_table, table_of};
-ghost use Rattle.tool_names.specs.Spelling.{first_at_end, first_spelling, first_spellings, has_dropped_version, is_digit_or_dot, is_dropped_version, is_known_name, is_like_system, is_other_system, is_unstated, later_spelling, later_spellings, listed_spelling, may_be_version, may_be_versioned, second_spelling, version_after, version_if_dropped, versioned_spelling, versioned_spellings};
+ghost use Rattle.tool_names.specs.Spelling as spec;
 
 use crate::known_names::names;
 use crate::macos::{MacOsVersion, macos_version};
@@ -25,7 +25,7 @@ use target_lexicon::{
 
 /// The first part of the end of a string, and where it begins in the string.
 pub(crate) fn first_at_end<'a>(text: &str, end: &'a str) -> TextPart<'a>
-    ensures { part_value result ≡ first_at_end text.now (parts_of end.entry.now) }
+    ensures { part_value result ≡ spec.first_at_end text.now (parts_of end.entry.now) }
 {
     let part = first_part(end).0;
     TextPart {
@@ -36,13 +36,12 @@ pub(crate) fn first_at_end<'a>(text: &str, end: &'a str) -> TextPart<'a>
 
 /// Whether a part is a name of some field, other than a custom vendor.
 fn is_known_name(part: &str) -> bool
-    ensures { result ≡ is_known_name part.now }
+    ensures { result ≡ spec.is_known_name part.now }
 {
     fixed_row(part, &mut Steps::new()).is_some() || OperatingSystem::from_str(part).is_ok()
 }
 
 /// The value of the first row with this name.
-#[tactic(auto, using(crate::proofs::LookUps::look_up_goes_on))]
 pub(crate) fn look_up<T: Copy>(rows: &[(&'static str, T)], text: &str) -> Option<T>
     ensures { result ≡ value_named (table_of rows.now) text.now }
 {
@@ -55,16 +54,15 @@ pub(crate) fn look_up<T: Copy>(rows: &[(&'static str, T)], text: &str) -> Option
 }
 
 /// The name of the architecture in the table of first parts.
-#[tactic(auto, using(crate::proofs::LookUps::value_named_seen), unfolding(crate::specs::Spelling::first_spellings))]
 pub(crate) fn listed_architecture(part: &str) -> Option<&'static str>
-    ensures { option_map (λ name. name.now) result ≡ value_named first_spellings part.now }
+    ensures { option_map (λ name. name.now) result ≡ value_named spec.first_spellings part.now }
 {
     look_up(&FIRST_SPELLINGS, part)
 }
 
 /// The name of the architecture that the first part spells.
 pub(crate) fn first_spelling(part: &str) -> &str
-    ensures { result.now ≡ first_spelling part.entry.now }
+    ensures { result.now ≡ spec.first_spelling part.entry.now }
 {
     if Architecture::from_str(part).is_ok() {
         return part;
@@ -77,7 +75,7 @@ pub(crate) fn first_spelling(part: &str) -> &str
 
 /// A name that is read.
 #[derive(Clone, Copy, Debug, PartialEq, Eq)]
-pub(crate) enum Name<'a> {
+pub(crate) enum TripleName<'a> {
     /// A part of the string, or a name that a part spells.
     Text(&'a str),
     /// `macosx` with the version that follows `macos`.
@@ -98,14 +96,13 @@ pub(crate) enum Name<'a> {
 /// ```
 #[derive(Clone, Copy, Debug, PartialEq, Eq)]
 pub struct Spelling<'a> {
-    pub(crate) first: Name<'a>,
+    pub(crate) first: TripleName<'a>,
     /// The others, with dashes between them.
     pub(crate) others: Option<&'a str>,
 }
 
-impl<'a> Name<'a> {
+impl<'a> TripleName<'a> {
     /// Gives the name, which this part spells, to a reading.
-    #[tactic(auto, using(crate::proofs::MacosNames::is_macosx, crate::proofs::MacosNames::no_row))]
     pub(crate) fn give(
         &self,
         reading: &mut Reading<'a>,
@@ -128,8 +125,8 @@ impl<'a> Name<'a> {
         ensures part { IfErr result (λ it. part_value it.part ≡ part_value part.entry) }
     {
         match *self {
-            Name::Text(name) => reading.take(name, part),
-            Name::MacOs(it) => {
+            TripleName::Text(name) => reading.take(name, part),
+            TripleName::MacOs(it) => {
                 reading.take_system(OperatingSystem::MacOSX(Some(it.version)), part)
             }
         }
@@ -140,8 +137,8 @@ impl<'a> Name<'a> {
         ensures { result ≡ bytes_eq (name_text self.now) part.now }
     {
         match *self {
-            Name::Text(name) => name == part,
-            Name::MacOs(version) => match part.strip_prefix("macosx") {
+            TripleName::Text(name) => name == part,
+            TripleName::MacOs(version) => match part.strip_prefix("macosx") {
                 Some(rest) => version.text == rest,
                 None => false,
             },
@@ -149,15 +146,15 @@ impl<'a> Name<'a> {
     }
 }
 
-impl fmt::Display for Name<'_> {
+impl fmt::Display for TripleName<'_> {
     ghost output = { λ it. Some (name_text it) };
 
     ghost styled_output = { λ it _. Some (name_text it) };
 
     fn fmt<W: fmt::Write>(&self, f: &mut fmt::Formatter<W>) -> fmt::Result {
         match *self {
-            Name::Text(name) => f.write_str(name),
-            Name::MacOs(version) => {
+            TripleName::Text(name) => f.write_str(name),
+            TripleName::MacOs(version) => {
                 f.write_str("macosx")?;
                 f.write_str(version.text)
             }
@@ -188,7 +185,7 @@ impl<'a> Spelling<'a> {
         ensures { spelling_names result ≡ name.entry.now ∷ [] }
     {
         Spelling {
-            first: Name::Text(name),
+            first: TripleName::Text(name),
             others: None,
         }
     }
@@ -199,20 +196,20 @@ impl<'a> Spelling<'a> {
     {
         let (first, others) = first_part(names);
         Spelling {
-            first: Name::Text(first),
+            first: TripleName::Text(first),
             others,
         }
     }
 
     /// The names that a second part spells, with this after its dash.
     pub(crate) fn of_second(part: &'a str, rest: Option<&str>) -> Spelling<'a>
-        ensures { spelling_names result ≡ second_spelling part.entry.now (parts_after rest.entry) }
+        ensures { spelling_names result ≡ spec.second_spelling part.entry.now (parts_after rest.entry) }
     {
         if is_unstated(part, rest) {
             Spelling::of("unknown")
         } else if is_other_system(part) {
             Spelling {
-                first: Name::Text("unknown"),
+                first: TripleName::Text("unknown"),
                 others: Some(part),
             }
         } else {
@@ -231,9 +228,8 @@ impl<'a> Spelling<'a> {
     }
 
     /// The names that a part spells that isn't the first. A known name stays.
-    #[tactic(auto, unfolding(crate::specs::Spelling::later_spelling))]
     pub(crate) fn of_later(part: &'a str) -> Spelling<'a>
-        ensures { spelling_names result ≡ later_spelling part.entry.now }
+        ensures { spelling_names result ≡ spec.later_spelling part.entry.now }
     {
         if is_known_name(part) {
             return Spelling::of(part);
@@ -245,16 +241,15 @@ impl<'a> Spelling<'a> {
     }
 
     /// The names that a later part spells, if it is listed.
-    #[tactic(auto, unfolding(crate::specs::Spelling::listed_spelling))]
     fn of_listed(part: &'a str) -> Option<Spelling<'a>>
-        ensures { option_map spelling_names result ≡ listed_spelling part.entry.now }
+        ensures { option_map spelling_names result ≡ spec.listed_spelling part.entry.now }
     {
         if let Some(names) = later_spelling(part) {
             return Some(Spelling::of_row(names));
         }
         if let Some(version) = macos_version(part) {
             return Some(Spelling {
-                first: Name::MacOs(version),
+                first: TripleName::MacOs(version),
                 others: None,
             });
         }
@@ -267,7 +262,7 @@ impl<'a> Spelling<'a> {
 
 /// Whether a second part states no vendor: it is empty, or `none` before the system `linux`.
 fn is_unstated(part: &str, rest: Option<&str>) -> bool
-    ensures { result ≡ is_unstated part.now (parts_after rest.entry) }
+    ensures { result ≡ spec.is_unstated part.now (parts_after rest.entry) }
 {
     if part.is_empty() {
         return true;
@@ -282,9 +277,8 @@ fn is_unstated(part: &str, rest: Option<&str>) -> bool
 const OTHER_SYSTEMS: [&str; 5] = ["macos", "netbsdelf", "nuttx", "rtems", "wasip"];
 
 /// Whether a second part parses as a custom vendor but is a system that isn't known.
-#[tactic(auto, unfolding(crate::specs::Spelling::is_other_system))]
 fn is_other_system(part: &str) -> bool
-    ensures { result ≡ is_other_system part.now }
+    ensures { result ≡ spec.is_other_system part.now }
 {
     is_custom_vendor(part) && Spelling::of_listed(part).is_none() && is_like_system(part)
 }
@@ -300,21 +294,21 @@ fn is_custom_vendor(part: &str) -> bool
 
 /// Whether a part is the name of a system, perhaps with a version.
 fn is_like_system(part: &str) -> bool
-    ensures { result ≡ is_like_system part.now }
+    ensures { result ≡ spec.is_like_system part.now }
 {
     is_one_of(part, names(Field::OperatingSystem)) || is_one_of(part, &OTHER_SYSTEMS)
 }
 
 /// Whether a part is one of these names, perhaps with a version.
 fn is_one_of(part: &str, names: &[&str]) -> bool
-    ensures { result ≡ list_any (λ name. may_be_versioned part.now name.now) names.now }
+    ensures { result ≡ list_any (λ name. spec.may_be_versioned part.now name.now) names.now }
 {
     names.iter().any(|name| may_be_versioned(part, name))
 }
 
 /// Whether a part is this name, or the name with what may be its version.
 fn may_be_versioned(part: &str, name: &str) -> bool
-    ensures { result ≡ may_be_versioned part.now name.now }
+    ensures { result ≡ spec.may_be_versioned part.now name.now }
 {
     match part.strip_prefix(name) {
         Some(version) => may_be_version(version.as_bytes()),
@@ -324,7 +318,7 @@ fn may_be_versioned(part: &str, name: &str) -> bool
 
 /// Whether what follows a name may be a version: it is empty, or begins with a digit or a dot.
 fn may_be_version(text: &[u8]) -> bool
-    ensures { result ≡ may_be_version text.now }
+    ensures { result ≡ spec.may_be_version text.now }
 {
     match text {
         [byte, ..] => is_digit_or_dot(*byte),
@@ -333,19 +327,17 @@ fn may_be_version(text: &[u8]) -> bool
 }
 
 /// The names of the part in the table of later parts.
-#[tactic(auto, using(crate::proofs::LookUps::value_named_seen), unfolding(crate::specs::Spelling::later_spellings))]
 pub(crate) fn later_spelling(part: &str) -> Option<&'static str>
     ensures { option_map (λ names. parts_of names.now) result
-        ≡ value_named later_spellings part.now }
+        ≡ value_named spec.later_spellings part.now }
 {
     look_up(&LATER_SPELLINGS, part)
 }
 
 /// The names of the part in the table of what comes before a version.
-#[tactic(auto, unfolding(crate::specs::Spelling::versioned_spellings))]
 pub(crate) fn versioned_spelling_of(part: &str) -> Option<&'static str>
     ensures { option_map (λ names. parts_of names.now) result
-        ≡ versioned_spelling versioned_spellings part.now }
+        ≡ spec.versioned_spelling spec.versioned_spellings part.now }
 {
     versioned_spelling(&VERSIONED_SPELLINGS, part)
 }
@@ -353,7 +345,7 @@ pub(crate) fn versioned_spelling_of(part: &str) -> Option<&'static str>
 /// The names of the first row that the part begins with, if a version follows.
 fn versioned_spelling(rows: &[(&'static str, &'static str)], part: &str) -> Option<&'static str>
     ensures { option_map (λ names. parts_of names.now) result
-        ≡ versioned_spelling (parts_table rows.now) part.now }
+        ≡ spec.versioned_spelling (parts_table rows.now) part.now }
 {
     for row in rows {
         if has_dropped_version(row.0, part) {
@@ -364,10 +356,9 @@ fn versioned_spelling(rows: &[(&'static str, &'static str)], part: &str) -> Opti
 }
 
 /// The version that is dropped from a part.
-#[tactic(auto, unfolding(crate::specs::Spelling::versioned_spellings))]
 pub(crate) fn dropped_version(part: &str) -> Option<&str>
     ensures { option_map (λ version. version.now) result
-        ≡ version_after versioned_spellings part.entry.now }
+        ≡ spec.version_after spec.versioned_spellings part.entry.now }
 {
     version_after(&VERSIONED_SPELLINGS, part)
 }
@@ -375,7 +366,7 @@ pub(crate) fn dropped_version(part: &str) -> Option<&str>
 /// The version that follows the text of the first row that the part begins with.
 fn version_after<'a>(rows: &[(&'static str, &'static str)], part: &'a str) -> Option<&'a str>
     ensures { option_map (λ version. version.now) result
-        ≡ version_after (parts_table rows.now) part.entry.now }
+        ≡ spec.version_after (parts_table rows.now) part.entry.now }
 {
     for row in rows {
         if let Some(version) = version_after_prefix(row.0, part) {
@@ -388,7 +379,7 @@ fn version_after<'a>(rows: &[(&'static str, &'static str)], part: &'a str) -> Op
 /// The version that follows this prefix of a part, if it is one that is dropped.
 fn version_after_prefix<'a>(prefix: &str, part: &'a str) -> Option<&'a str>
     ensures { option_map (λ version. version.now) result
-        ≡ version_if_dropped (text_after_prefix prefix.now part.entry.now) }
+        ≡ spec.version_if_dropped (text_after_prefix prefix.now part.entry.now) }
 {
     match part.strip_prefix(prefix) {
         Some(version) => {
@@ -404,7 +395,7 @@ fn version_after_prefix<'a>(prefix: &str, part: &'a str) -> Option<&'a str>
 
 /// Whether a part is this prefix and a version that is dropped.
 fn has_dropped_version(prefix: &str, part: &str) -> bool
-    ensures { result ≡ has_dropped_version prefix.now part.now }
+    ensures { result ≡ spec.has_dropped_version prefix.now part.now }
 {
     match part.strip_prefix(prefix) {
         Some(version) => is_dropped_version(version.as_bytes()),
@@ -414,19 +405,19 @@ fn has_dropped_version(prefix: &str, part: &str) -> bool
 
 /// Whether a string is digits and dots, at least one.
 pub(crate) fn is_dropped_version(text: &[u8]) -> bool
-    ensures { result ≡ is_dropped_version text.now }
+    ensures { result ≡ spec.is_dropped_version text.now }
 {
     !text.is_empty() && are_digits_or_dots(text)
 }
 
 fn are_digits_or_dots(bytes: &[u8]) -> bool
-    ensures { result ≡ list_all is_digit_or_dot bytes.now }
+    ensures { result ≡ list_all spec.is_digit_or_dot bytes.now }
 {
     bytes.iter().all(|byte| is_digit_or_dot(*byte))
 }
 
 pub(crate) fn is_digit_or_dot(byte: u8) -> bool
-    ensures { result ≡ is_digit_or_dot byte }
+    ensures { result ≡ spec.is_digit_or_dot byte }
 {
     byte.is_ascii_digit() || byte == b'.'
 }

@@ -1,5 +1,5 @@
 -- One more table, which has such a name or hasn't.
-use Rattle.std.proofs.Common.{◌<◌, ◌∙◌, ap, arith, length, sym, drop, ◌+◌}
+use Rattle.std.proofs.Common.{◌<◌, ◌∙◌, ap, arith, length, sym}
 use Rattle.std.specs.Prelude.{option_map}
 use Rattle.tool_names.specs.StatedVersion.{is_versioned_for}
 use Rattle.tool_names.specs.Tables.{Row}

@@ -1,6 +1,6 @@
 use Rattle.std.proofs.Common.{rules}
 use Rattle.std.proofs.Output.{has_written_styled_append}
-use Rattle.tool_names.proofs.spelling.NameDisplay.fmt.Goals as goal
+use Rattle.tool_names.proofs.spelling.TripleNameDisplay.fmt.Goals as goal
 
 pub returns-in_ok-write_str-in-MacOs-clause-styled : goal.returns-in_ok-write_str-in-MacOs-clause-styled
 returns-in_ok-write_str-in-MacOs-clause-styled g c = λ flush ok.

@@ -1,0 +1,11 @@
+use Rattle.std.proofs.Common.{rules}
+use Rattle.tool_names.specs.Spelling.{is_other_system}
+use Rattle.tool_names.proofs.spelling.is_other_system.Goals as goal
+
+pub returns-then-is_none : goal.returns-then-is_none
+unfolding is_other_system
+returns-then-is_none c = search rules
+
+pub returns-else-is_none : goal.returns-else-is_none
+unfolding is_other_system
+returns-else-is_none c = search rules
