@@ -203,7 +203,8 @@ impl<'a> Spelling<'a> {
 
     /// The names that a second part spells, with this after its dash.
     pub(crate) fn of_second(part: &'a str, rest: Option<&str>) -> Spelling<'a>
-        ensures { spelling_names result ≡ spec.second_spelling part.entry.now (parts_after rest.entry) }
+        ensures { spelling_names result
+            ≡ spec.second_spelling part.entry.now (parts_after rest.entry) }
     {
         if is_unstated(part, rest) {
             Spelling::of("unknown")

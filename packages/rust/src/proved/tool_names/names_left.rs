@@ -2,14 +2,14 @@
 //! The names of a string that are left while it is read.
 
 use crate::proved::first_part;
-use crate::proved::tool_names::spelling::{Name, Spelling};
+use crate::proved::tool_names::spelling::{Spelling, TripleName};
 
 /// The first name that is left, the others of its part, and what follows the part.
 #[derive(Clone, Copy)]
 pub(crate) struct Left<'a> {
     /// The string from the part on.
     pub from: &'a str,
-    pub name: Name<'a>,
+    pub name: TripleName<'a>,
     pub others: Option<&'a str>,
     pub rest: Option<&'a str>,
 }
@@ -46,7 +46,7 @@ impl<'a> Left<'a> {
                 let (name, others) = first_part(names);
                 Some(Left {
                     from: self.from,
-                    name: Name::Text(name),
+                    name: TripleName::Text(name),
                     others,
                     rest: self.rest,
                 })

@@ -56,7 +56,7 @@ pub(crate) fn first_spelling(part: &str) -> &str {
 
 /// A name that is read.
 #[derive(Clone, Copy, Debug, PartialEq, Eq)]
-pub(crate) enum Name<'a> {
+pub(crate) enum TripleName<'a> {
     /// A part of the string, or a name that a part spells.
     Text(&'a str),
     /// `macosx` with the version that follows `macos`.
@@ -77,12 +77,12 @@ pub(crate) enum Name<'a> {
 /// ```
 #[derive(Clone, Copy, Debug, PartialEq, Eq)]
 pub struct Spelling<'a> {
-    pub(crate) first: Name<'a>,
+    pub(crate) first: TripleName<'a>,
     /// The others, with dashes between them.
     pub(crate) others: Option<&'a str>,
 }
 
-impl<'a> Name<'a> {
+impl<'a> TripleName<'a> {
     /// Gives the name, which this part spells, to a reading.
     #[inline]
     pub(crate) fn give(
@@ -91,8 +91,10 @@ impl<'a> Name<'a> {
         part: TextPart<'a>,
     ) -> Result<(), Refusal<'a>> {
         match *self {
-            Name::Text(name) => reading.take(name, part),
-            Name::MacOs(it) => reading.take_system(OperatingSystem::MacOSX(Some(it.version)), part),
+            TripleName::Text(name) => reading.take(name, part),
+            TripleName::MacOs(it) => {
+                reading.take_system(OperatingSystem::MacOSX(Some(it.version)), part)
+            }
         }
     }
 
@@ -100,8 +102,8 @@ impl<'a> Name<'a> {
     #[inline]
     fn is(&self, part: &str) -> bool {
         match *self {
-            Name::Text(name) => name == part,
-            Name::MacOs(version) => match part.strip_prefix("macosx") {
+            TripleName::Text(name) => name == part,
+            TripleName::MacOs(version) => match part.strip_prefix("macosx") {
                 Some(rest) => version.text == rest,
                 None => false,
             },
@@ -109,12 +111,12 @@ impl<'a> Name<'a> {
     }
 }
 
-impl fmt::Display for Name<'_> {
+impl fmt::Display for TripleName<'_> {
     #[inline]
     fn fmt(&self, f: &mut fmt::Formatter<'_>) -> fmt::Result {
         match *self {
-            Name::Text(name) => f.write_str(name),
-            Name::MacOs(version) => {
+            TripleName::Text(name) => f.write_str(name),
+            TripleName::MacOs(version) => {
                 f.write_str("macosx")?;
                 f.write_str(version.text)
             }
@@ -141,7 +143,7 @@ impl<'a> Spelling<'a> {
     #[inline]
     pub(crate) fn of(name: &'a str) -> Spelling<'a> {
         Spelling {
-            first: Name::Text(name),
+            first: TripleName::Text(name),
             others: None,
         }
     }
@@ -151,7 +153,7 @@ impl<'a> Spelling<'a> {
     fn of_row(names: &'static str) -> Spelling<'a> {
         let (first, others) = first_part(names);
         Spelling {
-            first: Name::Text(first),
+            first: TripleName::Text(first),
             others,
         }
     }
@@ -163,7 +165,7 @@ impl<'a> Spelling<'a> {
             Spelling::of("unknown")
         } else if is_other_system(part) {
             Spelling {
-                first: Name::Text("unknown"),
+                first: TripleName::Text("unknown"),
                 others: Some(part),
             }
         } else {
@@ -200,7 +202,7 @@ impl<'a> Spelling<'a> {
         }
         if let Some(version) = macos_version(part) {
             return Some(Spelling {
-                first: Name::MacOs(version),
+                first: TripleName::MacOs(version),
                 others: None,
             });
         }
