@@ -5,7 +5,6 @@
 -- ShapeLemmas: what a shape keeps. NumberLemmas, Matches, Tags, Filling: names with numbers, and how they are matched.
 -- RowChecks, RowLemmas, NameLaws: what the rows pass,
 -- what follows of the row of a name, and the laws. DistanceLemmas: the edit distance is the least number of edits.
--- NearestLemmas, NearerLemmas: the nearest of a growing list of names, and of two lists. Words: the word that a string begins with.
 -- Completions: what completion keeps. SuggestedNames: what is suggested has a place. VersionParts: a part is cut
 -- before its version. StatedVersions: names with a version that a caller says.
 pub mod CfgLines
@@ -20,7 +19,6 @@ pub mod MacosNames
 pub mod Matches
 pub mod NameLaws
 pub mod NamesRead
-pub mod NearerLemmas
 pub mod NearestLemmas
 pub mod NearestNames
 pub mod NumberLemmas

@@ -73,9 +73,6 @@ names_more written tables i more =
     ∙ ap (plain_names written) (flat_map-append (λ (table : Table). plain_rows table.now) (take i tables) (get_or tables i no_table ∷ []) ∙ ap (λ rs. rows_in (take i tables) ++ rs) (append-nil (plain_rows (get_or tables i no_table).now)))
     ∙ names-append written (rows_in (take i tables)) (plain_rows (get_or tables i no_table).now)
 
-abbrev pub nearest_of : Option (Bor (List ℕ)) → Option (List ℕ)
-nearest_of nearest = option_map (λ (name : Bor (List ℕ)). name.now) nearest
-
 -- the pattern of the first of two rows, and of the second where there is no first
 
 pub pattern_of_first : (o other : Option Row) (pattern : List ℕ) → Some pattern ≡ option_map (λ (row : Row). row.pattern) o → Some pattern ≡ option_map (λ (row : Row). row.pattern) (option_or o other)

@@ -3,9 +3,8 @@
 
 use crate::proved::tool_names::dialect::Dialect;
 use crate::proved::tool_names::gnu::read_as_gnu;
-use crate::proved::tool_names::misspelling::{misspelling, TOO_MANY_EDITS};
 use crate::proved::tool_names::name::Name;
-use crate::proved::tool_names::nearest::nearer;
+use crate::proved::tool_names::nearest::NearestName;
 use crate::proved::tool_names::pattern::{matched, star_count, Numbers};
 use crate::proved::tool_names::platform::row_of_platform;
 use crate::proved::tool_names::tables::{Row, Way, ONLY_WRITTEN};
@@ -106,11 +105,8 @@ impl Dialect {
     pub fn suggestion(self, name: &str) -> Option<&'static str> {
         let name = name.as_bytes();
         let tables = self.tables();
-        nearer(
-            name,
-            nearest_name(name, &tables, true),
-            nearest_name(name, &tables, false),
-        )
+        let written = nearest_name(NearestName::NONE, name, &tables, true);
+        nearest_name(written, name, &tables, false).name
     }
 
     /// The pattern of the name of a triple without a version, with this many numbers.
@@ -244,27 +240,31 @@ fn without_numbers(system: OperatingSystem) -> OperatingSystem {
     }
 }
 
-/// The nearest of the names without a number that are read, and are written or aren't, if a name may be a misspelling of
-/// it.
-fn nearest_name(name: &[u8], tables: &[&'static [Row]], written: bool) -> Option<&'static str> {
-    let mut nearest = None;
+/// The nearest of the names so far and of those without a number that are read, and are written or aren't.
+fn nearest_name(
+    so_far: NearestName,
+    name: &[u8],
+    tables: &[&'static [Row]],
+    written: bool,
+) -> NearestName {
+    let mut nearest = so_far;
     for rows in tables {
-        nearest = nearer(name, nearest, nearest_in(name, rows, written));
+        nearest = nearest_in(nearest, name, rows, written);
     }
     nearest
 }
 
-/// That name in one table.
-fn nearest_in(name: &[u8], rows: &'static [Row], written: bool) -> Option<&'static str> {
-    let mut nearest = None;
-    let mut limit = TOO_MANY_EDITS;
+/// The nearest of the names so far and of those in one table.
+fn nearest_in(
+    so_far: NearestName,
+    name: &[u8],
+    rows: &'static [Row],
+    written: bool,
+) -> NearestName {
+    let mut nearest = so_far;
     for row in rows {
         if has_plain_name(written, *row) {
-            let edits = misspelling(name, row.0);
-            if edits < limit {
-                nearest = Some(row.0);
-                limit = edits;
-            }
+            nearest = nearest.or(name, row.0);
         }
     }
     nearest
