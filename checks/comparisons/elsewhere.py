@@ -304,11 +304,10 @@ class Comparison(Report):
             return
         names = upstream.read(f"{built.ROOT}/checks/known_triples.txt").split()
         printed = {name: output(clang, "-target", name, "-print-target-triple").strip() for name in names}
-        # clang puts `unknown` between `none` and an embedded ABI, has Cygwin as an environment of Windows and kernels as systems, and older
-        # versions print androideabi as android.
+        # clang has kernels as systems, and older versions print androideabi as android.
         self.fact("what clang prints for a known name is read as that name", (
             (name, text, target(self.read(text)), target(self.read(name))) for name, text in printed.items()),
-            "none-unknown-eabi|cygnus|kernel-none|androideabi")
+            "kernel-none|androideabi")
 
     def check_python(self):
         self.has("Python's sysconfig", True)

@@ -1,6 +1,6 @@
 -- A string that parses without a custom vendor has no changes, and how the changes of a string are found one by one.
 use Rattle.std.proofs.Common.{◌≡◌, ◌∙◌, ℕ, List, [], ◌∷◌, ◌++◌, Option, Some, None, Result, Ok, Err, Bool, true, false, cond, refl, sym, ap, subst, inl, inr, ◌↔◌}
-use Rattle.std.specs.List.{join_with_byte}
+use Rattle.std.specs.{Borrow.Bor, List.join_with_byte}
 use Rattle.std.specs.Str.{bytes_eq}
 use Rattle.std.proofs.lemmas.Bool.{cases_Bool}
 use Rattle.std.proofs.lemmas.Slice.Eq.{bytes_eq-Decides}
@@ -12,8 +12,8 @@ use Rattle.tool_names.specs.declared.change.Position.{Position}
 use Rattle.tool_names.specs.declared.change.Position.TheVariants.{First, Second, Later}
 use Rattle.tool_names.specs.Changes.{KnownNamesStay, PartChange, UnchangedStringsAreReadAsTheyParse, changes, changes_of, is_only, next_position, parts_at, spelling_at}
 use Rattle.tool_names.specs.KnownNames.{known_names}
-use Rattle.tool_names.specs.Spelling.{SpelledName, SpelledPart, first_at_end, first_spelling, is_other_system, later_names, later_parts, later_spelling, later_spellings, listed_spelling, located, name_texts, names_after_first, names_of, other_parts, reading_unless_special, second_spelling, spelled_names, spelled_parts, spelled_reading, unread_names, versioned_spellings}
-use Rattle.tool_names.proofs.SpelledNames.{AllStay, CustomStays, read-stated, vendor-stays}
+use Rattle.tool_names.specs.Spelling.{SpelledName, SpelledPart, first_at_end, first_spelling, is_other_system, later_names, later_parts, later_spelling, later_spellings, listed_spelling, located, name_texts, names_after_first, names_of, other_parts, reading_unless_special, second_spelling, spelled_names, spelled_parts, spelled_reading, spelling_between, unread_names, versioned_spellings}
+use Rattle.tool_names.proofs.SpelledNames.{AllStay, CustomStays, IsNoPair, between-stays, read-stated, vendor-stays}
 
 bytes_eq-same : (part : List ℕ) → bytes_eq part part ≡ true
 bytes_eq-same part = (bytes_eq-Decides part part).1 refl
@@ -23,16 +23,17 @@ itself : (text part : List ℕ) (others names : List (List ℕ)) (rest : List Sp
     → changes_of text (let it : SpelledPart = record { names = names; from = part ∷ others } in it ∷ rest) ≡ changes_of text rest
 itself text part others names rest is = rw (is, bytes_eq-same part) refl
 
-later-none : (text : List ℕ) (ps : List (List ℕ)) → AllStay ps → changes_of text (later_parts ps) ≡ []
-later-none text [] all = refl
-later-none text (p ∷ ps) all = itself text p ps (later_spelling p) (later_parts ps) all.0 ∙ later-none text ps all.1
+later-none : (text before : List ℕ) (ps : List (List ℕ)) → IsNoPair (before ∷ ps) → AllStay ps → changes_of text (later_parts before ps) ≡ []
+later-none text before [] first all = refl
+later-none text before (p ∷ ps) first all =
+    itself text p ps (spelling_between before p ps) (later_parts p ps) (between-stays before p ps first all) ∙ later-none text p ps all.1 all.2
 
 module _ (text : List ℕ) (t : Values) (custom : CustomStays t) where
   other-none : (a : Architecture) (ps : List (List ℕ)) → reading_from_vendor a ps ≡ Ok t → changes_of text (other_parts ps) ≡ []
   other-none a [] h = refl
   other-none a (p ∷ ps) h =
       let all = vendor-stays a t (p ∷ ps) h custom in
-      itself text p ps (second_spelling p ps) (later_parts ps) (rw (read-stated a t p ps h, all.0.0) all.0.1) ∙ later-none text ps all.1
+      itself text p ps (second_spelling p ps) (later_parts p ps) (rw (read-stated a t p ps h, all.0.0, all.1) all.0.1) ∙ later-none text p ps all.1 all.2
 
   parts-none : (ps : List (List ℕ)) → reading_of_parts ps ≡ Ok t → changes_of text (spelled_parts ps) ≡ []
   parts-none [] h = refl
@@ -91,17 +92,17 @@ module _ (text part : List ℕ) (others names : List (List ℕ)) (rest : List Sp
       → (let it : SpelledPart = record { names = names; from = part ∷ others } in name_texts (names_of (it ∷ rest)) ≡ part ∷ ps)
   named-first ps is same = rw is (ap (λ qs. part ∷ qs) same)
 
-later-same : (text : List ℕ) (ps : List (List ℕ)) → changes_of text (later_parts ps) ≡ [] → name_texts (later_names ps) ≡ ps
-later-same text [] none = refl
-later-same text (p ∷ ps) none =
-    let first = none-first text p ps (later_spelling p) (later_parts ps) none in
-    named-first text p ps (later_spelling p) (later_parts ps) ps first.0 (later-same text ps first.1)
+later-same : (text before : List ℕ) (ps : List (List ℕ)) → changes_of text (later_parts before ps) ≡ [] → name_texts (later_names before ps) ≡ ps
+later-same text before [] none = refl
+later-same text before (p ∷ ps) none =
+    let first = none-first text p ps (spelling_between before p ps) (later_parts p ps) none in
+    named-first text p ps (spelling_between before p ps) (later_parts p ps) ps first.0 (later-same text p ps first.1)
 
 other-same : (text : List ℕ) (ps : List (List ℕ)) → changes_of text (other_parts ps) ≡ [] → name_texts (names_after_first ps) ≡ ps
 other-same text [] none = refl
 other-same text (p ∷ ps) none =
-    let first = none-first text p ps (second_spelling p ps) (later_parts ps) none in
-    named-first text p ps (second_spelling p ps) (later_parts ps) ps first.0 (later-same text ps first.1)
+    let first = none-first text p ps (second_spelling p ps) (later_parts p ps) none in
+    named-first text p ps (second_spelling p ps) (later_parts p ps) ps first.0 (later-same text p ps first.1)
 
 parts-same : (text : List ℕ) (ps : List (List ℕ)) → changes_of text (spelled_parts ps) ≡ [] → name_texts (spelled_names ps) ≡ ps
 parts-same text [] none = refl
@@ -139,24 +140,24 @@ unchanged_read text t none =
 -- one part after the other
 
 -- what the first of these parts spells, and what the others do
-parts-split : (at : Position) (part : List ℕ) (others : List (List ℕ))
-    → (let it : SpelledPart = record { names = spelling_at at part others; from = part ∷ others } in parts_at at (part ∷ others) ≡ it ∷ parts_at (next_position at) others)
+parts-split : (at : Position) (part : Bor (List ℕ)) (others : List (List ℕ))
+    → (let it : SpelledPart = record { names = spelling_at at part.now others; from = part.now ∷ others } in parts_at at (part.now ∷ others) ≡ it ∷ parts_at (next_position at part) others)
 parts-split First part others = refl
 parts-split Second part others = refl
-parts-split Later part others = refl
+parts-split (Later before) part others = refl
 
-module _ (text end : List ℕ) (at : Position) (part : List ℕ) (others names : List (List ℕ)) (cut : parts_of end ≡ part ∷ others) (spells : names ≡ spelling_at at part others) where
+module _ (text end : List ℕ) (at : Position) (part : Bor (List ℕ)) (others names : List (List ℕ)) (cut : parts_of end ≡ part.now ∷ others) (spells : names ≡ spelling_at at part.now others) where
   -- the first part spells only itself, and the changes are those of the others
-  pub unchanged : is_only part names ≡ true → changes_of text (parts_at at (parts_of end)) ≡ changes_of text (parts_at (next_position at) others)
+  pub unchanged : is_only part.now names ≡ true → changes_of text (parts_at at (parts_of end)) ≡ changes_of text (parts_at (next_position at part) others)
   unchanged only =
-      let only_itself : is_only part (spelling_at at part others) ≡ true = subst (λ ns. is_only part ns ≡ true) spells only in
+      let only_itself : is_only part.now (spelling_at at part.now others) ≡ true = subst (λ ns. is_only part.now ns ≡ true) spells only in
       rw (cut, parts-split at part others, only_itself) refl
 
   -- it is the first change
-  pub changed : (found : PlacedPart) → found ≡ first_at_end text (parts_of end) → is_only part names ≡ false
-      → (let it : PartChange = record { part = found; names = names } in changes_of text (parts_at at (parts_of end)) ≡ it ∷ changes_of text (parts_at (next_position at) others))
+  pub changed : (found : PlacedPart) → found ≡ first_at_end text (parts_of end) → is_only part.now names ≡ false
+      → (let it : PartChange = record { part = found; names = names } in changes_of text (parts_at at (parts_of end)) ≡ it ∷ changes_of text (parts_at (next_position at part) others))
   changed found is other =
-      let not_only : is_only part (spelling_at at part others) ≡ false = subst (λ ns. is_only part ns ≡ false) spells other in
+      let not_only : is_only part.now (spelling_at at part.now others) ≡ false = subst (λ ns. is_only part.now ns ≡ false) spells other in
       rw (is, spells, cut, parts-split at part others, not_only) refl
 
 -- names of which there are two

@@ -37,15 +37,15 @@ after-first text p q qs (before, is) =
     let rest = join_with_byte dash (q ∷ qs) in
     ((before ++ p) ++ (dash ∷ []), is ∙ sym (append_assoc before p (dash ∷ rest)) ∙ sym (append_assoc (before ++ p) (dash ∷ []) rest))
 
-later-end : (text : List ℕ) (ps : List (List ℕ)) → EndText text ps → AllEnd text (later_parts ps)
-later-end text [] end = tt
-later-end text (p ∷ []) end = (end, tt)
-later-end text (p ∷ (q ∷ qs)) end = (end, later-end text (q ∷ qs) (after-first text p q qs end))
+later-end : (text before : List ℕ) (ps : List (List ℕ)) → EndText text ps → AllEnd text (later_parts before ps)
+later-end text before [] end = tt
+later-end text before (p ∷ []) end = (end, tt)
+later-end text before (p ∷ (q ∷ qs)) end = (end, later-end text p (q ∷ qs) (after-first text p q qs end))
 
 other-end : (text : List ℕ) (ps : List (List ℕ)) → EndText text ps → AllEnd text (other_parts ps)
 other-end text [] end = tt
 other-end text (p ∷ []) end = (end, tt)
-other-end text (p ∷ (q ∷ qs)) end = (end, later-end text (q ∷ qs) (after-first text p q qs end))
+other-end text (p ∷ (q ∷ qs)) end = (end, later-end text p (q ∷ qs) (after-first text p q qs end))
 
 spelled-end : (text : List ℕ) (ps : List (List ℕ)) → EndText text ps → AllEnd text (spelled_parts ps)
 spelled-end text [] end = tt

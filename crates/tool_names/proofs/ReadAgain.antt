@@ -1,7 +1,8 @@
 -- What is read is plain, its custom vendor spells itself, and it is read again from its printed string.
-use Rattle.std.specs.Prelude.{codes}
+use Rattle.std.specs.Prelude.{codes, option_map, ◌&&◌}
+use Rattle.std.specs.{Option.option_map_or, Str.bytes_eq}
 use Rattle.std.proofs.Common.{◌≡◌, ◌∙◌, ℕ, List, [], ◌∷◌, ◌++◌, Option, Some, None, IfSome, Result, Ok, Err, Bool, true, false, cond, refl, sym, ap, subst}
-use Rattle.lexicon_fields.specs.{Architecture.architecture_of, BinaryFormat.binary_format_of, Environment.environment_of, Laws.HasVersionInRange, OperatingSystem.fixed_operating_system_of, OperatingSystem.operating_system_of, Vendor.is_plain, Vendor.known_vendor_of, Vendor.vendor_of}
+use Rattle.lexicon_fields.specs.{Architecture.architecture_of, BinaryFormat.binary_format_of, Environment.environment_of, Laws.HasVersionInRange, Names.Pair, OperatingSystem.fixed_operating_system_of, OperatingSystem.operating_system_of, Vendor.is_plain, Vendor.known_vendor_of, Vendor.vendor_of}
 use Rattle.lexicon_fields.proofs.ParsedSystems.{version_in_range}
 use Rattle.lexicon_fields.specs.declared.known_vendor.KnownVendor.TheVariants.{Unknown}
 use Rattle.target_lexicon.specs.GreedyReading.{field_reading_by, final_reading, reading_from_binary_format, reading_from_environment, reading_from_operating_system, reading_from_vendor, reading_after_architecture, reading_of_parts}
@@ -11,7 +12,7 @@ use Rattle.target_lexicon.specs.Values.operating_system
 use Rattle.target_lexicon.specs.Values.environment
 use Rattle.target_lexicon.specs.Field as field
 use Rattle.target_lexicon.proofs.{ComputedReading.reading_computed, ReadValues.special-holds, SettleLemmas.second_changes_none, SettleLemmas.settled_values-comes_back, StepCases.step_cases, Vendors.vendor-plain}
-use Rattle.tool_names.specs.Spelling.{ReadingAgainIsTheSame, SpelledName, first_spelling, is_known_name, is_other_system, is_unstated, later_names, later_spelling, located, name_texts, names_after_first, reading_unless_special, spelled_by, spelled_names, spelled_reading, unread_names}
+use Rattle.tool_names.specs.Spelling.{ReadingAgainIsTheSame, SpelledName, first_spelling, is_known_name, is_other_system, is_unstated, is_vendor_after_none, later_names, later_spelling, located, name_texts, name_with_next, names_after_first, reading_unless_special, spelled_by, spelled_names, spelled_reading, unread_names}
 use Rattle.tool_names.proofs.{SpelledNames.CustomStays, SpelledNames.SecondStays, SpelledNames.custom_vendor-text, SpelledNames.known-second, SpelledOnce.FirstStays, SpelledOnce.later-first, SpelledReading.read-stays}
 
 -- the first name after the architecture spells itself
@@ -28,15 +29,33 @@ unknown-known : is_known_name (codes "unknown") ≡ true
 unfolding architecture_of known_vendor_of operating_system_of fixed_operating_system_of environment_of binary_format_of
 unknown-known = refl
 
+cygwin-known : is_known_name (codes "cygwin") ≡ true
+unfolding architecture_of known_vendor_of operating_system_of fixed_operating_system_of environment_of binary_format_of
+cygwin-known = refl
+
+-- the first name of a second part that isn't unstated and no other system
+name-first : (part : List ℕ) (others : List (List ℕ)) → is_other_system part ≡ false → FirstStays (option_map_or (λ name. name ∷ []) (name_with_next part others) (later_spelling part))
+name-first part [] is = later-first part is
+name-first part (next ∷ others) is = by_tests (is_vendor_after_none part next others) (bytes_eq part (codes "windows") && bytes_eq next (codes "cygnus"))
+  where
+    by_tests : (x y : Bool)
+        → FirstStays (option_map_or (λ name. name ∷ []) (option_map (λ (names : Pair (List ℕ)). names.0) (cond x (Some (codes "unknown", codes "none")) (cond y (Some (codes "cygwin", codes "unknown")) None))) (later_spelling part))
+    by_tests true y = known-second (codes "unknown") unknown-known
+    by_tests false true = known-second (codes "cygwin") cygwin-known
+    by_tests false false = later-first part is
+
 names_after_first-stay : (parts : List (List ℕ)) → BeginStaying (name_texts (names_after_first parts))
 names_after_first-stay [] = tt
 names_after_first-stay (part ∷ others) = by_tests (is_unstated part others) (is_other_system part) refl
   where
+    names : List (List ℕ)
+    names = option_map_or (λ name. name ∷ []) (name_with_next part others) (later_spelling part)
+
     by_tests : (unstated other : Bool) → is_other_system part ≡ other
-        → BeginStaying (name_texts (spelled_by (part ∷ others) (cond unstated (codes "unknown" ∷ []) (cond other (codes "unknown" ∷ part ∷ []) (later_spelling part))) ++ later_names others))
+        → BeginStaying (name_texts (spelled_by (part ∷ others) (cond unstated (codes "unknown" ∷ []) (cond other (codes "unknown" ∷ part ∷ []) names)) ++ later_names part others))
     by_tests true other is = known-second (codes "unknown") unknown-known
     by_tests false true is = known-second (codes "unknown") unknown-known
-    by_tests false false is = begin-staying (part ∷ others) (later_spelling part) (later_names others) (later-first part is)
+    by_tests false false is = begin-staying (part ∷ others) names (later_names part others) (name-first part others is)
 
 -- what is read from parts is plain, and a custom vendor is the second part
 

@@ -6,7 +6,7 @@ use Rattle.std.specs.Str.{bytes_eq}
 use Rattle.std.specs.Option.{option_map_or, option_or}
 use Rattle.std.proofs.lemmas.Bool.{and_parts, cases_Bool}
 use Rattle.std.proofs.lemmas.Slice.Eq.{bytes_eq-Decides}
-use Rattle.lexicon_fields.specs.{Architecture.architecture_of, BinaryFormat.binary_format_of, Environment.environment_of, FixedRow.has_row, OperatingSystem.fixed_operating_system_of, OperatingSystem.operating_system_of, Vendor.has_vendor_form, Vendor.is_admitted, Vendor.is_custom, Vendor.known_vendor_of, Vendor.vendor_of, Version.version_of}
+use Rattle.lexicon_fields.specs.{Architecture.architecture_of, BinaryFormat.binary_format_of, Environment.environment_of, FixedRow.has_row, Names.Pair, OperatingSystem.fixed_operating_system_of, OperatingSystem.operating_system_of, Vendor.has_vendor_form, Vendor.is_admitted, Vendor.is_custom, Vendor.known_vendor_of, Vendor.vendor_of, Version.version_of}
 use Rattle.lexicon_fields.specs.declared.known_vendor.KnownVendor.{KnownVendor}
 use Rattle.lexicon_fields.specs.declared.known_vendor.KnownVendor.TheVariants.{Unknown}
 use Rattle.lexicon_fields.proofs.VendorsReadBack.{row_read, without_row_read}
@@ -16,7 +16,7 @@ use Rattle.target_lexicon.specs.Values.{Architecture, OperatingSystem, Environme
 use Rattle.target_lexicon.specs.Values.operating_system
 use Rattle.target_lexicon.specs.Values.environment
 use Rattle.target_lexicon.specs.Field as field
-use Rattle.tool_names.specs.Spelling.{ListedPartsAreUnknown, first_spellings, later_spellings, versioned_spellings, is_known_name, is_other_system, later_spelling, is_unstated, later_names, names_after_first, spelled_names, name_texts}
+use Rattle.tool_names.specs.Spelling.{ListedPartsAreUnknown, first_spellings, later_spellings, versioned_spellings, is_known_name, is_other_system, later_spelling, is_unstated, is_vendor_after_none, later_names, name_with_last, name_with_next, names_after_first, pair_spelling, spelled_names, spelling_between, name_texts}
 
 -- a later part that spells itself
 abbrev pub Stays : List ℕ → Type 0
@@ -100,14 +100,148 @@ known-no_custom part known =
 pub known-second : (part : List ℕ) → is_known_name part ≡ true → SecondStays part
 known-second part known = (no_custom-stated part (known-no_custom part known), known-stays part known)
 
--- all parts spell themselves
+-- the first of these parts spells nothing together with the second
+abbrev pub IsNoPair : List (List ℕ) → Type 0
+IsNoPair [] = Unit {0}
+IsNoPair (part ∷ others) = name_with_next part others ≡ None
+
+-- so the second spells nothing together with the first
+no_pair-last : (before part : List ℕ) (others : List (List ℕ)) → IsNoPair (before ∷ (part ∷ others)) → name_with_last before part others ≡ None
+no_pair-last before part others none = by_pair (pair_spelling before part others) none
+  where
+    by_pair : (o : Option (Pair (List ℕ))) → option_map (λ (names : Pair (List ℕ)). names.0) o ≡ None → option_map (λ (names : Pair (List ℕ)). names.1) o ≡ None
+    by_pair None none = refl
+    by_pair (Some names) none = absurd cc
+
+-- all parts spell themselves, and nothing together
 abbrev pub AllStay : List (List ℕ) → Type 0
 AllStay [] = Unit {0}
-AllStay (part ∷ others) = Stays part × AllStay others
+AllStay (part ∷ others) = Stays part × IsNoPair (part ∷ others) × AllStay others
 
-pub later-stay : (parts : List (List ℕ)) → AllStay parts → name_texts (later_names parts) ≡ parts
-later-stay [] all = refl
-later-stay (part ∷ others) all = rw all.0 (ap (λ ps. part ∷ ps) (later-stay others all.1))
+-- a part after the second spells itself, as it spells nothing with its neighbours
+pub between-stays : (before part : List ℕ) (others : List (List ℕ)) → IsNoPair (before ∷ (part ∷ others)) → AllStay (part ∷ others) → spelling_between before part others ≡ part ∷ []
+between-stays before part others first all = rw (no_pair-last before part others first, all.1) all.0
+
+pub later-stay : (before : List ℕ) (parts : List (List ℕ)) → IsNoPair (before ∷ parts) → AllStay parts → name_texts (later_names before parts) ≡ parts
+later-stay before [] first all = refl
+later-stay before (part ∷ others) first all =
+    rw (between-stays before part others first all) (ap (λ ps. part ∷ ps) (later-stay part others all.1 all.2))
+
+-- two parts that spell names together aren't read by themselves, wherever they stand
+
+err-apart : (x : Refusal) (t : Values) (r : Result Values Refusal) → r ≡ Err x → r ≡ Ok t → ⊥
+err-apart x t r err ok = let apart : Err x ≡ Ok t = sym err ∙ ok in cc
+
+-- what is read begins with no such parts, if it can begin with none of these
+pairs-refused : (read : List (List ℕ) → Result Values Refusal) (t : Values) (part : List ℕ) (others : List (List ℕ))
+    → ((after : List ℕ) (ps : List (List ℕ)) → binary_format_of after ≡ None → read (codes "none" ∷ (codes "unknown" ∷ (after ∷ ps))) ≡ Ok t → ⊥)
+    → ((ps : List (List ℕ)) → read (codes "windows" ∷ (codes "cygnus" ∷ ps)) ≡ Ok t → ⊥)
+    → read (part ∷ others) ≡ Ok t → IsNoPair (part ∷ others)
+pairs-refused read t part [] none cygwin h = refl
+pairs-refused read t part (next ∷ others) none cygwin h = by_tests (is_vendor_after_none part next others) (bytes_eq part (codes "windows") && bytes_eq next (codes "cygnus")) refl refl
+  where
+    by_format : (ps : List (List ℕ)) → is_vendor_after_none part next ps ≡ true → read (part ∷ (next ∷ ps)) ≡ Ok t → ⊥
+    by_format [] is h = absurd cc
+    by_format (after ∷ ps) is h =
+        let parts = and_parts (bytes_eq part (codes "none") && bytes_eq next (codes "unknown")) (is_none (binary_format_of after)) is in
+        let names = and_parts (bytes_eq part (codes "none")) (bytes_eq next (codes "unknown")) parts.0 in
+        let first : part ≡ codes "none" = (bytes_eq-Decides part (codes "none")).0 names.0 in
+        let second : next ≡ codes "unknown" = (bytes_eq-Decides next (codes "unknown")).0 names.1 in
+        let same : part ∷ (next ∷ (after ∷ ps)) ≡ codes "none" ∷ (codes "unknown" ∷ (after ∷ ps)) = cc in
+        none after ps (no_format (binary_format_of after) parts.1) (subst (λ qs. read qs ≡ Ok t) same h)
+      where
+        no_format : (o : Option BinaryFormat) → is_none o ≡ true → o ≡ None
+        no_format None is = refl
+        no_format (Some f) is = absurd cc
+
+    by_cygwin : bytes_eq part (codes "windows") && bytes_eq next (codes "cygnus") ≡ true → ⊥
+    by_cygwin is =
+        let names = and_parts (bytes_eq part (codes "windows")) (bytes_eq next (codes "cygnus")) is in
+        let first : part ≡ codes "windows" = (bytes_eq-Decides part (codes "windows")).0 names.0 in
+        let second : next ≡ codes "cygnus" = (bytes_eq-Decides next (codes "cygnus")).0 names.1 in
+        let same : part ∷ (next ∷ others) ≡ codes "windows" ∷ (codes "cygnus" ∷ others) = cc in
+        cygwin others (subst (λ qs. read qs ≡ Ok t) same h)
+
+    by_tests : (x y : Bool) → is_vendor_after_none part next others ≡ x → (bytes_eq part (codes "windows") && bytes_eq next (codes "cygnus")) ≡ y
+        → option_map (λ (names : Pair (List ℕ)). names.0) (cond x (Some (codes "unknown", codes "none")) (cond y (Some (codes "cygwin", codes "unknown")) None)) ≡ None
+    by_tests true y is other = absurd (by_format others is h)
+    by_tests false true is other = absurd (by_cygwin other)
+    by_tests false false is other = refl
+
+-- the system `none` takes the first part, the environment the second, and the third is no binary format
+none_unknown-reading : (a : Architecture) (v : VendorValue) (last : Field) (after : List ℕ) (ps : List (List ℕ)) → binary_format_of after ≡ None
+    → reading_from_operating_system a v last (codes "none" ∷ (codes "unknown" ∷ (after ∷ ps))) ≡ Err (refusal_with (expected_after field.Environment) after)
+unfolding operating_system_of fixed_operating_system_of environment_of
+none_unknown-reading a v last after ps no_format = rw no_format refl
+
+windows_cygnus-reading : (a : Architecture) (v : VendorValue) (last : Field) (ps : List (List ℕ))
+    → reading_from_operating_system a v last (codes "windows" ∷ (codes "cygnus" ∷ ps)) ≡ Err (refusal_with (expected_after field.OperatingSystem) (codes "cygnus"))
+unfolding operating_system_of fixed_operating_system_of environment_of binary_format_of
+windows_cygnus-reading a v last ps = refl
+
+none-no_vendor : vendor_of (codes "none") ≡ None
+unfolding vendor_of known_vendor_of is_admitted architecture_of operating_system_of fixed_operating_system_of environment_of binary_format_of
+none-no_vendor = refl
+
+windows-no_vendor : vendor_of (codes "windows") ≡ None
+unfolding vendor_of known_vendor_of is_admitted architecture_of operating_system_of fixed_operating_system_of environment_of binary_format_of
+windows-no_vendor = refl
+
+-- where the environment `none` takes the first part, the format takes the second
+none_unknown-environment : (a : Architecture) (v : VendorValue) (s : OperatingSystem) (last : Field) (after : List ℕ) (ps : List (List ℕ))
+    → reading_from_environment a v s last (codes "none" ∷ (codes "unknown" ∷ (after ∷ ps))) ≡ Err (refusal_with (expected_after field.BinaryFormat) after)
+unfolding environment_of binary_format_of
+none_unknown-environment a v s last after ps = refl
+
+windows-no_environment : environment_of (codes "windows") ≡ None
+unfolding environment_of
+windows-no_environment = refl
+
+none-no_format : binary_format_of (codes "none") ≡ None
+unfolding binary_format_of
+none-no_format = refl
+
+windows-no_format : binary_format_of (codes "windows") ≡ None
+unfolding binary_format_of
+windows-no_format = refl
+
+module _ (a : Architecture) (t : Values) where
+  format-no_pair : (v : VendorValue) (s : OperatingSystem) (e : Environment) (last : Field) (ps : List (List ℕ)) → reading_from_binary_format a v s e last ps ≡ Ok t → IsNoPair ps
+  format-no_pair v s e last [] h = tt
+  format-no_pair v s e last (p ∷ ps) h =
+      pairs-refused (reading_from_binary_format a v s e last) t p ps (λ after qs no_format. err-apart _ t _ (none after qs)) (λ qs. err-apart _ t _ (windows qs)) h
+    where
+      none : (after : List ℕ) (qs : List (List ℕ)) → reading_from_binary_format a v s e last (codes "none" ∷ (codes "unknown" ∷ (after ∷ qs))) ≡ Err (refusal_with (expected_after last) (codes "none"))
+      none after qs = rw none-no_format refl
+
+      windows : (qs : List (List ℕ)) → reading_from_binary_format a v s e last (codes "windows" ∷ (codes "cygnus" ∷ qs)) ≡ Err (refusal_with (expected_after last) (codes "windows"))
+      windows qs = rw windows-no_format refl
+
+  environment-no_pair : (v : VendorValue) (s : OperatingSystem) (last : Field) (ps : List (List ℕ)) → reading_from_environment a v s last ps ≡ Ok t → IsNoPair ps
+  environment-no_pair v s last [] h = tt
+  environment-no_pair v s last (p ∷ ps) h =
+      pairs-refused (reading_from_environment a v s last) t p ps
+      (λ after qs no_format. err-apart _ t _ (none_unknown-environment a v s last after qs)) (λ qs. err-apart _ t _ (windows qs)) h
+    where
+      windows : (qs : List (List ℕ)) → reading_from_environment a v s last (codes "windows" ∷ (codes "cygnus" ∷ qs)) ≡ Err (refusal_with (expected_after last) (codes "windows"))
+      windows qs = rw (windows-no_environment, windows-no_format) refl
+
+  system-no_pair : (v : VendorValue) (last : Field) (ps : List (List ℕ)) → reading_from_operating_system a v last ps ≡ Ok t → IsNoPair ps
+  system-no_pair v last [] h = tt
+  system-no_pair v last (p ∷ ps) h =
+      pairs-refused (reading_from_operating_system a v last) t p ps
+      (λ after qs no_format. err-apart _ t _ (none_unknown-reading a v last after qs no_format))
+      (λ qs. err-apart _ t _ (windows_cygnus-reading a v last qs)) h
+
+  vendor-no_pair : (ps : List (List ℕ)) → reading_from_vendor a ps ≡ Ok t → IsNoPair ps
+  vendor-no_pair [] h = tt
+  vendor-no_pair (p ∷ ps) h = pairs-refused (reading_from_vendor a) t p ps none windows h
+    where
+      none : (after : List ℕ) (qs : List (List ℕ)) → binary_format_of after ≡ None → reading_from_vendor a (codes "none" ∷ (codes "unknown" ∷ (after ∷ qs))) ≡ Ok t → ⊥
+      none after qs no_format read = err-apart _ t _ (none_unknown-reading a (Known Unknown) field.Architecture after qs no_format) (rw none-no_vendor at read)
+
+      windows : (qs : List (List ℕ)) → reading_from_vendor a (codes "windows" ∷ (codes "cygnus" ∷ qs)) ≡ Ok t → ⊥
+      windows qs read = err-apart _ t _ (windows_cygnus-reading a (Known Unknown) field.Architecture qs) (rw windows-no_vendor at read)
 
 -- if a triple is read, all parts after the architecture are known names, unless the first is a custom vendor
 
@@ -118,46 +252,46 @@ module _ (a : Architecture) (v : VendorValue) (t : Values) where
 
   format-stays : (s : OperatingSystem) (e : Environment) (last : Field) (ps : List (List ℕ)) → reading_from_binary_format a v s e last ps ≡ Ok t → AllStay ps × (t.vendor ≡ v)
   format-stays s e last [] h = final-stays (values a v s e (implied_format a s e)) last [] refl h
-  format-stays s e last (p ∷ ps) h = by_found (binary_format_of p) refl h
+  format-stays s e last (p ∷ ps) read = by_found (binary_format_of p) refl read
     where
       by_found : (o : Option BinaryFormat) → binary_format_of p ≡ o
           → (let f = field_reading_by field.BinaryFormat o (implied_format a s e) last p ps in final_reading (values a v s e f.0) f.1 f.2) ≡ Ok t
           → AllStay (p ∷ ps) × (t.vendor ≡ v)
-      by_found (Some f) is h = let rest = final-stays (values a v s e f) field.BinaryFormat ps refl h in ((known-stays p (format-known p (ap is_some is)), rest.0), rest.1)
+      by_found (Some f) is h = let rest = final-stays (values a v s e f) field.BinaryFormat ps refl h in ((known-stays p (format-known p (ap is_some is)), format-no_pair a t v s e last (p ∷ ps) read, rest.0), rest.1)
       by_found None is h = final-stays (values a v s e (implied_format a s e)) last (p ∷ ps) refl h
 
   environment-stays : (s : OperatingSystem) (last : Field) (ps : List (List ℕ)) → reading_from_environment a v s last ps ≡ Ok t → AllStay ps × (t.vendor ≡ v)
   environment-stays s last [] h = format-stays s environment.Unknown last [] h
-  environment-stays s last (p ∷ ps) h = by_found (environment_of p) refl h
+  environment-stays s last (p ∷ ps) read = by_found (environment_of p) refl read
     where
       by_found : (o : Option Environment) → environment_of p ≡ o
           → (let e = field_reading_by field.Environment o environment.Unknown last p ps in reading_from_binary_format a v s e.0 e.1 e.2) ≡ Ok t
           → AllStay (p ∷ ps) × (t.vendor ≡ v)
-      by_found (Some e) is h = let rest = format-stays s e field.Environment ps h in ((known-stays p (environment-known p (ap is_some is)), rest.0), rest.1)
+      by_found (Some e) is h = let rest = format-stays s e field.Environment ps h in ((known-stays p (environment-known p (ap is_some is)), environment-no_pair a t v s last (p ∷ ps) read, rest.0), rest.1)
       by_found None is h = format-stays s environment.Unknown last (p ∷ ps) h
 
   system-stays : (last : Field) (ps : List (List ℕ)) → reading_from_operating_system a v last ps ≡ Ok t → AllStay ps × (t.vendor ≡ v)
   system-stays last [] h = environment-stays operating_system.Unknown last [] h
-  system-stays last (p ∷ ps) h = by_found (operating_system_of p) refl h
+  system-stays last (p ∷ ps) read = by_found (operating_system_of p) refl read
     where
       by_found : (o : Option OperatingSystem) → operating_system_of p ≡ o
           → (let s = field_reading_by field.OperatingSystem o operating_system.Unknown last p ps in reading_from_environment a v s.0 s.1 s.2) ≡ Ok t
           → AllStay (p ∷ ps) × (t.vendor ≡ v)
-      by_found (Some s) is h = let rest = environment-stays s field.OperatingSystem ps h in ((known-stays p (system-known p (ap is_some is)), rest.0), rest.1)
+      by_found (Some s) is h = let rest = environment-stays s field.OperatingSystem ps h in ((known-stays p (system-known p (ap is_some is)), system-no_pair a t v last (p ∷ ps) read, rest.0), rest.1)
       by_found None is h = environment-stays operating_system.Unknown last (p ∷ ps) h
 
 -- a custom vendor of the triple spells itself
 abbrev pub CustomStays : Values → Type 0
 CustomStays t = (text : List ℕ) → t.vendor ≡ Custom text → SecondStays text
 
--- all parts after the first spell themselves
+-- all parts after the first spell themselves, and nothing together
 abbrev pub AllStayAfterFirst : List (List ℕ) → Type 0
 AllStayAfterFirst [] = Unit {0}
-AllStayAfterFirst (part ∷ others) = SecondStays part × AllStay others
+AllStayAfterFirst (part ∷ others) = SecondStays part × IsNoPair (part ∷ others) × AllStay others
 
 pub vendor-stays : (a : Architecture) (t : Values) (ps : List (List ℕ)) → reading_from_vendor a ps ≡ Ok t → CustomStays t → AllStayAfterFirst ps
 vendor-stays a t [] h custom = tt
-vendor-stays a t (p ∷ ps) h custom = by_found (vendor_of p) refl h
+vendor-stays a t (p ∷ ps) read custom = by_found (vendor_of p) refl read
   where
     by_vendor : (v : VendorValue) → vendor_of p ≡ Some v → t.vendor ≡ v → SecondStays p
     by_vendor (Known k) is same = known-second p (known_vendor-known p k is)
@@ -166,10 +300,10 @@ vendor-stays a t (p ∷ ps) h custom = by_found (vendor_of p) refl h
     by_found : (o : Option VendorValue) → vendor_of p ≡ o
         → (let v = field_reading_by field.Vendor o (Known Unknown) field.Architecture p ps in reading_from_operating_system a v.0 v.1 v.2) ≡ Ok t
         → AllStayAfterFirst (p ∷ ps)
-    by_found (Some v) is h = let rest = system-stays a v t field.Vendor ps h in (by_vendor v is rest.1, rest.0)
+    by_found (Some v) is h = let rest = system-stays a v t field.Vendor ps h in (by_vendor v is rest.1, vendor-no_pair a t (p ∷ ps) read, rest.0)
     by_found None is h =
         let all = (system-stays a (Known Unknown) t field.Architecture (p ∷ ps) h).0 in
-        ((no_custom-stated p (ap (λ v. option_map_or is_custom v false) is), all.0), all.1)
+        ((no_custom-stated p (ap (λ v. option_map_or is_custom v false) is), all.0), all.1, all.2)
 
 -- a second part that states no vendor is refused by itself
 
@@ -181,9 +315,6 @@ none_linux-reading : (a : Architecture) (ps : List (List ℕ))
     → reading_from_vendor a (codes "none" ∷ (codes "linux" ∷ ps)) ≡ Err (refusal_with (expected_after field.OperatingSystem) (codes "linux"))
 unfolding vendor_of known_vendor_of is_admitted architecture_of operating_system_of fixed_operating_system_of environment_of binary_format_of
 none_linux-reading a ps = refl
-
-err-apart : (x : Refusal) (t : Values) (r : Result Values Refusal) → r ≡ Err x → r ≡ Ok t → ⊥
-err-apart x t r err ok = let apart : Err x ≡ Ok t = sym err ∙ ok in cc
 
 pub read-stated : (a : Architecture) (t : Values) (p : List ℕ) (ps : List (List ℕ)) → reading_from_vendor a (p ∷ ps) ≡ Ok t → is_unstated p ps ≡ false
 read-stated a t [] ps h = absurd (err-apart _ t _ (empty-reading a ps) h)
@@ -204,7 +335,7 @@ after_first-stay a t [] h custom = refl
 after_first-stay a t (p ∷ ps) h custom =
     let stated = read-stated a t p ps h in
     let all = vendor-stays a t (p ∷ ps) h custom in
-    rw (stated, all.0.0, all.0.1) (ap (λ qs. p ∷ qs) (later-stay ps all.1))
+    rw (stated, all.0.0, all.1, all.0.1) (ap (λ qs. p ∷ qs) (later-stay p ps all.1 all.2))
 
 -- so the names are the parts
 pub names-stay : (ps : List (List ℕ)) (t : Values) → reading_of_parts ps ≡ Ok t → CustomStays t → name_texts (spelled_names ps) ≡ ps

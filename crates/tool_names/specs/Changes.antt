@@ -1,14 +1,14 @@
--- What is changed in a string that is spelled like a triple: the parts that are other spellings of known names, and a
--- second part that states no vendor.
+-- What is changed in a string that is spelled like a triple: the parts that are other spellings of known names, by themselves or
+-- together with a neighbour, and a second part that states no vendor.
 use Rattle.std.specs.Prelude.{◌≡◌, ◌↔◌, ◌-◌, false, ℕ, Bool, List, [], ◌∷◌, ◌++◌, length, Ok, Option, option_map, if◌then◌else◌}
-use Rattle.std.specs.List.{join_with_byte}
+use Rattle.std.specs.{Borrow.Bor, List.join_with_byte}
 use Rattle.std.specs.Str.{bytes_eq}
 use Rattle.lexicon_fields.specs.{Names.dash, Vendor.is_custom}
 use Rattle.target_lexicon.specs.{Explanation.IsInText, Explanation.PlacedPart, Explanation.part_end, Explanation.part_from, Explanation.part_value, Placement.parts_after, Placement.parts_of, Reading.ReadsAs, Values.Values}
 use Rattle.tool_names.specs.{declared.change.Change.Change, declared.change.ChangedParts.ChangedParts, declared.change.Position.Position, declared.spelling.TripleName.TripleName, declared.spelling.Spelling.Spelling}
 use Rattle.tool_names.specs.declared.change.Position.TheVariants.{First, Second, Later}
 use Rattle.tool_names.specs.declared.spelling.TripleName.TheVariants.{Text, MacOs}
-use Rattle.tool_names.specs.Spelling.{SpelledPart, first_at_end, first_spelling, later_parts, later_spelling, macosx_name, other_parts, second_spelling, spelled_parts, spelled_reading, version_after, versioned_spellings}
+use Rattle.tool_names.specs.Spelling.{SpelledPart, first_at_end, first_spelling, later_parts, macosx_name, other_parts, second_spelling, spelled_parts, spelled_reading, spelling_between, version_after, versioned_spellings}
 
 -- a part of a string, and the names that are read instead
 pub record PartChange : Type 0 where
@@ -73,18 +73,18 @@ change_value it = record { part = part_value it.part; names = spelling_names it.
 abbrev pub spelling_at : Position → List ℕ → List (List ℕ) → List (List ℕ)
 spelling_at First part others = first_spelling part ∷ []
 spelling_at Second part others = second_spelling part others
-spelling_at Later part others = later_spelling part
+spelling_at (Later before) part others = spelling_between before.now part others
 
--- the position of the part after one at this position
-abbrev pub next_position : Position → Position
-next_position First = Second
-next_position _ = Later
+-- the position of the part after this one, which is at this position
+abbrev pub next_position : Position → Bor (List ℕ) → Position
+next_position First part = Second
+next_position _ part = Later part
 
 -- what the parts spell of which the first is at this position
 abbrev pub parts_at : Position → List (List ℕ) → List SpelledPart
 parts_at First parts = spelled_parts parts
 parts_at Second parts = other_parts parts
-parts_at Later parts = later_parts parts
+parts_at (Later before) parts = later_parts before.now parts
 
 -- the changes that are left
 abbrev pub changes_left : ChangedParts → List PartChange

@@ -1,5 +1,6 @@
 -- Strings that are spelled like triples, as the tools of GNU and LLVM print them: some parts are other spellings of
--- known names, and a second part may state no vendor. Each such part gives way to known names, which are parsed as ever.
+-- known names, two parts may be other names together, and a second part may state no vendor. Each such part gives way to known
+-- names, which are parsed as ever.
 use Rattle.std.specs.Prelude.{◌≡◌, ℕ, Bool, true, false, ◌||◌, ◌&&◌, ◌-◌, List, [], ◌∷◌, ◌++◌, codes, length, map, Option, Some, None, is_none, is_some, not, option_map, option_and_then, slice_get, unwrap_or, Result, Ok, Err, if◌then◌else◌, ◌==◌}
 use Rattle.std.specs.Char.{is_ascii_digit}
 use Rattle.std.specs.List.{list_all, list_any, join_with_byte}
@@ -148,6 +149,33 @@ listed_spelling part = option_or (value_named later_spellings part) (option_or (
 unfoldable pub later_spelling : List ℕ → List (List ℕ)
 later_spelling part = if is_known_name part then part ∷ [] else unwrap_or (listed_spelling part) (part ∷ [])
 
+-- whether two parts, with these after them, are the system `none` and a vendor that isn't stated, which LLVM puts after it. Before
+-- a binary format `unknown` is an environment
+abbrev pub is_vendor_after_none : List ℕ → List ℕ → List (List ℕ) → Bool
+is_vendor_after_none part next [] = false
+is_vendor_after_none part next (after ∷ others) = bytes_eq part (codes "none") && bytes_eq next (codes "unknown") && is_none (binary_format_of after)
+
+-- the two names that two parts spell together, with these after them. LLVM writes Cygwin as an environment of Windows
+abbrev pub pair_spelling : List ℕ → List ℕ → List (List ℕ) → Option (Pair (List ℕ))
+pair_spelling part next others =
+    if is_vendor_after_none part next others then Some (codes "unknown", codes "none")
+    else if bytes_eq part (codes "windows") && bytes_eq next (codes "cygnus") then Some (codes "cygwin", codes "unknown")
+    else None
+
+-- the name that a part spells together with the part after it
+abbrev pub name_with_next : List ℕ → List (List ℕ) → Option (List ℕ)
+name_with_next part [] = None
+name_with_next part (next ∷ others) = option_map (λ (names : Pair (List ℕ)). names.0) (pair_spelling part next others)
+
+-- the name that a part spells together with the part before it
+abbrev pub name_with_last : List ℕ → List ℕ → List (List ℕ) → Option (List ℕ)
+name_with_last before part others = option_map (λ (names : Pair (List ℕ)). names.1) (pair_spelling before part others)
+
+-- the names that a part is after the second, between these
+abbrev pub spelling_between : List ℕ → List ℕ → List (List ℕ) → List (List ℕ)
+spelling_between before part others =
+    option_map_or (λ name. name ∷ []) (option_or (name_with_last before part others) (name_with_next part others)) (later_spelling part)
+
 -- whether a second part states no vendor: it is empty, or `none` before the system `linux`
 abbrev pub is_unstated : List ℕ → List (List ℕ) → Bool
 is_unstated [] others = true
@@ -180,22 +208,22 @@ abbrev pub second_spelling : List ℕ → List (List ℕ) → List (List ℕ)
 second_spelling part others =
     if is_unstated part others then codes "unknown" ∷ []
     else if is_other_system part then codes "unknown" ∷ part ∷ []
-    else later_spelling part
+    else option_map_or (λ name. name ∷ []) (name_with_next part others) (later_spelling part)
 
 -- the names that a part of a string spells, and the parts of the string from that one on
 pub record SpelledPart : Type 0 where
   pub names : List (List ℕ)
   pub from : List (List ℕ)
 
--- what these parts spell, none of which is the first or second part of the string
-abbrev pub later_parts : List (List ℕ) → List SpelledPart
-later_parts [] = []
-later_parts (part ∷ others) = record { names = later_spelling part; from = part ∷ others } ∷ later_parts others
+-- what these parts spell after this one, none of which is the first or second part of the string
+abbrev pub later_parts : List ℕ → List (List ℕ) → List SpelledPart
+later_parts before [] = []
+later_parts before (part ∷ others) = record { names = spelling_between before part others; from = part ∷ others } ∷ later_parts part others
 
 -- what the parts after the first spell
 abbrev pub other_parts : List (List ℕ) → List SpelledPart
 other_parts [] = []
-other_parts (part ∷ others) = record { names = second_spelling part others; from = part ∷ others } ∷ later_parts others
+other_parts (part ∷ others) = record { names = second_spelling part others; from = part ∷ others } ∷ later_parts part others
 
 -- what the parts of a string spell
 abbrev pub spelled_parts : List (List ℕ) → List SpelledPart
@@ -215,8 +243,8 @@ abbrev pub names_of : List SpelledPart → List SpelledName
 names_of [] = []
 names_of (it ∷ others) = spelled_by it.from it.names ++ names_of others
 
-abbrev pub later_names : List (List ℕ) → List SpelledName
-later_names parts = names_of (later_parts parts)
+abbrev pub later_names : List ℕ → List (List ℕ) → List SpelledName
+later_names before parts = names_of (later_parts before parts)
 
 abbrev pub names_after_first : List (List ℕ) → List SpelledName
 names_after_first parts = names_of (other_parts parts)

@@ -62,7 +62,7 @@ pub fn listed_parts_are_unknown()
     ensures { ListedPartsAreUnknown }
 {}
 
-/// What a first or a later part spells spells itself. So to rewrite it again changes nothing more.
+/// What a first or a later part spells by itself spells itself. So to rewrite it again changes nothing more.
 pub fn once_is_enough()
     ensures { OnceIsEnough }
 {}

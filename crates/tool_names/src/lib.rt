@@ -17,6 +17,7 @@ mod name;
 mod names;
 mod names_left;
 mod nearest;
+mod pairs;
 mod pattern;
 mod platform;
 mod reading;

@@ -13,20 +13,23 @@ use target_lexicon::first_part;
 pub(crate) struct Left<'a> {
     /// The string from the part on.
     pub from: &'a str,
+    pub part: &'a str,
     pub name: TripleName<'a>,
     pub others: Option<&'a str>,
     pub rest: Option<&'a str>,
 }
 
 impl<'a> Left<'a> {
-    /// The names from a part on that is neither the first nor the second.
-    fn of_later(text: &'a str) -> Left<'a>
-        ensures { left_names (Some result) ≡ later_names (parts_of text.entry.now) }
+    /// The names from a part on that is neither the first nor the second, after this one.
+    fn of_later(before: &str, text: &'a str) -> Left<'a>
+        ensures { left_names (Some result)
+            ≡ later_names before.now (parts_of text.entry.now) }
     {
         let (part, rest) = first_part(text);
-        let spelling = Spelling::of_later(part);
+        let spelling = Spelling::between(before, part, rest);
         Left {
             from: text,
+            part,
             name: spelling.first,
             others: spelling.others,
             rest,
@@ -41,6 +44,7 @@ impl<'a> Left<'a> {
         let spelling = Spelling::of_second(part, rest);
         Left {
             from: text,
+            part,
             name: spelling.first,
             others: spelling.others,
             rest,
@@ -51,20 +55,21 @@ impl<'a> Left<'a> {
     pub(crate) fn next(&self) -> Option<Left<'a>>
         ensures { left_names result
             ≡ spelled_by (parts_of self.now.from.now) (parts_after self.now.others)
-            ++ later_names (parts_after self.now.rest) }
+            ++ later_names self.now.part.now (parts_after self.now.rest) }
     {
         match self.others {
             Some(names) => {
                 let (name, others) = first_part(names);
                 Some(Left {
                     from: self.from,
+                    part: self.part,
                     name: TripleName::Text(name),
                     others,
                     rest: self.rest,
                 })
             }
             None => match self.rest {
-                Some(text) => Some(Left::of_later(text)),
+                Some(text) => Some(Left::of_later(self.part, text)),
                 None => None,
             },
         }

@@ -17,6 +17,7 @@ ghost use Rattle.tool_names.specs.Spelling as spec;
 
 use crate::known_names::names;
 use crate::macos::{MacOsVersion, macos_version};
+use crate::pairs::{name_in_pair, name_with_next};
 use std::fmt;
 use target_lexicon::{
     Architecture, Field, OperatingSystem, Reading, Refusal, Steps, TextPart, VendorRef, first_part,
@@ -214,7 +215,26 @@ impl<'a> Spelling<'a> {
                 others: Some(part),
             }
         } else {
-            Spelling::of_later(part)
+            Spelling::named_or_later(name_with_next(part, rest), part)
+        }
+    }
+
+    /// The names that a part spells that is neither the first nor the second, after this one and with this after its dash.
+    pub(crate) fn between(before: &str, part: &'a str, rest: Option<&str>) -> Spelling<'a>
+        ensures { spelling_names result
+            ≡ spec.spelling_between before.now part.entry.now (parts_after rest.entry) }
+    {
+        Spelling::named_or_later(name_in_pair(before, part, rest), part)
+    }
+
+    /// The spelling of this name, if there is one, and otherwise of the part.
+    fn named_or_later(name: Option<&'static str>, part: &'a str) -> Spelling<'a>
+        ensures { spelling_names result
+            ≡ option_map_or (λ it. it.now ∷ []) name.entry (spec.later_spelling part.entry.now) }
+    {
+        match name {
+            Some(name) => Spelling::of(name),
+            None => Spelling::of_later(part),
         }
     }
 
@@ -228,8 +248,8 @@ impl<'a> Spelling<'a> {
         }
     }
 
-    /// The names that a part spells that isn't the first. A known name stays.
-    pub(crate) fn of_later(part: &'a str) -> Spelling<'a>
+    /// The names that a part spells by itself that isn't the first. A known name stays.
+    fn of_later(part: &'a str) -> Spelling<'a>
         ensures { spelling_names result ≡ spec.later_spelling part.entry.now }
     {
         if is_known_name(part) {

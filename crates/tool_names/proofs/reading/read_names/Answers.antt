@@ -59,7 +59,7 @@ returns-in_err-give c =
     let text = c.args.text.now in
     let it = c.in-Some-left.name in
     let n : SpelledName = record { name = name_text it.name; from = parts_of it.from.now } in
-    let ns = spelled_by (parts_of it.from.now) (parts_after it.others) ++ later_names (parts_after it.rest) in
+    let ns = spelled_by (parts_of it.from.now) (parts_after it.others) ++ later_names it.part.now (parts_after it.rest) in
     let refusal = c.in_err-give.ensures in
     ap placed_outcome (err-is _ _ c.from_residual-in_err-give.ensures.1) ∙ ap (λ (p : PlacedPart). Err (refusal_of_part c.in_err-give.field-0.0.expected p)) (refusal.part ∙ c.first_at_end-part-in-Some-left.ensures)
     ∙ names_refused text _ _ n ns _ _ (ap left_names c.in-Some-left.is) c.loop-left.invariant c.in_err-give.field-0.0.expected
@@ -70,7 +70,7 @@ loop-left-preserved c =
     let text = c.args.text.now in
     let it = c.in-Some-left.name in
     let n : SpelledName = record { name = name_text it.name; from = parts_of it.from.now } in
-    let ns = spelled_by (parts_of it.from.now) (parts_after it.others) ++ later_names (parts_after it.rest) in
+    let ns = spelled_by (parts_of it.from.now) (parts_after it.others) ++ later_names it.part.now (parts_after it.rest) in
     let taken = c.in_ok-give.ensures in
     rw c.next-left.ensures (
     names_go_on-next text _ _ n ns _ _ (ap left_names c.in-Some-left.is) c.loop-left.invariant _ _ (taken.taken _)

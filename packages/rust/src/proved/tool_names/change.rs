@@ -6,7 +6,8 @@ use crate::proved::tool_names::spelling::{
 };
 use crate::proved::{first_part, TextPart};
 
-/// A part of a string that is another spelling of known names, or a second part that states no vendor.
+/// A part of a string that is another spelling of known names, by itself or together with the part before or after it, or a
+/// second part that states no vendor.
 ///
 /// # Examples
 ///
@@ -53,27 +54,28 @@ impl<'a> Change<'a> {
 
 /// Where a part is in a string.
 #[derive(Clone, Copy, Debug)]
-enum Position {
+enum Position<'a> {
     First,
     Second,
-    Later,
+    /// After the second part, and after this one.
+    Later(&'a str),
 }
 
-impl Position {
+impl<'a> Position<'a> {
     /// The names that a part at this position spells, with this after its dash.
-    fn spelling<'a>(self, part: &'a str, rest: Option<&str>) -> Spelling<'a> {
+    fn spelling(self, part: &'a str, rest: Option<&str>) -> Spelling<'a> {
         match self {
             Position::First => Spelling::of(first_spelling(part)),
             Position::Second => Spelling::of_second(part, rest),
-            Position::Later => Spelling::of_later(part),
+            Position::Later(before) => Spelling::between(before, part, rest),
         }
     }
 
-    /// The position of the part after one at this position.
-    fn next(self) -> Position {
+    /// The position of the part after this one, which is at this position.
+    fn next(self, part: &'a str) -> Position<'a> {
         match self {
             Position::First => Position::Second,
-            Position::Second | Position::Later => Position::Later,
+            Position::Second | Position::Later(_) => Position::Later(part),
         }
     }
 }
@@ -92,11 +94,12 @@ pub struct ChangedParts<'a> {
     text: &'a str,
     /// The string from the next part on, if one is left.
     rest: Option<&'a str>,
-    position: Position,
+    position: Position<'a>,
 }
 
 /// What [`read`](crate::proved::tool_names::read) changes in a string: the parts that are other spellings of known names, and these names.
-/// Nothing is allocated.
+/// Each of two parts that are other names together is a change: `none` and `unknown` of `arm-none-unknown-eabi`. Nothing
+/// is allocated.
 ///
 /// A string that parses without a custom vendor has no changes. A string that is refused has its changes too, since
 /// what a part spells doesn't depend on that.
@@ -129,7 +132,7 @@ impl<'a> Iterator for ChangedParts<'a> {
             let (part, rest) = first_part(end);
             let names = self.position.spelling(part, rest);
             self.rest = rest;
-            self.position = self.position.next();
+            self.position = self.position.next(part);
             if !names.is_only(part) {
                 return Some(Change {
                     part: first_at_end(self.text, end),

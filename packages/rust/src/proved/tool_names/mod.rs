@@ -25,6 +25,7 @@ pub(crate) mod names;
 #[cfg(feature = "tool_names")]
 pub(crate) mod names_left;
 pub(crate) mod nearest;
+pub(crate) mod pairs;
 #[cfg(feature = "tool_names")]
 pub(crate) mod pattern;
 #[cfg(feature = "tool_names")]

@@ -9,18 +9,20 @@ use crate::proved::tool_names::spelling::{Spelling, TripleName};
 pub(crate) struct Left<'a> {
     /// The string from the part on.
     pub from: &'a str,
+    pub part: &'a str,
     pub name: TripleName<'a>,
     pub others: Option<&'a str>,
     pub rest: Option<&'a str>,
 }
 
 impl<'a> Left<'a> {
-    /// The names from a part on that is neither the first nor the second.
-    fn of_later(text: &'a str) -> Left<'a> {
+    /// The names from a part on that is neither the first nor the second, after this one.
+    fn of_later(before: &str, text: &'a str) -> Left<'a> {
         let (part, rest) = first_part(text);
-        let spelling = Spelling::of_later(part);
+        let spelling = Spelling::between(before, part, rest);
         Left {
             from: text,
+            part,
             name: spelling.first,
             others: spelling.others,
             rest,
@@ -33,6 +35,7 @@ impl<'a> Left<'a> {
         let spelling = Spelling::of_second(part, rest);
         Left {
             from: text,
+            part,
             name: spelling.first,
             others: spelling.others,
             rest,
@@ -46,13 +49,14 @@ impl<'a> Left<'a> {
                 let (name, others) = first_part(names);
                 Some(Left {
                     from: self.from,
+                    part: self.part,
                     name: TripleName::Text(name),
                     others,
                     rest: self.rest,
                 })
             }
             None => match self.rest {
-                Some(text) => Some(Left::of_later(text)),
+                Some(text) => Some(Left::of_later(self.part, text)),
                 None => None,
             },
         }

@@ -10,8 +10,9 @@ use crate::proved::{first_part, Reading, Refusal, TripleRef};
 ///
 /// Some parts are other spellings of known names, such as `amd64` of `x86_64`, `mingw32` of `windows-gnu`, `w64` of
 /// `pc` and `macos13` of `macosx13`. Versions of systems other than Apple's are dropped: `freebsd13.2` is `freebsd`.
-/// An empty second part is `unknown`, and so is `none` before `linux`. A known name is never another spelling, so what
-/// parses without a custom vendor means the same here.
+/// An empty second part is `unknown`, and so is `none` before `linux`. Two parts may be other names together, as LLVM
+/// prints them: `none-unknown` before a part that is no binary format is `unknown-none`, and `windows-cygnus` is
+/// `cygwin-unknown`. No other known name changes, so what parses without a custom vendor means the same here.
 ///
 /// A second part that is a system which isn't known, such as `macos.11.0`, `linux5.10` or `nuttx`, is no vendor: it is
 /// refused, since a triple without its system would be another target.
@@ -26,6 +27,7 @@ use crate::proved::{first_part, Reading, Refusal, TripleRef};
 /// use target_lexicon::{tool_names::read, TripleRef};
 ///
 /// assert_eq!(read("amd64-w64-mingw32"), Ok(TripleRef::from_str("x86_64-pc-windows-gnu").unwrap()));
+/// assert_eq!(read("arm-none-unknown-eabi"), Ok(TripleRef::from_str("arm-none-eabi").unwrap()));
 /// let refusal = read("x86_64-foo-bar").unwrap_err();
 /// assert_eq!((refusal.range(), refusal.to_string()), (11..14, "Unrecognized operating system: bar".to_string()));
 /// ```

@@ -3,6 +3,7 @@
 
 use crate::proved::tool_names::known_names::names;
 use crate::proved::tool_names::macos::{macos_version, MacOsVersion};
+use crate::proved::tool_names::pairs::{name_in_pair, name_with_next};
 use crate::proved::{
     first_part, fixed_row, Architecture, Field, OperatingSystem, Reading, Refusal, TextPart,
     VendorRef,
@@ -169,7 +170,22 @@ impl<'a> Spelling<'a> {
                 others: Some(part),
             }
         } else {
-            Spelling::of_later(part)
+            Spelling::named_or_later(name_with_next(part, rest), part)
+        }
+    }
+
+    /// The names that a part spells that is neither the first nor the second, after this one and with this after its dash.
+    #[inline]
+    pub(crate) fn between(before: &str, part: &'a str, rest: Option<&str>) -> Spelling<'a> {
+        Spelling::named_or_later(name_in_pair(before, part, rest), part)
+    }
+
+    /// The spelling of this name, if there is one, and otherwise of the part.
+    #[inline]
+    fn named_or_later(name: Option<&'static str>, part: &'a str) -> Spelling<'a> {
+        match name {
+            Some(name) => Spelling::of(name),
+            None => Spelling::of_later(part),
         }
     }
 
@@ -182,9 +198,9 @@ impl<'a> Spelling<'a> {
         }
     }
 
-    /// The names that a part spells that isn't the first. A known name stays.
+    /// The names that a part spells by itself that isn't the first. A known name stays.
     #[inline]
-    pub(crate) fn of_later(part: &'a str) -> Spelling<'a> {
+    fn of_later(part: &'a str) -> Spelling<'a> {
         if is_known_name(part) {
             return Spelling::of(part);
         }
