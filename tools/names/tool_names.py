@@ -4,7 +4,7 @@ from dataclasses import dataclass, field
 
 PATH = "tools/names/elsewhere.tsv"
 # The check of a function that lends a table grows with the square of its rows, so a dialect has several tables.
-TABLE_ROWS = 100
+TABLE_ROWS = 50
 WAYS = {"rw": "Both", "r": "Read", "w": "Written", "-": "NoTriple"}
 DIALECT, ONLY_WRITTEN = "# dialect ", "# only written: "
 # The rules of a dialect: for each word of its line the field of `Rules`, and its value for each choice. The first choice goes
@@ -220,5 +220,9 @@ def antt_lists(tables):
                      for it in dialects],
         "tables_of": [f"tables_of dialect.{it.variant} = {' ∷ '.join([*(f'constant_rows {it.name}.{name.upper()}' for name, _ in it.tables), '[]'])}"
                       for it in dialects],
+        "the rows of each dialect pass": [line for it in dialects for line in (
+            f"{it.name}-rows : RowsPass dialect.{it.variant}", "unfolding shape triple_name rows_of target_lexicon_on_literals",
+            f"{it.name}-rows = record {{ apart = refl; canonical = refl; formed = refl; paired = refl; plain_back = refl; versioned_back = λ a b. refl }}", "")][:-1],
+        "what the rows of each dialect pass": [f"rows-pass dialect.{it.variant} = {it.name}-rows" for it in dialects],
         "the rows of each dialect": [f"use Rattle.tool_names.specs.declared.tables.{it.name}.TheConstants as {it.name}" for it in dialects],
     }

@@ -33,7 +33,7 @@ use Rattle.tool_names.specs.ToolNames.{HasNoTriple, Unread, found_meaning, name_
 use Rattle.tool_names.proofs.Filling.{counted_fits, filled_matches, fits_are_within, fits_counted, is_own_tag, is_spaced, match_fits}
 use Rattle.tool_names.proofs.KeptFormats.{keeps_abi, kept-format}
 use Rattle.tool_names.proofs.ObjectFormats.{given_kept}
-use Rattle.tool_names.proofs.RowChecks.{IsWrittenFor, both_rows, gives_no_special_text, has_canonical, has_form, has_numbers, has_pair, has_triple, is_both, is_canonical, is_canonical_as, is_known_format, is_ordinary, is_ordinary_architecture, is_ordinary_system, is_long_of, is_pair, is_short_of, name_of, plain-back, row-written, rows-apart, rows-canonical, rows-formed, rows-paired, tags-unspelled, versioned-back, written_back}
+use Rattle.tool_names.proofs.RowChecks.{IsWrittenFor, both_rows, gives_no_special_text, has_canonical, has_form, has_numbers, has_pair, has_triple, is_both, is_canonical, is_canonical_as, is_known_format, is_ordinary, is_ordinary_architecture, is_ordinary_system, is_long_of, is_pair, is_short_of, name_of, row-written, rows-pass, tags-unspelled, written_back}
 use Rattle.tool_names.proofs.ReadAgain.{read-sound}
 use Rattle.tool_names.proofs.RowLemmas.{all-at, any-at, is_only_written, is_refused, first-at, named-at, row-found}
 use Rattle.tool_names.proofs.Tags.{named_tag}
@@ -129,7 +129,7 @@ not-written _ other = refl
 
 pub names_mean_rows : NamesMeanTheirRows
 names_mean_rows d row name numbers named other =
-    let found = row-found (rules_of d).tags (rows_of d) name named.place row numbers (rows-apart d) named.listed named.has_name in
+    let found = row-found (rules_of d).tags (rows_of d) name named.place row numbers (rows-pass d).apart named.listed named.has_name in
     found-meaning d name (row, numbers) (found.1 ∙ ap Some (found.2.itself (not-written row.way other)))
 
 refused-meaning : (way : Way) (text numbers : List ℕ) → is_refused way ≡ true → (why : List ℕ) × (row_meaning way text numbers ≡ Err (HasNoTriple why))
@@ -140,7 +140,7 @@ refused-meaning NoTriple text numbers is = (text, refl)
 
 written-refused : (d : Dialect) (row : Row) (name numbers : List ℕ) → IsNamed d row name numbers → is_only_written row.way ≡ true → (why : List ℕ) × (name_meaning d name ≡ Err (HasNoTriple why))
 written-refused d row name numbers named is =
-    let found = row-found (rules_of d).tags (rows_of d) name named.place row numbers (rows-apart d) named.listed named.has_name in
+    let found = row-found (rules_of d).tags (rows_of d) name named.place row numbers (rows-pass d).apart named.listed named.has_name in
     let refused = refused-meaning found.0.0.way found.0.0.meaning found.0.1 (found.2.refused is) in
     (refused.0, found-meaning d name found.0 found.1 ∙ refused.1)
 
@@ -177,7 +177,7 @@ form-at d i row at =
     let own : Bool = not (rules_of d).tags || is_own_tag row.pattern in
     let numbers : Bool = has_numbers row.way (star_count row.pattern) in
     let sizes : Bool = not (is_written row.way) || (is_short_pattern row.pattern && nat_le (length row.meaning) 64) in
-    let all = and_parts (spaced && own && numbers) sizes (all-at (has_form (rules_of d).tags) (rows_of d) i row (rows-formed d) at) in
+    let all = and_parts (spaced && own && numbers) sizes (all-at (has_form (rules_of d).tags) (rows_of d) i row (rows-pass d).formed at) in
     let two = and_parts (spaced && own) numbers all.0 in
     let one = and_parts spaced own two.0 in
     record { spaced = one.0; own = one.1; numbers = two.1 }
@@ -214,8 +214,8 @@ same-at {A} f g stars (first ∷ rows) i row same at both stars_are = by_test (i
 
 back-at : (d : Dialect) (i : ℕ) (row : Row) (ns : List ℕ) → slice_get (rows_of d) i ≡ Some row → row.way ≡ Both → has_numbers row.way (star_count row.pattern) ≡ true → star_count row.pattern ≡ length ns
     → written_back d ns row ≡ Some (filled row.pattern ns)
-back-at d i row [] at both form counted = same-at (written_back d []) (λ (r : Row). Some (filled r.pattern [])) 0 (rows_of d) i row (plain-back d) at both counted
-back-at d i row (a ∷ b ∷ []) at both form counted = same-at (written_back d (a ∷ b ∷ [])) (λ (r : Row). Some (filled r.pattern (a ∷ b ∷ []))) 2 (rows_of d) i row (versioned-back d a b) at both counted
+back-at d i row [] at both form counted = same-at (written_back d []) (λ (r : Row). Some (filled r.pattern [])) 0 (rows_of d) i row (rows-pass d).plain_back at both counted
+back-at d i row (a ∷ b ∷ []) at both form counted = same-at (written_back d (a ∷ b ∷ [])) (λ (r : Row). Some (filled r.pattern (a ∷ b ∷ []))) 2 (rows_of d) i row ((rows-pass d).versioned_back a b) at both counted
 back-at d i row (a ∷ []) at both form counted = absurd (let bad = rw (both, counted) at form in cc)
 back-at d i row (a ∷ b ∷ c ∷ ns) at both form counted = absurd (by_tests (nat_eq (star_count row.pattern) 0) (nat_eq (star_count row.pattern) 2) refl refl (rw both at form))
   where
@@ -287,7 +287,7 @@ pair-means d i j long short n at_long at_short pair small =
     ∙ sym (names_mean_rows d long (filled long.pattern (n ∷ 0 ∷ [])) (n ∷ 0 ∷ []) (named-filled d i long (n ∷ 0 ∷ []) at_long two_fits) (unwritten long.way written))
 
 paired-at : (d : Dialect) (i : ℕ) (row : Row) → (rules_of d).tags ≡ true → slice_get (rows_of d) i ≡ Some row → has_pair (rows_of d) row ≡ true
-paired-at d i row tags at = all-at (has_pair (rows_of d)) (rows_of d) i row (implied _ _ tags (rows-paired d)) at
+paired-at d i row tags at = all-at (has_pair (rows_of d)) (rows_of d) i row (implied _ _ tags (rows-pass d).paired) at
 
 pub one_number_enough : OneNumberIsEnough
 one_number_enough = record {
@@ -315,7 +315,7 @@ abbrev pub is_free : Dialect → Row → Bool
 is_free d row = not (is_written row.way) || keeps d
 
 pub canonical-at : (d : Dialect) (i : ℕ) (row : Row) → slice_get (rows_of d) i ≡ Some row → has_triple row.way ≡ true → (is_canonical (is_free d row) row.meaning ≡ true) × ((nat_eq (star_count row.pattern) 0 || gives_no_special_text (reading row.meaning)) ≡ true)
-canonical-at d i row at is = triple-canonical row.way (is_free d row) row.meaning (nat_eq (star_count row.pattern) 0 || gives_no_special_text (reading row.meaning)) (all-at (has_canonical (keeps d)) (rows_of d) i row (rows-canonical d) at) is
+canonical-at d i row at is = triple-canonical row.way (is_free d row) row.meaning (nat_eq (star_count row.pattern) 0 || gives_no_special_text (reading row.meaning)) (all-at (has_canonical (keeps d)) (rows_of d) i row (rows-pass d).canonical at) is
 
 -- with numbers the version is in range
 numbers-range : (ns : List ℕ) → are_within all_limits ns ≡ true → IsVersionInRange (version_of_numbers ns)

@@ -4,14 +4,14 @@ use Rattle.std.specs.Prelude.{not, ◌&&◌, ◌||◌, option_map, slice_get}
 use Rattle.std.specs.{List.list_all, List.list_any, Str.bytes_eq}
 use Rattle.std.proofs.lemmas.Bool.{and_parts, eqb-true, leb-true}
 use Rattle.std.proofs.lemmas.Slice.Eq.{bytes_eq-Decides}
-use Rattle.lexicon_fields.specs.{Architecture.architecture_of, ArchitectureQueries.is_clever, BinaryFormat.binary_format_of, Environment.environment_of, OperatingSystem.fixed_operating_system_of, OperatingSystem.operating_system_of, Vendor.is_admitted, Vendor.is_custom, Vendor.known_vendor_of, Vendor.vendor_of, Version.version_of}
-use Rattle.target_lexicon.specs.{GreedyReading.reading, ImpliedFormat.implied_format, Refusal.Refusal, SpecialTexts.special_text, SpecialTexts.special_values, Values.BinaryFormat, Values.Architecture, Values.OperatingSystem, Values.Values}
+use Rattle.lexicon_fields.specs.{ArchitectureQueries.is_clever, Vendor.is_custom}
+use Rattle.target_lexicon.proofs.OnLiterals.{target_lexicon_on_literals}
+use Rattle.target_lexicon.specs.{GreedyReading.reading, Printing.text_of, Refusal.Refusal, Values.BinaryFormat, Values.Architecture, Values.OperatingSystem, Values.Values}
 use Rattle.target_lexicon.specs.Values.architecture
 use Rattle.target_lexicon.specs.Values.operating_system
 use Rattle.target_lexicon.specs.Values.binary_format
-use Rattle.target_lexicon.specs.Printing.{shows_vendor, shows_operating_system, shows_environment, shows_binary_format, shown_names, text_of}
 use Rattle.tool_names.specs.declared.dialect.Dialect.{Dialect}
-use Rattle.tool_names.specs.declared.dialect.Dialect.TheVariants.{Debian}
+use Rattle.tool_names.specs.declared.dialect.Dialect.TheVariants as dialect
 use Rattle.tool_names.specs.declared.tables.Way.{Way}
 use Rattle.tool_names.specs.declared.tables.Way.TheVariants.{Both, Written, NoTriple}
 use Rattle.tool_names.specs.{Dialects.rows_of, Dialects.rules_of, Laws.may_be_long, Laws.may_be_short, Private.is_short_pattern, Shape.shape}
@@ -99,28 +99,8 @@ has_pair rows row = (not (may_be_short row) || list_any (is_short_of row) rows) 
 
 -- names that are tags aren't spelled like triples
 pub tags-unspelled : (d : Dialect) → (not (rules_of d).tags || not (rules_of d).spelled) ≡ true
-tags-unspelled Debian = refl
+tags-unspelled dialect.Debian = refl
 tags-unspelled _ = refl
-
-pub rows-apart : (d : Dialect) → all_apart (rows_of d) ≡ true
-unfolding rows_of
-rows-apart Debian = refl
-rows-apart _ = refl
-
-pub rows-canonical : (d : Dialect) → list_all (has_canonical (keeps_abi (rules_of d).abi)) (rows_of d) ≡ true
-unfolding rows_of architecture_of known_vendor_of is_admitted vendor_of version_of fixed_operating_system_of operating_system_of environment_of binary_format_of implied_format special_values special_text shows_vendor shows_operating_system shows_environment shows_binary_format shown_names text_of reading
-rows-canonical Debian = refl
-rows-canonical _ = refl
-
-pub rows-formed : (d : Dialect) → list_all (has_form (rules_of d).tags) (rows_of d) ≡ true
-unfolding rows_of
-rows-formed Debian = refl
-rows-formed _ = refl
-
-pub rows-paired : (d : Dialect) → (not (rules_of d).tags || list_all (has_pair (rows_of d)) (rows_of d)) ≡ true
-unfolding rows_of architecture_of known_vendor_of is_admitted vendor_of version_of fixed_operating_system_of operating_system_of environment_of binary_format_of implied_format special_values special_text shows_vendor shows_operating_system shows_environment shows_binary_format shown_names text_of reading
-rows-paired Debian = refl
-rows-paired _ = refl
 
 -- the rows that go both ways, with this many numbers, are the names of what they mean
 
@@ -135,15 +115,97 @@ name_of d (Err _) = None
 abbrev pub written_back : Dialect → List ℕ → Row → Option (List ℕ)
 written_back d numbers row = name_of d (with_numbers numbers (read_or_unknown (reading row.meaning)))
 
-pub plain-back : (d : Dialect) → map (written_back d []) (both_rows 0 (rows_of d)) ≡ map (λ (row : Row). Some (filled row.pattern [])) (both_rows 0 (rows_of d))
-unfolding shape triple_name rows_of architecture_of known_vendor_of is_admitted vendor_of version_of fixed_operating_system_of operating_system_of environment_of binary_format_of implied_format special_values special_text shows_vendor shows_operating_system shows_environment shows_binary_format shown_names text_of reading
-plain-back Debian = refl
-plain-back _ = refl
+-- what the rows of a dialect pass. Each dialect is computed on its own: a changed row costs the computation of its dialect only
+pub record RowsPass (d : Dialect) : Type 0 where
+  pub apart : all_apart (rows_of d) ≡ true
+  pub canonical : list_all (has_canonical (keeps_abi (rules_of d).abi)) (rows_of d) ≡ true
+  pub formed : list_all (has_form (rules_of d).tags) (rows_of d) ≡ true
+  pub paired : (not (rules_of d).tags || list_all (has_pair (rows_of d)) (rows_of d)) ≡ true
+  pub plain_back : map (written_back d []) (both_rows 0 (rows_of d)) ≡ map (λ (row : Row). Some (filled row.pattern [])) (both_rows 0 (rows_of d))
+  pub versioned_back : (a b : ℕ) → map (written_back d (a ∷ b ∷ [])) (both_rows 2 (rows_of d)) ≡ map (λ (row : Row). Some (filled row.pattern (a ∷ b ∷ []))) (both_rows 2 (rows_of d))
 
-pub versioned-back : (d : Dialect) (a b : ℕ) → map (written_back d (a ∷ b ∷ [])) (both_rows 2 (rows_of d)) ≡ map (λ (row : Row). Some (filled row.pattern (a ∷ b ∷ []))) (both_rows 2 (rows_of d))
-unfolding shape triple_name rows_of architecture_of known_vendor_of is_admitted vendor_of version_of fixed_operating_system_of operating_system_of environment_of binary_format_of implied_format special_values special_text shows_vendor shows_operating_system shows_environment shows_binary_format shown_names text_of reading
-versioned-back Debian a b = refl
-versioned-back _ a b = refl
+-- written by tools/names/write: the rows of each dialect pass
+debian-rows : RowsPass dialect.Debian
+unfolding shape triple_name rows_of target_lexicon_on_literals
+debian-rows = record { apart = refl; canonical = refl; formed = refl; paired = refl; plain_back = refl; versioned_back = λ a b. refl }
+
+go-rows : RowsPass dialect.Go
+unfolding shape triple_name rows_of target_lexicon_on_literals
+go-rows = record { apart = refl; canonical = refl; formed = refl; paired = refl; plain_back = refl; versioned_back = λ a b. refl }
+
+oci-rows : RowsPass dialect.Oci
+unfolding shape triple_name rows_of target_lexicon_on_literals
+oci-rows = record { apart = refl; canonical = refl; formed = refl; paired = refl; plain_back = refl; versioned_back = λ a b. refl }
+
+node-rows : RowsPass dialect.Node
+unfolding shape triple_name rows_of target_lexicon_on_literals
+node-rows = record { apart = refl; canonical = refl; formed = refl; paired = refl; plain_back = refl; versioned_back = λ a b. refl }
+
+gnu-rows : RowsPass dialect.Gnu
+unfolding shape triple_name rows_of target_lexicon_on_literals
+gnu-rows = record { apart = refl; canonical = refl; formed = refl; paired = refl; plain_back = refl; versioned_back = λ a b. refl }
+
+python-rows : RowsPass dialect.Python
+unfolding shape triple_name rows_of target_lexicon_on_literals
+python-rows = record { apart = refl; canonical = refl; formed = refl; paired = refl; plain_back = refl; versioned_back = λ a b. refl }
+
+rust-rows : RowsPass dialect.Rust
+unfolding shape triple_name rows_of target_lexicon_on_literals
+rust-rows = record { apart = refl; canonical = refl; formed = refl; paired = refl; plain_back = refl; versioned_back = λ a b. refl }
+
+uname-rows : RowsPass dialect.Uname
+unfolding shape triple_name rows_of target_lexicon_on_literals
+uname-rows = record { apart = refl; canonical = refl; formed = refl; paired = refl; plain_back = refl; versioned_back = λ a b. refl }
+
+rpm-rows : RowsPass dialect.Rpm
+unfolding shape triple_name rows_of target_lexicon_on_literals
+rpm-rows = record { apart = refl; canonical = refl; formed = refl; paired = refl; plain_back = refl; versioned_back = λ a b. refl }
+
+apk-rows : RowsPass dialect.Apk
+unfolding shape triple_name rows_of target_lexicon_on_literals
+apk-rows = record { apart = refl; canonical = refl; formed = refl; paired = refl; plain_back = refl; versioned_back = λ a b. refl }
+
+pacman-rows : RowsPass dialect.Pacman
+unfolding shape triple_name rows_of target_lexicon_on_literals
+pacman-rows = record { apart = refl; canonical = refl; formed = refl; paired = refl; plain_back = refl; versioned_back = λ a b. refl }
+
+dotnet-rows : RowsPass dialect.Dotnet
+unfolding shape triple_name rows_of target_lexicon_on_literals
+dotnet-rows = record { apart = refl; canonical = refl; formed = refl; paired = refl; plain_back = refl; versioned_back = λ a b. refl }
+
+conda-rows : RowsPass dialect.Conda
+unfolding shape triple_name rows_of target_lexicon_on_literals
+conda-rows = record { apart = refl; canonical = refl; formed = refl; paired = refl; plain_back = refl; versioned_back = λ a b. refl }
+
+zig-rows : RowsPass dialect.Zig
+unfolding shape triple_name rows_of target_lexicon_on_literals
+zig-rows = record { apart = refl; canonical = refl; formed = refl; paired = refl; plain_back = refl; versioned_back = λ a b. refl }
+
+nix-rows : RowsPass dialect.Nix
+unfolding shape triple_name rows_of target_lexicon_on_literals
+nix-rows = record { apart = refl; canonical = refl; formed = refl; paired = refl; plain_back = refl; versioned_back = λ a b. refl }
+
+-- end of what is written
+
+pub rows-pass : (d : Dialect) → RowsPass d
+-- written by tools/names/write: what the rows of each dialect pass
+rows-pass dialect.Debian = debian-rows
+rows-pass dialect.Go = go-rows
+rows-pass dialect.Oci = oci-rows
+rows-pass dialect.Node = node-rows
+rows-pass dialect.Gnu = gnu-rows
+rows-pass dialect.Python = python-rows
+rows-pass dialect.Rust = rust-rows
+rows-pass dialect.Uname = uname-rows
+rows-pass dialect.Rpm = rpm-rows
+rows-pass dialect.Apk = apk-rows
+rows-pass dialect.Pacman = pacman-rows
+rows-pass dialect.Dotnet = dotnet-rows
+rows-pass dialect.Conda = conda-rows
+rows-pass dialect.Zig = zig-rows
+rows-pass dialect.Nix = nix-rows
+
+-- end of what is written
 
 -- what follows of the row that is written for a string
 
@@ -161,7 +223,7 @@ row-written d numbers text row is =
     let found = first-at (is_written_for numbers text) (rows_of d) row is in
     let parts = and_parts (is_written row.way && bytes_eq text row.meaning) (nat_eq (star_count row.pattern) numbers) found.2 in
     let first = and_parts (is_written row.way) (bytes_eq text row.meaning) parts.0 in
-    let form = and_parts (is_spaced row.pattern && (not (rules_of d).tags || is_own_tag row.pattern) && has_numbers row.way (star_count row.pattern)) (not (is_written row.way) || (is_short_pattern row.pattern && nat_le (length row.meaning) 64)) (all-at (has_form (rules_of d).tags) (rows_of d) found.0 row (rows-formed d) found.1) in
+    let form = and_parts (is_spaced row.pattern && (not (rules_of d).tags || is_own_tag row.pattern) && has_numbers row.way (star_count row.pattern)) (not (is_written row.way) || (is_short_pattern row.pattern && nat_le (length row.meaning) 64)) (all-at (has_form (rules_of d).tags) (rows_of d) found.0 row (rows-pass d).formed found.1) in
     let sizes : (is_short_pattern row.pattern && nat_le (length row.meaning) 64) ≡ true = rw first.0 at form.1 in
     let short = and_parts (is_short_pattern row.pattern) (nat_le (length row.meaning) 64) sizes in
     let same : text ≡ row.meaning = (bytes_eq-Decides text row.meaning).0 first.1 in

@@ -89,20 +89,20 @@ rules_of dialect.Nix = record { machine = machine.Version; abi = abi.Dropped; ve
 -- the tables of a dialect, in the order in which they are tried
 abbrev pub tables_of : Dialect → List (List Row)
 -- written by tools/names/write: tables_of
-tables_of dialect.Debian = constant_rows debian.ROWS ∷ constant_rows debian.ROWS_2 ∷ []
-tables_of dialect.Go = constant_rows go.ROWS ∷ []
-tables_of dialect.Oci = constant_rows oci.ROWS ∷ []
-tables_of dialect.Node = constant_rows node.ROWS ∷ constant_rows node.ROWS_2 ∷ []
-tables_of dialect.Gnu = constant_rows gnu.ROWS ∷ []
-tables_of dialect.Python = constant_rows python.ROWS ∷ constant_rows python.ROWS_2 ∷ []
-tables_of dialect.Rust = constant_rows rust.ROWS ∷ constant_rows rust.ROWS_2 ∷ constant_rows rust.ROWS_3 ∷ constant_rows rust.ROWS_4 ∷ []
-tables_of dialect.Uname = constant_rows uname.ROWS ∷ []
+tables_of dialect.Debian = constant_rows debian.ROWS ∷ constant_rows debian.ROWS_2 ∷ constant_rows debian.ROWS_3 ∷ []
+tables_of dialect.Go = constant_rows go.ROWS ∷ constant_rows go.ROWS_2 ∷ []
+tables_of dialect.Oci = constant_rows oci.ROWS ∷ constant_rows oci.ROWS_2 ∷ []
+tables_of dialect.Node = constant_rows node.ROWS ∷ constant_rows node.ROWS_2 ∷ constant_rows node.ROWS_3 ∷ []
+tables_of dialect.Gnu = constant_rows gnu.ROWS ∷ constant_rows gnu.ROWS_2 ∷ []
+tables_of dialect.Python = constant_rows python.ROWS ∷ constant_rows python.ROWS_2 ∷ constant_rows python.ROWS_3 ∷ []
+tables_of dialect.Rust = constant_rows rust.ROWS ∷ constant_rows rust.ROWS_2 ∷ constant_rows rust.ROWS_3 ∷ constant_rows rust.ROWS_4 ∷ constant_rows rust.ROWS_5 ∷ constant_rows rust.ROWS_6 ∷ constant_rows rust.ROWS_7 ∷ []
+tables_of dialect.Uname = constant_rows uname.ROWS ∷ constant_rows uname.ROWS_2 ∷ []
 tables_of dialect.Rpm = constant_rows rpm.ROWS ∷ []
 tables_of dialect.Apk = constant_rows apk.ROWS ∷ []
 tables_of dialect.Pacman = constant_rows pacman.ROWS ∷ []
-tables_of dialect.Dotnet = constant_rows dotnet.ROWS ∷ []
+tables_of dialect.Dotnet = constant_rows dotnet.ROWS ∷ constant_rows dotnet.ROWS_2 ∷ []
 tables_of dialect.Conda = constant_rows conda.ROWS ∷ []
-tables_of dialect.Zig = constant_rows zig.ROWS ∷ []
+tables_of dialect.Zig = constant_rows zig.ROWS ∷ constant_rows zig.ROWS_2 ∷ []
 tables_of dialect.Nix = constant_rows nix.ROWS ∷ []
 
 -- end of what is written

@@ -11,12 +11,15 @@ use std::io;
 use std::io::{Read, Write};
 use target_lexicon::Steps;
 
-/// A reader or writer, and the number of its failed calls. Only contracts see the count; it takes no memory and has no
-/// upper limit. Each call makes the same call of the reader or writer and returns its result.
+/// A number of failed calls. Only contracts see it; it takes no memory and has no upper limit.
+type FailureCount = Steps;
+
+/// A reader or writer, and the number of its failed calls. Each call makes the same call of the reader or writer and
+/// returns its result.
 #[derive(Drop)]
 pub struct Counted<D> {
     inner: D,
-    failures: Steps,
+    failures: FailureCount,
 }
 
 impl<D> Counted<D> {
@@ -27,7 +30,7 @@ impl<D> Counted<D> {
     {
         Counted {
             inner: of,
-            failures: Steps::new(),
+            failures: FailureCount::new(),
         }
     }
 

@@ -12,7 +12,7 @@ pub(crate) fn rows() -> &'static [Row]
 }
 
 #[rattlefmt::skip]
-static ROWS: [(&str, &str, Way); 100] = [
+static ROWS: [(&str, &str, Way); 50] = [
     ("aarch64-apple-darwin", "aarch64-apple-darwin", Both),
     ("aarch64-apple-ios", "aarch64-apple-ios", Both),
     ("aarch64-apple-ios-macabi", "aarch64-apple-ios-macabi", Both),
@@ -63,6 +63,16 @@ static ROWS: [(&str, &str, Way); 100] = [
     ("aarch64v8r-unknown-none-softfloat", "a target of rustc that has no triple here: its architecture is no known name", NoTriple),
     ("amdgcn-amd-amdhsa", "amdgcn-unknown-amdhsa", Both),
     ("arm-linux-androideabi", "arm-linux-androideabi", Both),
+];
+
+pub(crate) fn rows_2() -> &'static [Row]
+    ensures { plain_rows result.now ≡ constant_rows ROWS_2 }
+{
+    &ROWS_2
+}
+
+#[rattlefmt::skip]
+static ROWS_2: [(&str, &str, Way); 50] = [
     ("arm-unknown-linux-gnueabi", "arm-unknown-linux-gnueabi", Both),
     ("arm-unknown-linux-gnueabihf", "arm-unknown-linux-gnueabihf", Both),
     ("arm-unknown-linux-musleabi", "arm-unknown-linux-musleabi", Both),
@@ -115,14 +125,14 @@ static ROWS: [(&str, &str, Way); 100] = [
     ("avr-none", "avr-unknown-none", Both),
 ];
 
-pub(crate) fn rows_2() -> &'static [Row]
-    ensures { plain_rows result.now ≡ constant_rows ROWS_2 }
+pub(crate) fn rows_3() -> &'static [Row]
+    ensures { plain_rows result.now ≡ constant_rows ROWS_3 }
 {
-    &ROWS_2
+    &ROWS_3
 }
 
 #[rattlefmt::skip]
-static ROWS_2: [(&str, &str, Way); 100] = [
+static ROWS_3: [(&str, &str, Way); 50] = [
     ("bpfeb-unknown-none", "bpfeb-unknown-none", Both),
     ("bpfel-unknown-none", "bpfel-unknown-none", Both),
     ("csky-unknown-linux-gnuabiv2", "a target of rustc that has no triple here: its architecture is no known name", NoTriple),
@@ -173,6 +183,16 @@ static ROWS_2: [(&str, &str, Way); 100] = [
     ("mips64-unknown-linux-muslabi64", "mips64-unknown-linux-muslabi64", Both),
     ("mips64el-unknown-linux-gnuabi64", "mips64el-unknown-linux-gnuabi64", Both),
     ("mips64el-unknown-linux-muslabi64", "mips64el-unknown-linux-muslabi64", Both),
+];
+
+pub(crate) fn rows_4() -> &'static [Row]
+    ensures { plain_rows result.now ≡ constant_rows ROWS_4 }
+{
+    &ROWS_4
+}
+
+#[rattlefmt::skip]
+static ROWS_4: [(&str, &str, Way); 50] = [
     ("mipsel-mti-none-elf", "mipsel-unknown-none-elf", Both),
     ("mipsel-sony-psp", "mipsel-unknown-psp", Both),
     ("mipsel-sony-psx", "a target of rustc that has no triple here: its system is no known name", NoTriple),
@@ -225,14 +245,14 @@ static ROWS_2: [(&str, &str, Way); 100] = [
     ("riscv32imafc-unknown-nuttx-elf", "a target of rustc that has no triple here: its system is no known name", NoTriple),
 ];
 
-pub(crate) fn rows_3() -> &'static [Row]
-    ensures { plain_rows result.now ≡ constant_rows ROWS_3 }
+pub(crate) fn rows_5() -> &'static [Row]
+    ensures { plain_rows result.now ≡ constant_rows ROWS_5 }
 {
-    &ROWS_3
+    &ROWS_5
 }
 
 #[rattlefmt::skip]
-static ROWS_3: [(&str, &str, Way); 100] = [
+static ROWS_5: [(&str, &str, Way); 50] = [
     ("riscv32imc-esp-espidf", "riscv32imc-unknown-espidf-newlib", Both),
     ("riscv32imc-unknown-none-elf", "riscv32imc-unknown-none-elf", Both),
     ("riscv32imc-unknown-nuttx-elf", "a target of rustc that has no triple here: its system is no known name", NoTriple),
@@ -283,6 +303,16 @@ static ROWS_3: [(&str, &str, Way); 100] = [
     ("thumbv7neon-linux-androideabi", "thumbv7neon-linux-androideabi", Both),
     ("thumbv7neon-unknown-linux-gnueabihf", "thumbv7neon-unknown-linux-gnueabihf", Both),
     ("thumbv7neon-unknown-linux-musleabihf", "thumbv7neon-unknown-linux-musleabihf", Both),
+];
+
+pub(crate) fn rows_6() -> &'static [Row]
+    ensures { plain_rows result.now ≡ constant_rows ROWS_6 }
+{
+    &ROWS_6
+}
+
+#[rattlefmt::skip]
+static ROWS_6: [(&str, &str, Way); 50] = [
     ("thumbv7r-none-eabi", "a target of rustc that has no triple here: its architecture is no known name", NoTriple),
     ("thumbv7r-none-eabihf", "a target of rustc that has no triple here: its architecture is no known name", NoTriple),
     ("thumbv8m.base-none-eabi", "thumbv8m.base-none-eabi", Both),
@@ -335,14 +365,14 @@ static ROWS_3: [(&str, &str, Way); 100] = [
     ("x86_64-unknown-linux-ohos", "x86_64-unknown-linux-ohos", Both),
 ];
 
-pub(crate) fn rows_4() -> &'static [Row]
-    ensures { plain_rows result.now ≡ constant_rows ROWS_4 }
+pub(crate) fn rows_7() -> &'static [Row]
+    ensures { plain_rows result.now ≡ constant_rows ROWS_7 }
 {
-    &ROWS_4
+    &ROWS_7
 }
 
 #[rattlefmt::skip]
-static ROWS_4: [(&str, &str, Way); 20] = [
+static ROWS_7: [(&str, &str, Way); 20] = [
     ("x86_64-unknown-managarm-mlibc", "a target of rustc that has no triple here: its system is no known name", NoTriple),
     ("x86_64-unknown-motor", "a target of rustc that has no triple here: its system is no known name", NoTriple),
     ("x86_64-unknown-netbsd", "x86_64-unknown-netbsd", Both),

@@ -12,7 +12,7 @@ pub(crate) fn rows() -> &'static [Row]
 }
 
 #[rattlefmt::skip]
-static ROWS: [(&str, &str, Way); 70] = [
+static ROWS: [(&str, &str, Way); 50] = [
     ("Linux x86_64", "x86_64-unknown-linux", Read),
     ("Linux i686", "i686-unknown-linux", Read),
     ("Linux i586", "i586-unknown-linux", Read),
@@ -63,6 +63,16 @@ static ROWS: [(&str, &str, Way); 70] = [
     ("OpenBSD macppc", "powerpc-unknown-openbsd", Read),
     ("OpenBSD powerpc64", "powerpc64-unknown-openbsd", Read),
     ("OpenBSD riscv64", "riscv64-unknown-openbsd", Read),
+];
+
+pub(crate) fn rows_2() -> &'static [Row]
+    ensures { plain_rows result.now ≡ constant_rows ROWS_2 }
+{
+    &ROWS_2
+}
+
+#[rattlefmt::skip]
+static ROWS_2: [(&str, &str, Way); 20] = [
     ("OpenBSD sparc64", "sparc64-unknown-openbsd", Read),
     ("NetBSD amd64", "x86_64-unknown-netbsd", Read),
     ("NetBSD i386", "i686-unknown-netbsd", Read),

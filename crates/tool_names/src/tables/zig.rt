@@ -12,7 +12,7 @@ pub(crate) fn rows() -> &'static [Row]
 }
 
 #[rattlefmt::skip]
-static ROWS: [(&str, &str, Way); 77] = [
+static ROWS: [(&str, &str, Way); 50] = [
     ("x86_64-linux-gnu", "x86_64-unknown-linux-gnu", Both),
     ("x86_64-linux-musl", "x86_64-unknown-linux-musl", Both),
     ("x86-linux-gnu", "i686-unknown-linux-gnu", Both),
@@ -63,6 +63,16 @@ static ROWS: [(&str, &str, Way); 77] = [
     ("x86_64-windows-msvc", "x86_64-pc-windows-msvc", Both),
     ("x86_64-windows.win10-gnu", "x86_64-pc-windows-gnu", Read),
     ("x86_64-freestanding", "x86_64-unknown-none", Read),
+];
+
+pub(crate) fn rows_2() -> &'static [Row]
+    ensures { plain_rows result.now ≡ constant_rows ROWS_2 }
+{
+    &ROWS_2
+}
+
+#[rattlefmt::skip]
+static ROWS_2: [(&str, &str, Way); 27] = [
     ("x86_64-freestanding-none", "x86_64-unknown-none", Read),
     ("aarch64-macos", "aarch64-apple-darwin", Both),
     ("aarch64-macos-none", "aarch64-apple-darwin", Read),

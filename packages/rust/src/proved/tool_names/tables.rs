@@ -34,7 +34,7 @@ pub(crate) enum Way {
 /// A name, the canonical triple that it means or why it has none, and how it is used. A star in the name is a number.
 pub(crate) type Row = (&'static str, &'static str, Way);
 
-const TABLE_COUNT: usize = 4;
+const TABLE_COUNT: usize = 7;
 
 pub(crate) const ONLY_WRITTEN: &str = "names of cross compilers are only written";
 
@@ -168,21 +168,53 @@ impl Dialect {
     /// The tables of the dialect, in the order in which they are tried. Those that it doesn't need are empty.
     pub(crate) fn tables(self) -> [&'static [Row]; TABLE_COUNT] {
         match self {
-            Dialect::Debian => [debian::rows(), debian::rows_2(), &[], &[]],
-            Dialect::Go => [go::rows(), &[], &[], &[]],
-            Dialect::Oci => [oci::rows(), &[], &[], &[]],
-            Dialect::Node => [node::rows(), node::rows_2(), &[], &[]],
-            Dialect::Gnu => [gnu::rows(), &[], &[], &[]],
-            Dialect::Python => [python::rows(), python::rows_2(), &[], &[]],
-            Dialect::Rust => [rust::rows(), rust::rows_2(), rust::rows_3(), rust::rows_4()],
-            Dialect::Uname => [uname::rows(), &[], &[], &[]],
-            Dialect::Rpm => [rpm::rows(), &[], &[], &[]],
-            Dialect::Apk => [apk::rows(), &[], &[], &[]],
-            Dialect::Pacman => [pacman::rows(), &[], &[], &[]],
-            Dialect::Dotnet => [dotnet::rows(), &[], &[], &[]],
-            Dialect::Conda => [conda::rows(), &[], &[], &[]],
-            Dialect::Zig => [zig::rows(), &[], &[], &[]],
-            Dialect::Nix => [nix::rows(), &[], &[], &[]],
+            Dialect::Debian => [
+                debian::rows(),
+                debian::rows_2(),
+                debian::rows_3(),
+                &[],
+                &[],
+                &[],
+                &[],
+            ],
+            Dialect::Go => [go::rows(), go::rows_2(), &[], &[], &[], &[], &[]],
+            Dialect::Oci => [oci::rows(), oci::rows_2(), &[], &[], &[], &[], &[]],
+            Dialect::Node => [
+                node::rows(),
+                node::rows_2(),
+                node::rows_3(),
+                &[],
+                &[],
+                &[],
+                &[],
+            ],
+            Dialect::Gnu => [gnu::rows(), gnu::rows_2(), &[], &[], &[], &[], &[]],
+            Dialect::Python => [
+                python::rows(),
+                python::rows_2(),
+                python::rows_3(),
+                &[],
+                &[],
+                &[],
+                &[],
+            ],
+            Dialect::Rust => [
+                rust::rows(),
+                rust::rows_2(),
+                rust::rows_3(),
+                rust::rows_4(),
+                rust::rows_5(),
+                rust::rows_6(),
+                rust::rows_7(),
+            ],
+            Dialect::Uname => [uname::rows(), uname::rows_2(), &[], &[], &[], &[], &[]],
+            Dialect::Rpm => [rpm::rows(), &[], &[], &[], &[], &[], &[]],
+            Dialect::Apk => [apk::rows(), &[], &[], &[], &[], &[], &[]],
+            Dialect::Pacman => [pacman::rows(), &[], &[], &[], &[], &[], &[]],
+            Dialect::Dotnet => [dotnet::rows(), dotnet::rows_2(), &[], &[], &[], &[], &[]],
+            Dialect::Conda => [conda::rows(), &[], &[], &[], &[], &[], &[]],
+            Dialect::Zig => [zig::rows(), zig::rows_2(), &[], &[], &[], &[], &[]],
+            Dialect::Nix => [nix::rows(), &[], &[], &[], &[], &[], &[]],
         }
     }
 }

@@ -9,7 +9,7 @@ pub(crate) fn rows() -> &'static [Row] {
 }
 
 #[rustfmt::skip]
-static ROWS: [(&str, &str, Way); 100] = [
+static ROWS: [(&str, &str, Way); 50] = [
     ("aarch64", "Debian's name is arm64; in Termux it is Android's", NoTriple),
     ("all", "no machine", NoTriple),
     ("alpha", "its architecture is no known name", NoTriple),
@@ -60,6 +60,14 @@ static ROWS: [(&str, &str, Way); 100] = [
     ("mipsr6el", "mipsisa32r6el-unknown-linux-gnu", Both),
     ("musl-linux-amd64", "x86_64-unknown-linux-musl", Both),
     ("musl-linux-arm", "arm-unknown-linux-musl", Both),
+];
+
+pub(crate) fn rows_2() -> &'static [Row] {
+    &ROWS_2
+}
+
+#[rustfmt::skip]
+static ROWS_2: [(&str, &str, Way); 50] = [
     ("musl-linux-arm64", "aarch64-unknown-linux-musl", Both),
     ("musl-linux-armeb", "armeb-unknown-linux-musl", Both),
     ("musl-linux-armhf", "arm-unknown-linux-musleabihf", Both),
@@ -112,12 +120,12 @@ static ROWS: [(&str, &str, Way); 100] = [
     ("uclibc-linux-mips", "mips-unknown-linux-uclibc", Both),
 ];
 
-pub(crate) fn rows_2() -> &'static [Row] {
-    &ROWS_2
+pub(crate) fn rows_3() -> &'static [Row] {
+    &ROWS_3
 }
 
 #[rustfmt::skip]
-static ROWS_2: [(&str, &str, Way); 16] = [
+static ROWS_3: [(&str, &str, Way); 16] = [
     ("uclibc-linux-mips64", "mips64-unknown-linux-uclibc", Both),
     ("uclibc-linux-mips64el", "mips64el-unknown-linux-uclibc", Both),
     ("uclibc-linux-mips64r6", "mipsisa64r6-unknown-linux-uclibc", Both),

@@ -9,7 +9,7 @@ pub(crate) fn rows() -> &'static [Row] {
 }
 
 #[rustfmt::skip]
-static ROWS: [(&str, &str, Way); 95] = [
+static ROWS: [(&str, &str, Way); 50] = [
     ("aarch64--netbsd", "aarch64-unknown-netbsd", Both),
     ("aarch64-linux-gnu", "aarch64-unknown-linux-gnu", Both),
     ("aarch64-linux-gnu_ilp32", "aarch64-unknown-linux-gnu_ilp32", Both),
@@ -60,6 +60,14 @@ static ROWS: [(&str, &str, Way); 95] = [
     ("mipsisa32r6-linux-gnu", "mipsisa32r6-unknown-linux-gnu", Both),
     ("mipsisa32r6-linux-musl", "mipsisa32r6-unknown-linux-musl", Both),
     ("mipsisa32r6-linux-uclibc", "mipsisa32r6-unknown-linux-uclibc", Both),
+];
+
+pub(crate) fn rows_2() -> &'static [Row] {
+    &ROWS_2
+}
+
+#[rustfmt::skip]
+static ROWS_2: [(&str, &str, Way); 45] = [
     ("mipsisa32r6el-linux-gnu", "mipsisa32r6el-unknown-linux-gnu", Both),
     ("mipsisa32r6el-linux-musl", "mipsisa32r6el-unknown-linux-musl", Both),
     ("mipsisa32r6el-linux-uclibc", "mipsisa32r6el-unknown-linux-uclibc", Both),

@@ -9,7 +9,7 @@ pub(crate) fn rows() -> &'static [Row] {
 }
 
 #[rustfmt::skip]
-static ROWS: [(&str, &str, Way); 85] = [
+static ROWS: [(&str, &str, Way); 50] = [
     ("386", "a machine without a system", NoTriple),
     ("aix/ppc64", "powerpc64-ibm-aix", Both),
     ("amd64", "a machine without a system", NoTriple),
@@ -60,6 +60,14 @@ static ROWS: [(&str, &str, Way); 85] = [
     ("linux/s390", "its architecture is no known name", NoTriple),
     ("linux/s390x", "s390x-unknown-linux", Both),
     ("linux/sparc64", "sparc64-unknown-linux", Read),
+];
+
+pub(crate) fn rows_2() -> &'static [Row] {
+    &ROWS_2
+}
+
+#[rustfmt::skip]
+static ROWS_2: [(&str, &str, Way); 35] = [
     ("linux_386", "i686-unknown-linux", Read),
     ("linux_amd64", "x86_64-unknown-linux", Read),
     ("linux_amd64_v1", "x86_64-unknown-linux", Read),

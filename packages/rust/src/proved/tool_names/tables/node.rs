@@ -9,7 +9,7 @@ pub(crate) fn rows() -> &'static [Row] {
 }
 
 #[rustfmt::skip]
-static ROWS: [(&str, &str, Way); 100] = [
+static ROWS: [(&str, &str, Way); 50] = [
     ("aix-ppc64", "powerpc64-ibm-aix", Both),
     ("alpine-arm64", "aarch64-unknown-linux-musl", Read),
     ("alpine-x64", "x86_64-unknown-linux-musl", Read),
@@ -60,6 +60,14 @@ static ROWS: [(&str, &str, Way); 100] = [
     ("linux-musl-ia32", "i686-unknown-linux-musl", Read),
     ("linux-musl-x64", "x86_64-unknown-linux-musl", Read),
     ("linux-powerpc64le-gnu", "powerpc64le-unknown-linux-gnu", Read),
+];
+
+pub(crate) fn rows_2() -> &'static [Row] {
+    &ROWS_2
+}
+
+#[rustfmt::skip]
+static ROWS_2: [(&str, &str, Way); 50] = [
     ("linux-ppc", "Node builds none any more", NoTriple),
     ("linux-ppc64", "powerpc64le-unknown-linux", Both),
     ("linux-ppc64-glibc", "powerpc64le-unknown-linux-gnu", Both),
@@ -112,12 +120,12 @@ static ROWS: [(&str, &str, Way); 100] = [
     ("win32-x64", "x86_64-pc-windows", Both),
 ];
 
-pub(crate) fn rows_2() -> &'static [Row] {
-    &ROWS_2
+pub(crate) fn rows_3() -> &'static [Row] {
+    &ROWS_3
 }
 
 #[rustfmt::skip]
-static ROWS_2: [(&str, &str, Way); 2] = [
+static ROWS_3: [(&str, &str, Way); 2] = [
     ("win32-x64-gnu", "x86_64-pc-windows-gnu", Read),
     ("win32-x64-msvc", "x86_64-pc-windows-msvc", Read),
 ];

@@ -9,7 +9,7 @@ pub(crate) fn rows() -> &'static [Row] {
 }
 
 #[rustfmt::skip]
-static ROWS: [(&str, &str, Way); 80] = [
+static ROWS: [(&str, &str, Way); 50] = [
     ("aix/ppc64", "powerpc64-ibm-aix", Both),
     ("amd64", "half of a platform: containerd adds that of the host", NoTriple),
     ("android/386", "i686-linux-android", Both),
@@ -60,6 +60,14 @@ static ROWS: [(&str, &str, Way); 80] = [
     ("linux/ppc64le/power10", "a triple can't state a version of POWER", NoTriple),
     ("linux/ppc64le/power8", "a triple can't state a version of POWER", NoTriple),
     ("linux/ppc64le/power9", "a triple can't state a version of POWER", NoTriple),
+];
+
+pub(crate) fn rows_2() -> &'static [Row] {
+    &ROWS_2
+}
+
+#[rustfmt::skip]
+static ROWS_2: [(&str, &str, Way); 30] = [
     ("linux/riscv64", "riscv64-unknown-linux", Both),
     ("linux/riscv64/rva20u64", "a triple can't state a profile of RISC-V", NoTriple),
     ("linux/riscv64/rva22u64", "a triple can't state a profile of RISC-V", NoTriple),

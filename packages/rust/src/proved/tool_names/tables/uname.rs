@@ -9,7 +9,7 @@ pub(crate) fn rows() -> &'static [Row] {
 }
 
 #[rustfmt::skip]
-static ROWS: [(&str, &str, Way); 70] = [
+static ROWS: [(&str, &str, Way); 50] = [
     ("Linux x86_64", "x86_64-unknown-linux", Read),
     ("Linux i686", "i686-unknown-linux", Read),
     ("Linux i586", "i586-unknown-linux", Read),
@@ -60,6 +60,14 @@ static ROWS: [(&str, &str, Way); 70] = [
     ("OpenBSD macppc", "powerpc-unknown-openbsd", Read),
     ("OpenBSD powerpc64", "powerpc64-unknown-openbsd", Read),
     ("OpenBSD riscv64", "riscv64-unknown-openbsd", Read),
+];
+
+pub(crate) fn rows_2() -> &'static [Row] {
+    &ROWS_2
+}
+
+#[rustfmt::skip]
+static ROWS_2: [(&str, &str, Way); 20] = [
     ("OpenBSD sparc64", "sparc64-unknown-openbsd", Read),
     ("NetBSD amd64", "x86_64-unknown-netbsd", Read),
     ("NetBSD i386", "i686-unknown-netbsd", Read),
