@@ -11,7 +11,7 @@ PACKAGES = {
     "packages/c": {"lexicon_c": ""},
 }
 # The modules that are compiled only with a feature of their name, and what of each is always compiled: suggestions need it.
-FEATURES = {"tool_names": {"distance", "known_names", "macos", "misspelling", "nearest", "pairs", "spelling", "suggested", "suggestions"}}
+FEATURES = {"tool_names": {"distance", "hard_float", "known_names", "macos", "misspelling", "nearest", "pairs", "spelling", "suggested", "suggestions"}}
 # The modules of which only the names of other tools use all, by the module that they are in; and the public names of those.
 PARTLY = {"": {"decimal", "reading"}, "tool_names": {"spelling"}}
 ONLY_FOR_TOOL_NAMES = {"MAX_DECIMAL_LENGTH", "decimal_text", "Spelling"}
@@ -47,8 +47,8 @@ INLINE = {
     "put", "Refusal::write_to",
 }
 INLINE_MODULES = {
-    "aarch64", "arm", "clever", "distance", "macos", "mips", "misspelling", "nearest", "pairs", "queries", "riscv", "settle", "settles_as",
-    "spelling", "suggested", "suggestions", "x86_32", "z80",
+    "aarch64", "arm", "clever", "distance", "hard_float", "macos", "mips", "misspelling", "nearest", "pairs", "queries", "riscv", "settle",
+    "settles_as", "spelling", "suggested", "suggestions", "x86_32", "z80",
 }
 
 # Calls that constants can use: what `const fn` can have in Rust 1.65.

@@ -12,8 +12,8 @@ use Rattle.tool_names.specs.declared.change.Position.{Position}
 use Rattle.tool_names.specs.declared.change.Position.TheVariants.{First, Second, Later}
 use Rattle.tool_names.specs.Changes.{KnownNamesStay, PartChange, UnchangedStringsAreReadAsTheyParse, changes, changes_of, is_only, next_position, parts_at, spelling_at}
 use Rattle.tool_names.specs.KnownNames.{known_names}
-use Rattle.tool_names.specs.Spelling.{SpelledName, SpelledPart, first_at_end, first_spelling, is_other_system, later_names, later_parts, later_spelling, later_spellings, listed_spelling, located, name_texts, names_after_first, names_of, other_parts, reading_unless_special, second_spelling, spelled_names, spelled_parts, spelled_reading, spelling_between, unread_names, versioned_spellings}
-use Rattle.tool_names.proofs.SpelledNames.{AllStay, CustomStays, IsNoPair, between-stays, read-stated, vendor-stays}
+use Rattle.tool_names.specs.Spelling.{SpelledName, SpelledPart, first_at_end, first_spelling, hard_float_names, is_hard_float, is_other_system, later_names, later_parts, later_spelling, later_spellings, listed_spelling, located, name_texts, names_after_first, names_of, other_parts, reading_unless_special, second_spelling, spelled_names, spelled_parts, spelled_reading, spelling_between, unread_names, versioned_spellings, with_hard_floats}
+use Rattle.tool_names.proofs.SpelledNames.{AllStay, CustomStays, IsNoPair, between-stays, read-stated, vendor-stays, architecture-stay}
 
 bytes_eq-same : (part : List ℕ) → bytes_eq part part ≡ true
 bytes_eq-same part = (bytes_eq-Decides part part).1 refl
@@ -41,7 +41,9 @@ module _ (text : List ℕ) (t : Values) (custom : CustomStays t) where
     where
       by_found : (o : Option Architecture) → architecture_of p ≡ o → reading_after_architecture o p ps ≡ Ok t → changes_of text (spelled_parts (p ∷ ps)) ≡ []
       by_found None is h = absurd cc
-      by_found (Some a) is h = itself text p ps (first_spelling p ∷ []) (other_parts ps) (rw is refl) ∙ other-none a ps h
+      by_found (Some a) is h =
+          itself text p ps (first_spelling p ∷ []) (with_hard_floats (is_hard_float p) (other_parts ps)) (rw is refl)
+          ∙ ap (changes_of text) (architecture-stay p a (other_parts ps) is) ∙ other-none a ps h
 
 -- the special strings have no changes
 
@@ -92,23 +94,29 @@ module _ (text part : List ℕ) (others names : List (List ℕ)) (rest : List Sp
       → (let it : SpelledPart = record { names = names; from = part ∷ others } in name_texts (names_of (it ∷ rest)) ≡ part ∷ ps)
   named-first ps is same = rw is (ap (λ qs. part ∷ qs) same)
 
-later-same : (text before : List ℕ) (ps : List (List ℕ)) → changes_of text (later_parts before ps) ≡ [] → name_texts (later_names before ps) ≡ ps
-later-same text before [] none = refl
-later-same text before (p ∷ ps) none =
-    let first = none-first text p ps (spelling_between before p ps) (later_parts p ps) none in
-    named-first text p ps (spelling_between before p ps) (later_parts p ps) ps first.0 (later-same text p ps first.1)
+module _ (text : List ℕ) (hard_float : Bool) where
+  later-same : (before : List ℕ) (ps : List (List ℕ)) → changes_of text (with_hard_floats hard_float (later_parts before ps)) ≡ [] → name_texts (later_names hard_float before ps) ≡ ps
+  later-same before [] none = refl
+  later-same before (p ∷ ps) none =
+      let names = hard_float_names hard_float (spelling_between before p ps) in
+      let rest = with_hard_floats hard_float (later_parts p ps) in
+      let first = none-first text p ps names rest none in
+      named-first text p ps names rest ps first.0 (later-same p ps first.1)
 
-other-same : (text : List ℕ) (ps : List (List ℕ)) → changes_of text (other_parts ps) ≡ [] → name_texts (names_after_first ps) ≡ ps
-other-same text [] none = refl
-other-same text (p ∷ ps) none =
-    let first = none-first text p ps (second_spelling p ps) (later_parts p ps) none in
-    named-first text p ps (second_spelling p ps) (later_parts p ps) ps first.0 (later-same text p ps first.1)
+  other-same : (ps : List (List ℕ)) → changes_of text (with_hard_floats hard_float (other_parts ps)) ≡ [] → name_texts (names_after_first hard_float ps) ≡ ps
+  other-same [] none = refl
+  other-same (p ∷ ps) none =
+      let names = hard_float_names hard_float (second_spelling p ps) in
+      let rest = with_hard_floats hard_float (later_parts p ps) in
+      let first = none-first text p ps names rest none in
+      named-first text p ps names rest ps first.0 (later-same p ps first.1)
 
 parts-same : (text : List ℕ) (ps : List (List ℕ)) → changes_of text (spelled_parts ps) ≡ [] → name_texts (spelled_names ps) ≡ ps
 parts-same text [] none = refl
 parts-same text (p ∷ ps) none =
-    let first = none-first text p ps (first_spelling p ∷ []) (other_parts ps) none in
-    named-first text p ps (first_spelling p ∷ []) (other_parts ps) ps first.0 (other-same text ps first.1)
+    let rest = with_hard_floats (is_hard_float p) (other_parts ps) in
+    let first = none-first text p ps (first_spelling p ∷ []) rest none in
+    named-first text p ps (first_spelling p ∷ []) rest ps first.0 (other-same text (is_hard_float p) ps first.1)
 
 -- so it is read as it parses
 located-is : (text : List ℕ) (r : Result Values Refusal) (left : List SpelledName) (t : Values) → (located text r left ≡ Ok t) ↔ (r ≡ Ok t)
@@ -143,8 +151,8 @@ unchanged_read text t none =
 parts-split : (at : Position) (part : Bor (List ℕ)) (others : List (List ℕ))
     → (let it : SpelledPart = record { names = spelling_at at part.now others; from = part.now ∷ others } in parts_at at (part.now ∷ others) ≡ it ∷ parts_at (next_position at part) others)
 parts-split First part others = refl
-parts-split Second part others = refl
-parts-split (Later before) part others = refl
+parts-split (Second hard_float) part others = refl
+parts-split (Later hard_float before) part others = refl
 
 module _ (text end : List ℕ) (at : Position) (part : Bor (List ℕ)) (others names : List (List ℕ)) (cut : parts_of end ≡ part.now ∷ others) (spells : names ≡ spelling_at at part.now others) where
   -- the first part spells only itself, and the changes are those of the others

@@ -6,7 +6,7 @@ use Rattle.target_lexicon.specs.Field as field
 use Rattle.target_lexicon.specs.{Explanation.PlacedPart, Field.Field, GreedyReading.reading_of_parts, Placement.parts_of, Refusal.refusal_with, Values.Values, Values.unknown_values}
 use Rattle.target_lexicon.specs.Resumed.{NamedPart, resumed, resumed_left, left_from, left_from_vendor}
 use Rattle.target_lexicon.proofs.ResumedLemmas.{start-reading}
-use Rattle.tool_names.specs.Spelling.{SpelledName, first_at_end, located, name_texts, names_left, first_spelling, names_after_first, spelled_names, reading_of_names, refusal_of_first, refusal_of_part, unread_names}
+use Rattle.tool_names.specs.Spelling.{SpelledName, first_at_end, located, name_texts, names_left, first_spelling, is_hard_float, names_after_first, spelled_names, reading_of_names, refusal_of_first, refusal_of_part, unread_names}
 
 abbrev pub placed_name : List ℕ → SpelledName → NamedPart
 placed_name text it = record { name = it.name; part = first_at_end text it.from }
@@ -74,7 +74,7 @@ names_read text expected t u left names is before outcome =
     sym (ap (λ r. located text r (unread_names names)) (sym before.outcome ∙ ap (λ k. resumed expected t (name_texts k)) is ∙ outcome))
 
 pub first-names : (text part : List ℕ) (others : List (List ℕ)) → parts_of text ≡ part ∷ others → (name : List ℕ) → name ≡ first_spelling part
-    → spelled_names (parts_of text) ≡ record { name = name; from = parts_of text } ∷ names_after_first others
+    → spelled_names (parts_of text) ≡ record { name = name; from = parts_of text } ∷ names_after_first (is_hard_float part) others
 first-names text part others is name same = rw (is, same) refl
 
 pub names_go_on-start : (text : List ℕ) (expected : Option Field) (t : Values) (n : SpelledName) (ns names : List SpelledName) → names ≡ n ∷ ns

@@ -1,5 +1,5 @@
 -- The range of a refused part, and of a changed one, holds the part.
-use Rattle.std.proofs.Common.{◌≡◌, ◌∙◌, ℕ, List, [], ◌∷◌, ◌++◌, length, Option, Some, None, Result, Ok, Err, refl, sym, ap, subst, append_assoc, arith, inl, inr}
+use Rattle.std.proofs.Common.{◌≡◌, ◌∙◌, ℕ, List, [], ◌∷◌, ◌++◌, length, Bool, Option, Some, None, Result, Ok, Err, refl, sym, ap, subst, append_assoc, arith, inl, inr}
 use Rattle.std.specs.Prelude.{is_some}
 use Rattle.std.specs.List.{join_with_byte}
 use Rattle.std.proofs.lemmas.Bool.{cases_Bool}
@@ -9,7 +9,7 @@ use Rattle.target_lexicon.proofs.{PartLemmas.parts_of-are, SourceLemmas.part-in}
 use Rattle.target_lexicon.specs.{Explanation.IsInText, GreedyReading.reading_of_parts, Placement.parts_of, Refusal.Refusal, SpecialTexts.special_values, Values.Values}
 use Rattle.tool_names.specs.Changes.{AreInTheString, ChangedPartsAreInTheString, changes, changes_of, is_only}
 use Rattle.target_lexicon.specs.ValuesRef.{PlacedRefusal}
-use Rattle.tool_names.specs.Spelling.{RefusedPartsAreInTheString, SpelledName, SpelledPart, first_at_end, later_parts, located, name_texts, names_left, names_of, other_parts, reading_unless_special, refusal_of_first, spelled_by, spelled_names, spelled_parts, spelled_reading, unread_names}
+use Rattle.tool_names.specs.Spelling.{RefusedPartsAreInTheString, SpelledName, SpelledPart, first_at_end, is_hard_float, later_parts, located, name_texts, names_left, names_of, other_parts, reading_unless_special, refusal_of_first, spelled_by, spelled_names, spelled_parts, spelled_reading, unread_names, with_hard_floats}
 
 -- these parts end the string
 abbrev EndText : List ℕ → List (List ℕ) → Type 0
@@ -47,10 +47,14 @@ other-end text [] end = tt
 other-end text (p ∷ []) end = (end, tt)
 other-end text (p ∷ (q ∷ qs)) end = (end, later-end text p (q ∷ qs) (after-first text p q qs end))
 
+hard-end : (text : List ℕ) (hard_float : Bool) (its : List SpelledPart) → AllEnd text its → AllEnd text (with_hard_floats hard_float its)
+hard-end text hard_float [] all = tt
+hard-end text hard_float (it ∷ others) all = (all.0, hard-end text hard_float others all.1)
+
 spelled-end : (text : List ℕ) (ps : List (List ℕ)) → EndText text ps → AllEnd text (spelled_parts ps)
 spelled-end text [] end = tt
 spelled-end text (p ∷ []) end = (end, tt)
-spelled-end text (p ∷ (q ∷ qs)) end = (end, other-end text (q ∷ qs) (after-first text p q qs end))
+spelled-end text (p ∷ (q ∷ qs)) end = (end, hard-end text (is_hard_float p) (other_parts (q ∷ qs)) (other-end text (q ∷ qs) (after-first text p q qs end)))
 
 parts-end : (text : List ℕ) → AllEnd text (spelled_parts (parts_of text))
 parts-end text = spelled-end text (parts_of text) ([], sym (parts_of-are text).joined)

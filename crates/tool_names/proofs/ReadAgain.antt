@@ -12,7 +12,7 @@ use Rattle.target_lexicon.specs.Values.operating_system
 use Rattle.target_lexicon.specs.Values.environment
 use Rattle.target_lexicon.specs.Field as field
 use Rattle.target_lexicon.proofs.{ComputedReading.reading_computed, ReadValues.special-holds, SettleLemmas.second_changes_none, SettleLemmas.settled_values-comes_back, StepCases.step_cases, Vendors.vendor-plain}
-use Rattle.tool_names.specs.Spelling.{ReadingAgainIsTheSame, SpelledName, first_spelling, is_known_name, is_other_system, is_unstated, is_vendor_after_none, later_names, later_spelling, located, name_texts, name_with_next, names_after_first, reading_unless_special, spelled_by, spelled_names, spelled_reading, unread_names}
+use Rattle.tool_names.specs.Spelling.{ReadingAgainIsTheSame, SpelledName, first_spelling, hard_float_names, is_hard_float, is_known_name, is_other_system, is_unstated, is_vendor_after_none, later_names, later_spelling, located, name_texts, name_with_next, names_after_first, reading_unless_special, second_spelling, spelled_by, spelled_names, spelled_reading, unread_names}
 use Rattle.tool_names.proofs.{SpelledNames.CustomStays, SpelledNames.SecondStays, SpelledNames.custom_vendor-text, SpelledNames.known-second, SpelledOnce.FirstStays, SpelledOnce.later-first, SpelledReading.read-stays}
 
 -- the first name after the architecture spells itself
@@ -44,18 +44,52 @@ name-first part (next ∷ others) is = by_tests (is_vendor_after_none part next 
     by_tests false true = known-second (codes "cygwin") cygwin-known
     by_tests false false = later-first part is
 
-names_after_first-stay : (parts : List (List ℕ)) → BeginStaying (name_texts (names_after_first parts))
-names_after_first-stay [] = tt
-names_after_first-stay (part ∷ others) = by_tests (is_unstated part others) (is_other_system part) refl
+eabihf-known : is_known_name (codes "eabihf") ≡ true
+unfolding architecture_of known_vendor_of operating_system_of fixed_operating_system_of environment_of binary_format_of
+eabihf-known = refl
+
+gnueabihf-known : is_known_name (codes "gnueabihf") ≡ true
+unfolding architecture_of known_vendor_of operating_system_of fixed_operating_system_of environment_of binary_format_of
+gnueabihf-known = refl
+
+musleabihf-known : is_known_name (codes "musleabihf") ≡ true
+unfolding architecture_of known_vendor_of operating_system_of fixed_operating_system_of environment_of binary_format_of
+musleabihf-known = refl
+
+uclibceabihf-known : is_known_name (codes "uclibceabihf") ≡ true
+unfolding architecture_of known_vendor_of operating_system_of fixed_operating_system_of environment_of binary_format_of
+uclibceabihf-known = refl
+
+-- the first name of a second part
+second-first : (part : List ℕ) (others : List (List ℕ)) → FirstStays (second_spelling part others)
+second-first part others = by_tests (is_unstated part others) (is_other_system part) refl
   where
     names : List (List ℕ)
     names = option_map_or (λ name. name ∷ []) (name_with_next part others) (later_spelling part)
 
-    by_tests : (unstated other : Bool) → is_other_system part ≡ other
-        → BeginStaying (name_texts (spelled_by (part ∷ others) (cond unstated (codes "unknown" ∷ []) (cond other (codes "unknown" ∷ part ∷ []) names)) ++ later_names part others))
+    by_tests : (unstated other : Bool) → is_other_system part ≡ other → FirstStays (cond unstated (codes "unknown" ∷ []) (cond other (codes "unknown" ∷ part ∷ []) names))
     by_tests true other is = known-second (codes "unknown") unknown-known
     by_tests false true is = known-second (codes "unknown") unknown-known
-    by_tests false false is = begin-staying (part ∷ others) names (later_names part others) (name-first part others is)
+    by_tests false false is = name-first part others is
+
+hard-first : (hard_float : Bool) (names : List (List ℕ)) → FirstStays names → FirstStays (hard_float_names hard_float names)
+hard-first false names first = first
+hard-first true [] first = first
+hard-first true (name ∷ []) first = by_tests (bytes_eq name (codes "eabi")) (bytes_eq name (codes "gnueabi")) (bytes_eq name (codes "musleabi")) (bytes_eq name (codes "uclibceabi"))
+  where
+    by_tests : (x y z w : Bool) → SecondStays (cond x (codes "eabihf") (cond y (codes "gnueabihf") (cond z (codes "musleabihf") (cond w (codes "uclibceabihf") name))))
+    by_tests true y z w = known-second (codes "eabihf") eabihf-known
+    by_tests false true z w = known-second (codes "gnueabihf") gnueabihf-known
+    by_tests false false true w = known-second (codes "musleabihf") musleabihf-known
+    by_tests false false false true = known-second (codes "uclibceabihf") uclibceabihf-known
+    by_tests false false false false = first
+hard-first true (name ∷ (other ∷ others)) first = first
+
+names_after_first-stay : (hard_float : Bool) (parts : List (List ℕ)) → BeginStaying (name_texts (names_after_first hard_float parts))
+names_after_first-stay hard_float [] = tt
+names_after_first-stay hard_float (part ∷ others) =
+    begin-staying (part ∷ others) (hard_float_names hard_float (second_spelling part others)) (later_names hard_float part others)
+    (hard-first hard_float (second_spelling part others) (second-first part others))
 
 -- what is read from parts is plain, and a custom vendor is the second part
 
@@ -126,9 +160,9 @@ names-sound : (parts : List (List ℕ)) (t : Values) → reading_of_parts (name_
 names-sound [] t h = absurd cc
 names-sound (p ∷ ps) t h = by_found (architecture_of (first_spelling p)) h
   where
-    by_found : (o : Option Architecture) → reading_after_architecture o (first_spelling p) (name_texts (names_after_first ps)) ≡ Ok t → IsSound t
+    by_found : (o : Option Architecture) → reading_after_architecture o (first_spelling p) (name_texts (names_after_first (is_hard_float p) ps)) ≡ Ok t → IsSound t
     by_found None h = absurd cc
-    by_found (Some a) h = vendor-sound a t (name_texts (names_after_first ps)) h (names_after_first-stay ps)
+    by_found (Some a) h = vendor-sound a t (name_texts (names_after_first (is_hard_float p) ps)) h (names_after_first-stay (is_hard_float p) ps)
 
 -- so is what is read from a string
 pub read-sound : (text : List ℕ) (t : Values) → spelled_reading text ≡ Ok t → IsSound t

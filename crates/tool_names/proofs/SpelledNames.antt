@@ -16,7 +16,7 @@ use Rattle.target_lexicon.specs.Values.{Architecture, OperatingSystem, Environme
 use Rattle.target_lexicon.specs.Values.operating_system
 use Rattle.target_lexicon.specs.Values.environment
 use Rattle.target_lexicon.specs.Field as field
-use Rattle.tool_names.specs.Spelling.{ListedPartsAreUnknown, first_spellings, later_spellings, versioned_spellings, is_known_name, is_other_system, later_spelling, is_unstated, is_vendor_after_none, later_names, name_with_last, name_with_next, names_after_first, pair_spelling, spelled_names, spelling_between, name_texts}
+use Rattle.tool_names.specs.Spelling.{ListedPartsAreUnknown, first_spellings, later_spellings, versioned_spellings, is_known_name, is_other_system, later_spelling, is_unstated, is_vendor_after_none, name_with_last, name_with_next, pair_spelling, spelled_names, spelling_between, name_texts, SpelledPart, is_hard_float, later_parts, names_of, other_parts, with_hard_floats}
 
 -- a later part that spells itself
 abbrev pub Stays : List ℕ → Type 0
@@ -122,7 +122,7 @@ AllStay (part ∷ others) = Stays part × IsNoPair (part ∷ others) × AllStay 
 pub between-stays : (before part : List ℕ) (others : List (List ℕ)) → IsNoPair (before ∷ (part ∷ others)) → AllStay (part ∷ others) → spelling_between before part others ≡ part ∷ []
 between-stays before part others first all = rw (no_pair-last before part others first, all.1) all.0
 
-pub later-stay : (before : List ℕ) (parts : List (List ℕ)) → IsNoPair (before ∷ parts) → AllStay parts → name_texts (later_names before parts) ≡ parts
+pub later-stay : (before : List ℕ) (parts : List (List ℕ)) → IsNoPair (before ∷ parts) → AllStay parts → name_texts (names_of (later_parts before parts)) ≡ parts
 later-stay before [] first all = refl
 later-stay before (part ∷ others) first all =
     rw (between-stays before part others first all) (ap (λ ps. part ∷ ps) (later-stay part others all.1 all.2))
@@ -330,12 +330,33 @@ read-stated a t (c ∷ cs) (q ∷ qs) h =
       | inr other ↦ other
     ]
 
-after_first-stay : (a : Architecture) (t : Values) (ps : List (List ℕ)) → reading_from_vendor a ps ≡ Ok t → CustomStays t → name_texts (names_after_first ps) ≡ ps
+after_first-stay : (a : Architecture) (t : Values) (ps : List (List ℕ)) → reading_from_vendor a ps ≡ Ok t → CustomStays t → name_texts (names_of (other_parts ps)) ≡ ps
 after_first-stay a t [] h custom = refl
 after_first-stay a t (p ∷ ps) h custom =
     let stated = read-stated a t p ps h in
     let all = vendor-stays a t (p ∷ ps) h custom in
     rw (stated, all.0.0, all.1, all.0.1) (ap (λ qs. p ∷ qs) (later-stay p ps all.1 all.2))
+
+-- an architecture doesn't state hard floats
+
+module _ (first : List ℕ) (a : Architecture) (is : architecture_of first ≡ Some a) where
+  other-first : (name : List ℕ) → architecture_of name ≡ None → bytes_eq first name ≡ false
+  other-first name none =
+      elim (cases_Bool (bytes_eq first name)) [
+        | inl same ↦ let apart : None ≡ Some a = sym none ∙ ap architecture_of (sym ((bytes_eq-Decides first name).0 same)) ∙ is in absurd cc
+        | inr other ↦ other
+      ]
+
+  architecture-soft : is_hard_float first ≡ false
+  unfolding architecture_of
+  architecture-soft = rw (other-first (codes "armv6hl") refl, other-first (codes "armv7hl") refl, other-first (codes "armv7hnl") refl) refl
+
+soft-stay : (parts : List SpelledPart) → with_hard_floats false parts ≡ parts
+soft-stay [] = refl
+soft-stay (it ∷ others) = ap (λ its. it ∷ its) (soft-stay others)
+
+pub architecture-stay : (first : List ℕ) (a : Architecture) (parts : List SpelledPart) → architecture_of first ≡ Some a → with_hard_floats (is_hard_float first) parts ≡ parts
+architecture-stay first a parts is = ap (λ hard_float. with_hard_floats hard_float parts) (architecture-soft first a is) ∙ soft-stay parts
 
 -- so the names are the parts
 pub names-stay : (ps : List (List ℕ)) (t : Values) → reading_of_parts ps ≡ Ok t → CustomStays t → name_texts (spelled_names ps) ≡ ps
@@ -344,7 +365,8 @@ names-stay (p ∷ ps) t h custom = by_found (architecture_of p) refl h
   where
     by_found : (o : Option Architecture) → architecture_of p ≡ o → reading_after_architecture o p ps ≡ Ok t → name_texts (spelled_names (p ∷ ps)) ≡ p ∷ ps
     by_found None is h = absurd cc
-    by_found (Some a) is h = rw is (ap (λ qs. p ∷ qs) (after_first-stay a t ps h custom))
+    by_found (Some a) is h =
+        rw is (ap (λ qs. p ∷ qs) (ap (λ its. name_texts (names_of its)) (architecture-stay p a (other_parts ps) is) ∙ after_first-stay a t ps h custom))
 
 pub listed_unknown : ListedPartsAreUnknown
 unfolding first_spellings later_spellings versioned_spellings version_of architecture_of known_vendor_of operating_system_of fixed_operating_system_of environment_of binary_format_of

@@ -8,7 +8,7 @@ use Rattle.target_lexicon.specs.{Explanation.IsInText, Explanation.PlacedPart, E
 use Rattle.tool_names.specs.{declared.change.Change.Change, declared.change.ChangedParts.ChangedParts, declared.change.Position.Position, declared.spelling.TripleName.TripleName, declared.spelling.Spelling.Spelling}
 use Rattle.tool_names.specs.declared.change.Position.TheVariants.{First, Second, Later}
 use Rattle.tool_names.specs.declared.spelling.TripleName.TheVariants.{Text, MacOs}
-use Rattle.tool_names.specs.Spelling.{SpelledPart, first_at_end, first_spelling, later_parts, macosx_name, other_parts, second_spelling, spelled_parts, spelled_reading, spelling_between, version_after, versioned_spellings}
+use Rattle.tool_names.specs.Spelling.{SpelledPart, first_at_end, first_spelling, hard_float_names, is_hard_float, later_parts, macosx_name, other_parts, second_spelling, spelled_parts, spelled_reading, spelling_between, version_after, versioned_spellings, with_hard_floats}
 
 -- a part of a string, and the names that are read instead
 pub record PartChange : Type 0 where
@@ -72,19 +72,20 @@ change_value it = record { part = part_value it.part; names = spelling_names it.
 -- the names that a part at this position is, with these after it
 abbrev pub spelling_at : Position → List ℕ → List (List ℕ) → List (List ℕ)
 spelling_at First part others = first_spelling part ∷ []
-spelling_at Second part others = second_spelling part others
-spelling_at (Later before) part others = spelling_between before.now part others
+spelling_at (Second hard_float) part others = hard_float_names hard_float (second_spelling part others)
+spelling_at (Later hard_float before) part others = hard_float_names hard_float (spelling_between before.now part others)
 
 -- the position of the part after this one, which is at this position
 abbrev pub next_position : Position → Bor (List ℕ) → Position
-next_position First part = Second
-next_position _ part = Later part
+next_position First part = Second (is_hard_float part.now)
+next_position (Second hard_float) part = Later hard_float part
+next_position (Later hard_float before) part = Later hard_float part
 
 -- what the parts spell of which the first is at this position
 abbrev pub parts_at : Position → List (List ℕ) → List SpelledPart
 parts_at First parts = spelled_parts parts
-parts_at Second parts = other_parts parts
-parts_at (Later before) parts = later_parts before.now parts
+parts_at (Second hard_float) parts = with_hard_floats hard_float (other_parts parts)
+parts_at (Later hard_float before) parts = with_hard_floats hard_float (later_parts before.now parts)
 
 -- the changes that are left
 abbrev pub changes_left : ChangedParts → List PartChange

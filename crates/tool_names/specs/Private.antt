@@ -23,7 +23,7 @@ parts_table rows = map (λ (row : Bor (List ℕ) × Bor (List ℕ)). (row.0.now,
 -- the names that are left: what is left of a part, and what the parts after it spell
 abbrev pub left_names : Option Left → List SpelledName
 left_names None = []
-left_names (Some left) = spelled_by (parts_of left.from.now) (name_text left.name ∷ parts_after left.others) ++ later_names left.part.now (parts_after left.rest)
+left_names (Some left) = spelled_by (parts_of left.from.now) (name_text left.name ∷ parts_after left.others) ++ later_names left.hard_float left.part.now (parts_after left.rest)
 
 -- the numbers of a name, as a list
 abbrev pub numbers_of : Numbers → List ℕ

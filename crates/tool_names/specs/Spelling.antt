@@ -27,6 +27,9 @@ first_spellings =
     (codes "armv5tejl", codes "armv5tej") ∷
     (codes "armv6l", codes "armv6") ∷
     (codes "armv7l", codes "armv7") ∷
+    (codes "armv6hl", codes "armv6") ∷
+    (codes "armv7hl", codes "armv7") ∷
+    (codes "armv7hnl", codes "armv7") ∷
     (codes "armv8l", codes "armv8") ∷
     (codes "ppc", codes "powerpc") ∷
     (codes "ppc32", codes "powerpc") ∷
@@ -225,10 +228,34 @@ abbrev pub other_parts : List (List ℕ) → List SpelledPart
 other_parts [] = []
 other_parts (part ∷ others) = record { names = second_spelling part others; from = part ∷ others } ∷ later_parts part others
 
+-- first parts with which rpm says that floating-point arguments are in floating-point registers
+abbrev pub is_hard_float : List ℕ → Bool
+is_hard_float first = bytes_eq first (codes "armv6hl") || bytes_eq first (codes "armv7hl") || bytes_eq first (codes "armv7hnl")
+
+-- the environment with floating-point registers, of one without; any other name stays
+abbrev pub hard_float_name : List ℕ → List ℕ
+hard_float_name name =
+    if bytes_eq name (codes "eabi") then codes "eabihf"
+    else if bytes_eq name (codes "gnueabi") then codes "gnueabihf"
+    else if bytes_eq name (codes "musleabi") then codes "musleabihf"
+    else if bytes_eq name (codes "uclibceabi") then codes "uclibceabihf"
+    else name
+
+-- the names of a part of a string whose first part says so
+abbrev pub hard_float_names : Bool → List (List ℕ) → List (List ℕ)
+hard_float_names true (name ∷ []) = hard_float_name name ∷ []
+hard_float_names _ names = names
+
+abbrev pub with_hard_float : Bool → SpelledPart → SpelledPart
+with_hard_float hard_float it = record { names = hard_float_names hard_float it.names; from = it.from }
+
+abbrev pub with_hard_floats : Bool → List SpelledPart → List SpelledPart
+with_hard_floats hard_float parts = map (with_hard_float hard_float) parts
+
 -- what the parts of a string spell
 abbrev pub spelled_parts : List (List ℕ) → List SpelledPart
 spelled_parts [] = []
-spelled_parts (part ∷ others) = record { names = first_spelling part ∷ []; from = part ∷ others } ∷ other_parts others
+spelled_parts (part ∷ others) = record { names = first_spelling part ∷ []; from = part ∷ others } ∷ with_hard_floats (is_hard_float part) (other_parts others)
 
 -- a name to be read, and the parts of the string from the one on that spells it
 pub record SpelledName : Type 0 where
@@ -243,11 +270,11 @@ abbrev pub names_of : List SpelledPart → List SpelledName
 names_of [] = []
 names_of (it ∷ others) = spelled_by it.from it.names ++ names_of others
 
-abbrev pub later_names : List ℕ → List (List ℕ) → List SpelledName
-later_names before parts = names_of (later_parts before parts)
+abbrev pub later_names : Bool → List ℕ → List (List ℕ) → List SpelledName
+later_names hard_float before parts = names_of (with_hard_floats hard_float (later_parts before parts))
 
-abbrev pub names_after_first : List (List ℕ) → List SpelledName
-names_after_first parts = names_of (other_parts parts)
+abbrev pub names_after_first : Bool → List (List ℕ) → List SpelledName
+names_after_first hard_float parts = names_of (with_hard_floats hard_float (other_parts parts))
 
 abbrev pub spelled_names : List (List ℕ) → List SpelledName
 spelled_names parts = names_of (spelled_parts parts)

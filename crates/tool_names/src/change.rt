@@ -5,6 +5,7 @@ ghost use Rattle.target_lexicon.specs.Placement.{parts_after};
 ghost use Rattle.tool_names.specs.Spelling.{version_after, versioned_spellings};
 ghost use Rattle.tool_names.specs.Changes as spec;
 
+use crate::hard_float::is_hard_float;
 use crate::spelling::{Spelling, dropped_version, first_at_end, first_spelling};
 use target_lexicon::{TextPart, first_part};
 
@@ -62,9 +63,10 @@ impl<'a> Change<'a> {
 #[derive(Clone, Copy, Debug)]
 enum Position<'a> {
     First,
-    Second,
-    /// After the second part, and after this one.
-    Later(&'a str),
+    /// Whether the first part states hard floats.
+    Second(bool),
+    /// The same, and the part before.
+    Later(bool, &'a str),
 }
 
 impl<'a> Position<'a> {
@@ -75,8 +77,12 @@ impl<'a> Position<'a> {
     {
         match self {
             Position::First => Spelling::of(first_spelling(part)),
-            Position::Second => Spelling::of_second(part, rest),
-            Position::Later(before) => Spelling::between(before, part, rest),
+            Position::Second(hard_float) => {
+                Spelling::of_second(part, rest).with_hard_float(hard_float)
+            }
+            Position::Later(hard_float, before) => {
+                Spelling::between(before, part, rest).with_hard_float(hard_float)
+            }
         }
     }
 
@@ -85,8 +91,10 @@ impl<'a> Position<'a> {
         ensures { result ≡ spec.next_position self.entry part.entry }
     {
         match self {
-            Position::First => Position::Second,
-            Position::Second | Position::Later(_) => Position::Later(part),
+            Position::First => Position::Second(is_hard_float(part)),
+            Position::Second(hard_float) | Position::Later(hard_float, _) => {
+                Position::Later(hard_float, part)
+            }
         }
     }
 }

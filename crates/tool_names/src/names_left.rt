@@ -14,6 +14,8 @@ pub(crate) struct Left<'a> {
     /// The string from the part on.
     pub from: &'a str,
     pub part: &'a str,
+    /// Whether the first part of the string states hard floats.
+    pub hard_float: bool,
     pub name: TripleName<'a>,
     pub others: Option<&'a str>,
     pub rest: Option<&'a str>,
@@ -21,15 +23,16 @@ pub(crate) struct Left<'a> {
 
 impl<'a> Left<'a> {
     /// The names from a part on that is neither the first nor the second, after this one.
-    fn of_later(before: &str, text: &'a str) -> Left<'a>
+    fn of_later(hard_float: bool, before: &str, text: &'a str) -> Left<'a>
         ensures { left_names (Some result)
-            ≡ later_names before.now (parts_of text.entry.now) }
+            ≡ later_names hard_float before.now (parts_of text.entry.now) }
     {
         let (part, rest) = first_part(text);
-        let spelling = Spelling::between(before, part, rest);
+        let spelling = Spelling::between(before, part, rest).with_hard_float(hard_float);
         Left {
             from: text,
             part,
+            hard_float,
             name: spelling.first,
             others: spelling.others,
             rest,
@@ -37,14 +40,16 @@ impl<'a> Left<'a> {
     }
 
     /// The names from the second part on.
-    pub(crate) fn of_second(text: &'a str) -> Left<'a>
-        ensures { left_names (Some result) ≡ names_after_first (parts_of text.entry.now) }
+    pub(crate) fn of_second(hard_float: bool, text: &'a str) -> Left<'a>
+        ensures { left_names (Some result)
+            ≡ names_after_first hard_float (parts_of text.entry.now) }
     {
         let (part, rest) = first_part(text);
-        let spelling = Spelling::of_second(part, rest);
+        let spelling = Spelling::of_second(part, rest).with_hard_float(hard_float);
         Left {
             from: text,
             part,
+            hard_float,
             name: spelling.first,
             others: spelling.others,
             rest,
@@ -55,7 +60,7 @@ impl<'a> Left<'a> {
     pub(crate) fn next(&self) -> Option<Left<'a>>
         ensures { left_names result
             ≡ spelled_by (parts_of self.now.from.now) (parts_after self.now.others)
-            ++ later_names self.now.part.now (parts_after self.now.rest) }
+            ++ later_names self.now.hard_float self.now.part.now (parts_after self.now.rest) }
     {
         match self.others {
             Some(names) => {
@@ -63,13 +68,14 @@ impl<'a> Left<'a> {
                 Some(Left {
                     from: self.from,
                     part: self.part,
+                    hard_float: self.hard_float,
                     name: TripleName::Text(name),
                     others,
                     rest: self.rest,
                 })
             }
             None => match self.rest {
-                Some(text) => Some(Left::of_later(self.part, text)),
+                Some(text) => Some(Left::of_later(self.hard_float, self.part, text)),
                 None => None,
             },
         }

@@ -6,6 +6,7 @@ ghost use Rattle.target_lexicon.specs.SpecialTexts.{special_values};
 ghost use Rattle.target_lexicon.specs.ValuesRef.{placed_outcome};
 ghost use Rattle.tool_names.specs.Spelling.{first_at_end, reading_of_names, refusal_of_part, spelled_names, spelled_reading};
 
+use crate::hard_float::is_hard_float;
 use crate::names_left::Left;
 use crate::spelling::{first_at_end, first_spelling};
 use target_lexicon::{Reading, Refusal, TripleRef, first_part};
@@ -18,6 +19,9 @@ use target_lexicon::{Reading, Refusal, TripleRef, first_part};
 /// An empty second part is `unknown`, and so is `none` before `linux`. Two parts may be other names together, as LLVM
 /// prints them: `none-unknown` before a part that is no binary format is `unknown-none`, and `windows-cygnus` is
 /// `cygwin-unknown`. No other known name changes, so what parses without a custom vendor means the same here.
+///
+/// After a first part `armv6hl`, `armv7hl` or `armv7hnl`, with which rpm says that floating-point arguments are in
+/// floating-point registers, `gnueabi` is `gnueabihf`, and likewise for other C libraries.
 ///
 /// A second part that is a system which isn't known, such as `macos.11.0`, `linux5.10` or `nuttx`, is no vendor: it is
 /// refused, since a triple without its system would be another target.
@@ -61,7 +65,7 @@ fn read_names(text: &str) -> Result<TripleRef<'_>, Refusal<'_>>
     let part = first_at_end(text, text);
     reading.take(first_spelling(first), part)?;
     let mut left = match rest {
-        Some(rest) => Some(Left::of_second(rest)),
+        Some(rest) => Some(Left::of_second(is_hard_float(first), rest)),
         None => None,
     };
     while let Some(name) = left {

@@ -15,6 +15,7 @@ ghost use Rattle.tool_names.specs.Changes.{is_only, name_text, spelling_names, s
 ghost use Rattle.tool_names.specs.Private.{parts_table, table_of};
 ghost use Rattle.tool_names.specs.Spelling as spec;
 
+use crate::hard_float::hard_float_name;
 use crate::known_names::names;
 use crate::macos::{MacOsVersion, macos_version};
 use crate::pairs::{name_in_pair, name_with_next};
@@ -225,6 +226,20 @@ impl<'a> Spelling<'a> {
             ≡ spec.spelling_between before.now part.entry.now (parts_after rest.entry) }
     {
         Spelling::named_or_later(name_in_pair(before, part, rest), part)
+    }
+
+    /// The spelling in a string whose first part states hard floats, or doesn't.
+    pub(crate) fn with_hard_float(self, hard_float: bool) -> Spelling<'a>
+        ensures { spelling_names result
+            ≡ spec.hard_float_names hard_float (spelling_names self.entry) }
+    {
+        if !hard_float || self.others.is_some() {
+            return self;
+        }
+        match self.first {
+            TripleName::Text(name) => Spelling::of(hard_float_name(name)),
+            TripleName::MacOs(_) => self,
+        }
     }
 
     /// The spelling of this name, if there is one, and otherwise of the part.
@@ -445,7 +460,7 @@ pub(crate) fn is_digit_or_dot(byte: u8) -> bool
 
 #[rattlefmt::skip]
 // written by tools/names/write: the other spellings of first parts
-static FIRST_SPELLINGS: [(&str, &str); 30] = [
+static FIRST_SPELLINGS: [(&str, &str); 33] = [
     ("amd64", "x86_64"),
     ("x64", "x86_64"),
     ("i486", "i386"),
@@ -458,6 +473,9 @@ static FIRST_SPELLINGS: [(&str, &str); 30] = [
     ("armv5tejl", "armv5tej"),
     ("armv6l", "armv6"),
     ("armv7l", "armv7"),
+    ("armv6hl", "armv6"),
+    ("armv7hl", "armv7"),
+    ("armv7hnl", "armv7"),
     ("armv8l", "armv8"),
     ("ppc", "powerpc"),
     ("ppc32", "powerpc"),

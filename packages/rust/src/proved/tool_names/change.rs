@@ -1,6 +1,7 @@
 // Erased from crates/tool_names/src/change.rt by tools/erase. Don't edit it here.
 //! What is changed in a string that is spelled like a triple.
 
+use crate::proved::tool_names::hard_float::is_hard_float;
 use crate::proved::tool_names::spelling::{
     dropped_version, first_at_end, first_spelling, Spelling,
 };
@@ -56,9 +57,10 @@ impl<'a> Change<'a> {
 #[derive(Clone, Copy, Debug)]
 enum Position<'a> {
     First,
-    Second,
-    /// After the second part, and after this one.
-    Later(&'a str),
+    /// Whether the first part states hard floats.
+    Second(bool),
+    /// The same, and the part before.
+    Later(bool, &'a str),
 }
 
 impl<'a> Position<'a> {
@@ -66,16 +68,22 @@ impl<'a> Position<'a> {
     fn spelling(self, part: &'a str, rest: Option<&str>) -> Spelling<'a> {
         match self {
             Position::First => Spelling::of(first_spelling(part)),
-            Position::Second => Spelling::of_second(part, rest),
-            Position::Later(before) => Spelling::between(before, part, rest),
+            Position::Second(hard_float) => {
+                Spelling::of_second(part, rest).with_hard_float(hard_float)
+            }
+            Position::Later(hard_float, before) => {
+                Spelling::between(before, part, rest).with_hard_float(hard_float)
+            }
         }
     }
 
     /// The position of the part after this one, which is at this position.
     fn next(self, part: &'a str) -> Position<'a> {
         match self {
-            Position::First => Position::Second,
-            Position::Second | Position::Later(_) => Position::Later(part),
+            Position::First => Position::Second(is_hard_float(part)),
+            Position::Second(hard_float) | Position::Later(hard_float, _) => {
+                Position::Later(hard_float, part)
+            }
         }
     }
 }

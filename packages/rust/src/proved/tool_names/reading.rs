@@ -1,6 +1,7 @@
 // Erased from crates/tool_names/src/reading.rt by tools/erase. Don't edit it here.
 //! Reading a string that is spelled like a triple.
 
+use crate::proved::tool_names::hard_float::is_hard_float;
 use crate::proved::tool_names::names_left::Left;
 use crate::proved::tool_names::spelling::{first_at_end, first_spelling};
 use crate::proved::{first_part, Reading, Refusal, TripleRef};
@@ -13,6 +14,9 @@ use crate::proved::{first_part, Reading, Refusal, TripleRef};
 /// An empty second part is `unknown`, and so is `none` before `linux`. Two parts may be other names together, as LLVM
 /// prints them: `none-unknown` before a part that is no binary format is `unknown-none`, and `windows-cygnus` is
 /// `cygwin-unknown`. No other known name changes, so what parses without a custom vendor means the same here.
+///
+/// After a first part `armv6hl`, `armv7hl` or `armv7hnl`, with which rpm says that floating-point arguments are in
+/// floating-point registers, `gnueabi` is `gnueabihf`, and likewise for other C libraries.
 ///
 /// A second part that is a system which isn't known, such as `macos.11.0`, `linux5.10` or `nuttx`, is no vendor: it is
 /// refused, since a triple without its system would be another target.
@@ -51,7 +55,7 @@ fn read_names(text: &str) -> Result<TripleRef<'_>, Refusal<'_>> {
     let part = first_at_end(text, text);
     reading.take(first_spelling(first), part)?;
     let mut left = match rest {
-        Some(rest) => Some(Left::of_second(rest)),
+        Some(rest) => Some(Left::of_second(is_hard_float(first), rest)),
         None => None,
     };
     while let Some(name) = left {

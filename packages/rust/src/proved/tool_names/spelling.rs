@@ -1,6 +1,7 @@
 // Erased from crates/tool_names/src/spelling.rt by tools/erase. Don't edit it here.
 //! Other spellings of the parts of a triple.
 
+use crate::proved::tool_names::hard_float::hard_float_name;
 use crate::proved::tool_names::known_names::names;
 use crate::proved::tool_names::macos::{macos_version, MacOsVersion};
 use crate::proved::tool_names::pairs::{name_in_pair, name_with_next};
@@ -178,6 +179,18 @@ impl<'a> Spelling<'a> {
     #[inline]
     pub(crate) fn between(before: &str, part: &'a str, rest: Option<&str>) -> Spelling<'a> {
         Spelling::named_or_later(name_in_pair(before, part, rest), part)
+    }
+
+    /// The spelling in a string whose first part states hard floats, or doesn't.
+    #[inline]
+    pub(crate) fn with_hard_float(self, hard_float: bool) -> Spelling<'a> {
+        if !hard_float || self.others.is_some() {
+            return self;
+        }
+        match self.first {
+            TripleName::Text(name) => Spelling::of(hard_float_name(name)),
+            TripleName::MacOs(_) => self,
+        }
     }
 
     /// The spelling of this name, if there is one, and otherwise of the part.
@@ -369,7 +382,7 @@ pub(crate) fn is_digit_or_dot(byte: u8) -> bool {
 }
 
 #[rustfmt::skip]
-static FIRST_SPELLINGS: [(&str, &str); 30] = [
+static FIRST_SPELLINGS: [(&str, &str); 33] = [
     ("amd64", "x86_64"),
     ("x64", "x86_64"),
     ("i486", "i386"),
@@ -382,6 +395,9 @@ static FIRST_SPELLINGS: [(&str, &str); 30] = [
     ("armv5tejl", "armv5tej"),
     ("armv6l", "armv6"),
     ("armv7l", "armv7"),
+    ("armv6hl", "armv6"),
+    ("armv7hl", "armv7"),
+    ("armv7hnl", "armv7"),
     ("armv8l", "armv8"),
     ("ppc", "powerpc"),
     ("ppc32", "powerpc"),
