@@ -151,6 +151,7 @@ armv7hl-linux-gnueabi2.17=armv7-unknown-linux-gnueabihf
 armv7hl-linux-muslgnueabi=armv7-unknown-linux-musleabihf
 armv7hl-none-unknown-eabi=armv7-unknown-none-eabihf
 armv7hl-mingw32=armv7-unknown-windows-gnu
+armel-linux-musleabi=arm-unknown-linux-musleabi
 armv7l-redhat-linux-gnueabi=armv7-redhat-linux-gnueabi
 x86_64-pc-windows-cygnus=x86_64-pc-cygwin
 x86_64-w64-windows-cygnus=x86_64-pc-cygwin

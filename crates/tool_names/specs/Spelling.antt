@@ -31,6 +31,7 @@ first_spellings =
     (codes "armv7hl", codes "armv7") ∷
     (codes "armv7hnl", codes "armv7") ∷
     (codes "armv8l", codes "armv8") ∷
+    (codes "armel", codes "arm") ∷
     (codes "ppc", codes "powerpc") ∷
     (codes "ppc32", codes "powerpc") ∷
     (codes "ppc64", codes "powerpc64") ∷

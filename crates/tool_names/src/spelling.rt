@@ -460,7 +460,7 @@ pub(crate) fn is_digit_or_dot(byte: u8) -> bool
 
 #[rattlefmt::skip]
 // written by tools/names/write: the other spellings of first parts
-static FIRST_SPELLINGS: [(&str, &str); 33] = [
+static FIRST_SPELLINGS: [(&str, &str); 34] = [
     ("amd64", "x86_64"),
     ("x64", "x86_64"),
     ("i486", "i386"),
@@ -477,6 +477,7 @@ static FIRST_SPELLINGS: [(&str, &str); 33] = [
     ("armv7hl", "armv7"),
     ("armv7hnl", "armv7"),
     ("armv8l", "armv8"),
+    ("armel", "arm"),
     ("ppc", "powerpc"),
     ("ppc32", "powerpc"),
     ("ppc64", "powerpc64"),

@@ -382,7 +382,7 @@ pub(crate) fn is_digit_or_dot(byte: u8) -> bool {
 }
 
 #[rustfmt::skip]
-static FIRST_SPELLINGS: [(&str, &str); 33] = [
+static FIRST_SPELLINGS: [(&str, &str); 34] = [
     ("amd64", "x86_64"),
     ("x64", "x86_64"),
     ("i486", "i386"),
@@ -399,6 +399,7 @@ static FIRST_SPELLINGS: [(&str, &str); 33] = [
     ("armv7hl", "armv7"),
     ("armv7hnl", "armv7"),
     ("armv8l", "armv8"),
+    ("armel", "arm"),
     ("ppc", "powerpc"),
     ("ppc32", "powerpc"),
     ("ppc64", "powerpc64"),
