@@ -16,7 +16,7 @@ use Rattle.target_lexicon.specs.Values.{Architecture, OperatingSystem, Environme
 use Rattle.target_lexicon.specs.Values.operating_system
 use Rattle.target_lexicon.specs.Values.environment
 use Rattle.target_lexicon.specs.Field as field
-use Rattle.tool_names.specs.Spelling.{ListedPartsAreUnknown, first_spellings, later_spellings, versioned_spellings, is_known_name, is_other_system, later_spelling, is_unstated, is_vendor_after_none, name_with_last, name_with_next, pair_spelling, spelled_names, spelling_between, name_texts, SpelledPart, is_hard_float, later_parts, names_of, other_parts, with_hard_floats}
+use Rattle.tool_names.specs.Spelling.{ListedPartsAreUnknown, first_spellings, later_spellings, versioned_spellings, is_known_name, is_other_system, later_spelling, is_unstated, is_vendor_after_none, name_with_previous, name_with_next, pair_spelling, spelled_names, spelling_between, name_texts, SpelledPart, is_hard_float, later_parts, names_of, other_parts, with_hard_floats}
 
 -- a later part that spells itself
 abbrev pub Stays : List ℕ → Type 0
@@ -106,8 +106,8 @@ IsNoPair [] = Unit {0}
 IsNoPair (part ∷ others) = name_with_next part others ≡ None
 
 -- so the second spells nothing together with the first
-no_pair-last : (before part : List ℕ) (others : List (List ℕ)) → IsNoPair (before ∷ (part ∷ others)) → name_with_last before part others ≡ None
-no_pair-last before part others none = by_pair (pair_spelling before part others) none
+no_pair-previous : (before part : List ℕ) (others : List (List ℕ)) → IsNoPair (before ∷ (part ∷ others)) → name_with_previous before part others ≡ None
+no_pair-previous before part others none = by_pair (pair_spelling before part others) none
   where
     by_pair : (o : Option (Pair (List ℕ))) → option_map (λ (names : Pair (List ℕ)). names.0) o ≡ None → option_map (λ (names : Pair (List ℕ)). names.1) o ≡ None
     by_pair None none = refl
@@ -120,7 +120,7 @@ AllStay (part ∷ others) = Stays part × IsNoPair (part ∷ others) × AllStay 
 
 -- a part after the second spells itself, as it spells nothing with its neighbours
 pub between-stays : (before part : List ℕ) (others : List (List ℕ)) → IsNoPair (before ∷ (part ∷ others)) → AllStay (part ∷ others) → spelling_between before part others ≡ part ∷ []
-between-stays before part others first all = rw (no_pair-last before part others first, all.1) all.0
+between-stays before part others first all = rw (no_pair-previous before part others first, all.1) all.0
 
 pub later-stay : (before : List ℕ) (parts : List (List ℕ)) → IsNoPair (before ∷ parts) → AllStay parts → name_texts (names_of (later_parts before parts)) ≡ parts
 later-stay before [] first all = refl

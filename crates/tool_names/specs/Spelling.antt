@@ -172,13 +172,13 @@ name_with_next part [] = None
 name_with_next part (next ∷ others) = option_map (λ (names : Pair (List ℕ)). names.0) (pair_spelling part next others)
 
 -- the name that a part spells together with the part before it
-abbrev pub name_with_last : List ℕ → List ℕ → List (List ℕ) → Option (List ℕ)
-name_with_last before part others = option_map (λ (names : Pair (List ℕ)). names.1) (pair_spelling before part others)
+abbrev pub name_with_previous : List ℕ → List ℕ → List (List ℕ) → Option (List ℕ)
+name_with_previous before part others = option_map (λ (names : Pair (List ℕ)). names.1) (pair_spelling before part others)
 
 -- the names that a part is after the second, between these
 abbrev pub spelling_between : List ℕ → List ℕ → List (List ℕ) → List (List ℕ)
 spelling_between before part others =
-    option_map_or (λ name. name ∷ []) (option_or (name_with_last before part others) (name_with_next part others)) (later_spelling part)
+    option_map_or (λ name. name ∷ []) (option_or (name_with_previous before part others) (name_with_next part others)) (later_spelling part)
 
 -- whether a second part states no vendor: it is empty, or `none` before the system `linux`
 abbrev pub is_unstated : List ℕ → List (List ℕ) → Bool

@@ -55,7 +55,7 @@ pub(crate) fn name_with_next(part: &str, rest: Option<&str>) -> Option<&'static 
 /// The name that a part spells together with the part before it or the part after it, with this after its dash.
 pub(crate) fn name_in_pair(before: &str, part: &str, rest: Option<&str>) -> Option<&'static str>
     ensures { option_map (λ name. name.now) result
-        ≡ option_or (spec.name_with_last before.now part.now (parts_after rest.entry))
+        ≡ option_or (spec.name_with_previous before.now part.now (parts_after rest.entry))
         (spec.name_with_next part.now (parts_after rest.entry)) }
 {
     match pair_spelling(before, part, rest) {
