@@ -1,6 +1,6 @@
 -- Tests that the rows pass, by computation.
-use Rattle.std.proofs.Common.{◌≡◌, ◌<◌, ◌≤◌, ℕ, List, [], ◌∷◌, Option, Some, None, Result, Ok, Err, Bool, true, false, cond, length, map, nat_eq, nat_le, refl, ap, arith, subst}
-use Rattle.std.specs.Prelude.{not, ◌&&◌, ◌||◌, option_map, slice_get}
+use Rattle.std.proofs.Common.{◌≡◌, ◌≤◌, ℕ, List, [], ◌∷◌, Option, Some, None, Result, Ok, Err, Bool, true, false, cond, length, map, nat_eq, nat_le, refl, ap, arith}
+use Rattle.std.specs.Prelude.{not, ◌&&◌, ◌||◌, slice_get}
 use Rattle.std.specs.{List.list_all, List.list_any, Str.bytes_eq}
 use Rattle.std.proofs.lemmas.Bool.{and_parts, eqb-true, leb-true}
 use Rattle.std.proofs.lemmas.Slice.Eq.{bytes_eq-Decides}
@@ -236,17 +236,3 @@ row-written d numbers text row is =
       short = short.0;
       text_short = omega (arith, ap length same, leb-true (length row.meaning) 64 short.1);
     }
-
-pub long-unnamed : (d : Dialect) (numbers : ℕ) (text : List ℕ) → 64 < length text → row_for (rows_of d) numbers text ≡ None
-long-unnamed d numbers text long = by_row (row_for (rows_of d) numbers text) refl
-  where
-    by_row : (o : Option Row) → row_for (rows_of d) numbers text ≡ o → row_for (rows_of d) numbers text ≡ None
-    by_row None is = is
-    by_row (Some row) is = absurd (omega (arith, (row-written d numbers text row is).text_short))
-
-pub pattern-short : (d : Dialect) (numbers : ℕ) (text pattern : List ℕ) → option_map (λ (row : Row). row.pattern) (row_for (rows_of d) numbers text) ≡ Some pattern → is_short_pattern pattern ≡ true
-pattern-short d numbers text pattern h = by_row (row_for (rows_of d) numbers text) refl h
-  where
-    by_row : (o : Option Row) → row_for (rows_of d) numbers text ≡ o → option_map (λ (row : Row). row.pattern) o ≡ Some pattern → is_short_pattern pattern ≡ true
-    by_row None is h = absurd cc
-    by_row (Some row) is h = let same : row.pattern ≡ pattern = cc in subst (λ (p : List ℕ). is_short_pattern p ≡ true) same (row-written d numbers text row is).short
