@@ -1,14 +1,13 @@
 -- A name with a version is read: what follows of its row.
 use Rattle.std.proofs.Common.{◌≡◌, ◌<◌, ◌≤◌, ◌∙◌, ℕ, List, [], ◌∷◌, ◌++◌, Option, Some, None, Ok, Bool, true, false, cond, length, nat_eq, suc, refl, sym, ap, subst, arith}
-use Rattle.std.specs.Prelude.{not, ◌&&◌, ◌||◌, nat_le, option_map, slice_get}
-use Rattle.std.specs.{List.list_all, Str.bytes_eq}
+use Rattle.std.specs.Prelude.{◌&&◌, ◌||◌, nat_le, option_map, slice_get}
+use Rattle.std.specs.{Str.bytes_eq}
 use Rattle.std.proofs.lemmas.Bool.{and_parts, eqb-true, le-leb, leb-true}
 use Rattle.std.proofs.lemmas.Slice.Eq.{bytes_eq-Decides}
 use Rattle.lexicon_fields.specs.Laws.{HasVersionInRange}
 use Rattle.target_lexicon.specs.{FixedPoints.IsPlainTriple, FixedPoints.RoundIsNormalStep, GreedyReading.reading, Printing.text_of, Values.OperatingSystem, Values.Values}
 use Rattle.target_lexicon.specs.Values.operating_system
 use Rattle.tool_names.specs.declared.dialect.Dialect.{Dialect}
-use Rattle.tool_names.specs.declared.dialect.Dialect.TheVariants.{Debian}
 use Rattle.tool_names.specs.declared.names.Wanted.{Wanted}
 use Rattle.tool_names.specs.declared.names.Wanted.TheVariants as wanted
 use Rattle.tool_names.specs.declared.tables.Way.{Way}
@@ -19,21 +18,9 @@ use Rattle.tool_names.specs.StatedVersion.{VersionedNamesAreRead, has_version, i
 use Rattle.tool_names.specs.ToolNames.{name_meaning, read_or_unknown, row_meaning, system_with, with_numbers}
 use Rattle.tool_names.proofs.Filling.{counted_fits}
 use Rattle.tool_names.proofs.NameLaws.{canonical-at, is_free, named-filled, names_mean_rows, no_special-known, one-system, text-row}
-use Rattle.tool_names.proofs.RowChecks.{has_triple, is_canonical, row-written}
+use Rattle.tool_names.proofs.RowChecks.{has_short_version, has_triple, is_canonical, row-written, rows-pass}
 use Rattle.tool_names.proofs.RowLemmas.{all-at, first-at}
 use Rattle.tool_names.proofs.ShapeLemmas.{usual-no_special}
-
--- names that may have a version are short, and so are their triples
-
-abbrev has_short_version : Row → Bool
-has_short_version row =
-    not (is_read row.way && (nat_eq (star_count row.pattern) 2 || nat_eq (star_count row.pattern) 1))
-    || (is_short_pattern row.pattern && nat_le (length row.meaning) 64)
-
-versions-short : (d : Dialect) → list_all has_short_version (rows_of d) ≡ true
-unfolding rows_of
-versions-short Debian = refl
-versions-short _ = refl
 
 some_star : (a b c : Bool) → (a || (b && c)) ≡ true → (a || b) ≡ true
 some_star true b c h = refl
@@ -55,7 +42,7 @@ row-versioned d minor text row is =
     let parts = and_parts (is_read row.way && bytes_eq text row.meaning) (has_version minor row.pattern) found.2 in
     let first = and_parts (is_read row.way) (bytes_eq text row.meaning) parts.0 in
     let stars = some_star (nat_eq (star_count row.pattern) 2) (nat_eq (star_count row.pattern) 1) (nat_eq minor 0) parts.1 in
-    let form : has_short_version row ≡ true = all-at has_short_version (rows_of d) found.0 row (versions-short d) found.1 in
+    let form : has_short_version row ≡ true = all-at has_short_version (rows_of d) found.0 row (rows-pass d).versions_short found.1 in
     let sizes : (is_short_pattern row.pattern && nat_le (length row.meaning) 64) ≡ true = rw (first.0, stars) at form in
     let short = and_parts (is_short_pattern row.pattern) (nat_le (length row.meaning) 64) sizes in
     let same : text ≡ row.meaning = (bytes_eq-Decides text row.meaning).0 first.1 in
