@@ -222,7 +222,7 @@ def antt_lists(tables):
                       for it in dialects],
         "the rows of each dialect pass": [line for it in dialects for line in (
             f"{it.name}-rows : RowsPass dialect.{it.variant}", "unfolding shape triple_name rows_of target_lexicon_on_literals",
-            f"{it.name}-rows = record {{ apart = refl; canonical = refl; formed = refl; paired = refl; plain_back = refl; versioned_back = λ a b. refl }}", "")][:-1],
+            f"{it.name}-rows = record {{ apart = refl; canonical = refl; formed = refl; versions_short = refl; paired = refl; plain_back = refl; versioned_back = λ a b. refl }}", "")][:-1],
         "what the rows of each dialect pass": [f"rows-pass dialect.{it.variant} = {it.name}-rows" for it in dialects],
         "the rows of each dialect": [f"use Rattle.tool_names.specs.declared.tables.{it.name}.TheConstants as {it.name}" for it in dialects],
     }

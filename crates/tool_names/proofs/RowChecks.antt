@@ -1,6 +1,6 @@
 -- Tests that the rows pass, by computation.
-use Rattle.std.proofs.Common.{◌≡◌, ◌<◌, ◌≤◌, ℕ, List, [], ◌∷◌, Option, Some, None, Result, Ok, Err, Bool, true, false, cond, length, map, nat_eq, nat_le, refl, ap, arith, subst}
-use Rattle.std.specs.Prelude.{not, ◌&&◌, ◌||◌, option_map, slice_get}
+use Rattle.std.proofs.Common.{◌≡◌, ◌≤◌, ℕ, List, [], ◌∷◌, Option, Some, None, Result, Ok, Err, Bool, true, false, cond, length, map, nat_eq, nat_le, refl, ap, arith}
+use Rattle.std.specs.Prelude.{not, ◌&&◌, ◌||◌, slice_get}
 use Rattle.std.specs.{List.list_all, List.list_any, Str.bytes_eq}
 use Rattle.std.proofs.lemmas.Bool.{and_parts, eqb-true, leb-true}
 use Rattle.std.proofs.lemmas.Slice.Eq.{bytes_eq-Decides}
@@ -16,6 +16,7 @@ use Rattle.tool_names.specs.declared.tables.Way.{Way}
 use Rattle.tool_names.specs.declared.tables.Way.TheVariants.{Both, Written, NoTriple}
 use Rattle.tool_names.specs.{Dialects.rows_of, Dialects.rules_of, Laws.may_be_long, Laws.may_be_short, Private.is_short_pattern, Shape.shape}
 use Rattle.tool_names.specs.Patterns.{filled, star_count, with_star, without_star}
+use Rattle.tool_names.specs.StatedVersion.{is_read}
 use Rattle.tool_names.specs.Tables.{Row, is_read_and, is_written, is_written_for, row_for}
 use Rattle.tool_names.specs.ToolNames.{Unread, read_or_unknown, triple_name, with_numbers}
 use Rattle.tool_names.proofs.Filling.{is_own_tag, is_spaced}
@@ -81,6 +82,13 @@ has_form tags row =
     is_spaced row.pattern && (not tags || is_own_tag row.pattern) && has_numbers row.way (star_count row.pattern)
     && (not (is_written row.way) || (is_short_pattern row.pattern && nat_le (length row.meaning) 64))
 
+-- names that may have a version are short, and so are their triples
+
+abbrev pub has_short_version : Row → Bool
+has_short_version row =
+    not (is_read row.way && (nat_eq (star_count row.pattern) 2 || nat_eq (star_count row.pattern) 1))
+    || (is_short_pattern row.pattern && nat_le (length row.meaning) 64)
+
 -- where names are tags, a name that may be short, or long, has a row for that
 
 abbrev pub is_pair : Row → Row → Bool
@@ -120,6 +128,7 @@ pub record RowsPass (d : Dialect) : Type 0 where
   pub apart : all_apart (rows_of d) ≡ true
   pub canonical : list_all (has_canonical (keeps_abi (rules_of d).abi)) (rows_of d) ≡ true
   pub formed : list_all (has_form (rules_of d).tags) (rows_of d) ≡ true
+  pub versions_short : list_all has_short_version (rows_of d) ≡ true
   pub paired : (not (rules_of d).tags || list_all (has_pair (rows_of d)) (rows_of d)) ≡ true
   pub plain_back : map (written_back d []) (both_rows 0 (rows_of d)) ≡ map (λ (row : Row). Some (filled row.pattern [])) (both_rows 0 (rows_of d))
   pub versioned_back : (a b : ℕ) → map (written_back d (a ∷ b ∷ [])) (both_rows 2 (rows_of d)) ≡ map (λ (row : Row). Some (filled row.pattern (a ∷ b ∷ []))) (both_rows 2 (rows_of d))
@@ -127,63 +136,63 @@ pub record RowsPass (d : Dialect) : Type 0 where
 -- written by tools/names/write: the rows of each dialect pass
 debian-rows : RowsPass dialect.Debian
 unfolding shape triple_name rows_of target_lexicon_on_literals
-debian-rows = record { apart = refl; canonical = refl; formed = refl; paired = refl; plain_back = refl; versioned_back = λ a b. refl }
+debian-rows = record { apart = refl; canonical = refl; formed = refl; versions_short = refl; paired = refl; plain_back = refl; versioned_back = λ a b. refl }
 
 go-rows : RowsPass dialect.Go
 unfolding shape triple_name rows_of target_lexicon_on_literals
-go-rows = record { apart = refl; canonical = refl; formed = refl; paired = refl; plain_back = refl; versioned_back = λ a b. refl }
+go-rows = record { apart = refl; canonical = refl; formed = refl; versions_short = refl; paired = refl; plain_back = refl; versioned_back = λ a b. refl }
 
 oci-rows : RowsPass dialect.Oci
 unfolding shape triple_name rows_of target_lexicon_on_literals
-oci-rows = record { apart = refl; canonical = refl; formed = refl; paired = refl; plain_back = refl; versioned_back = λ a b. refl }
+oci-rows = record { apart = refl; canonical = refl; formed = refl; versions_short = refl; paired = refl; plain_back = refl; versioned_back = λ a b. refl }
 
 node-rows : RowsPass dialect.Node
 unfolding shape triple_name rows_of target_lexicon_on_literals
-node-rows = record { apart = refl; canonical = refl; formed = refl; paired = refl; plain_back = refl; versioned_back = λ a b. refl }
+node-rows = record { apart = refl; canonical = refl; formed = refl; versions_short = refl; paired = refl; plain_back = refl; versioned_back = λ a b. refl }
 
 gnu-rows : RowsPass dialect.Gnu
 unfolding shape triple_name rows_of target_lexicon_on_literals
-gnu-rows = record { apart = refl; canonical = refl; formed = refl; paired = refl; plain_back = refl; versioned_back = λ a b. refl }
+gnu-rows = record { apart = refl; canonical = refl; formed = refl; versions_short = refl; paired = refl; plain_back = refl; versioned_back = λ a b. refl }
 
 python-rows : RowsPass dialect.Python
 unfolding shape triple_name rows_of target_lexicon_on_literals
-python-rows = record { apart = refl; canonical = refl; formed = refl; paired = refl; plain_back = refl; versioned_back = λ a b. refl }
+python-rows = record { apart = refl; canonical = refl; formed = refl; versions_short = refl; paired = refl; plain_back = refl; versioned_back = λ a b. refl }
 
 rust-rows : RowsPass dialect.Rust
 unfolding shape triple_name rows_of target_lexicon_on_literals
-rust-rows = record { apart = refl; canonical = refl; formed = refl; paired = refl; plain_back = refl; versioned_back = λ a b. refl }
+rust-rows = record { apart = refl; canonical = refl; formed = refl; versions_short = refl; paired = refl; plain_back = refl; versioned_back = λ a b. refl }
 
 uname-rows : RowsPass dialect.Uname
 unfolding shape triple_name rows_of target_lexicon_on_literals
-uname-rows = record { apart = refl; canonical = refl; formed = refl; paired = refl; plain_back = refl; versioned_back = λ a b. refl }
+uname-rows = record { apart = refl; canonical = refl; formed = refl; versions_short = refl; paired = refl; plain_back = refl; versioned_back = λ a b. refl }
 
 rpm-rows : RowsPass dialect.Rpm
 unfolding shape triple_name rows_of target_lexicon_on_literals
-rpm-rows = record { apart = refl; canonical = refl; formed = refl; paired = refl; plain_back = refl; versioned_back = λ a b. refl }
+rpm-rows = record { apart = refl; canonical = refl; formed = refl; versions_short = refl; paired = refl; plain_back = refl; versioned_back = λ a b. refl }
 
 apk-rows : RowsPass dialect.Apk
 unfolding shape triple_name rows_of target_lexicon_on_literals
-apk-rows = record { apart = refl; canonical = refl; formed = refl; paired = refl; plain_back = refl; versioned_back = λ a b. refl }
+apk-rows = record { apart = refl; canonical = refl; formed = refl; versions_short = refl; paired = refl; plain_back = refl; versioned_back = λ a b. refl }
 
 pacman-rows : RowsPass dialect.Pacman
 unfolding shape triple_name rows_of target_lexicon_on_literals
-pacman-rows = record { apart = refl; canonical = refl; formed = refl; paired = refl; plain_back = refl; versioned_back = λ a b. refl }
+pacman-rows = record { apart = refl; canonical = refl; formed = refl; versions_short = refl; paired = refl; plain_back = refl; versioned_back = λ a b. refl }
 
 dotnet-rows : RowsPass dialect.Dotnet
 unfolding shape triple_name rows_of target_lexicon_on_literals
-dotnet-rows = record { apart = refl; canonical = refl; formed = refl; paired = refl; plain_back = refl; versioned_back = λ a b. refl }
+dotnet-rows = record { apart = refl; canonical = refl; formed = refl; versions_short = refl; paired = refl; plain_back = refl; versioned_back = λ a b. refl }
 
 conda-rows : RowsPass dialect.Conda
 unfolding shape triple_name rows_of target_lexicon_on_literals
-conda-rows = record { apart = refl; canonical = refl; formed = refl; paired = refl; plain_back = refl; versioned_back = λ a b. refl }
+conda-rows = record { apart = refl; canonical = refl; formed = refl; versions_short = refl; paired = refl; plain_back = refl; versioned_back = λ a b. refl }
 
 zig-rows : RowsPass dialect.Zig
 unfolding shape triple_name rows_of target_lexicon_on_literals
-zig-rows = record { apart = refl; canonical = refl; formed = refl; paired = refl; plain_back = refl; versioned_back = λ a b. refl }
+zig-rows = record { apart = refl; canonical = refl; formed = refl; versions_short = refl; paired = refl; plain_back = refl; versioned_back = λ a b. refl }
 
 nix-rows : RowsPass dialect.Nix
 unfolding shape triple_name rows_of target_lexicon_on_literals
-nix-rows = record { apart = refl; canonical = refl; formed = refl; paired = refl; plain_back = refl; versioned_back = λ a b. refl }
+nix-rows = record { apart = refl; canonical = refl; formed = refl; versions_short = refl; paired = refl; plain_back = refl; versioned_back = λ a b. refl }
 
 -- end of what is written
 
@@ -236,17 +245,3 @@ row-written d numbers text row is =
       short = short.0;
       text_short = omega (arith, ap length same, leb-true (length row.meaning) 64 short.1);
     }
-
-pub long-unnamed : (d : Dialect) (numbers : ℕ) (text : List ℕ) → 64 < length text → row_for (rows_of d) numbers text ≡ None
-long-unnamed d numbers text long = by_row (row_for (rows_of d) numbers text) refl
-  where
-    by_row : (o : Option Row) → row_for (rows_of d) numbers text ≡ o → row_for (rows_of d) numbers text ≡ None
-    by_row None is = is
-    by_row (Some row) is = absurd (omega (arith, (row-written d numbers text row is).text_short))
-
-pub pattern-short : (d : Dialect) (numbers : ℕ) (text pattern : List ℕ) → option_map (λ (row : Row). row.pattern) (row_for (rows_of d) numbers text) ≡ Some pattern → is_short_pattern pattern ≡ true
-pattern-short d numbers text pattern h = by_row (row_for (rows_of d) numbers text) refl h
-  where
-    by_row : (o : Option Row) → row_for (rows_of d) numbers text ≡ o → option_map (λ (row : Row). row.pattern) o ≡ Some pattern → is_short_pattern pattern ≡ true
-    by_row None is h = absurd cc
-    by_row (Some row) is h = let same : row.pattern ≡ pattern = cc in subst (λ (p : List ℕ). is_short_pattern p ≡ true) same (row-written d numbers text row is).short

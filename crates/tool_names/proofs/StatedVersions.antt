@@ -1,37 +1,26 @@
 -- A name with a version is read: what follows of its row.
 use Rattle.std.proofs.Common.{◌≡◌, ◌<◌, ◌≤◌, ◌∙◌, ℕ, List, [], ◌∷◌, ◌++◌, Option, Some, None, Ok, Bool, true, false, cond, length, nat_eq, suc, refl, sym, ap, subst, arith}
-use Rattle.std.specs.Prelude.{not, ◌&&◌, ◌||◌, nat_le, option_map, slice_get}
-use Rattle.std.specs.{List.list_all, Str.bytes_eq}
+use Rattle.std.specs.Prelude.{◌&&◌, ◌||◌, nat_le, option_map, slice_get}
+use Rattle.std.specs.{Str.bytes_eq}
 use Rattle.std.proofs.lemmas.Bool.{and_parts, eqb-true, le-leb, leb-true}
 use Rattle.std.proofs.lemmas.Slice.Eq.{bytes_eq-Decides}
 use Rattle.lexicon_fields.specs.Laws.{HasVersionInRange}
 use Rattle.target_lexicon.specs.{FixedPoints.IsPlainTriple, FixedPoints.RoundIsNormalStep, GreedyReading.reading, Printing.text_of, Values.OperatingSystem, Values.Values}
 use Rattle.target_lexicon.specs.Values.operating_system
 use Rattle.tool_names.specs.declared.dialect.Dialect.{Dialect}
-use Rattle.tool_names.specs.declared.dialect.Dialect.TheVariants.{Debian}
+use Rattle.tool_names.specs.declared.names.Wanted.{Wanted}
+use Rattle.tool_names.specs.declared.names.Wanted.TheVariants as wanted
 use Rattle.tool_names.specs.declared.tables.Way.{Way}
 use Rattle.tool_names.specs.declared.tables.Way.TheVariants.{Both, Read, Written, NoTriple}
-use Rattle.tool_names.specs.{Dialects.rows_of, Private.is_short_pattern, Tables.Row}
+use Rattle.tool_names.specs.{Dialects.rows_of, Private.is_short_pattern, Tables.Row, Tables.first_row, Wanted.is_wanted}
 use Rattle.tool_names.specs.Patterns.{all_limits, are_within, filled, first_text, rest_of, star, star_count}
 use Rattle.tool_names.specs.StatedVersion.{VersionedNamesAreRead, has_version, is_read, is_versioned_for, shape_to_version, system_to_version, versioned_row}
 use Rattle.tool_names.specs.ToolNames.{name_meaning, read_or_unknown, row_meaning, system_with, with_numbers}
 use Rattle.tool_names.proofs.Filling.{counted_fits}
 use Rattle.tool_names.proofs.NameLaws.{canonical-at, is_free, named-filled, names_mean_rows, no_special-known, one-system, text-row}
-use Rattle.tool_names.proofs.RowChecks.{has_triple, is_canonical}
+use Rattle.tool_names.proofs.RowChecks.{has_short_version, has_triple, is_canonical, row-written, rows-pass}
 use Rattle.tool_names.proofs.RowLemmas.{all-at, first-at}
 use Rattle.tool_names.proofs.ShapeLemmas.{usual-no_special}
-
--- names that may have a version are short, and so are their triples
-
-abbrev has_short_version : Row → Bool
-has_short_version row =
-    not (is_read row.way && (nat_eq (star_count row.pattern) 2 || nat_eq (star_count row.pattern) 1))
-    || (is_short_pattern row.pattern && nat_le (length row.meaning) 64)
-
-versions-short : (d : Dialect) → list_all has_short_version (rows_of d) ≡ true
-unfolding rows_of
-versions-short Debian = refl
-versions-short _ = refl
 
 some_star : (a b c : Bool) → (a || (b && c)) ≡ true → (a || b) ≡ true
 some_star true b c h = refl
@@ -53,7 +42,7 @@ row-versioned d minor text row is =
     let parts = and_parts (is_read row.way && bytes_eq text row.meaning) (has_version minor row.pattern) found.2 in
     let first = and_parts (is_read row.way) (bytes_eq text row.meaning) parts.0 in
     let stars = some_star (nat_eq (star_count row.pattern) 2) (nat_eq (star_count row.pattern) 1) (nat_eq minor 0) parts.1 in
-    let form : has_short_version row ≡ true = all-at has_short_version (rows_of d) found.0 row (versions-short d) found.1 in
+    let form : has_short_version row ≡ true = all-at has_short_version (rows_of d) found.0 row (rows-pass d).versions_short found.1 in
     let sizes : (is_short_pattern row.pattern && nat_le (length row.meaning) 64) ≡ true = rw (first.0, stars) at form in
     let short = and_parts (is_short_pattern row.pattern) (nat_le (length row.meaning) 64) sizes in
     let same : text ≡ row.meaning = (bytes_eq-Decides text row.meaning).0 first.1 in
@@ -67,19 +56,25 @@ row-versioned d minor text row is =
       text_short = omega (arith, ap length same, leb-true (length row.meaning) 64 short.1);
     }
 
-pub versioned-long : (d : Dialect) (minor : ℕ) (text : List ℕ) → 64 < length text → versioned_row (rows_of d) minor text ≡ None
-versioned-long d minor text long = by_row (versioned_row (rows_of d) minor text) refl
-  where
-    by_row : (o : Option Row) → versioned_row (rows_of d) minor text ≡ o → versioned_row (rows_of d) minor text ≡ None
-    by_row None is = is
-    by_row (Some row) is = absurd (omega (arith, (row-versioned d minor text row is).text_short))
+-- the row that is wanted for a triple has a short pattern, and the triple is short
 
-pub versioned-short : (d : Dialect) (minor : ℕ) (text pattern : List ℕ) → option_map (λ (row : Row). row.pattern) (versioned_row (rows_of d) minor text) ≡ Some pattern → is_short_pattern pattern ≡ true
-versioned-short d minor text pattern h = by_row (versioned_row (rows_of d) minor text) refl h
+short-row : (d : Dialect) (w : Wanted) (text : List ℕ) (row : Row) → first_row (is_wanted w text) (rows_of d) ≡ Some row → (is_short_pattern row.pattern ≡ true) × (length text ≤ 64)
+short-row d (wanted.Written numbers) text row is = let found = row-written d numbers text row is in (found.short, found.text_short)
+short-row d (wanted.Versioned minor) text row is = let found = row-versioned d minor text row is in (found.short, found.text_short)
+
+pub long-unwanted : (d : Dialect) (w : Wanted) (text : List ℕ) → 64 < length text → first_row (is_wanted w text) (rows_of d) ≡ None
+long-unwanted d w text long = by_row (first_row (is_wanted w text) (rows_of d)) refl
   where
-    by_row : (o : Option Row) → versioned_row (rows_of d) minor text ≡ o → option_map (λ (row : Row). row.pattern) o ≡ Some pattern → is_short_pattern pattern ≡ true
+    by_row : (o : Option Row) → first_row (is_wanted w text) (rows_of d) ≡ o → first_row (is_wanted w text) (rows_of d) ≡ None
+    by_row None is = is
+    by_row (Some row) is = absurd (omega (arith, (short-row d w text row is).1))
+
+pub pattern-short : (d : Dialect) (w : Wanted) (text pattern : List ℕ) → option_map (λ (row : Row). row.pattern) (first_row (is_wanted w text) (rows_of d)) ≡ Some pattern → is_short_pattern pattern ≡ true
+pattern-short d w text pattern h = by_row (first_row (is_wanted w text) (rows_of d)) refl h
+  where
+    by_row : (o : Option Row) → first_row (is_wanted w text) (rows_of d) ≡ o → option_map (λ (row : Row). row.pattern) o ≡ Some pattern → is_short_pattern pattern ≡ true
     by_row None is h = absurd cc
-    by_row (Some row) is h = let same : row.pattern ≡ pattern = cc in subst (λ (p : List ℕ). is_short_pattern p ≡ true) same (row-versioned d minor text row is).short
+    by_row (Some row) is h = let same : row.pattern ≡ pattern = cc in subst (λ (p : List ℕ). is_short_pattern p ≡ true) same (short-row d w text row is).0
 
 -- a name with one star has only the first number
 

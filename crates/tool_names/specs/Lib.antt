@@ -19,3 +19,4 @@ pub mod Suggestion
 pub mod Tables
 pub mod ToolNames
 pub mod Translation
+pub mod Wanted

@@ -1,21 +1,16 @@
 //! Names that state a version which triples don't have.
 ghost use Rattle.std.specs.Prelude.{◌≡◌, option_map};
-ghost use Rattle.target_lexicon.specs.Printing.{text_of};
 ghost use Rattle.target_lexicon.specs.ValuesRef.{values_of_ref};
-ghost use Rattle.tool_names.specs.Dialects.{rows_of};
 ghost use Rattle.tool_names.specs.StatedVersion as spec;
-ghost use Rattle.tool_names.specs.Tables.{plain_rows, rows_in};
 ghost use Rattle.tool_names.specs.ToolNames.{name_bytes};
 
 use crate::dialect::Dialect;
 use crate::name::Name;
+use crate::names::Wanted;
 use crate::pattern::{Numbers, star_count};
 use crate::shape::{AbiRule, Rules, unversioned};
-use crate::tables::{Row, Way};
+use crate::tables::Way;
 use target_lexicon::{OperatingSystem, TripleRef};
-
-/// The most bytes of a triple's string that a row has, and more.
-const MAX_LENGTH: usize = 64;
 
 impl Dialect {
     /// The name in this dialect that states a version which triples don't have: `manylinux_2_17_x86_64` of glibc 2.17,
@@ -36,22 +31,8 @@ impl Dialect {
         ensures { option_map name_bytes result
             ≡ spec.versioned_name self (values_of_ref triple.now) major minor }
     {
-        let pattern = self.versioned_pattern(&self.shape_to_version(triple), minor)?;
+        let pattern = self.pattern_for(Wanted::Versioned(minor), &self.shape_to_version(triple))?;
         Some(Name::filled(pattern, Numbers::Two(major, minor)))
-    }
-
-    /// The pattern of the first name that may have a version with this second number, and means a triple.
-    fn versioned_pattern(self, triple: &TripleRef<'_>, minor: u8) -> Option<&'static str>
-        ensures { option_map (λ pattern. pattern.now) result
-            ≡ option_map (λ row. row.pattern)
-            (spec.versioned_row (rows_of self) minor (text_of (values_of_ref triple.now))) }
-    {
-        let mut buffer = [0; MAX_LENGTH];
-        let length = triple.write_to(&mut buffer);
-        if MAX_LENGTH < length {
-            return None;
-        }
-        versioned_pattern(&self.tables(), minor, &buffer[..length])
     }
 
     /// The shape of a triple that keeps the C library, without the system's version.
@@ -79,43 +60,14 @@ fn system_to_version(operating_system: OperatingSystem) -> OperatingSystem
     }
 }
 
-/// The pattern of the first name that is read, may have a version with this second number, and means the triple of this
-/// string.
-fn versioned_pattern(tables: &[&'static [Row]], minor: u8, text: &[u8]) -> Option<&'static str>
-    ensures { option_map (λ pattern. pattern.now) result
-        ≡ option_map (λ row. row.pattern)
-        (spec.versioned_row (rows_in tables.now) minor text.now) }
-{
-    for rows in tables {
-        if let Some(pattern) = versioned_pattern_in(rows, minor, text) {
-            return Some(pattern);
-        }
-    }
-    None
-}
-
-/// That pattern in one table.
-fn versioned_pattern_in(rows: &[Row], minor: u8, text: &[u8]) -> Option<&'static str>
-    ensures { option_map (λ pattern. pattern.now) result
-        ≡ option_map (λ row. row.pattern)
-        (spec.versioned_row (plain_rows rows.now) minor text.now) }
-{
-    for row in rows {
-        if is_read(row.2) && text == row.1.as_bytes() && has_version(minor, row.0) {
-            return Some(row.0);
-        }
-    }
-    None
-}
-
-fn is_read(way: Way) -> bool
+pub(crate) fn is_read(way: Way) -> bool
     ensures { result ≡ spec.is_read way }
 {
     matches!(way, Way::Both | Way::Read)
 }
 
 /// Whether a pattern has a place for both numbers of a version, or for the first, if the second is 0.
-fn has_version(minor: u8, pattern: &str) -> bool
+pub(crate) fn has_version(minor: u8, pattern: &str) -> bool
     ensures { result ≡ spec.has_version minor pattern.now }
 {
     match star_count(pattern.as_bytes()) {

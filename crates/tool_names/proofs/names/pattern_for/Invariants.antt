@@ -1,6 +1,6 @@
 use Rattle.std.proofs.Common.{◌≡◌, drop}
-use Rattle.tool_names.specs.Tables.{row_for, rows_in}
+use Rattle.tool_names.specs.{Tables.first_row, Tables.rows_in, Wanted.is_wanted}
 use Rattle.tool_names.proofs.names.pattern_for.Given as goal
 
 abbrev pub invariant-loop-rows : goal.invariant-loop-rows
-invariant-loop-rows l = row_for (rows_in (drop l.rows-index l.tables)) l.numbers l.text ≡ row_for (rows_in l.tables) l.numbers l.text
+invariant-loop-rows l = first_row (is_wanted l.wanted l.text) (rows_in (drop l.rows-index l.tables)) ≡ first_row (is_wanted l.wanted l.text) (rows_in l.tables)

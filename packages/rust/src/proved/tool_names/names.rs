@@ -7,6 +7,7 @@ use crate::proved::tool_names::name::Name;
 use crate::proved::tool_names::nearest::NearestName;
 use crate::proved::tool_names::pattern::{matched, star_count, Numbers};
 use crate::proved::tool_names::platform::row_of_platform;
+use crate::proved::tool_names::stated_version::{has_version, is_read};
 use crate::proved::tool_names::tables::{Row, Way, ONLY_WRITTEN};
 use crate::proved::{DeploymentTarget, OperatingSystem, TripleRef};
 
@@ -26,6 +27,15 @@ pub enum NameError {
     Unknown,
     /// The dialect has the name, but no triple means the same, for this reason.
     WithoutTriple(&'static str),
+}
+
+/// Which row of a triple is wanted.
+#[derive(Clone, Copy)]
+pub(crate) enum Wanted {
+    /// One that is written, with this many numbers.
+    Written(usize),
+    /// One that is read, and may have a version with this second number.
+    Versioned(u8),
 }
 
 /// The most bytes of a triple's text that a row has, and more.
@@ -82,7 +92,7 @@ impl Dialect {
         let shape = self.shape(triple);
         let numbers = Numbers::of_system(shape.operating_system);
         let pattern = self.pattern_for(
-            numbers.count(),
+            Wanted::Written(numbers.count()),
             &TripleRef {
                 operating_system: without_numbers(shape.operating_system),
                 ..shape
@@ -109,14 +119,18 @@ impl Dialect {
         nearest_name(written, name, &tables, false).name
     }
 
-    /// The pattern of the name of a triple without a version, with this many numbers.
-    fn pattern_for(self, numbers: usize, triple: &TripleRef<'_>) -> Option<&'static str> {
+    /// The pattern of the first row that is wanted for a triple without a version.
+    pub(crate) fn pattern_for(
+        self,
+        wanted: Wanted,
+        triple: &TripleRef<'_>,
+    ) -> Option<&'static str> {
         let mut buffer = [0; MAX_LENGTH];
         let length = triple.write_to(&mut buffer);
         if MAX_LENGTH < length {
             return None;
         }
-        pattern_for(&self.tables(), numbers, &buffer[..length])
+        pattern_for(&self.tables(), wanted, &buffer[..length])
     }
 }
 
@@ -140,25 +154,36 @@ fn row_in(rows: &[Row], name: &str, tags: bool) -> Option<(Row, Numbers)> {
     None
 }
 
-/// The name of the first row that is written for a triple's string and this many numbers.
-fn pattern_for(tables: &[&'static [Row]], numbers: usize, text: &[u8]) -> Option<&'static str> {
+/// The pattern of the first row that is wanted for a triple's string.
+fn pattern_for(tables: &[&'static [Row]], wanted: Wanted, text: &[u8]) -> Option<&'static str> {
     for rows in tables {
-        if let Some(pattern) = pattern_in(rows, numbers, text) {
+        if let Some(pattern) = pattern_in(rows, wanted, text) {
             return Some(pattern);
         }
     }
     None
 }
 
-/// That name in one table.
-fn pattern_in(rows: &[Row], numbers: usize, text: &[u8]) -> Option<&'static str> {
+/// That pattern in one table.
+fn pattern_in(rows: &[Row], wanted: Wanted, text: &[u8]) -> Option<&'static str> {
     for row in rows {
-        if is_written(row.2) && text == row.1.as_bytes() && star_count(row.0.as_bytes()) == numbers
-        {
+        if is_wanted(wanted, text, *row) {
             return Some(row.0);
         }
     }
     None
+}
+
+/// Whether a row is wanted for a triple's string.
+fn is_wanted(wanted: Wanted, text: &[u8], row: Row) -> bool {
+    match wanted {
+        Wanted::Written(numbers) => {
+            is_written(row.2) && text == row.1.as_bytes() && star_count(row.0.as_bytes()) == numbers
+        }
+        Wanted::Versioned(minor) => {
+            is_read(row.2) && text == row.1.as_bytes() && has_version(minor, row.0)
+        }
+    }
 }
 
 fn is_written(way: Way) -> bool {

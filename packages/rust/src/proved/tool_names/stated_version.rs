@@ -3,13 +3,11 @@
 
 use crate::proved::tool_names::dialect::Dialect;
 use crate::proved::tool_names::name::Name;
+use crate::proved::tool_names::names::Wanted;
 use crate::proved::tool_names::pattern::{star_count, Numbers};
 use crate::proved::tool_names::shape::{unversioned, AbiRule, Rules};
-use crate::proved::tool_names::tables::{Row, Way};
+use crate::proved::tool_names::tables::Way;
 use crate::proved::{OperatingSystem, TripleRef};
-
-/// The most bytes of a triple's string that a row has, and more.
-const MAX_LENGTH: usize = 64;
 
 impl Dialect {
     /// The name in this dialect that states a version which triples don't have: `manylinux_2_17_x86_64` of glibc 2.17,
@@ -28,18 +26,8 @@ impl Dialect {
     /// ```
     #[must_use]
     pub fn write_versioned(self, triple: &TripleRef<'_>, major: u16, minor: u8) -> Option<Name> {
-        let pattern = self.versioned_pattern(&self.shape_to_version(triple), minor)?;
+        let pattern = self.pattern_for(Wanted::Versioned(minor), &self.shape_to_version(triple))?;
         Some(Name::filled(pattern, Numbers::Two(major, minor)))
-    }
-
-    /// The pattern of the first name that may have a version with this second number, and means a triple.
-    fn versioned_pattern(self, triple: &TripleRef<'_>, minor: u8) -> Option<&'static str> {
-        let mut buffer = [0; MAX_LENGTH];
-        let length = triple.write_to(&mut buffer);
-        if MAX_LENGTH < length {
-            return None;
-        }
-        versioned_pattern(&self.tables(), minor, &buffer[..length])
     }
 
     /// The shape of a triple that keeps the C library, without the system's version.
@@ -63,33 +51,12 @@ fn system_to_version(operating_system: OperatingSystem) -> OperatingSystem {
     }
 }
 
-/// The pattern of the first name that is read, may have a version with this second number, and means the triple of this
-/// string.
-fn versioned_pattern(tables: &[&'static [Row]], minor: u8, text: &[u8]) -> Option<&'static str> {
-    for rows in tables {
-        if let Some(pattern) = versioned_pattern_in(rows, minor, text) {
-            return Some(pattern);
-        }
-    }
-    None
-}
-
-/// That pattern in one table.
-fn versioned_pattern_in(rows: &[Row], minor: u8, text: &[u8]) -> Option<&'static str> {
-    for row in rows {
-        if is_read(row.2) && text == row.1.as_bytes() && has_version(minor, row.0) {
-            return Some(row.0);
-        }
-    }
-    None
-}
-
-fn is_read(way: Way) -> bool {
+pub(crate) fn is_read(way: Way) -> bool {
     matches!(way, Way::Both | Way::Read)
 }
 
 /// Whether a pattern has a place for both numbers of a version, or for the first, if the second is 0.
-fn has_version(minor: u8, pattern: &str) -> bool {
+pub(crate) fn has_version(minor: u8, pattern: &str) -> bool {
     match star_count(pattern.as_bytes()) {
         2 => true,
         1 => minor == 0,
