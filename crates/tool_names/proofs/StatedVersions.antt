@@ -1,4 +1,4 @@
--- A name with a version is read: what follows of its row.
+-- A name with a version is read: what follows of its row. The row that is wanted for a triple is short, with a version or without.
 use Rattle.std.proofs.Common.{◌≡◌, ◌<◌, ◌≤◌, ◌∙◌, ℕ, List, [], ◌∷◌, ◌++◌, Option, Some, None, Ok, Bool, true, false, cond, length, nat_eq, suc, refl, sym, ap, subst, arith}
 use Rattle.std.specs.Prelude.{◌&&◌, ◌||◌, nat_le, option_map, slice_get}
 use Rattle.std.specs.{Str.bytes_eq}
