@@ -1,5 +1,6 @@
 -- A string that parses without a custom vendor has no changes, and how the changes of a string are found one by one.
 use Rattle.std.proofs.Common.{◌≡◌, ◌∙◌, ℕ, List, [], ◌∷◌, ◌++◌, Option, Some, None, Result, Ok, Err, Bool, true, false, cond, refl, sym, ap, subst, inl, inr, ◌↔◌}
+use Rattle.std.specs.Prelude.{◌||◌}
 use Rattle.std.specs.{Borrow.Bor, List.join_with_byte}
 use Rattle.std.specs.Str.{bytes_eq}
 use Rattle.std.proofs.lemmas.Bool.{cases_Bool}
@@ -12,7 +13,7 @@ use Rattle.tool_names.specs.declared.change.Position.{Position}
 use Rattle.tool_names.specs.declared.change.Position.TheVariants.{First, Second, Later}
 use Rattle.tool_names.specs.Changes.{KnownNamesStay, PartChange, UnchangedStringsAreReadAsTheyParse, changes, changes_of, is_only, next_position, parts_at, spelling_at}
 use Rattle.tool_names.specs.KnownNames.{known_names}
-use Rattle.tool_names.specs.Spelling.{SpelledName, SpelledPart, first_at_end, first_spelling, hard_float_names, is_hard_float, is_other_system, later_names, later_parts, later_spelling, later_spellings, listed_spelling, located, name_texts, names_after_first, names_of, other_parts, reading_unless_special, second_spelling, spelled_names, spelled_parts, spelled_reading, spelling_between, unread_names, versioned_spellings, with_hard_floats}
+use Rattle.tool_names.specs.Spelling.{SpelledName, SpelledPart, first_at_end, first_spelling, hard_float_names, is_hard_float, is_hard_float_vendor, is_other_system, later_names, later_parts, later_spelling, later_spellings, listed_spelling, located, name_texts, names_after_first, names_of, other_parts, reading_unless_special, second_spelling, spelled_names, spelled_parts, spelled_reading, spelling_between, unread_names, versioned_spellings, with_hard_floats}
 use Rattle.tool_names.proofs.SpelledNames.{AllStay, CustomStays, IsNoPair, between-stays, read-stated, vendor-stays, architecture-stay}
 
 bytes_eq-same : (part : List ℕ) → bytes_eq part part ≡ true
@@ -33,7 +34,7 @@ module _ (text : List ℕ) (t : Values) (custom : CustomStays t) where
   other-none a [] h = refl
   other-none a (p ∷ ps) h =
       let all = vendor-stays a t (p ∷ ps) h custom in
-      itself text p ps (second_spelling p ps) (later_parts p ps) (rw (read-stated a t p ps h, all.0.0, all.1) all.0.1) ∙ later-none text p ps all.1 all.2
+      itself text p ps (second_spelling p ps) (later_parts p ps) (rw (ap (λ b. b || is_hard_float_vendor p) (read-stated a t p ps h) ∙ all.0.0.0, all.0.0.1, all.1) all.0.1) ∙ later-none text p ps all.1 all.2
 
   parts-none : (ps : List (List ℕ)) → reading_of_parts ps ≡ Ok t → changes_of text (spelled_parts ps) ≡ []
   parts-none [] h = refl
@@ -42,8 +43,8 @@ module _ (text : List ℕ) (t : Values) (custom : CustomStays t) where
       by_found : (o : Option Architecture) → architecture_of p ≡ o → reading_after_architecture o p ps ≡ Ok t → changes_of text (spelled_parts (p ∷ ps)) ≡ []
       by_found None is h = absurd cc
       by_found (Some a) is h =
-          itself text p ps (first_spelling p ∷ []) (with_hard_floats (is_hard_float p) (other_parts ps)) (rw is refl)
-          ∙ ap (changes_of text) (architecture-stay p a (other_parts ps) is) ∙ other-none a ps h
+          itself text p ps (first_spelling p ∷ []) (with_hard_floats (is_hard_float p ps) (other_parts ps)) (rw is refl)
+          ∙ ap (changes_of text) (architecture-stay p a ps (other_parts ps) is (vendor-stays a t ps h custom)) ∙ other-none a ps h
 
 -- the special strings have no changes
 
@@ -114,9 +115,9 @@ module _ (text : List ℕ) (hard_float : Bool) where
 parts-same : (text : List ℕ) (ps : List (List ℕ)) → changes_of text (spelled_parts ps) ≡ [] → name_texts (spelled_names ps) ≡ ps
 parts-same text [] none = refl
 parts-same text (p ∷ ps) none =
-    let rest = with_hard_floats (is_hard_float p) (other_parts ps) in
+    let rest = with_hard_floats (is_hard_float p ps) (other_parts ps) in
     let first = none-first text p ps (first_spelling p ∷ []) rest none in
-    named-first text p ps (first_spelling p ∷ []) rest ps first.0 (other-same text (is_hard_float p) ps first.1)
+    named-first text p ps (first_spelling p ∷ []) rest ps first.0 (other-same text (is_hard_float p ps) ps first.1)
 
 -- so it is read as it parses
 located-is : (text : List ℕ) (r : Result Values Refusal) (left : List SpelledName) (t : Values) → (located text r left ≡ Ok t) ↔ (r ≡ Ok t)
@@ -149,21 +150,21 @@ unchanged_read text t none =
 
 -- what the first of these parts spells, and what the others do
 parts-split : (at : Position) (part : Bor (List ℕ)) (others : List (List ℕ))
-    → (let it : SpelledPart = record { names = spelling_at at part.now others; from = part.now ∷ others } in parts_at at (part.now ∷ others) ≡ it ∷ parts_at (next_position at part) others)
+    → (let it : SpelledPart = record { names = spelling_at at part.now others; from = part.now ∷ others } in parts_at at (part.now ∷ others) ≡ it ∷ parts_at (next_position at part others) others)
 parts-split First part others = refl
 parts-split (Second hard_float) part others = refl
 parts-split (Later hard_float before) part others = refl
 
 module _ (text end : List ℕ) (at : Position) (part : Bor (List ℕ)) (others names : List (List ℕ)) (cut : parts_of end ≡ part.now ∷ others) (spells : names ≡ spelling_at at part.now others) where
   -- the first part spells only itself, and the changes are those of the others
-  pub unchanged : is_only part.now names ≡ true → changes_of text (parts_at at (parts_of end)) ≡ changes_of text (parts_at (next_position at part) others)
+  pub unchanged : is_only part.now names ≡ true → changes_of text (parts_at at (parts_of end)) ≡ changes_of text (parts_at (next_position at part others) others)
   unchanged only =
       let only_itself : is_only part.now (spelling_at at part.now others) ≡ true = subst (λ ns. is_only part.now ns ≡ true) spells only in
       rw (cut, parts-split at part others, only_itself) refl
 
   -- it is the first change
   pub changed : (found : PlacedPart) → found ≡ first_at_end text (parts_of end) → is_only part.now names ≡ false
-      → (let it : PartChange = record { part = found; names = names } in changes_of text (parts_at at (parts_of end)) ≡ it ∷ changes_of text (parts_at (next_position at part) others))
+      → (let it : PartChange = record { part = found; names = names } in changes_of text (parts_at at (parts_of end)) ≡ it ∷ changes_of text (parts_at (next_position at part others) others))
   changed found is other =
       let not_only : is_only part.now (spelling_at at part.now others) ≡ false = subst (λ ns. is_only part.now ns ≡ false) spells other in
       rw (is, spells, cut, parts-split at part others, not_only) refl

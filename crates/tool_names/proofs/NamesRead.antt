@@ -74,7 +74,7 @@ names_read text expected t u left names is before outcome =
     sym (ap (λ r. located text r (unread_names names)) (sym before.outcome ∙ ap (λ k. resumed expected t (name_texts k)) is ∙ outcome))
 
 pub first-names : (text part : List ℕ) (others : List (List ℕ)) → parts_of text ≡ part ∷ others → (name : List ℕ) → name ≡ first_spelling part
-    → spelled_names (parts_of text) ≡ record { name = name; from = parts_of text } ∷ names_after_first (is_hard_float part) others
+    → spelled_names (parts_of text) ≡ record { name = name; from = parts_of text } ∷ names_after_first (is_hard_float part others) others
 first-names text part others is name same = rw (is, same) refl
 
 pub names_go_on-start : (text : List ℕ) (expected : Option Field) (t : Values) (n : SpelledName) (ns names : List SpelledName) → names ≡ n ∷ ns

@@ -54,7 +54,7 @@ hard-end text hard_float (it ∷ others) all = (all.0, hard-end text hard_float 
 spelled-end : (text : List ℕ) (ps : List (List ℕ)) → EndText text ps → AllEnd text (spelled_parts ps)
 spelled-end text [] end = tt
 spelled-end text (p ∷ []) end = (end, tt)
-spelled-end text (p ∷ (q ∷ qs)) end = (end, hard-end text (is_hard_float p) (other_parts (q ∷ qs)) (other-end text (q ∷ qs) (after-first text p q qs end)))
+spelled-end text (p ∷ (q ∷ qs)) end = (end, hard-end text (is_hard_float p (q ∷ qs)) (other_parts (q ∷ qs)) (other-end text (q ∷ qs) (after-first text p q qs end)))
 
 parts-end : (text : List ℕ) → AllEnd text (spelled_parts (parts_of text))
 parts-end text = spelled-end text (parts_of text) ([], sym (parts_of-are text).joined)

@@ -1,5 +1,5 @@
 -- What is read is plain, its custom vendor spells itself, and it is read again from its printed string.
-use Rattle.std.specs.Prelude.{codes, option_map, ◌&&◌}
+use Rattle.std.specs.Prelude.{codes, option_map, ◌&&◌, ◌||◌}
 use Rattle.std.specs.{Option.option_map_or, Str.bytes_eq}
 use Rattle.std.proofs.Common.{◌≡◌, ◌∙◌, ℕ, List, [], ◌∷◌, ◌++◌, Option, Some, None, IfSome, Result, Ok, Err, Bool, true, false, cond, refl, sym, ap, subst}
 use Rattle.lexicon_fields.specs.{Architecture.architecture_of, BinaryFormat.binary_format_of, Environment.environment_of, Laws.HasVersionInRange, Names.Pair, OperatingSystem.fixed_operating_system_of, OperatingSystem.operating_system_of, Vendor.is_plain, Vendor.known_vendor_of, Vendor.vendor_of}
@@ -12,7 +12,7 @@ use Rattle.target_lexicon.specs.Values.operating_system
 use Rattle.target_lexicon.specs.Values.environment
 use Rattle.target_lexicon.specs.Field as field
 use Rattle.target_lexicon.proofs.{ComputedReading.reading_computed, ReadValues.special-holds, SettleLemmas.second_changes_none, SettleLemmas.settled_values-comes_back, StepCases.step_cases, Vendors.vendor-plain}
-use Rattle.tool_names.specs.Spelling.{ReadingAgainIsTheSame, SpelledName, first_spelling, hard_float_names, is_hard_float, is_known_name, is_other_system, is_unstated, is_vendor_after_none, later_names, later_spelling, located, name_texts, name_with_next, names_after_first, reading_unless_special, second_spelling, spelled_by, spelled_names, spelled_reading, unread_names}
+use Rattle.tool_names.specs.Spelling.{ReadingAgainIsTheSame, SpelledName, first_spelling, hard_float_names, is_hard_float, is_hard_float_vendor, is_known_name, is_other_system, is_unstated, is_vendor_after_none, later_names, later_spelling, located, name_texts, name_with_next, names_after_first, reading_unless_special, second_spelling, spelled_by, spelled_names, spelled_reading, unread_names}
 use Rattle.tool_names.proofs.{SpelledNames.CustomStays, SpelledNames.SecondStays, SpelledNames.custom_vendor-text, SpelledNames.known-second, SpelledOnce.FirstStays, SpelledOnce.later-first, SpelledReading.read-stays}
 
 -- the first name after the architecture spells itself
@@ -34,7 +34,7 @@ unfolding architecture_of known_vendor_of operating_system_of fixed_operating_sy
 cygwin-known = refl
 
 -- the first name of a second part that isn't unstated and no other system
-name-first : (part : List ℕ) (others : List (List ℕ)) → is_other_system part ≡ false → FirstStays (option_map_or (λ name. name ∷ []) (name_with_next part others) (later_spelling part))
+name-first : (part : List ℕ) (others : List (List ℕ)) → (is_hard_float_vendor part ≡ false) × (is_other_system part ≡ false) → FirstStays (option_map_or (λ name. name ∷ []) (name_with_next part others) (later_spelling part))
 name-first part [] is = later-first part is
 name-first part (next ∷ others) is = by_tests (is_vendor_after_none part next others) (bytes_eq part (codes "windows") && bytes_eq next (codes "cygnus"))
   where
@@ -62,15 +62,17 @@ uclibceabihf-known = refl
 
 -- the first name of a second part
 second-first : (part : List ℕ) (others : List (List ℕ)) → FirstStays (second_spelling part others)
-second-first part others = by_tests (is_unstated part others) (is_other_system part) refl
+second-first part others = by_tests (is_unstated part others) (is_hard_float_vendor part) (is_other_system part) refl refl
   where
     names : List (List ℕ)
     names = option_map_or (λ name. name ∷ []) (name_with_next part others) (later_spelling part)
 
-    by_tests : (unstated other : Bool) → is_other_system part ≡ other → FirstStays (cond unstated (codes "unknown" ∷ []) (cond other (codes "unknown" ∷ part ∷ []) names))
-    by_tests true other is = known-second (codes "unknown") unknown-known
-    by_tests false true is = known-second (codes "unknown") unknown-known
-    by_tests false false is = name-first part others is
+    by_tests : (unstated hard other : Bool) → is_hard_float_vendor part ≡ hard → is_other_system part ≡ other
+        → FirstStays (cond (unstated || hard) (codes "unknown" ∷ []) (cond other (codes "unknown" ∷ part ∷ []) names))
+    by_tests true hard other soft is = known-second (codes "unknown") unknown-known
+    by_tests false true other soft is = known-second (codes "unknown") unknown-known
+    by_tests false false true soft is = known-second (codes "unknown") unknown-known
+    by_tests false false false soft is = name-first part others (soft, is)
 
 hard-first : (hard_float : Bool) (names : List (List ℕ)) → FirstStays names → FirstStays (hard_float_names hard_float names)
 hard-first false names first = first
@@ -160,9 +162,9 @@ names-sound : (parts : List (List ℕ)) (t : Values) → reading_of_parts (name_
 names-sound [] t h = absurd cc
 names-sound (p ∷ ps) t h = by_found (architecture_of (first_spelling p)) h
   where
-    by_found : (o : Option Architecture) → reading_after_architecture o (first_spelling p) (name_texts (names_after_first (is_hard_float p) ps)) ≡ Ok t → IsSound t
+    by_found : (o : Option Architecture) → reading_after_architecture o (first_spelling p) (name_texts (names_after_first (is_hard_float p ps) ps)) ≡ Ok t → IsSound t
     by_found None h = absurd cc
-    by_found (Some a) h = vendor-sound a t (name_texts (names_after_first (is_hard_float p) ps)) h (names_after_first-stay (is_hard_float p) ps)
+    by_found (Some a) h = vendor-sound a t (name_texts (names_after_first (is_hard_float p ps) ps)) h (names_after_first-stay (is_hard_float p ps) ps)
 
 -- so is what is read from a string
 pub read-sound : (text : List ℕ) (t : Values) → spelled_reading text ≡ Ok t → IsSound t

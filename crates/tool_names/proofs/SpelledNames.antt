@@ -16,7 +16,7 @@ use Rattle.target_lexicon.specs.Values.{Architecture, OperatingSystem, Environme
 use Rattle.target_lexicon.specs.Values.operating_system
 use Rattle.target_lexicon.specs.Values.environment
 use Rattle.target_lexicon.specs.Field as field
-use Rattle.tool_names.specs.Spelling.{ListedPartsAreUnknown, first_spellings, later_spellings, versioned_spellings, is_known_name, is_other_system, later_spelling, is_unstated, is_vendor_after_none, name_with_previous, name_with_next, pair_spelling, spelled_names, spelling_between, name_texts, SpelledPart, is_hard_float, later_parts, names_of, other_parts, with_hard_floats}
+use Rattle.tool_names.specs.Spelling.{ListedPartsAreUnknown, first_spellings, later_spellings, versioned_spellings, is_known_name, is_other_system, later_spelling, is_unstated, is_vendor_after_none, name_with_previous, name_with_next, pair_spelling, spelled_names, spelling_between, name_texts, SpelledPart, is_hard_float, is_hard_float_first, is_hard_float_vendor, later_parts, names_of, other_parts, with_hard_floats}
 
 -- a later part that spells itself
 abbrev pub Stays : List ℕ → Type 0
@@ -75,7 +75,7 @@ module _ (part : List ℕ) where
 
 -- a second part that spells itself, so that it is no system that isn't known
 abbrev pub SecondStays : List ℕ → Type 0
-SecondStays part = (is_other_system part ≡ false) × Stays part
+SecondStays part = ((is_hard_float_vendor part ≡ false) × (is_other_system part ≡ false)) × Stays part
 
 no_custom-stated : (part : List ℕ) → option_map_or is_custom (vendor_of part) false ≡ false → is_other_system part ≡ false
 unfolding is_other_system
@@ -97,8 +97,26 @@ known-no_custom part known =
     by_system (Some s) is = refl
     by_system None is = absurd cc
 
+-- `hardfloat` would be a custom vendor
+hardfloat-custom : option_map_or is_custom (vendor_of (codes "hardfloat")) false ≡ true
+unfolding vendor_of known_vendor_of is_admitted architecture_of operating_system_of fixed_operating_system_of environment_of binary_format_of
+hardfloat-custom = refl
+
+no_custom-soft : (part : List ℕ) → option_map_or is_custom (vendor_of part) false ≡ false → is_hard_float_vendor part ≡ false
+no_custom-soft part none =
+    elim (cases_Bool (is_hard_float_vendor part)) [
+      | inl hard ↦
+          let same : part ≡ codes "hardfloat" = (bytes_eq-Decides part (codes "hardfloat")).0 hard in
+          let apart : true ≡ false = sym hardfloat-custom ∙ subst (λ p. option_map_or is_custom (vendor_of p) false ≡ false) same none in
+          absurd cc
+      | inr soft ↦ soft
+    ]
+
+no_custom-second : (part : List ℕ) → option_map_or is_custom (vendor_of part) false ≡ false → (is_hard_float_vendor part ≡ false) × (is_other_system part ≡ false)
+no_custom-second part none = (no_custom-soft part none, no_custom-stated part none)
+
 pub known-second : (part : List ℕ) → is_known_name part ≡ true → SecondStays part
-known-second part known = (no_custom-stated part (known-no_custom part known), known-stays part known)
+known-second part known = (no_custom-second part (known-no_custom part known), known-stays part known)
 
 -- the first of these parts spells nothing together with the second
 abbrev pub IsNoPair : List (List ℕ) → Type 0
@@ -303,7 +321,7 @@ vendor-stays a t (p ∷ ps) read custom = by_found (vendor_of p) refl read
     by_found (Some v) is h = let rest = system-stays a v t field.Vendor ps h in (by_vendor v is rest.1, vendor-no_pair a t (p ∷ ps) read, rest.0)
     by_found None is h =
         let all = (system-stays a (Known Unknown) t field.Architecture (p ∷ ps) h).0 in
-        ((no_custom-stated p (ap (λ v. option_map_or is_custom v false) is), all.0), all.1, all.2)
+        ((no_custom-second p (ap (λ v. option_map_or is_custom v false) is), all.0), all.1, all.2)
 
 -- a second part that states no vendor is refused by itself
 
@@ -335,9 +353,9 @@ after_first-stay a t [] h custom = refl
 after_first-stay a t (p ∷ ps) h custom =
     let stated = read-stated a t p ps h in
     let all = vendor-stays a t (p ∷ ps) h custom in
-    rw (stated, all.0.0, all.1, all.0.1) (ap (λ qs. p ∷ qs) (later-stay p ps all.1 all.2))
+    rw (ap (λ b. b || is_hard_float_vendor p) stated ∙ all.0.0.0, all.0.0.1, all.1, all.0.1) (ap (λ qs. p ∷ qs) (later-stay p ps all.1 all.2))
 
--- an architecture doesn't state hard floats
+-- an architecture doesn't state hard floats, and nor does a second part that spells itself
 
 module _ (first : List ℕ) (a : Architecture) (is : architecture_of first ≡ Some a) where
   other-first : (name : List ℕ) → architecture_of name ≡ None → bytes_eq first name ≡ false
@@ -347,16 +365,21 @@ module _ (first : List ℕ) (a : Architecture) (is : architecture_of first ≡ S
         | inr other ↦ other
       ]
 
-  architecture-soft : is_hard_float first ≡ false
+  architecture-soft : is_hard_float_first first ≡ false
   unfolding architecture_of
   architecture-soft = rw (other-first (codes "armv6hl") refl, other-first (codes "armv7hl") refl, other-first (codes "armv7hnl") refl) refl
+
+  parts-soft : (ps : List (List ℕ)) → AllStayAfterFirst ps → is_hard_float first ps ≡ false
+  parts-soft [] all = architecture-soft
+  parts-soft (p ∷ ps) all = ap (λ b. b || is_hard_float_vendor p) architecture-soft ∙ all.0.0.0
 
 soft-stay : (parts : List SpelledPart) → with_hard_floats false parts ≡ parts
 soft-stay [] = refl
 soft-stay (it ∷ others) = ap (λ its. it ∷ its) (soft-stay others)
 
-pub architecture-stay : (first : List ℕ) (a : Architecture) (parts : List SpelledPart) → architecture_of first ≡ Some a → with_hard_floats (is_hard_float first) parts ≡ parts
-architecture-stay first a parts is = ap (λ hard_float. with_hard_floats hard_float parts) (architecture-soft first a is) ∙ soft-stay parts
+pub architecture-stay : (first : List ℕ) (a : Architecture) (ps : List (List ℕ)) (parts : List SpelledPart) → architecture_of first ≡ Some a → AllStayAfterFirst ps
+    → with_hard_floats (is_hard_float first ps) parts ≡ parts
+architecture-stay first a ps parts is all = ap (λ hard_float. with_hard_floats hard_float parts) (parts-soft first a is ps all) ∙ soft-stay parts
 
 -- so the names are the parts
 pub names-stay : (ps : List (List ℕ)) (t : Values) → reading_of_parts ps ≡ Ok t → CustomStays t → name_texts (spelled_names ps) ≡ ps
@@ -366,7 +389,7 @@ names-stay (p ∷ ps) t h custom = by_found (architecture_of p) refl h
     by_found : (o : Option Architecture) → architecture_of p ≡ o → reading_after_architecture o p ps ≡ Ok t → name_texts (spelled_names (p ∷ ps)) ≡ p ∷ ps
     by_found None is h = absurd cc
     by_found (Some a) is h =
-        rw is (ap (λ qs. p ∷ qs) (ap (λ its. name_texts (names_of its)) (architecture-stay p a (other_parts ps) is) ∙ after_first-stay a t ps h custom))
+        rw is (ap (λ qs. p ∷ qs) (ap (λ its. name_texts (names_of its)) (architecture-stay p a ps (other_parts ps) is (vendor-stays a t ps h custom)) ∙ after_first-stay a t ps h custom))
 
 pub listed_unknown : ListedPartsAreUnknown
 unfolding first_spellings later_spellings versioned_spellings version_of architecture_of known_vendor_of operating_system_of fixed_operating_system_of environment_of binary_format_of

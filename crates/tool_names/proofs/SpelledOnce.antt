@@ -7,7 +7,7 @@ use Rattle.std.proofs.lemmas.Bool.{and_parts}
 use Rattle.lexicon_fields.specs.{Architecture.architecture_of, BinaryFormat.binary_format_of, Environment.environment_of, Names.Pair, Names.value_named, OperatingSystem.fixed_operating_system_of, OperatingSystem.operating_system_of, OperatingSystem.text_after_prefix, Vendor.known_vendor_of, Version.version_of}
 use Rattle.lexicon_fields.specs.declared.deployment_target.DeploymentTarget.{DeploymentTarget}
 use Rattle.lexicon_fields.proofs.LookUpLemmas.{value_named-all}
-use Rattle.tool_names.specs.Spelling.{OnceIsEnough, SpellThemselves, checked_version, first_spelling, first_spellings, has_dropped_version, is_known_name, is_other_system, later_spelling, later_spellings, listed_spelling, macos_version, macosx_name, versioned_spelling, versioned_spellings}
+use Rattle.tool_names.specs.Spelling.{OnceIsEnough, SpellThemselves, checked_version, first_spelling, first_spellings, has_dropped_version, is_hard_float_vendor, is_known_name, is_other_system, later_spelling, later_spellings, listed_spelling, macos_version, macosx_name, versioned_spelling, versioned_spellings}
 use Rattle.tool_names.proofs.{MacosNames.is_macosx, SpelledNames.SecondStays, SpelledNames.known-second, SpelledNames.known-stays, SpelledNames.system-known}
 
 all-known : (names : List (List ℕ)) → list_all is_known_name names ≡ true → SpellThemselves names
@@ -113,7 +113,7 @@ first-stays : (names : List (List ℕ)) → are_known names ≡ true → FirstSt
 first-stays [] known = absurd cc
 first-stays (name ∷ names) known = known-second name (and_parts (is_known_name name) (list_all is_known_name names) known).0
 
-pub later-first : (part : List ℕ) → is_other_system part ≡ false → FirstStays (later_spelling part)
+pub later-first : (part : List ℕ) → (is_hard_float_vendor part ≡ false) × (is_other_system part ≡ false) → FirstStays (later_spelling part)
 later-first part stated = by_known (is_known_name part) refl
   where
     by_listed : is_known_name part ≡ false → (o : Option (List (List ℕ))) → listed_spelling part ≡ o → FirstStays (later_spelling part)

@@ -75,11 +75,11 @@ spelling_at First part others = first_spelling part ∷ []
 spelling_at (Second hard_float) part others = hard_float_names hard_float (second_spelling part others)
 spelling_at (Later hard_float before) part others = hard_float_names hard_float (spelling_between before.now part others)
 
--- the position of the part after this one, which is at this position
-abbrev pub next_position : Position → Bor (List ℕ) → Position
-next_position First part = Second (is_hard_float part.now)
-next_position (Second hard_float) part = Later hard_float part
-next_position (Later hard_float before) part = Later hard_float part
+-- the position of the part after this one, which is at this position, with these after it
+abbrev pub next_position : Position → Bor (List ℕ) → List (List ℕ) → Position
+next_position First part others = Second (is_hard_float part.now others)
+next_position (Second hard_float) part others = Later hard_float part
+next_position (Later hard_float before) part others = Later hard_float part
 
 -- what the parts spell of which the first is at this position
 abbrev pub parts_at : Position → List (List ℕ) → List SpelledPart

@@ -180,7 +180,7 @@ abbrev pub spelling_between : List ℕ → List ℕ → List (List ℕ) → List
 spelling_between before part others =
     option_map_or (λ name. name ∷ []) (option_or (name_with_previous before part others) (name_with_next part others)) (later_spelling part)
 
--- whether a second part states no vendor: it is empty, or `none` before the system `linux`
+-- whether a second part is left out: it is empty, or `none` before the system `linux`
 abbrev pub is_unstated : List ℕ → List (List ℕ) → Bool
 is_unstated [] others = true
 is_unstated part [] = false
@@ -207,10 +207,17 @@ is_like_system part = list_any (may_be_versioned part) (known_names field.Operat
 unfoldable pub is_other_system : List ℕ → Bool
 is_other_system part = option_map_or is_custom (vendor_of part) false && is_none (listed_spelling part) && is_like_system part
 
+-- a second part with which Gentoo says that floating-point arguments are in floating-point registers
+abbrev pub is_hard_float_vendor : List ℕ → Bool
+is_hard_float_vendor part = bytes_eq part (codes "hardfloat")
+
+abbrev pub states_no_vendor : List ℕ → List (List ℕ) → Bool
+states_no_vendor part others = is_unstated part others || is_hard_float_vendor part
+
 -- the names that a second part is, with these after it
 abbrev pub second_spelling : List ℕ → List (List ℕ) → List (List ℕ)
 second_spelling part others =
-    if is_unstated part others then codes "unknown" ∷ []
+    if states_no_vendor part others then codes "unknown" ∷ []
     else if is_other_system part then codes "unknown" ∷ part ∷ []
     else option_map_or (λ name. name ∷ []) (name_with_next part others) (later_spelling part)
 
@@ -230,8 +237,13 @@ other_parts [] = []
 other_parts (part ∷ others) = record { names = second_spelling part others; from = part ∷ others } ∷ later_parts part others
 
 -- first parts with which rpm says that floating-point arguments are in floating-point registers
-abbrev pub is_hard_float : List ℕ → Bool
-is_hard_float first = bytes_eq first (codes "armv6hl") || bytes_eq first (codes "armv7hl") || bytes_eq first (codes "armv7hnl")
+abbrev pub is_hard_float_first : List ℕ → Bool
+is_hard_float_first first = bytes_eq first (codes "armv6hl") || bytes_eq first (codes "armv7hl") || bytes_eq first (codes "armv7hnl")
+
+-- whether the first two parts of a string say so: this one, and the first of these
+abbrev pub is_hard_float : List ℕ → List (List ℕ) → Bool
+is_hard_float first [] = is_hard_float_first first
+is_hard_float first (second ∷ others) = is_hard_float_first first || is_hard_float_vendor second
 
 -- the environment with floating-point registers, of one without; any other name stays
 abbrev pub hard_float_name : List ℕ → List ℕ
@@ -242,7 +254,7 @@ hard_float_name name =
     else if bytes_eq name (codes "uclibceabi") then codes "uclibceabihf"
     else name
 
--- the names of a part of a string whose first part says so
+-- the names of a part of a string whose first parts say so, or don't
 abbrev pub hard_float_names : Bool → List (List ℕ) → List (List ℕ)
 hard_float_names true (name ∷ []) = hard_float_name name ∷ []
 hard_float_names _ names = names
@@ -256,7 +268,7 @@ with_hard_floats hard_float parts = map (with_hard_float hard_float) parts
 -- what the parts of a string spell
 abbrev pub spelled_parts : List (List ℕ) → List SpelledPart
 spelled_parts [] = []
-spelled_parts (part ∷ others) = record { names = first_spelling part ∷ []; from = part ∷ others } ∷ with_hard_floats (is_hard_float part) (other_parts others)
+spelled_parts (part ∷ others) = record { names = first_spelling part ∷ []; from = part ∷ others } ∷ with_hard_floats (is_hard_float part others) (other_parts others)
 
 -- a name to be read, and the parts of the string from the one on that spells it
 pub record SpelledName : Type 0 where

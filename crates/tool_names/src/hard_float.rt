@@ -1,10 +1,31 @@
-//! Floating-point registers, of which the first part of a string may speak for the environment.
+//! Floating-point registers, of which the first two parts of a string may speak for the environment.
 ghost use Rattle.std.specs.Prelude.{◌≡◌};
+ghost use Rattle.target_lexicon.specs.Placement.{parts_after};
 ghost use Rattle.tool_names.specs.Spelling as spec;
 
-/// Whether rpm says with this first part that floating-point arguments are in floating-point registers.
-pub(crate) fn is_hard_float(first: &str) -> bool
-    ensures { result ≡ spec.is_hard_float first.now }
+use target_lexicon::first_part;
+
+/// Whether the first two parts of a string say that floating-point arguments are in floating-point registers: this one, and
+/// the first after its dash.
+pub(crate) fn is_hard_float(first: &str, rest: Option<&str>) -> bool
+    ensures { result ≡ spec.is_hard_float first.now (parts_after rest.entry) }
+{
+    match rest {
+        Some(rest) => is_hard_float_first(first) || is_hard_float_vendor(first_part(rest).0),
+        None => is_hard_float_first(first),
+    }
+}
+
+/// Whether Gentoo says so with this second part.
+pub(crate) fn is_hard_float_vendor(part: &str) -> bool
+    ensures { result ≡ spec.is_hard_float_vendor part.now }
+{
+    part == "hardfloat"
+}
+
+/// Whether rpm says so with this first part.
+fn is_hard_float_first(first: &str) -> bool
+    ensures { result ≡ spec.is_hard_float_first first.now }
 {
     first == "armv6hl" || first == "armv7hl" || first == "armv7hnl"
 }

@@ -14,7 +14,7 @@ pub(crate) struct Left<'a> {
     /// The string from the part on.
     pub from: &'a str,
     pub part: &'a str,
-    /// Whether the first part of the string states hard floats.
+    /// Whether the first two parts of the string state hard floats.
     pub hard_float: bool,
     pub name: TripleName<'a>,
     pub others: Option<&'a str>,

@@ -20,8 +20,9 @@ use target_lexicon::{Reading, Refusal, TripleRef, first_part};
 /// prints them: `none-unknown` before a part that is no binary format is `unknown-none`, and `windows-cygnus` is
 /// `cygwin-unknown`. No other known name changes, so what parses without a custom vendor means the same here.
 ///
-/// After a first part `armv6hl`, `armv7hl` or `armv7hnl`, with which rpm says that floating-point arguments are in
-/// floating-point registers, `gnueabi` is `gnueabihf`, and likewise for other C libraries.
+/// rpm says with a first part `armv6hl`, `armv7hl` or `armv7hnl`, and Gentoo with a second part `hardfloat`, that
+/// floating-point arguments are in floating-point registers. After them `gnueabi` is `gnueabihf`, and likewise for other C
+/// libraries; `hardfloat` is no vendor.
 ///
 /// A second part that is a system which isn't known, such as `macos.11.0`, `linux5.10` or `nuttx`, is no vendor: it is
 /// refused, since a triple without its system would be another target.
@@ -65,7 +66,7 @@ fn read_names(text: &str) -> Result<TripleRef<'_>, Refusal<'_>>
     let part = first_at_end(text, text);
     reading.take(first_spelling(first), part)?;
     let mut left = match rest {
-        Some(rest) => Some(Left::of_second(is_hard_float(first), rest)),
+        Some(after) => Some(Left::of_second(is_hard_float(first, rest), after)),
         None => None,
     };
     while let Some(name) = left {

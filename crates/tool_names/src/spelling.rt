@@ -15,7 +15,7 @@ ghost use Rattle.tool_names.specs.Changes.{is_only, name_text, spelling_names, s
 ghost use Rattle.tool_names.specs.Private.{parts_table, table_of};
 ghost use Rattle.tool_names.specs.Spelling as spec;
 
-use crate::hard_float::hard_float_name;
+use crate::hard_float::{hard_float_name, is_hard_float_vendor};
 use crate::known_names::names;
 use crate::macos::{MacOsVersion, macos_version};
 use crate::pairs::{name_in_pair, name_with_next};
@@ -208,7 +208,7 @@ impl<'a> Spelling<'a> {
         ensures { spelling_names result
             ≡ spec.second_spelling part.entry.now (parts_after rest.entry) }
     {
-        if is_unstated(part, rest) {
+        if states_no_vendor(part, rest) {
             Spelling::of("unknown")
         } else if is_other_system(part) {
             Spelling {
@@ -228,7 +228,7 @@ impl<'a> Spelling<'a> {
         Spelling::named_or_later(name_in_pair(before, part, rest), part)
     }
 
-    /// The spelling in a string whose first part states hard floats, or doesn't.
+    /// The spelling in a string whose first two parts state hard floats, or don't.
     pub(crate) fn with_hard_float(self, hard_float: bool) -> Spelling<'a>
         ensures { spelling_names result
             ≡ spec.hard_float_names hard_float (spelling_names self.entry) }
@@ -296,7 +296,14 @@ impl<'a> Spelling<'a> {
     }
 }
 
-/// Whether a second part states no vendor: it is empty, or `none` before the system `linux`.
+/// Whether a second part is left out, or says something else.
+fn states_no_vendor(part: &str, rest: Option<&str>) -> bool
+    ensures { result ≡ spec.states_no_vendor part.now (parts_after rest.entry) }
+{
+    is_unstated(part, rest) || is_hard_float_vendor(part)
+}
+
+/// Whether a second part is left out: it is empty, or `none` before the system `linux`.
 fn is_unstated(part: &str, rest: Option<&str>) -> bool
     ensures { result ≡ spec.is_unstated part.now (parts_after rest.entry) }
 {

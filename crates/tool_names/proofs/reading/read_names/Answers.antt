@@ -31,7 +31,7 @@ pub returns-in_err-take : goal.returns-in_err-take
 returns-in_err-take c =
     let text = c.args.text.now in
     let others = parts_after c.first_part.result.1 in
-    let hard_float = is_hard_float c.first_part.result.0.now in
+    let hard_float = is_hard_float c.first_part.result.0.now others in
     let n : SpelledName = record { name = c.first_spelling.result.now; from = parts_of text } in
     let is = first-names text c.first_part.result.0.now others c.first_part.ensures.parts n.name c.first_spelling.ensures in
     let before = names_go_on-start text _ _ n (names_after_first hard_float others) _ is c.start-reading.ensures.expected c.start-reading.ensures.values in
@@ -44,13 +44,14 @@ pub loop-left-init : goal.loop-left-init
 loop-left-init c =
     let text = c.args.text.now in
     let others = parts_after c.first_part.result.1 in
-    let hard_float = is_hard_float c.first_part.result.0.now in
+    let hard_float = is_hard_float c.first_part.result.0.now others in
     let n : SpelledName = record { name = c.first_spelling.result.now; from = parts_of text } in
     let is = first-names text c.first_part.result.0.now others c.first_part.ensures.parts n.name c.first_spelling.ensures in
     let before = names_go_on-start text _ _ n (names_after_first hard_float others) _ is c.start-reading.ensures.expected c.start-reading.ensures.values in
     let taken = c.in_ok-take.ensures in
     let left : left_names c.match-rest.left ≡ names_after_first hard_float others = elim c.match-rest.branch [
-      | in-Some w ↦ ap left_names w.left-is ∙ (rw w.is_hard_float.ensures at w.of_second.ensures) ∙ ap (λ rest. names_after_first hard_float (parts_after rest)) (sym w.in-Some.is)
+      | in-Some w ↦ ap left_names w.left-is ∙ (rw w.is_hard_float.ensures at w.of_second.ensures)
+          ∙ ap (λ rest. names_after_first (is_hard_float c.first_part.result.0.now (parts_after rest)) (parts_after rest)) (sym w.in-Some.is)
       | in-None w ↦ ap left_names w.left-is ∙ ap (λ rest. names_after_first hard_float (parts_after rest)) (sym w.in-None.is)
     ] in
     let next = names_go_on-next text _ _ n (names_after_first hard_float others) _ _ is before _ _ (taken.taken _) (left-taken text n _ c.first_at_end-part.ensures _ _ _ (taken.taken_left _)) in

@@ -57,7 +57,7 @@ impl<'a> Change<'a> {
 #[derive(Clone, Copy, Debug)]
 enum Position<'a> {
     First,
-    /// Whether the first part states hard floats.
+    /// Whether the first two parts state hard floats.
     Second(bool),
     /// The same, and the part before.
     Later(bool, &'a str),
@@ -77,10 +77,10 @@ impl<'a> Position<'a> {
         }
     }
 
-    /// The position of the part after this one, which is at this position.
-    fn next(self, part: &'a str) -> Position<'a> {
+    /// The position of the part after this one, which is at this position, with this after its dash.
+    fn next(self, part: &'a str, rest: Option<&str>) -> Position<'a> {
         match self {
-            Position::First => Position::Second(is_hard_float(part)),
+            Position::First => Position::Second(is_hard_float(part, rest)),
             Position::Second(hard_float) | Position::Later(hard_float, _) => {
                 Position::Later(hard_float, part)
             }
@@ -140,7 +140,7 @@ impl<'a> Iterator for ChangedParts<'a> {
             let (part, rest) = first_part(end);
             let names = self.position.spelling(part, rest);
             self.rest = rest;
-            self.position = self.position.next(part);
+            self.position = self.position.next(part, rest);
             if !names.is_only(part) {
                 return Some(Change {
                     part: first_at_end(self.text, end),

@@ -1,7 +1,7 @@
 // Erased from crates/tool_names/src/spelling.rt by tools/erase. Don't edit it here.
 //! Other spellings of the parts of a triple.
 
-use crate::proved::tool_names::hard_float::hard_float_name;
+use crate::proved::tool_names::hard_float::{hard_float_name, is_hard_float_vendor};
 use crate::proved::tool_names::known_names::names;
 use crate::proved::tool_names::macos::{macos_version, MacOsVersion};
 use crate::proved::tool_names::pairs::{name_in_pair, name_with_next};
@@ -163,7 +163,7 @@ impl<'a> Spelling<'a> {
     /// The names that a second part spells, with this after its dash.
     #[inline]
     pub(crate) fn of_second(part: &'a str, rest: Option<&str>) -> Spelling<'a> {
-        if is_unstated(part, rest) {
+        if states_no_vendor(part, rest) {
             Spelling::of("unknown")
         } else if is_other_system(part) {
             Spelling {
@@ -181,7 +181,7 @@ impl<'a> Spelling<'a> {
         Spelling::named_or_later(name_in_pair(before, part, rest), part)
     }
 
-    /// The spelling in a string whose first part states hard floats, or doesn't.
+    /// The spelling in a string whose first two parts state hard floats, or don't.
     #[inline]
     pub(crate) fn with_hard_float(self, hard_float: bool) -> Spelling<'a> {
         if !hard_float || self.others.is_some() {
@@ -242,7 +242,13 @@ impl<'a> Spelling<'a> {
     }
 }
 
-/// Whether a second part states no vendor: it is empty, or `none` before the system `linux`.
+/// Whether a second part is left out, or says something else.
+#[inline]
+fn states_no_vendor(part: &str, rest: Option<&str>) -> bool {
+    is_unstated(part, rest) || is_hard_float_vendor(part)
+}
+
+/// Whether a second part is left out: it is empty, or `none` before the system `linux`.
 #[inline]
 fn is_unstated(part: &str, rest: Option<&str>) -> bool {
     if part.is_empty() {

@@ -24,4 +24,4 @@ other_system-part part other =
 pub returns-then-is_other_system : goal.returns-then-is_other_system
 returns-then-is_other_system c =
     let other : is_other_system c.args.part.now ≡ true = sym c.is_other_system.ensures ∙ c.if-is_other_system.true in
-    rw (sym c.is_unstated.ensures ∙ c.if-is_unstated.false, other) (ap (λ parts. codes "unknown" ∷ parts) (other_system-part c.args.part.now other))
+    rw (sym c.states_no_vendor.ensures ∙ c.if-states_no_vendor.false, other) (ap (λ parts. codes "unknown" ∷ parts) (other_system-part c.args.part.now other))
