@@ -13,7 +13,7 @@ PACKAGES = {
 # The modules that are compiled only with a feature of their name, and what of each is always compiled: suggestions need it.
 FEATURES = {"tool_names": {"distance", "hard_float", "known_names", "macos", "misspelling", "nearest", "pairs", "spelling", "suggested", "suggestions"}}
 # The modules of which only the names of other tools use all, by the module that they are in; and the public names of those.
-PARTLY = {"": {"decimal", "reading"}, "tool_names": {"spelling"}}
+PARTLY = {"": {"decimal", "reading"}, "tool_names": {"hard_float", "spelling"}}
 ONLY_FOR_TOOL_NAMES = {"MAX_DECIMAL_LENGTH", "decimal_text", "Spelling"}
 # Public names that no package uses.
 NOT_EXPORTED = {"FixedRow", "ROW_COUNT", "expected_after", "row_order"}

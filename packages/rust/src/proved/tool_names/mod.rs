@@ -15,6 +15,7 @@ pub(crate) mod driver;
 pub(crate) mod formats;
 #[cfg(feature = "tool_names")]
 pub(crate) mod gnu;
+#[cfg_attr(not(feature = "tool_names"), allow(dead_code, unused_imports))]
 pub(crate) mod hard_float;
 pub(crate) mod known_names;
 pub(crate) mod macos;
