@@ -56,7 +56,7 @@ NOT_DPKG = ("aarch64", "i686", "x86_64", "amd64v3", "lpia", "iphoneos-arm", "iph
 # Names of Go without a triple that are no ports.
 NOT_PORTS = ("386", "amd64", "arm64", "linux/s390", "zos/s390x")
 # Other spellings that no rule of `spelled_by_rule` explains, and what they are read as.
-SPELLINGS = {"amd64": "x86_64", "i486": "i386", "bpf_be": "bpfeb", "bpf_le": "bpfel", "systemz": "s390x", "thumbv7": "thumbv7a", "w64": "pc",
+SPELLINGS = {"amd64": "x86_64", "armel": "arm", "i486": "i386", "bpf_be": "bpfeb", "bpf_le": "bpfel", "systemz": "s390x", "thumbv7": "thumbv7a", "w64": "pc",
              "mingw32": "windows-gnu", "mingw64": "windows-gnu", "win32": "windows-msvc", "macos": "macosx", "gnu*": "hurd-gnu",
              "netbsdelf": "netbsd", "netbsdelf*": "netbsd", "simulator": "sim", "x64": "x86_64", "ppc64el": "powerpc64le", "rs6000": "powerpc",
              "sun4v": "sparc64", "mingw32ucrt": "windows-gnu", "gnu.*": "gnu", "gnu2.*": "gnu"}
@@ -385,10 +385,10 @@ def target(triple):
 
 
 def spelled_by_rule(name):
-    """What a part is read as if a rule explains it: `l` after an Arm is dropped, `ppc` is `powerpc`, `eb` after `mips` goes without
+    """What a part is read as if a rule explains it: `l`, `hl` or `hnl` after an Arm is dropped, `ppc` is `powerpc`, `eb` after `mips` goes without
     saying, release 6 of MIPS is an architecture of its own, later models of the i686 are one, a later part loses its version, and uClibc and musl
     don't say that they are with GNU's tools."""
-    for pattern, new in ((r"(armv\d[a-z]*?)h?l", r"\1"), ("ppc(32)?", "powerpc"), ("ppc64(le)?", r"powerpc64\1"), ("(mips(64)?)eb", r"\1"),
+    for pattern, new in ((r"(armv\d[a-z]*?)(hn?)?l", r"\1"), ("ppc(32)?", "powerpc"), ("ppc64(le)?", r"powerpc64\1"), ("(mips(64)?)eb", r"\1"),
                          ("mips64r6(el)?", r"mipsisa64r6\1"), ("mipsr6(el)?", r"mipsisa32r6\1"), ("i[789]86", "i686"),
                          ("(uclibc|musl)gnu(eabi(hf)?)", r"\1\2"), (r"(\w+)\*", r"\1")):
         if re.fullmatch(pattern, name):
