@@ -544,9 +544,10 @@ enum lexicon_status lexicon_facts(const struct lexicon_triple *triple, struct le
    null.
 
    With LEXICON_DIALECT_NONE, the string is spelled like a triple, such as what cc -dumpmachine prints. Some parts are other
-   spellings of known names: amd64 is x86_64, w64 is pc, mingw32 is windows-gnu, macos13 is macosx13. Versions of systems other
-   than Apple's are dropped: freebsd13.2 is freebsd. What parses without a custom vendor is read as it parses, and the status
-   and the error are as those of lexicon_parse; the part is as it is in the string.
+   spellings of known names: amd64 is x86_64, w64 is pc, mingw32 is windows-gnu, macos13 is macosx13; after armv7hl, which is
+   armv7, gnueabi is gnueabihf. Versions of systems other than Apple's are dropped: freebsd13.2 is freebsd. What parses without a
+   custom vendor is read as it parses, and the status and the error are as those of lexicon_parse; the part is as it is in the
+   string.
 
    With a dialect, the string is a name of that tool, and no other dialect is tried. The triple is canonical, and what the name
    doesn't state is unknown: linux/arm64 is aarch64-unknown-linux. The status is then LEXICON_OK, LEXICON_UNKNOWN_NAME,
