@@ -24,7 +24,7 @@ pub(crate) fn is_hard_float_vendor(part: &str) -> bool
 }
 
 /// Whether rpm says so with this first part.
-fn is_hard_float_first(first: &str) -> bool
+pub(crate) fn is_hard_float_first(first: &str) -> bool
     ensures { result ≡ spec.is_hard_float_first first.now }
 {
     first == "armv6hl" || first == "armv7hl" || first == "armv7hnl"

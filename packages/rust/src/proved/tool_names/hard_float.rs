@@ -21,7 +21,7 @@ pub(crate) fn is_hard_float_vendor(part: &str) -> bool {
 
 /// Whether rpm says so with this first part.
 #[inline]
-fn is_hard_float_first(first: &str) -> bool {
+pub(crate) fn is_hard_float_first(first: &str) -> bool {
     first == "armv6hl" || first == "armv7hl" || first == "armv7hnl"
 }
 
