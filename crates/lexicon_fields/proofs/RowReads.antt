@@ -24,3 +24,8 @@ column-is column find xs i d below long same =
 pub text-is : {X : Type 0} (text : X → List ℕ) (xs : List X) (i : ℕ) (d : X) → i < row_count → map text xs ≡ row_texts → text (get_or xs i d) ≡ row_text i
 text-is text xs i d below texts =
     sym (get_or-map text xs i d (text d) (omega (arith, rows-length text xs texts))) ∙ ap (λ (vs : List (List ℕ)). get_or vs i (text d)) texts ∙ row_text-default i (text d) below
+
+-- a list that is a function of the strings of all rows has that function of the string of each row
+pub value-is : {V : Type 0} (find : List ℕ → V) (values : List V) (i : ℕ) (d : V) → i < row_count → values ≡ map find row_texts → get_or values i d ≡ find (row_text i)
+value-is {V = V} find values i d below same =
+    ap (λ (vs : List V). get_or vs i d) same ∙ get_or-map find row_texts i [] d (omega (arith, below, length-row_texts))

@@ -1,20 +1,36 @@
 -- Definitions for the contracts of private functions; no public contract cites them.
-use Rattle.std.specs.Prelude.{ℕ, ◌≡◌, ◌||◌, Bool, false, if◌then◌else◌, List, [], ◌∷◌, ◌++◌, String}
+use Rattle.std.specs.Prelude.{ℕ, ◌≡◌, ◌||◌, Bool, false, if◌then◌else◌, List, [], ◌∷◌, ◌++◌, codes, MatchOption, String}
 use Rattle.std.specs.declared.alloc.Global.{Global}
 use Rattle.std.specs.HashSet.{HashSet, contains_text}
 use Rattle.std.specs.declared.hash.{BuildHasherDefault.BuildHasherDefault, FoldHasher.FoldHasher}
 use Rattle.std.specs.Str.{bytes_eq}
-use Rattle.target_lexicon.specs.{FixedPoints.canonical_text, Printing.text_of, Values.Values}
+use Rattle.target_lexicon.specs.{FixedPoints.canonical_text, FixedPoints.settled_values, Printing.text_of, Reading.ReadsAs, Refusal.refusal_line, Refusal.refusal_of, declared.parse_error.ParseError.ParseError, Values.Values}
 use Rattle.triples.specs.Facts.{text_with_facts}
 use Rattle.triples.specs.declared.lines.LineMode.{LineMode}
 use Rattle.triples.specs.declared.lines.LineMode.TheVariants.{Print, Show, Settle}
-use Rattle.triples.specs.Output.{Answer, Shown, Refused, IsAnswer, shows, written_lines}
+use Rattle.triples.specs.Output.{Answer, Shown, Refused, IsAnswer, IsEntry, shows, written_lines}
 
 -- what a mode shows of a triple
 abbrev pub shown_text : LineMode → Values → List ℕ
 shown_text Print = text_of
 shown_text Show = text_with_facts
 shown_text Settle = canonical_text
+
+-- the triple that a mode shows
+abbrev pub form_of : LineMode → Values → Values
+form_of Print t = t
+form_of Show t = t
+form_of Settle t = settled_values t
+
+-- a line parses, and this is that form of its triple
+abbrev pub IsFormOf : (Values → Values) → List ℕ → Values → Type 0
+IsFormOf form line shown = (t : Values) × ReadsAs line t × (shown ≡ form t)
+
+-- what a mode shows of the triple of that form
+abbrev pub text_in : LineMode → Values → List ℕ
+text_in Print t = text_of t
+text_in Show t = text_with_facts t
+text_in Settle t = text_of t
 
 -- the printed triples that were seen
 abbrev pub Seen : Type 0
@@ -29,6 +45,10 @@ abbrev pub is_repeated : Seen → Answer → Bool
 is_repeated seen (Shown text) = contains_text seen text
 is_repeated seen (Refused message) = false
 
+-- the output grew by `error: ` and the line of the refusal, and the error is a refusal
+abbrev pub AddsRefusal : ParseError → List ℕ → List ℕ → Type 0
+AddsRefusal error old new = MatchOption (refusal_of error) ⊥ (λ refusal. new ≡ old ++ (codes "error: " ++ refusal_line refusal))
+
 -- the output grew by the answer to a line
 pub record AddsAnswer (shown : Values → List ℕ) (line old new : List ℕ) : Type 0 where
   pub answer : Answer
@@ -39,6 +59,6 @@ pub record AddsAnswer (shown : Values → List ℕ) (line old new : List ℕ) : 
 -- seen
 pub record AddsEntry (line old new : List ℕ) (seen_old seen_new : Seen) : Type 0 where
   pub answer : Answer
-  pub is : IsAnswer canonical_text line answer
+  pub is : IsEntry line answer
   pub grown : new ≡ old ++ written_lines (if is_repeated seen_old answer then [] else answer ∷ [])
   pub seen : (text : List ℕ) → contains_text seen_new text ≡ (contains_text seen_old text || shows text answer)

@@ -27,13 +27,11 @@ pub fn copies_equal_their_sources()
         ⟦<RunError as Clone>⟧.is_infallible }
 {}
 
-/// Mode `settle` writes the same string for two lines that parse exactly if their canonical triples are equal.
+/// Two lines that parse share an entry exactly if their canonical triples are equal.
 pub fn entries_are_settled_triples()
     ensures { EntriesAreSettledTriples }
 {
-    target_lexicon::laws::every_text_has_one_outcome();
-    target_lexicon::laws::read_triples_are_plain();
-    target_lexicon::laws::settled_texts_are_keys();
+    target_lexicon::laws::equal_texts_equal_triples();
 }
 
 /// The matrix keeps one entry for each string, and every refused line.
@@ -50,16 +48,11 @@ pub fn first_entries_stay_in_order()
 /// The canonical triple of each line that parses has exactly one entry in the matrix.
 pub fn each_settled_triple_has_an_entry()
     ensures { EachSettledTripleHasAnEntry }
-{
-    target_lexicon::laws::every_text_has_one_outcome();
-}
+{}
 
 /// Mode `matrix` gives the entries of a matrix back, if they are its input.
 pub fn matrices_are_their_own()
     ensures { MatricesAreTheirOwn }
 {
-    target_lexicon::laws::every_text_has_one_outcome();
-    target_lexicon::laws::read_triples_are_plain();
-    target_lexicon::laws::round_is_normal_step();
-    target_lexicon::laws::settled_texts_are_keys();
+    target_lexicon::laws::second_step_changes_one();
 }

@@ -1,16 +1,18 @@
 //! The modes that answer each line by itself.
-ghost use Rattle.std.specs.Prelude.{◌≡◌, ◌<◌, ◌++◌, ◌∷◌, codes, length, option_map, string_bytes, IfOk, OnOk, OnErr};
-ghost use Rattle.target_lexicon.specs.Refusal.{refusal_line};
-ghost use Rattle.target_lexicon.specs.ValuesRef.{values_of_ref, refusal_value};
+ghost use Rattle.std.specs.Prelude.{◌≡◌, ◌<◌, ◌++◌, ◌∷◌, length, option_map, string_bytes, IfOk, IfErr, OnOk, OnErr};
+ghost use Rattle.target_lexicon.specs.FixedPoints.{settled_values};
+ghost use Rattle.target_lexicon.specs.Laws.{ComesBack};
+ghost use Rattle.target_lexicon.specs.Printing.{text_of};
+ghost use Rattle.target_lexicon.specs.Reading.{IsRefusalOrOutOfMemory};
+ghost use Rattle.target_lexicon.specs.Values.{values_of};
 ghost use Rattle.triples.specs.Facts.{spaced_word, text_with_facts};
 ghost use Rattle.triples.specs.Lines.{lines_of};
 ghost use Rattle.triples.specs.Output.{IsLineOutput};
-ghost use Rattle.triples.specs.Private.{AddsAnswer, shown_text};
+ghost use Rattle.triples.specs.Private.{AddsAnswer, AddsRefusal, IsFormOf, form_of, shown_text, text_in};
 
 use std::alloc::{AllocError, Global};
-use target_lexicon::{
-    CDataModel, CallingConvention, Endianness, PointerWidth, Refusal, TripleRef, refusal_prefix,
-};
+use target_lexicon::laws::read_vendors_are_plain;
+use target_lexicon::{CDataModel, CallingConvention, Endianness, ParseError, PointerWidth, Triple};
 
 /// What a mode that answers each line by itself shows of a triple.
 #[derive(Clone, Copy)]
@@ -36,7 +38,7 @@ pub(crate) fn answers(alloc: Global, mode: LineMode, input: &str) -> Result<Stri
     let mut rest = input;
     while !rest.is_empty() {
         let (line, others) = first_line(rest);
-        push_answer(&mut output, mode, line)?;
+        push_answer(alloc, &mut output, mode, line)?;
         rest = others;
     }
     Ok(output)
@@ -56,41 +58,107 @@ pub(crate) fn first_line(input: &str) -> (&str, &str)
 }
 
 /// Appends the answer to a line, and a line feed.
-fn push_answer(output: &mut String, mode: LineMode, line: &str) -> Result<(), AllocError>
+fn push_answer(
+    alloc: Global,
+    output: &mut String,
+    mode: LineMode,
+    line: &str,
+) -> Result<(), AllocError>
     ensures { OnOk result
         (AddsAnswer (shown_text mode) line.now (string_bytes output.old)
         (string_bytes output.new)) }
 {
-    match TripleRef::from_str(line) {
-        Ok(triple) => match mode {
-            LineMode::Print => output.write(&triple)?,
-            LineMode::Show => push_facts(output, &triple)?,
-            LineMode::Settle => output.write(&triple.settle())?,
-        },
-        Err(refusal) => push_refusal(output, &refusal)?,
-    }
+    let read = read_line(alloc, mode, line);
+    push_outcome(alloc, output, mode, &read)?;
     output.push('\n')
 }
 
-/// Appends `error: ` and the line of the refusal.
-pub(crate) fn push_refusal(output: &mut String, refusal: &Refusal<'_>) -> Result<(), AllocError>
-    ensures { OnOk result
-        (string_bytes output.new
-        ≡ string_bytes output.old
-        ++ (codes "error: " ++ refusal_line (refusal_value refusal.now))) }
+/// Appends what the mode shows of a triple, or the line of the refusal.
+fn push_outcome(
+    alloc: Global,
+    output: &mut String,
+    mode: LineMode,
+    outcome: &Result<Triple, ParseError>,
+) -> Result<(), AllocError>
+    ensures ok { OnOk result
+        (IfOk outcome.now
+        (λ triple.
+        string_bytes output.new ≡ string_bytes output.old ++ text_in mode (values_of triple))) }
+    ensures err { OnOk result
+        (IfErr outcome.now
+        (λ error. AddsRefusal error (string_bytes output.old) (string_bytes output.new))) }
 {
-    output.push_str("error: ")?;
-    output.push_str(refusal_prefix(refusal.expected))?;
-    output.push_str(refusal.part.text)
+    match outcome {
+        Ok(triple) => push_shown(alloc, output, mode, triple),
+        Err(error) => push_refusal(output, error),
+    }
+}
+
+/// The triple that the mode shows of a line: the canonical triple in mode `Settle`, else the triple that it parses as.
+fn read_line(alloc: Global, mode: LineMode, line: &str) -> Result<Triple, ParseError>
+    ensures ok { IfOk result (λ triple. IsFormOf (form_of mode) line.now (values_of triple)) }
+    ensures err { IfErr result (λ error. IsRefusalOrOutOfMemory line.now error) }
+{
+    match mode {
+        LineMode::Print | LineMode::Show => Triple::from_str(alloc, line),
+        LineMode::Settle => read_settled(alloc, line),
+    }
+}
+
+/// The canonical triple of a line.
+pub(crate) fn read_settled(alloc: Global, line: &str) -> Result<Triple, ParseError>
+    ensures ok { IfOk result (λ triple. IsFormOf settled_values line.now (values_of triple)) }
+    ensures back { IfOk result (λ triple. ComesBack (values_of triple)) }
+    ensures err { IfErr result (λ error. IsRefusalOrOutOfMemory line.now error) }
+{
+    read_vendors_are_plain();
+    let triple = Triple::from_str(alloc, line)?;
+    Ok(triple.settle())
+}
+
+/// Appends the printed triple, and in mode `Show` the words after it.
+fn push_shown(
+    alloc: Global,
+    output: &mut String,
+    mode: LineMode,
+    triple: &Triple,
+) -> Result<(), AllocError>
+    ensures { OnOk result
+        (string_bytes output.new ≡ string_bytes output.old ++ text_in mode (values_of triple.now)) }
+{
+    match mode {
+        LineMode::Show => push_facts(alloc, output, triple),
+        LineMode::Print | LineMode::Settle => push_triple(alloc, output, triple),
+    }
+}
+
+/// Appends `error: ` and the line of the refusal. `Err` if the line was refused for memory.
+pub(crate) fn push_refusal(output: &mut String, error: &ParseError) -> Result<(), AllocError>
+    ensures { OnOk result
+        (AddsRefusal error.now (string_bytes output.old) (string_bytes output.new)) }
+{
+    if matches!(error, ParseError::OutOfMemory) {
+        return Err(AllocError);
+    }
+    write!(output, "error: {error}")
+}
+
+/// Appends the printed triple.
+fn push_triple(alloc: Global, output: &mut String, triple: &Triple) -> Result<(), AllocError>
+    ensures { OnOk result
+        (string_bytes output.new ≡ string_bytes output.old ++ text_of (values_of triple.now)) }
+{
+    let text = triple.to_text(alloc)?;
+    output.push_str(&text)
 }
 
 /// Appends the printed triple, and the words for its byte order, pointer width, calling convention and data model.
-fn push_facts(output: &mut String, triple: &TripleRef<'_>) -> Result<(), AllocError>
+fn push_facts(alloc: Global, output: &mut String, triple: &Triple) -> Result<(), AllocError>
     ensures { OnOk result
         (string_bytes output.new
-        ≡ string_bytes output.old ++ text_with_facts (values_of_ref triple.now)) }
+        ≡ string_bytes output.old ++ text_with_facts (values_of triple.now)) }
 {
-    output.write(triple)?;
+    push_triple(alloc, output, triple)?;
     push_word(output, triple.endianness().ok().map(Endianness::name))?;
     push_word(output, triple.pointer_width().ok().map(PointerWidth::name))?;
     let convention = triple.default_calling_convention().ok();

@@ -1,16 +1,13 @@
 //! Mode `matrix`: each canonical triple once, at its first line.
 ghost use Rattle.std.specs.Prelude.{◌≡◌, ◌<◌, ◌++◌, ◌∷◌, [], length, string_bytes, if◌then◌else◌, IfOk, OnOk, OnErr};
 ghost use Rattle.std.specs.HashSet.{contains_text};
-ghost use Rattle.target_lexicon.specs.Printing.{text_of};
-ghost use Rattle.target_lexicon.specs.ValuesRef.{values_of_ref};
 ghost use Rattle.triples.specs.Lines.{line_feed, lines_of};
 ghost use Rattle.triples.specs.Output.{IsMatrix};
 ghost use Rattle.triples.specs.Private.{AddsEntry, HasOneMore};
 
-use crate::lines::{first_line, push_refusal};
+use crate::lines::{first_line, push_refusal, read_settled};
 use std::alloc::{AllocError, Global};
 use std::collections::HashSet;
-use target_lexicon::TripleRef;
 
 /// The matrix of the lines of an input.
 pub(crate) fn matrix(alloc: Global, input: &str) -> Result<String, AllocError>
@@ -39,32 +36,31 @@ fn push_entry(
         (AddsEntry line.now (string_bytes output.old) (string_bytes output.new) seen.old
         seen.new) }
 {
-    match TripleRef::from_str(line) {
-        Ok(triple) => push_first(alloc, output, seen, &triple.settle()),
-        Err(refusal) => {
-            push_refusal(output, &refusal)?;
+    match read_settled(alloc, line) {
+        Ok(triple) => {
+            let text = triple.to_text(alloc)?;
+            push_first(output, seen, text)
+        }
+        Err(error) => {
+            push_refusal(output, &error)?;
             output.push('\n')
         }
     }
 }
 
-/// Appends a printed triple and a line feed if it was not seen before, and adds it to what was seen.
+/// Appends a string and a line feed if it was not seen before, and adds it to what was seen.
 fn push_first(
-    alloc: Global,
     output: &mut String,
     seen: &mut HashSet<String>,
-    triple: &TripleRef<'_>,
+    text: String,
 ) -> Result<(), AllocError>
     ensures output { OnOk result
         (string_bytes output.new
         ≡ string_bytes output.old
-        ++ (if contains_text seen.old (text_of (values_of_ref triple.now)) then [] else text_of
-        (values_of_ref triple.now)
+        ++ (if contains_text seen.old (string_bytes text) then [] else string_bytes text
         ++ line_feed ∷ [])) }
-    ensures seen { OnOk result
-        (HasOneMore seen.old seen.new (text_of (values_of_ref triple.now))) }
+    ensures seen { OnOk result (HasOneMore seen.old seen.new (string_bytes text)) }
 {
-    let text = triple.to_text(alloc)?;
     if !seen.contains(&text) {
         output.push_str(&text)?;
         output.push('\n')?;

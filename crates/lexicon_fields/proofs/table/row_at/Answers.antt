@@ -1,5 +1,5 @@
 use Rattle.std.proofs.Common.{arith}
-use Rattle.lexicon_fields.specs.Private.{name_values, prefix_key_of}
+use Rattle.lexicon_fields.specs.Private.{name_values}
 use Rattle.lexicon_fields.proofs.RowReads.{rows-length, column-is, text-is}
 use Rattle.lexicon_fields.proofs.table.row_at.Goals as goal
 
@@ -8,9 +8,6 @@ bounds-rows-i c = omega (arith, rows-length _ _ c.rows.ensures.texts)
 
 pub returns-clause-text : goal.returns-clause-text
 returns-clause-text c = text-is _ _ _ _ c.requires c.rows.ensures.texts
-
-pub returns-clause-prefix_key : goal.returns-clause-prefix_key
-returns-clause-prefix_key c = column-is _ (prefix_key_of 8) _ _ _ c.requires (rows-length _ _ c.rows.ensures.texts) c.rows.ensures.prefix_keys
 
 pub returns-clause-meaning : goal.returns-clause-meaning
 returns-clause-meaning c = column-is _ name_values _ _ _ c.requires (rows-length _ _ c.rows.ensures.texts) c.rows.ensures.meanings

@@ -7,10 +7,6 @@ pub returns-clause-texts : goal.returns-clause-texts
 unfolding row_texts
 returns-clause-texts c = refl
 
-pub returns-clause-prefix_keys : goal.returns-clause-prefix_keys
-unfolding row_texts
-returns-clause-prefix_keys c = refl
-
 pub returns-clause-meanings : goal.returns-clause-meanings
 unfolding row_texts architecture_of known_vendor_of fixed_operating_system_of environment_of binary_format_of
 returns-clause-meanings c = refl

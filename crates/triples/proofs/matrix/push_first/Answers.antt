@@ -4,4 +4,4 @@ use Rattle.triples.proofs.matrix.push_first.Goals as goal
 
 pub returns-in_ok-insert-clause-seen : goal.returns-in_ok-insert-clause-seen
 returns-in_ok-insert-clause-seen c =
-    rw c.in_ok-text.ensures at (inserted (string_bytes c.in_ok-text.text) c.args.seen.now c.insert.new.self c.in_ok-insert.ensures.updates)
+    inserted (string_bytes c.args.text) c.args.seen.now c.insert.new.self c.in_ok-insert.ensures.updates
